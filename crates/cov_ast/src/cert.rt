@@ -1,0 +1,53 @@
+use cov_expr::{Expr, List};
+
+/// A certificate: why a goal follows from hypotheses. Hypotheses are numbered from 1.
+#[derive(Debug, Drop)]
+pub enum Cert {
+    /// A closed hypothesis is 0, or each conjunct of the goal is true or is a conjunct of a hypothesis.
+    Auto,
+    /// The goal is this hypothesis.
+    Hyp(u32),
+    /// The goal is closed and true.
+    Calc,
+    /// This hypothesis is closed and 0.
+    Clash(u32),
+    /// The goal is a conjunction; both parts follow.
+    And(Box<Cert>, Box<Cert>),
+    /// The goal is a disjunction; its left part follows.
+    Left(Box<Cert>),
+    /// The goal is a disjunction; its right part follows.
+    Right(Box<Cert>),
+    /// This hypothesis is a conjunction, whose parts become hypotheses.
+    Unpack(u32, Box<Cert>),
+    /// This hypothesis is a disjunction; the goal follows from each part.
+    Cases(u32, Box<Cert>, Box<Cert>),
+    /// The goal follows where the expression holds, and where it doesn't.
+    Split(Expr, Box<Cert>, Box<Cert>),
+    /// The expression follows, and then the goal from it.
+    Have(Expr, Box<Cert>, Box<Cert>),
+    /// The second hypothesis is the negation of the first.
+    Absurd(u32, u32),
+    /// The goal is a negation; what it negates gives 0.
+    Not(Box<Cert>),
+    /// The negation of the goal gives 0.
+    Contra(Box<Cert>),
+    /// The goal is an equation of equal sides.
+    Refl,
+    /// This hypothesis is an equation, of which the template of the goal is taken from left to right.
+    Fwd(u32, Expr, Box<Cert>),
+    /// The same from right to left.
+    Rev(u32, Expr, Box<Cert>),
+    /// The axiom of this number, with these expressions for its letters, becomes a hypothesis.
+    Axiom(u32, List<Expr>, Box<Cert>),
+    /// The goal is an equation of equal polynomials.
+    Ring,
+    /// The goal follows from bounds of its sides.
+    Range,
+}
+
+/// The certificate of an entailment of a statement. Entailments are numbered from 1 in the order in which they arise.
+#[derive(Debug, Drop)]
+pub struct Proof {
+    pub number: u32,
+    pub cert: Cert,
+}

@@ -1,0 +1,21 @@
+//! Programs as trees, and what a refusal of one says.
+//!
+//! - [`Program`]: declarations of variables, locks and threads; [`Stmt`]: a statement with its place and its proofs;
+//!   [`State`]: what a join, a loop or a note states; [`Cert`]: a certificate of an entailment.
+//! - [`Rule`], [`Detail`], [`Refusal`], [`CheckFault`]: why a program isn't accepted.
+//!
+//! Contracts see a tree as plain data: `specs/Syntax.antt` has that data, `specs/View.antt` the views, and
+//! `specs/Plain.antt` the program without annotations, of which the semantics speaks.
+#![tactic(auto)]
+
+mod cert;
+mod decl;
+mod refusal;
+mod state;
+mod stmt;
+
+pub use cert::{Cert, Proof};
+pub use decl::{Class, LockDecl, Modes, Program, ThreadDecl, VarDecl};
+pub use refusal::{CheckFault, Detail, Refusal, Rule};
+pub use state::State;
+pub use stmt::{Retype, Stmt, StmtKind};

@@ -1,0 +1,10 @@
+use cov_expr::{Expr, List};
+
+/// What a join, a loop or a note states. A missing join and an empty one are the same: nothing is stated.
+#[derive(Debug, Drop)]
+pub struct State {
+    /// What holds there.
+    pub preds: List<Expr>,
+    /// Where the two runs agree on a variable: its number, and the expression that says so.
+    pub types: List<(u32, Expr)>,
+}

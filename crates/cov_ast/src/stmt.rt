@@ -1,0 +1,40 @@
+use crate::cert::Proof;
+use crate::state::State;
+use cov_expr::{Expr, List};
+
+/// A statement with the byte offset of its first token and the proofs of its entailments.
+#[derive(Debug, Drop)]
+#[cycle(stmt)]
+pub struct Stmt {
+    pub at: u32,
+    pub kind: StmtKind,
+    pub proofs: List<Proof>,
+}
+
+/// What a statement does. A variable and a lock are named by number.
+#[derive(Debug, Drop)]
+#[cycle(stmt)]
+pub enum StmtKind {
+    /// Nothing, in one step.
+    Skip,
+    /// The value of the expression is stored. The type of the value is written, or left to its variables; a control
+    /// that is assigned may give new types to what it controls.
+    Assign(u32, Expr, Option<Expr>, List<Retype>),
+    /// The lock is taken, once it is free.
+    Lock(u32),
+    /// The lock is freed.
+    Unlock(u32),
+    /// The first block where the guard isn't 0, else the second; then what the state says.
+    If(Expr, List<Stmt>, List<Stmt>, State),
+    /// The block as long as the guard isn't 0; before each turn the state holds.
+    While(Expr, State, List<Stmt>),
+    /// A fact about this place. It takes no step.
+    Note(State),
+}
+
+/// A new type of a variable whose control is assigned.
+#[derive(Debug, Drop)]
+pub struct Retype {
+    pub var: u32,
+    pub class: Expr,
+}

@@ -1,0 +1,26 @@
+-- Which texts are names.
+use Rattle.std.specs.Prelude.{ℕ, ◌≤◌, ◌<◌, ◌-◌, List, [], ◌∷◌, ◌++◌, length, replicate, map, Bool, false, IsTrue, not, ◌&&◌}
+use Rattle.std.specs.List.{list_all, list_any}
+use Rattle.std.specs.Str.{bytes_eq}
+use Rattle.cov_expr.specs.Bytes.{is_lower, is_word}
+use Rattle.cov_expr.specs.declared.name.TheConstants.{KEYWORDS}
+
+-- the words that the grammar keeps for itself
+unfoldable pub is_keyword : List ℕ → Bool
+is_keyword text = list_any (bytes_eq text) (map (λ word. word.now) KEYWORDS)
+
+-- a lower-case letter, and then letters, digits and underscores
+abbrev pub is_word_text : List ℕ → Bool
+is_word_text [] = false
+is_word_text (b ∷ bs) = is_lower b && list_all is_word bs
+
+-- A name is a word of 1 to 32 bytes that is no keyword.
+pub record IsName (text : List ℕ) : Type 0 where
+  pub some : 0 < length text
+  pub short : length text ≤ 32
+  pub word : IsTrue (is_word_text text)
+  pub free : IsTrue (not (is_keyword text))
+
+-- with zeros up to 32 bytes
+abbrev pub padded : List ℕ → List ℕ
+padded text = text ++ replicate (32 - length text) 0
