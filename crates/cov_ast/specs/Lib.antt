@@ -1,3 +1,4 @@
 pub mod Syntax
 pub mod Plain
 pub mod View
+pub mod Names
