@@ -1,43 +1,32 @@
--- When two memories, two states and two starts agree.
+-- When two memories, two states and two starts agree: low-equivalence, modulo what no thread may read.
 --
--- (After the value-dependent classification of COVERN: what is low is said by the values of controls.)
-use Rattle.std.specs.Prelude.{◌≡◌, ℕ, List, length, get_or, map, Bool, IsTrue}
-use Rattle.std.specs.List.{list_any}
+-- (After the value-dependent classification of COVERN: what is low is said by the words of controls.)
+use Rattle.std.specs.Prelude.{◌≡◌, ℕ, List, get_or, map, IsTrue}
 use Rattle.cov_expr.specs.Entailment.{Holds}
-use Rattle.cov_expr.specs.Trees.{mentions}
-use Rattle.cov_expr.specs.Words.{AreWords}
-use Rattle.cov_ast.specs.Plain.{Plain, class_term}
+use Rattle.cov_ast.specs.Declarations.{class_of, invariant_of, is_control}
+use Rattle.cov_ast.specs.Plain.{Plain}
 use Rattle.flow_model.specs.Source.{Item, run, put, test, Holders, Run, items_of}
-use Rattle.flow_model.specs.Holdings.{class_of, invariant_of, IsHiddenNow}
-
--- a word for each declared variable
-pub record IsMemory (p : Plain) (m : List ℕ) : Type 0 where
-  pub complete : length m ≡ length p.vars
-  pub words : AreWords m
+use Rattle.flow_model.specs.Holdings.{IsHiddenNow}
 
 -- The variable is low in the memory: its class holds there.
 abbrev pub IsLow : Plain → List ℕ → ℕ → Type 0
 IsLow p m x = Holds (class_of p x) m
 
--- whether the class of some variable mentions this one
-abbrev pub is_control : Plain → ℕ → Bool
-is_control p c = list_any (λ v. mentions (class_term v.class) c) p.vars
-
 abbrev pub SameAt : (m1 m2 : List ℕ) → ℕ → Type 0
 SameAt m1 m2 x = get_or m1 x 0 ≡ get_or m2 x 0
 
--- The holders are the same, every control is equal, and so is every variable that is low and that no thread holds
--- unreadable.
+-- The holders are the same, every control is equal, also while it is hidden, and so is every variable that is low in the
+-- first memory and that no thread holds unreadable.
 pub record MemoriesAgree (p : Plain) (m1 : List ℕ) (h1 : Holders) (m2 : List ℕ) (h2 : Holders) : Type 0 where
   pub holders : h1 ≡ h2
   pub controls : (c : ℕ) → IsTrue (is_control p c) → SameAt m1 m2 c
   pub visible : (x : ℕ) → IsLow p m1 x → ¬ IsHiddenNow p h1 x → SameAt m1 m2 x
 
--- an item without the word that a pending store carries
+-- an item without the word that a pending store carries; the word of a pending test stays
 abbrev pub shape : Item → Item
 shape (run at c) = run at c
 shape (put at x word) = put at x 0
-shape (test at word left right) = test at word left right
+shape (test at word yes_block no_block) = test at word yes_block no_block
 
 -- the same but for the words of pending stores
 abbrev pub AreAlike : List Item → List Item → Type 0

@@ -12,7 +12,7 @@ use Rattle.cov_ast.specs.Plain.{Cmd, skip, assign, lock, unlock, branch, loop, C
 pub data Item : Type 0 where
   run : (at : ℕ) → Cmd → Item
   put : (at : ℕ) → (x : ℕ) → (word : ℕ) → Item
-  test : (at : ℕ) → (word : ℕ) → (left right : Cmds) → Item
+  test : (at : ℕ) → (word : ℕ) → (yes_block no_block : Cmds) → Item
 
 -- the holder of each lock, if it has one
 abbrev pub Holders : Type 0
@@ -26,7 +26,7 @@ abbrev pub is_held_by : Option ℕ → ℕ → Bool
 is_held_by None t = false
 is_held_by (Some u) t = u == t
 
--- what one thread sees: the memory, the holders, and its own items
+-- the local configuration of a thread: the memory, the holders, and its own items
 pub record Local : Type 0 where
   pub memory : List ℕ
   pub holders : Holders
@@ -35,7 +35,7 @@ pub record Local : Type 0 where
 abbrev pub local : List ℕ → Holders → List Item → Local
 local m h items = record { memory = m; holders = h; items = items }
 
--- a state of the machine: the memory, the holders, and the items of each thread
+-- the global configuration, a state of the machine: the memory, the holders, and the items of each thread
 pub record Run : Type 0 where
   pub memory : List ℕ
   pub holders : Holders
@@ -69,7 +69,7 @@ after_cmd t m h at (loop e b) rest = local m h (test at (value e m) (◌then_all
 abbrev pub after_item : ℕ → List ℕ → Holders → Item → List Item → Local
 after_item t m h (run at c) rest = after_cmd t m h at c rest
 after_item t m h (put at x word) rest = local (set m x word) h rest
-after_item t m h (test at word left right) rest = local m h (items_then (if is_set word then left else right) rest)
+after_item t m h (test at word yes_block no_block) rest = local m h (items_then (if is_set word then yes_block else no_block) rest)
 
 -- one step of thread t on what it sees; a finished thread changes nothing
 abbrev pub turn : ℕ → List ℕ → Holders → List Item → Local
@@ -78,6 +78,16 @@ turn t m h (i ∷ rest) = after_item t m h i rest
 
 abbrev pub items_of : Run → ℕ → List Item
 items_of s t = get_or s.items t []
+
+-- the place at which a thread stands, if anything remains of it
+abbrev pub place_of : Item → ℕ
+place_of (run at c) = at
+place_of (put at x word) = at
+place_of (test at word yes_block no_block) = at
+
+abbrev pub first_place : List Item → Option ℕ
+first_place [] = None
+first_place (i ∷ is) = Some (place_of i)
 
 abbrev pub put_back : Run → ℕ → Local → Run
 put_back s t r = record { memory = r.memory; holders = r.holders; items = set s.items t r.items }

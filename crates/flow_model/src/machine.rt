@@ -7,7 +7,7 @@ pub struct Holder(pub Option<u32>);
 pub enum Stepped {
     /// The thread went on.
     Moved,
-    /// It waits for a lock, or frees one that it doesn't hold: nothing changed.
+    /// It waits for a lock, or tries to free one that it doesn't hold: nothing changed.
     Stayed,
     /// It was finished: nothing changed.
     Idle,
