@@ -7,8 +7,9 @@ use Rattle.cov_expr.specs.Trees.{mentions}
 use Rattle.cov_ast.specs.Syntax.{Var}
 use Rattle.cov_ast.specs.Plain.{skip, assign, lock, unlock, branch, loop, Cmds, none, next, PlainThread, Plain, class_term}
 use Rattle.flow_model.specs.Source.{Item, run, put, test, Holders, Local, turn, items_then, Run, items_of, step, run_from, begin}
-use Rattle.flow_model.specs.Holdings.{class_of, no_var, no_thread}
-use Rattle.flow_model.specs.Agreement.{is_control, IsLow, SameAt, AreAlike, AreFitStarts, StatesAgree, IsMemory}
+use Rattle.cov_ast.specs.Declarations.{class_of, no_var, no_thread, is_control}
+use Rattle.flow_model.specs.Agreement.{IsLow, SameAt, AreAlike, AreFitStarts, StatesAgree}
+use Rattle.cov_expr.specs.Words.{IsMemory}
 use Rattle.flow_model.specs.Secure.{IsSecure}
 use Rattle.covern_cli.specs.Confined.{IsLowVar, IsHighVar, IsPublic, AreConfined, IsConfined}
 
@@ -164,7 +165,7 @@ bodies_close p (t ∷ ts) h =
 one_holds : (c : Term) (m : List ℕ) → c ≡ const 1 → value c m ≡ 0 → ⊥
 one_holds c m e z = one_not_zero (value c m) (ap (λ c. value c m) e) z
 
-start_close : (p : Plain) (m1 m2 : List ℕ) → IsConfined p → IsMemory p m1 → IsMemory p m2 → AreFitStarts p m1 m2
+start_close : (p : Plain) (m1 m2 : List ℕ) → IsConfined p → IsMemory (length p.vars) m1 → IsMemory (length p.vars) m2 → AreFitStarts p m1 m2
     → RunsClose p (begin p m1) (begin p m2)
 start_close p m1 m2 c a b fit =
     record {

@@ -1,1 +1,2 @@
 pub mod ConfinedLaws
+pub mod Options

@@ -1,4 +1,4 @@
-ghost use Rattle.std.specs.Prelude.{◌≡◌, ◌∷◌, ◌++◌, ◌^◌, ◌<◌, [], map, nat_eq, true, false, IfOk, MatchOption, Option};
+ghost use Rattle.std.specs.Prelude.{◌≡◌, ◌∷◌, ◌++◌, ◌^◌, ◌<◌, [], map, nat_eq, true, false, not, is_some, IfOk, MatchOption, Option};
 ghost use Rattle.std.specs.List.{list_all};
 ghost use Rattle.indexmap.specs.IndexMap.{get};
 ghost use Rattle.covern_cli.specs.Judging as spec;
@@ -70,12 +70,23 @@ fn roles_of(alloc: Global, declared: &[(u32, Role)]) -> Result<Option<Roles>, No
 {
     let mut roles = IndexMap::new(alloc);
     for (name, role) in declared {
-        if roles.contains_key(name) {
+        if !note(&mut roles, *name, *role)? {
             return Ok(None);
         }
-        roles.insert(*name, *role)?;
     }
     Ok(Some(roles))
+}
+
+/// Adds a name, and says whether it wasn't there.
+fn note(roles: &mut Roles, name: u32, role: Role) -> Result<bool, NoMemory>
+    ensures fresh { IfOk result (λ fresh. fresh ≡ not (is_some (spec.role_of roles.old.entries name))) }
+    ensures added { IfOk result (λ fresh. fresh ≡ true → roles.new.entries ≡ roles.old.entries ++ (name, role) ∷ []) }
+{
+    if roles.contains_key(&name) {
+        return Ok(false);
+    }
+    roles.insert(name, role)?;
+    Ok(true)
 }
 
 fn are_threads_fine(roles: &Roles, threads: &[ThreadDecl]) -> bool
