@@ -1,5 +1,6 @@
 ghost use Rattle.std.specs.Prelude.{◌≡◌, ◌↔◌, IsTrue, length};
 ghost use Rattle.cov_expr.specs.Term as spec;
+ghost use Rattle.cov_expr.specs.Trees as tree;
 ghost use Rattle.cov_expr.specs.Words.{HasVarsBelow};
 ghost use Rattle.cov_expr.specs.View.{term};
 
@@ -83,7 +84,8 @@ pub fn eval(e: &Expr, m: &[u32]) -> u32
 
 /// Whether two expressions are equal as trees.
 pub fn same(a: &Expr, b: &Expr) -> bool
-    ensures { IsTrue result ↔ (term a.now ≡ term b.now) }
+    ensures test { result ≡ tree.same (term a.now) (term b.now) }
+    ensures equal { IsTrue result ↔ (term a.now ≡ term b.now) }
 {
     match (a, b) {
         (Expr::Const(j), Expr::Const(k)) => *j == *k,

@@ -3,12 +3,27 @@
 //! - [`List`], [`Name`] and [`NoMemory`]: a vector that contracts see as a list, a name of a text, the want of memory.
 //! - [`Expr`]: an expression. Contracts see it as the plain tree `term e` of `specs/Term.antt`.
 //! - [`eval`]: its value in a memory. [`same`]: whether two trees are equal.
+//! - [`closed`], [`mentions`], [`has_conjunct`], [`vars`]: its parts. [`copy`], [`subst`]: trees made from others.
+//! - [`width_at_most`], [`height_at_most`], [`nodes_at_most`]: its measures.
+//! - [`same_is_equality`] and the functions beside it have no body: their contracts are laws.
 #![tactic(auto)]
 
+mod build;
 mod expr;
+mod laws;
 mod list;
+mod measures;
 mod name;
+mod parts;
+#[cfg(test)]
+mod tests;
 
+pub use build::{boxed, copy, subst};
 pub use expr::{Expr, HOLE, Op, apply, eval, same};
+pub use laws::{
+    closed_mentions_nothing, same_is_equality, substitution_is_a_store, value_depends_on_mentioned,
+};
 pub use list::{Blob, List, NoMemory};
+pub use measures::{height_at_most, nodes_at_most, width_at_most};
 pub use name::{KEYWORDS, Name, is_digit, is_keyword, is_lower, is_word};
+pub use parts::{closed, has_conjunct, mentions, vars};

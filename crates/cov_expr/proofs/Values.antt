@@ -1,0 +1,54 @@
+-- What the value of an expression depends on.
+use Rattle.std.proofs.Common.{◌≡◌, ℕ, ◌<◌, ◌==◌, ◌||◌, not, List, length, get_or, set, Bool, true, false, refl, sym, ◌∙◌, ap, if◌then◌else◌, get_or-set_same, get_or-set_other}
+use Rattle.std.proofs.lemmas.Bool.{eqb-true, eq-eqb}
+use Rattle.cov_expr.specs.Term.{Term, const, var, neg, bin, value, apply, flag, is_set}
+use Rattle.cov_expr.specs.Trees.{mentions, is_closed, subst}
+use Rattle.cov_expr.proofs.Trees.{and_left, and_right}
+
+or_left : (a b : Bool) → a ≡ true → (a || b) ≡ true
+or_left true b h = refl
+or_left false b h = let e : false ≡ true = h in cc
+
+or_right : (a b : Bool) → b ≡ true → (a || b) ≡ true
+or_right true b h = refl
+or_right false b h = h
+
+or_false : (a b : Bool) → a ≡ false → b ≡ false → (a || b) ≡ false
+or_false true b h k = h
+or_false false b h k = k
+
+ap-both : (op : _) (a b c d : ℕ) → a ≡ c → b ≡ d → apply op a b ≡ apply op c d
+ap-both op a b c d h k = ap (λ x. apply op x b) h ∙ ap (λ x. apply op c x) k
+
+pub value_mentioned : (e : Term) (m n : List ℕ) → ((x : ℕ) → mentions e x ≡ true → get_or m x 0 ≡ get_or n x 0) → value e m ≡ value e n
+value_mentioned (const k) m n h = refl
+value_mentioned (var x) m n h = h x (eq-eqb x x refl)
+value_mentioned (neg e) m n h = ap (λ v. flag (not (is_set v))) (value_mentioned e m n h)
+value_mentioned (bin op a b) m n h =
+    ap-both op (value a m) (value b m) (value a n) (value b n)
+    (value_mentioned a m n (λ x i. h x (or_left (mentions a x) (mentions b x) i)))
+    (value_mentioned b m n (λ x i. h x (or_right (mentions a x) (mentions b x) i)))
+
+pub closed_mentions : (e : Term) (x : ℕ) → is_closed e ≡ true → mentions e x ≡ false
+closed_mentions (const k) x h = refl
+closed_mentions (var y) x h = let e : false ≡ true = h in cc
+closed_mentions (neg e) x h = closed_mentions e x h
+closed_mentions (bin op a b) x h =
+    or_false (mentions a x) (mentions b x)
+    (closed_mentions a x (and_left (is_closed a) (is_closed b) h))
+    (closed_mentions b x (and_right (is_closed a) (is_closed b) h))
+
+pub value-closed : (e : Term) (m n : List ℕ) → is_closed e ≡ true → value e m ≡ value e n
+value-closed e m n h = value_mentioned e m n (λ x i. let k = closed_mentions e x h in let c : true ≡ false = sym i ∙ k in cc)
+
+pub value-subst : (e part : Term) (x : ℕ) (m : List ℕ) → x < length m → value (subst e x part) m ≡ value e (set m x (value part m))
+value-subst (const k) part x m h = refl
+value-subst (var y) part x m h = at (y == x) refl
+  where
+    at : (b : Bool) → (y == x) ≡ b → value (if b then part else var y) m ≡ get_or (set m x (value part m)) y 0
+    at true i = sym (rw (eqb-true y x i) (get_or-set_same m x (value part m) 0 h))
+    at false i = sym (get_or-set_other m x y (value part m) 0 (λ j. let c : true ≡ false = sym (eq-eqb y x j) ∙ i in cc))
+value-subst (neg e) part x m h = ap (λ v. flag (not (is_set v))) (value-subst e part x m h)
+value-subst (bin op a b) part x m h =
+    ap-both op (value (subst a x part) m) (value (subst b x part) m) (value a (set m x (value part m))) (value b (set m x (value part m)))
+    (value-subst a part x m h) (value-subst b part x m h)

@@ -1,0 +1,47 @@
+ghost use Rattle.std.specs.Prelude.{◌≡◌, IfOk};
+ghost use Rattle.cov_expr.specs.Trees as tree;
+ghost use Rattle.cov_expr.specs.View.{term};
+
+use crate::expr::Expr;
+use crate::list::NoMemory;
+use std::alloc::Global;
+
+/// An equal tree.
+pub fn copy(alloc: Global, e: &Expr) -> Result<Expr, NoMemory>
+    ensures { IfOk result (λ made. term made ≡ term e.now) }
+{
+    match e {
+        Expr::Const(k) => Ok(Expr::Const(*k)),
+        Expr::Var(x) => Ok(Expr::Var(*x)),
+        Expr::Not(a) => Ok(Expr::Not(boxed(alloc, copy(alloc, a)?)?)),
+        Expr::Bin(op, a, b) => {
+            let left = boxed(alloc, copy(alloc, a)?)?;
+            let right = boxed(alloc, copy(alloc, b)?)?;
+            Ok(Expr::Bin(*op, left, right))
+        }
+    }
+}
+
+/// The tree with a part in the place of each occurrence of a variable.
+pub fn subst(alloc: Global, e: &Expr, x: u32, part: &Expr) -> Result<Expr, NoMemory>
+    ensures { IfOk result (λ made. term made ≡ tree.subst (term e.now) x (term part.now)) }
+{
+    match e {
+        Expr::Const(k) => Ok(Expr::Const(*k)),
+        Expr::Var(y) if *y == x => copy(alloc, part),
+        Expr::Var(y) => Ok(Expr::Var(*y)),
+        Expr::Not(a) => Ok(Expr::Not(boxed(alloc, subst(alloc, a, x, part)?)?)),
+        Expr::Bin(op, a, b) => {
+            let left = boxed(alloc, subst(alloc, a, x, part)?)?;
+            let right = boxed(alloc, subst(alloc, b, x, part)?)?;
+            Ok(Expr::Bin(*op, left, right))
+        }
+    }
+}
+
+/// An expression in memory of its own, as a part of another.
+pub fn boxed(alloc: Global, e: Expr) -> Result<Box<Expr>, NoMemory>
+    ensures { IfOk result (λ made. made.value ≡ e) }
+{
+    Ok(Box::new(alloc, e)?)
+}

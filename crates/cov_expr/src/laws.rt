@@ -1,0 +1,23 @@
+ghost use Rattle.std.specs.Prelude.{◌≡◌, ◌↔◌, ℕ, ◌<◌, List, IsTrue, false, length, slice_index, slice_set};
+ghost use Rattle.cov_expr.specs.Term.{Term, value};
+ghost use Rattle.cov_expr.specs.Trees as tree;
+
+/// The test on trees is equality.
+pub fn same_is_equality()
+    ensures { (a b : Term) → IsTrue (tree.same a b) ↔ (a ≡ b) }
+{}
+
+/// The value of an expression depends on the variables that it mentions alone.
+pub fn value_depends_on_mentioned()
+    ensures { (e : Term) → (m n : List ℕ) → ((x : ℕ) → IsTrue (tree.mentions e x) → slice_index m x ≡ slice_index n x) → value e m ≡ value e n }
+{}
+
+/// A closed expression mentions no variable.
+pub fn closed_mentions_nothing()
+    ensures { (e : Term) → (x : ℕ) → IsTrue (tree.is_closed e) → tree.mentions e x ≡ false }
+{}
+
+/// The value after a substitution is the value where the variable has the value of the part.
+pub fn substitution_is_a_store()
+    ensures { (e part : Term) → (x : ℕ) → (m : List ℕ) → x < length m → value (tree.subst e x part) m ≡ value e (slice_set m x (value part m)) }
+{}
