@@ -13,3 +13,4 @@ pub mod Stops
 pub mod Repeats
 pub mod Wholes
 pub mod Exactness
+mod Rows
