@@ -1,2 +1,3 @@
 pub mod ConfinedLaws
 pub mod Options
+pub mod SmallItems

@@ -1,3 +1,4 @@
 pub mod Small
+pub mod SmallGrammar
 pub mod Judging
 pub mod Confined

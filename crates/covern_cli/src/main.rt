@@ -3,5 +3,6 @@
 
 mod judge;
 mod small;
+mod small_reader;
 
 fn main() {}
