@@ -1,3 +1,4 @@
 pub mod ConfinedLaws
 pub mod Options
 pub mod SmallItems
+pub mod AcceptedLaws

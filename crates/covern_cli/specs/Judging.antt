@@ -1,7 +1,7 @@
 -- Which programs of the first grammar are accepted.
 --
 -- No name is declared twice, each variable that is used is declared, and no high variable is assigned to a low one.
-use Rattle.std.specs.Prelude.{ℕ, zero, suc, ◌+◌, List, [], ◌∷◌, ◌++◌, length, map, Bool, true, false, not, ◌&&◌, Option, Some, None, is_some, nat_eq, sum_by}
+use Rattle.std.specs.Prelude.{ℕ, ◌+◌, List, [], ◌∷◌, ◌++◌, length, map, Bool, true, false, not, ◌&&◌, Option, Some, None, is_some, nat_eq, sum_by}
 use Rattle.std.specs.List.{list_all}
 use Rattle.std.specs.Map.{lookup}
 use Rattle.covern_cli.specs.Small.{Program, Thread}

@@ -1,5 +1,5 @@
 -- A program of the first grammar, in which names are numbers, and the program that it stands for.
-use Rattle.std.specs.Prelude.{ℕ, ◌==◌, List, [], ◌∷◌, map, get_or, None}
+use Rattle.std.specs.Prelude.{ℕ, nat_eq, List, [], ◌∷◌, map, get_or, None}
 use Rattle.std.specs.List.{position_or_len}
 use Rattle.cov_expr.specs.Term.{Term, const, var}
 use Rattle.cov_ast.specs.Syntax as s
@@ -47,7 +47,7 @@ class_of classes.High = s.high
 
 -- the place of the first declaration of a variable with this name
 abbrev pub place_among : List VarDecl → ℕ → ℕ
-place_among vars n = position_or_len (λ v. v.name == n) vars
+place_among vars n = position_or_len (λ v. nat_eq n v.name) vars
 
 abbrev pub value_term : List VarDecl → Value → Term
 value_term vars (values.Var n) = var (place_among vars n)
@@ -64,9 +64,11 @@ block_of vars (x ∷ xs) = s.more x.at (kind_stm vars x.kind) [] (block_of vars 
 abbrev pub name_of : List (List ℕ) → ℕ → List ℕ
 name_of names n = get_or names n []
 
+abbrev pub var_of : List (List ℕ) → VarDecl → s.Var
+var_of names v = record { name = name_of names v.name; at = v.at; class = class_of v.class }
+
+abbrev pub thread_of : List (List ℕ) → Program → Thread → s.Thread
+thread_of names p t = record { name = name_of names t.name; at = t.at; modes = no_modes; body = block_of p.vars t.body; end = t.end }
+
 abbrev pub program_of : List (List ℕ) → Program → s.Program
-program_of names p = record {
-  vars = map (λ v. record { name = name_of names v.name; at = v.at; class = class_of v.class }) p.vars;
-  locks = [];
-  threads = map (λ t. record { name = name_of names t.name; at = t.at; modes = no_modes; body = block_of p.vars t.body; end = t.end }) p.threads;
-}
+program_of names p = record { vars = map (var_of names) p.vars; locks = []; threads = map (thread_of names p) p.threads }

@@ -2,7 +2,6 @@
 --
 -- Above each definition stands the rule in the usual notation. What a right side spells is said by the grammar of the
 -- whole language, of which this one is a part.
-use Rattle.std.specs.Prelude.{ℕ, List, [], ◌∷◌}
 use Rattle.cov_grammar.specs.declared.token.Kind.TheVariants as k
 use Rattle.cov_grammar.specs.Shapes.{Shape, token, seq, alt, many, act, placed}
 use Rattle.cov_grammar.specs.Grammar.{◌▸◌, ◌◂◌, name, named, number, sign}
