@@ -1,4 +1,7 @@
 pub mod Small
 pub mod SmallGrammar
+pub mod SmallText
 pub mod Judging
 pub mod Confined
+pub mod Answers
+pub mod Outcome

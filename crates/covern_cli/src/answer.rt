@@ -1,0 +1,104 @@
+ghost use Rattle.std.specs.Prelude.{◌≡◌, IfOk, string_bytes};
+ghost use Rattle.covern_cli.specs.Answers.{seen, report_of, status_of};
+ghost use Rattle.covern_cli.specs.declared.answer.Stop.TheVariants as stops;
+
+use cov_expr::NoMemory;
+use std::alloc::{AllocError, Global};
+
+/// How a call ends. The number is the exit status.
+#[derive(Clone, Copy, Debug, PartialEq, Eq)]
+pub enum Status {
+    /// The command did all its work.
+    Done = 0,
+    /// The program breaks a rule.
+    Refused = 1,
+    /// The words are none of the forms.
+    Usage = 2,
+    /// A file isn't in its grammar and limits.
+    Malformed = 3,
+    /// A file couldn't be read.
+    ReadFault = 4,
+    /// The report couldn't be written: a proper prefix of it was.
+    WriteFault = 5,
+    /// Memory ran out, and nothing was written.
+    NoMemory = 6,
+    /// A file is longer than its limit.
+    TooLong = 7,
+    /// Two runs don't agree.
+    Differ = 8,
+    /// Two memories aren't fit to start from.
+    BadStarts = 9,
+}
+
+/// How much an accepted program has.
+#[derive(Clone, Copy, Debug, PartialEq, Eq)]
+pub struct Counts {
+    pub threads: u64,
+    pub statements: u64,
+    pub entailments: u64,
+}
+
+/// What a call answers, the want of memory and a failed write aside. Names are words of the command line.
+#[derive(Clone, Copy, Debug)]
+pub enum Answer<'w> {
+    Usage,
+    ReadFault(&'w str),
+    TooLong(&'w str),
+    Malformed(&'w str),
+    Refused,
+    Accepted(Counts),
+}
+
+/// Why a step of a command gives no value.
+#[derive(Clone, Copy, Debug)]
+pub enum Stop<'w> {
+    /// This is what the call answers.
+    Answer(Answer<'w>),
+    /// Memory ran out.
+    NoMemory,
+}
+
+impl From<NoMemory> for Stop<'_> {
+    ghost from_gives = { λ _ stop. stop ≡ stops.NoMemory };
+
+    fn from(_error: NoMemory) -> Self {
+        Stop::NoMemory
+    }
+}
+
+/// The status of an answer.
+pub fn status_for(answer: &Answer<'_>) -> Status
+    ensures { result ≡ status_of (seen answer.now) }
+{
+    match answer {
+        Answer::Usage => Status::Usage,
+        Answer::ReadFault(_) => Status::ReadFault,
+        Answer::TooLong(_) => Status::TooLong,
+        Answer::Malformed(_) => Status::Malformed,
+        Answer::Refused => Status::Refused,
+        Answer::Accepted(_) => Status::Done,
+    }
+}
+
+/// The report of an answer.
+pub fn report(alloc: Global, answer: &Answer<'_>) -> Result<String, AllocError>
+    ensures { IfOk result (λ text. string_bytes text ≡ report_of (seen answer.now)) }
+{
+    match answer {
+        Answer::Usage => String::from_str(alloc, "usage: covern COMMAND WORDS\n"),
+        Answer::ReadFault(name) => format!(in alloc; "read fault: {name}\n"),
+        Answer::TooLong(name) => format!(in alloc; "too long: {name}\n"),
+        Answer::Malformed(name) => format!(in alloc; "malformed {name}\n"),
+        Answer::Refused => String::from_str(alloc, "refused\n"),
+        Answer::Accepted(counts) => accepted_line(alloc, counts),
+    }
+}
+
+fn accepted_line(alloc: Global, counts: &Counts) -> Result<String, AllocError>
+    ensures { IfOk result (λ text. string_bytes text ≡ report_of (seen (Answer.Accepted counts.now))) }
+{
+    let threads = counts.threads;
+    let statements = counts.statements;
+    let entailments = counts.entailments;
+    format!(in alloc; "accepted: {threads} threads, {statements} statements, {entailments} entailments\n")
+}
