@@ -1,7 +1,7 @@
 -- Laws of calls of a shelf, for callers that make several.
-use Rattle.std.proofs.Common.{◌≡◌, ℕ, List, Result, Ok, Err, Some, refl, sym, subst, arith, length, IfSome, IsTrue, IsNone, IsSomeAnd, ◌<◌, ◌≤◌, ◌+◌}
-use Rattle.cov_io.specs.Shelves.{Shelved, Gives, Passes, held}
+use Rattle.std.proofs.Common.{◌≡◌, ℕ, List, Result, Ok, Err, Some, refl, sym, ◌∙◌, subst, arith, length, IfSome, IsTrue, IsNone, IsSomeAnd, ◌<◌, ◌≤◌, ◌+◌}
 use Rattle.cov_io.specs.Counts.{GrewPast}
+use Rattle.cov_io.specs.Shelves.{Shelved, Gives, Passes, held}
 use Rattle.cov_io.specs.declared.shelf.Fetched.{Fetched}
 use Rattle.cov_io.specs.declared.shelf.Fetched.TheVariants.{Whole, TooLong}
 use Rattle.cov_io.specs.declared.shelf.ShelfFault.{ShelfFault}
@@ -11,7 +11,16 @@ use Rattle.cov_io.specs.declared.shelf.ShelfFault.TheVariants.{Failed, NoMemory}
 pub passes_none : (a : Shelved) → Passes a a
 passes_none a = record { told = refl; sure = refl; faults = omega arith; taken = omega arith }
 
--- A count that grew among other calls grew in all of them.
+-- some calls and then others
+pub passes_both : (a b c : Shelved) → Passes a b → Passes b c → Passes a c
+passes_both a b c p q = record {
+  told = q.told ∙ p.told;
+  sure = q.sure ∙ p.sure;
+  faults = omega (arith, p.faults, q.faults);
+  taken = omega (arith, p.taken, q.taken);
+}
+
+-- A count that grew in a call grew over calls before and behind it too.
 pub grew_within : (n a b c d : ℕ) → a ≤ b → c ≤ d → GrewPast n b c → GrewPast n a d
 grew_within n a b c d p q h = λ below. let now : b + n < c = h (omega arith) in omega arith
 

@@ -23,8 +23,8 @@ mod mem_sink;
 mod shelf;
 mod sink;
 mod std_sink;
-
-
+#[cfg(test)]
+mod tests;
 
 pub use file_shelf::FileShelf;
 pub use mem_shelf::MemShelf;
