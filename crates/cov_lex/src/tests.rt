@@ -53,8 +53,14 @@ fn longest_tokens(rt: HostRuntime) {
         (b"a\r", &[name(0, 1)]),
         (b"//x\ry\na", &[name(6, 7)]),
         (b"a// \xff\x00=A", &[name(0, 1)]),
-        (b"locks lock", &[name(0, 5), token(TokenKind::Keyword, 6, 10)]),
-        (b"abcdefghijklmnopqrstuvwxyz_01234;", &[name(0, 32), sign(32, 33)]),
+        (
+            b"locks lock",
+            &[name(0, 5), token(TokenKind::Keyword, 6, 10)],
+        ),
+        (
+            b"abcdefghijklmnopqrstuvwxyz_01234;",
+            &[name(0, 32), sign(32, 33)],
+        ),
     ];
     for (text, want) in rows {
         reads(&rt, text, Ok(want));
@@ -76,8 +82,14 @@ fn first_faults(rt: HostRuntime) {
         (b"= 4294967296", LexFault::BadByte(0)),
         (b" 4294967296 =", LexFault::NumberTooLarge(1)),
         (b"99999999999999999999999999", LexFault::NumberTooLarge(0)),
-        (b"a abcdefghijklmnopqrstuvwxyz_012345 =", LexFault::NameTooLong(2)),
-        (b"whilewhilewhilewhilewhilewhilewhile", LexFault::NameTooLong(0)),
+        (
+            b"a abcdefghijklmnopqrstuvwxyz_012345 =",
+            LexFault::NameTooLong(2),
+        ),
+        (
+            b"whilewhilewhilewhilewhilewhilewhile",
+            LexFault::NameTooLong(0),
+        ),
     ];
     for (text, want) in rows {
         reads(&rt, text, Err(want));
@@ -94,7 +106,11 @@ fn numbers(rt: HostRuntime) {
         (b"00004294967295", 4294967295),
     ];
     for (text, value) in rows {
-        reads(&rt, text, Ok(&[token(TokenKind::Number(value), 0, text.len() as u32)]));
+        reads(
+            &rt,
+            text,
+            Ok(&[token(TokenKind::Number(value), 0, text.len() as u32)]),
+        );
     }
 }
 
@@ -119,7 +135,8 @@ fn each_byte(rt: HostRuntime) {
 
 #[test]
 fn keywords(rt: HostRuntime) -> Result<(), Fail> {
-    let text = b"var low high when lock nowrite hide inv thread assume guarantee skip unlock if else join while note as retype by auto hyp calc clash and left right use cases split have absurd not contra refl fwd rev axiom ring range version output level seen";
+    let text =
+        b"var low high when lock nowrite hide inv thread assume guarantee skip unlock if else join while note as retype by auto hyp calc clash and left right use cases split have absurd not contra refl fwd rev axiom ring range version output level seen";
     let tokens = lex(rt.alloc(), text)?;
     assert_eq!(rt; tokens.len(), 45);
     for token in tokens.as_slice() {
