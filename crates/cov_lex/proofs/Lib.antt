@@ -2,3 +2,5 @@ pub mod Digits
 pub mod Pieces
 pub mod Steps
 pub mod Spelled
+pub mod Fronts
+mod Rows

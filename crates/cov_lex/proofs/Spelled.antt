@@ -1,16 +1,16 @@
 -- The tokens of a text are tokens of it, in order.
-use Rattle.std.proofs.Common.{◌≡◌, ℕ, zero, suc, ◌+◌, ◌-◌, ◌≤◌, ◌<◌, List, [], ◌∷◌, length, drop, take, Ok, Err, refl, sym, ap, subst, ◌∙◌, arith, Result, IfOk}
+use Rattle.std.proofs.Common.{◌≡◌, ℕ, zero, suc, ◌+◌, ◌-◌, ◌≤◌, List, [], ◌∷◌, length, drop, take, Ok, Err, refl, sym, ap, subst, ◌∙◌, arith, Result, IfOk}
 use Rattle.std.proofs.lemmas.List.{drop-drop}
 use Rattle.std.proofs.lemmas.List.Elements.{All-nil, All-cons}
 use Rattle.std.proofs.lemmas.List.Kept.{AllPairs-cons}
-use Rattle.std.specs.List.{All, AllPairs}
+use Rattle.std.specs.List.{All}
 use Rattle.cov_lex.specs.declared.token.Token.{Token}
 use Rattle.cov_lex.specs.declared.token.TokenKind.{TokenKind}
 use Rattle.cov_lex.specs.declared.piece.Piece.{Piece}
 use Rattle.cov_lex.specs.declared.piece.Piece.TheVariants.{Gap, Part}
 use Rattle.cov_lex.specs.declared.fault.LexFault.{LexFault}
 use Rattle.cov_lex.specs.Lexing.{Lexed, piece_at, tokens_from, tokens_of, before, behind}
-use Rattle.cov_lex.specs.Tokens.{IsToken, AreTokens, Spells, bytes_of}
+use Rattle.cov_lex.specs.Tokens.{IsToken, AreTokens, Spells}
 use Rattle.cov_lex.proofs.Pieces.{piece_good, IsPiece}
 
 -- tokens of a text, none of which begins before an offset

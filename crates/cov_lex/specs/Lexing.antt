@@ -6,7 +6,6 @@ use Rattle.std.specs.Str.Parse.{digits_value}
 use Rattle.cov_expr.specs.Bytes.{is_lower, is_digit, is_word}
 use Rattle.cov_expr.specs.Names.{is_keyword}
 use Rattle.cov_lex.specs.Signs.{is_blank, doubles, singles}
-use Rattle.cov_lex.specs.declared.token.TokenKind.{TokenKind}
 use Rattle.cov_lex.specs.declared.token.TokenKind.TheVariants.{Keyword, Name, Number, Sign}
 use Rattle.cov_lex.specs.declared.token.Token.{Token}
 use Rattle.cov_lex.specs.declared.piece.Piece.{Piece}

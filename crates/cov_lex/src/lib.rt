@@ -14,3 +14,6 @@ mod token;
 pub use fault::LexFault;
 pub use lexer::lex;
 pub use token::{Token, TokenKind};
+
+#[cfg(test)]
+mod tests;

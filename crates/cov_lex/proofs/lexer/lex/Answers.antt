@@ -1,4 +1,4 @@
-use Rattle.std.proofs.Common.{◌∙◌, Ok, ap, sym, arith}
+use Rattle.std.proofs.Common.{◌∙◌, Ok, ap, sym}
 use Rattle.cov_lex.proofs.Steps.{gap_fits, gap_read, part_fits, part_read, end_read}
 use Rattle.cov_lex.proofs.Spelled.{are_tokens}
 use Rattle.cov_lex.specs.Lexing.{tokens_of}

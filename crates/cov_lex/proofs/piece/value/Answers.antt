@@ -1,4 +1,4 @@
-use Rattle.std.proofs.Common.{arith, sym, ap, ◌∙◌, ◌+◌, ◌*◌, ◌-◌}
+use Rattle.std.proofs.Common.{arith}
 use Rattle.cov_lex.proofs.Digits.{digit_step, digits_past}
 use Rattle.cov_lex.proofs.piece.value.Goals as goal
 
