@@ -1,9 +1,9 @@
 -- The plain program: what a program does, without the annotations that say why it may.
 --
 -- Every semantic definition speaks of plain programs alone.
-use Rattle.std.specs.Prelude.{ℕ, List, map}
+use Rattle.std.specs.Prelude.{ℕ, List, [], map, None}
 use Rattle.cov_expr.specs.Term.{Term, const}
-use Rattle.cov_ast.specs.Syntax.{Class, low, high, when, Var, Lock, Modes, Stm, Block, done, more, Thread, Program}
+use Rattle.cov_ast.specs.Syntax.{Class, low, high, when, Var, Lock, Modes, State, Stm, Block, done, more, Thread, Program}
 use Rattle.cov_ast.specs.Syntax as annotated
 
 mutual
@@ -60,3 +60,30 @@ plain_thread t = record { name = t.name; modes = t.modes; body = plain_block t.b
 
 abbrev pub plain : Program → Plain
 plain p = record { vars = p.vars; locks = p.locks; threads = map plain_thread p.threads }
+
+-- Without annotations, as a program ------------------------------------------------------------------------------
+
+abbrev pub no_state : State
+no_state = record { preds = []; types = [] }
+
+abbrev mutual
+  -- a statement without annotations, in front of others; a note is dropped
+  pub bare_stm : Stm → (at : ℕ) → Block → Block
+  bare_stm annotated.skip at rest = more at annotated.skip [] rest
+  bare_stm (annotated.assign x e q retypes) at rest = more at (annotated.assign x e None []) [] rest
+  bare_stm (annotated.lock l) at rest = more at (annotated.lock l) [] rest
+  bare_stm (annotated.unlock l) at rest = more at (annotated.unlock l) [] rest
+  bare_stm (annotated.branch e a b state) at rest = more at (annotated.branch e (bare_block a) (bare_block b) no_state) [] rest
+  bare_stm (annotated.loop e state b) at rest = more at (annotated.loop e no_state (bare_block b)) [] rest
+  bare_stm (annotated.note state) at rest = rest
+
+  pub bare_block : Block → Block
+  bare_block done = done
+  bare_block (more at s proofs b) = bare_stm s at (bare_block b)
+
+abbrev pub bare_thread : Thread → Thread
+bare_thread t = record { name = t.name; at = t.at; modes = t.modes; body = bare_block t.body; end = t.end }
+
+-- the same program, of which nothing is left but what the plain program has, and the places of threads
+abbrev pub bare : Program → Program
+bare p = record { vars = p.vars; locks = p.locks; threads = map bare_thread p.threads }

@@ -2,9 +2,10 @@
 --
 -- Variables, locks and threads are named by number, in the order of their declarations.
 use Rattle.std.specs.Prelude.{ℕ, List, Option}
+use Rattle.cov_ast.specs.declared.parsed.NameUse.{NameUse}
 use Rattle.cov_expr.specs.Term.{Term}
 
--- Who may see a variable: everybody, nobody, or everybody while an expression holds.
+-- What an observer may learn of a variable: its word, nothing, or its word while an expression holds.
 pub data Class : Type 0 where
   low : Class
   high : Class
@@ -36,7 +37,7 @@ pub record State : Type 0 where
   pub preds : List Term
   pub types : List (ℕ × Term)
 
--- Why a goal follows from hypotheses.
+-- Why a goal follows from hypotheses. `instance` is an axiom with expressions for its letters.
 pub data Cert : Type 0 where
   auto : Cert
   hyp : ℕ → Cert
@@ -87,6 +88,15 @@ pub record Thread : Type 0 where
   pub end : ℕ
 
 pub record Program : Type 0 where
+  pub vars : List Var
+  pub locks : List Lock
+  pub threads : List Thread
+
+-- What a text spells: the names in the order of their first occurrence, every use of one, and declarations in which
+-- variables and locks are named by number of that list.
+pub record Parsed : Type 0 where
+  pub names : List (List ℕ)
+  pub uses : List NameUse
   pub vars : List Var
   pub locks : List Lock
   pub threads : List Thread

@@ -11,6 +11,7 @@ use Rattle.cov_ast.specs.declared.decl.LockDecl.{LockDecl}
 use Rattle.cov_ast.specs.declared.decl.Modes.{Modes}
 use Rattle.cov_ast.specs.declared.decl.ThreadDecl.{ThreadDecl}
 use Rattle.cov_ast.specs.declared.decl.Program.{Program}
+use Rattle.cov_ast.specs.declared.parsed.Parsed.{Parsed}
 use Rattle.cov_ast.specs.declared.state.State.{State}
 use Rattle.cov_ast.specs.declared.cert.Proof.{Proof}
 use Rattle.cov_ast.specs.declared.cert.Cert.{Cert, fold-Cert}
@@ -112,3 +113,6 @@ thread t = record { name = t.name; at = t.at; modes = modes t.modes; body = bloc
 
 abbrev pub program : Program → s.Program
 program p = record { vars = map var p.vars; locks = map lock p.locks; threads = map thread p.threads }
+
+abbrev pub parsed : Parsed → s.Parsed
+parsed p = record { names = p.names; uses = p.uses; vars = map var p.vars; locks = map lock p.locks; threads = map thread p.threads }

@@ -3,11 +3,11 @@ use cov_expr::{Expr, List};
 /// A certificate: why a goal follows from hypotheses. Hypotheses are numbered from 1.
 #[derive(Debug, Drop)]
 pub enum Cert {
-    /// A closed hypothesis is 0, or each conjunct of the goal is true or is a conjunct of a hypothesis.
+    /// A closed hypothesis is 0, or each conjunct of the goal is closed and not 0, or is a conjunct of a hypothesis.
     Auto,
     /// The goal is this hypothesis.
     Hyp(u32),
-    /// The goal is closed and true.
+    /// The goal is closed and not 0.
     Calc,
     /// This hypothesis is closed and 0.
     Clash(u32),
@@ -27,15 +27,15 @@ pub enum Cert {
     Have(Expr, Box<Cert>, Box<Cert>),
     /// The second hypothesis is the negation of the first.
     Absurd(u32, u32),
-    /// The goal is a negation; what it negates gives 0.
+    /// The goal is a negation; from what it negates the goal 0 follows.
     Not(Box<Cert>),
-    /// The negation of the goal gives 0.
+    /// From the negation of the goal the goal 0 follows.
     Contra(Box<Cert>),
     /// The goal is an equation of equal sides.
     Refl,
-    /// This hypothesis is an equation, of which the template of the goal is taken from left to right.
+    /// This hypothesis is `a == b`, and the goal is the template at `a`; the template at `b` follows.
     Fwd(u32, Expr, Box<Cert>),
-    /// The same from right to left.
+    /// This hypothesis is `a == b`, and the goal is the template at `b`; the template at `a` follows.
     Rev(u32, Expr, Box<Cert>),
     /// The axiom of this number, with these expressions for its letters, becomes a hypothesis.
     Axiom(u32, List<Expr>, Box<Cert>),

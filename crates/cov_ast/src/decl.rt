@@ -1,14 +1,14 @@
 use crate::stmt::Stmt;
 use cov_expr::{Expr, List, Name};
 
-/// Who may see a variable (value-dependent classification, as in COVERN).
+/// What an observer may learn of a variable (value-dependent classification, as in COVERN).
 #[derive(Debug, Drop)]
 pub enum Class {
-    /// Everybody.
+    /// Its word: two runs are compared on it.
     Low,
-    /// Nobody.
+    /// Nothing.
     High,
-    /// Everybody, while the expression holds. Its variables are the controls of the variable.
+    /// Its word while the expression holds. The variables of the expression are the controls of the variable.
     When(Expr),
 }
 
@@ -33,7 +33,8 @@ pub struct LockDecl {
     pub inv: Option<Expr>,
 }
 
-/// What a thread assumes of the others and guarantees to them (Mantel, Sands and Sudbrock), for its whole life.
+/// What a thread assumes of the others and guarantees to them, for its whole life (the modes of Mantel, Sands and
+/// Sudbrock; `hide`, as in COVERN, is about reading and writing).
 #[derive(Debug, Drop)]
 pub struct Modes {
     /// Others don't write these.

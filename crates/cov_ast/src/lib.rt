@@ -2,6 +2,7 @@
 //!
 //! - [`Program`]: declarations of variables, locks and threads; [`Stmt`]: a statement with its place and its proofs;
 //!   [`State`]: what a join, a loop or a note states; [`Cert`]: a certificate of an entailment.
+//! - [`NameTable`]: the names of a text, each with its number; [`Parsed`]: what a text spells.
 //! - [`Rule`], [`Detail`], [`Refusal`], [`CheckFault`]: why a program isn't accepted.
 //!
 //! Contracts see a tree as plain data: `specs/Syntax.antt` has that data, `specs/View.antt` the views, and
@@ -10,12 +11,16 @@
 
 mod cert;
 mod decl;
+mod names;
+mod parsed;
 mod refusal;
 mod state;
 mod stmt;
 
 pub use cert::{Cert, Proof};
 pub use decl::{Class, LockDecl, Modes, Program, ThreadDecl, VarDecl};
+pub use names::NameTable;
+pub use parsed::{NameUse, Parsed};
 pub use refusal::{CheckFault, Detail, Refusal, Rule};
 pub use state::State;
 pub use stmt::{Retype, Stmt, StmtKind};

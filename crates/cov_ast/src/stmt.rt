@@ -17,8 +17,8 @@ pub struct Stmt {
 pub enum StmtKind {
     /// Nothing, in one step.
     Skip,
-    /// The value of the expression is stored. The type of the value is written, or left to its variables; a control
-    /// that is assigned may give new types to what it controls.
+    /// The value of the expression is stored. The type of the value is written, or left to its variables; where a
+    /// control is assigned, tracked variables may be given new types.
     Assign(u32, Expr, Option<Expr>, List<Retype>),
     /// The lock is taken, once it is free.
     Lock(u32),
@@ -32,7 +32,7 @@ pub enum StmtKind {
     Note(State),
 }
 
-/// A new type of a variable whose control is assigned.
+/// A new type of a tracked variable, given where a control is assigned.
 #[derive(Debug, Drop)]
 pub struct Retype {
     pub var: u32,

@@ -1,7 +1,7 @@
 -- An expression as plain data, and its value in a memory.
 --
--- Words have 32 bits. Arithmetic wraps, comparisons are unsigned, and both operands of `&&` and `||` are evaluated:
--- no expression fails, and none takes a choice that an observer of time could see.
+-- Words have 32 bits. Arithmetic wraps, comparisons are unsigned, and both operands of `&&` and `||` are evaluated.
+-- No expression fails.
 use Rattle.std.specs.Prelude.{ℕ, zero, suc, ◌+◌, ◌-◌, ◌*◌, ◌%◌, ◌^◌, ◌==◌, nat_lt, nat_le, bit_and, bit_or, bit_xor, List, Bool, true, false, not, ◌&&◌, ◌||◌, get_or}
 use Rattle.cov_expr.specs.declared.expr.Op.{Op}
 use Rattle.cov_expr.specs.declared.expr.Op.TheVariants.{Add, Sub, Mul, And, Or, Xor, Eq, Ne, Lt, Le, Both, Either}

@@ -1,0 +1,96 @@
+-- Heads, kinds and tests.
+use Rattle.std.proofs.Common.{◌≡◌, ℕ, zero, suc, ◌+◌, ◌≤◌, ◌<◌, List, [], ◌∷◌, ◌++◌, length, Bool, true, false, not, ◌&&◌, ◌||◌, if◌then◌else◌, Option, Some, None, refl, sym, ap, subst, ◌∙◌, append_assoc, append-nil, arith, length-append, inl, inr}
+use denote.Enum.Bare.{same_true, true_same}
+use Rattle.cov_grammar.specs.declared.token.Kind.{Kind}
+use Rattle.cov_grammar.specs.declared.token.Token.{Token}
+use Rattle.cov_grammar.specs.contracts.token.Kind as kind
+use Rattle.cov_grammar.specs.Shapes.{head}
+use Rattle.cov_grammar.specs.LookAhead.{kind_is, has, starts, apart, within}
+
+pub kind_one : (a b : Kind) → kind_is a b ≡ true → a ≡ b
+unfolding kind_is
+kind_one a b e = same_true kind.the_type tt a b e
+
+pub kind_itself : (a : Kind) → kind_is a a ≡ true
+unfolding kind_is
+kind_itself a = true_same kind.the_type a a refl
+
+-- what begins alike goes on to begin alike
+pub head_alike : (us x y : List Token) → head x ≡ head y → head (us ++ x) ≡ head (us ++ y)
+head_alike [] x y h = h
+head_alike (u ∷ us) x y h = refl
+
+pub headless : (x : List Token) → head x ≡ None → x ≡ []
+headless [] h = refl
+headless (t ∷ ts) h = cc
+
+or_assoc : (a b c : Bool) → (a || (b || c)) ≡ ((a || b) || c)
+or_assoc true b c = refl
+or_assoc false b c = refl
+
+pub has_append : (xs ys : List Kind) (k : Kind) → has (xs ++ ys) k ≡ (has xs k || has ys k)
+has_append [] ys k = refl
+has_append (x ∷ xs) ys k = ap (λ b. kind_is x k || b) (has_append xs ys k) ∙ or_assoc (kind_is x k) (has xs k) (has ys k)
+
+pub or_left : (a b : Bool) → (a || b) ≡ false → a ≡ false
+or_left true b h = h
+or_left false b h = refl
+
+pub or_right : (a b : Bool) → (a || b) ≡ false → b ≡ false
+or_right true b h = cc
+or_right false b h = h
+
+pub or_true : (a b : Bool) → a ≡ true → (a || b) ≡ true
+or_true true b h = refl
+or_true false b h = cc
+
+pub or_true_right : (a b : Bool) → b ≡ true → (a || b) ≡ true
+or_true_right true b h = refl
+or_true_right false b h = h
+
+pub and_left : (a b : Bool) → (a && b) ≡ true → a ≡ true
+and_left true b h = refl
+and_left false b h = h
+
+pub and_right : (a b : Bool) → (a && b) ≡ true → b ≡ true
+and_right true b h = h
+and_right false b h = cc
+
+pub not_true : (a : Bool) → not a ≡ true → a ≡ false
+not_true true h = cc
+not_true false h = refl
+
+pub true_false : {A : Type 0} (b : Bool) → b ≡ true → b ≡ false → A
+true_false true h e = cc
+true_false false h e = cc
+
+-- what is among kinds that are apart from others isn't among these
+pub apart_not : (xs ys : List Kind) (k : Kind) → apart xs ys ≡ true → has ys k ≡ true → has xs k ≡ false
+apart_not [] ys k h e = refl
+apart_not (x ∷ xs) ys k h e = by (kind_is x k) refl (apart_not xs ys k (and_right _ _ h) e)
+  where
+    by : (b : Bool) → kind_is x k ≡ b → has xs k ≡ false → has (x ∷ xs) k ≡ false
+    by true f r =
+        let no : has ys k ≡ false = subst (λ j. has ys j ≡ false) (kind_one x k f) (not_true (has ys x) (and_left _ _ h)) in
+        true_false (has ys k) e no
+    by false f r = ap (λ b. b || has xs k) f ∙ r
+
+pub within_has : (xs ys : List Kind) (k : Kind) → within xs ys ≡ true → has xs k ≡ true → has ys k ≡ true
+within_has [] ys k h e = cc
+within_has (x ∷ xs) ys k h e = by (kind_is x k) refl (within_has xs ys k (and_right _ _ h))
+  where
+    by : (b : Bool) → kind_is x k ≡ b → (has xs k ≡ true → has ys k ≡ true) → has ys k ≡ true
+    by true f r = subst (λ j. has ys j ≡ true) (kind_one x k f) (and_left _ _ h)
+    by false f r = r (sym (ap (λ b. b || has xs k) f) ∙ e)
+
+-- no start among more kinds is none among fewer
+pub starts_less : (xs ys : List Kind) (o : Option Kind) → ((k : Kind) → has ys k ≡ false → has xs k ≡ false) → starts ys o ≡ false → starts xs o ≡ false
+starts_less xs ys None f h = refl
+starts_less xs ys (Some k) f h = f k h
+
+pub within_not : (xs ys : List Kind) (k : Kind) → within xs ys ≡ true → has ys k ≡ false → has xs k ≡ false
+within_not xs ys k h e = by (has xs k) refl
+  where
+    by : (b : Bool) → has xs k ≡ b → has xs k ≡ false
+    by true f = true_false (has ys k) (within_has xs ys k h f) e
+    by false f = f

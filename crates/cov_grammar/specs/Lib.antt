@@ -1,0 +1,9 @@
+pub mod Trees
+pub mod Shapes
+pub mod Grammar
+pub mod Spelling
+pub mod LookAhead
+pub mod Tables
+pub mod Reading
+pub mod Answers
+pub mod Laws

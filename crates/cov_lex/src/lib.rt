@@ -1,0 +1,16 @@
+//! Texts of programs as tokens.
+//!
+//! - [`lex`]: the tokens of a text, or its lexical fault of least offset. Contracts see both as `tokens_of` of
+//!   `specs/Lexing.antt`, which is the only reading of a text as tokens.
+//! - [`Token`], [`TokenKind`]: where a token stands, and what it is. `specs/Tokens.antt` says which bytes each kind has.
+//! - [`LexFault`]: why a text has no tokens.
+#![tactic(auto)]
+
+mod fault;
+mod lexer;
+mod piece;
+mod token;
+
+pub use fault::LexFault;
+pub use lexer::lex;
+pub use token::{Token, TokenKind};

@@ -1,0 +1,2 @@
+pub mod ConfinedLaws
+pub mod Options

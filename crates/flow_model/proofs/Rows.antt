@@ -1,0 +1,308 @@
+-- Small programs whose runs are known, by computation, and facts that a wrong definition would break.
+use Rattle.std.proofs.Common.{◌≡◌, ℕ, zero, suc, ◌+◌, ◌<◌, IsTrue, List, [], ◌∷◌, length, Option, Some, None, refl, inl, inr, arith, if◌then◌else◌}
+use Rattle.cov_expr.specs.Term.{Term, const, var, bin, value, is_set}
+use Rattle.cov_expr.specs.Words.{IsMemory, IsSchedule}
+use Rattle.cov_expr.specs.declared.expr.Op.TheVariants.{Add, Eq, Le}
+use Rattle.cov_ast.specs.Syntax.{low, high, when, Class, Var, Lock}
+use Rattle.cov_ast.specs.Declarations.{no_modes, assumes_hide, controls, is_control, is_plain_low, under}
+use Rattle.cov_ast.specs.Plain.{skip, assign, lock, unlock, branch, loop, Cmds, none, next, Plain, PlainThread}
+use Rattle.flow_model.specs.Source.{Item, Run, run, put, test, after, stayed, begin, items_of, step, first_place, Holders, holder}
+use Rattle.flow_model.specs.Holdings.{IsHiddenNow, IsStableNow, IsWritableNow}
+use Rattle.flow_model.specs.Agreement.{StatesAgree, MemoriesAgree, AreFitStarts, AreAlike, SameAt, IsLow}
+use Rattle.flow_model.specs.Secure.{IsSecure}
+
+abbrev variable : ℕ → ℕ → Class → Var
+variable letter at class = record { name = letter ∷ []; at = at; class = class }
+
+abbrev thread_named : ℕ → Cmds → PlainThread
+thread_named letter body = record { name = letter ∷ []; modes = no_modes; body = body }
+
+-- Two threads and a lock: var n: low; lock l nowrite n;
+-- thread a { lock l; n := 1; unlock l; } thread b { lock l; n := 2; unlock l; } ----------------------------------
+
+abbrev two_threads : Plain
+two_threads = record {
+  vars = variable 110 4 low ∷ [];
+  locks = record { name = 108 ∷ []; at = 17; nowrite = 0 ∷ []; hide = []; inv = None } ∷ [];
+  threads =
+      thread_named 97 (next 41 (lock 0) (next 49 (assign 0 (const 1)) (next 57 (unlock 0) none)))
+      ∷ thread_named 98 (next 80 (lock 0) (next 88 (assign 0 (const 2)) (next 96 (unlock 0) none))) ∷ [];
+}
+
+-- the second thread waits twice for the lock, and the first stands in front of its store
+abbrev waits : List ℕ
+waits = 0 ∷ 1 ∷ 1 ∷ 0 ∷ 1 ∷ []
+
+waits-memory : (after two_threads (0 ∷ []) waits).memory ≡ 0 ∷ []
+waits-memory = refl
+
+waits-holders : (after two_threads (0 ∷ []) waits).holders ≡ Some 0 ∷ []
+waits-holders = refl
+
+waits-first : first_place (items_of (after two_threads (0 ∷ []) waits) 0) ≡ Some 49
+waits-first = refl
+
+waits-second : first_place (items_of (after two_threads (0 ∷ []) waits) 1) ≡ Some 80
+waits-second = refl
+
+waits-stayed : stayed two_threads (0 ∷ []) waits ≡ 3
+waits-stayed = refl
+
+-- no step
+unmoved-memory : (after two_threads (7 ∷ []) []).memory ≡ 7 ∷ []
+unmoved-memory = refl
+
+unmoved-holders : (after two_threads (7 ∷ []) []).holders ≡ None ∷ []
+unmoved-holders = refl
+
+unmoved-first : first_place (items_of (after two_threads (7 ∷ []) []) 0) ≡ Some 41
+unmoved-first = refl
+
+unmoved-second : first_place (items_of (after two_threads (7 ∷ []) []) 1) ≡ Some 80
+unmoved-second = refl
+
+unmoved-stayed : stayed two_threads (7 ∷ []) [] ≡ 0
+unmoved-stayed = refl
+
+-- after how many steps an expression holds, if it does
+abbrev reached : Term → Run → List ℕ → Option ℕ
+reached e s [] = if is_set (value e s.memory) then Some 0 else None
+reached e s (t ∷ ts) = if is_set (value e s.memory) then Some 0 else elim (reached e (step s t) ts) [ None ↦ None | Some n ↦ Some (suc n) ]
+
+reached_one : reached (bin Eq (var 0) (const 1)) (begin two_threads (0 ∷ [])) (0 ∷ 0 ∷ 0 ∷ 0 ∷ []) ≡ Some 3
+reached_one = refl
+
+never_nine : reached (bin Eq (var 0) (const 9)) (begin two_threads (0 ∷ [])) (0 ∷ 0 ∷ 0 ∷ 0 ∷ []) ≡ None
+never_nine = refl
+
+after_three-holders : (after two_threads (0 ∷ []) (0 ∷ 0 ∷ 0 ∷ [])).holders ≡ Some 0 ∷ []
+after_three-holders = refl
+
+after_three-stayed : stayed two_threads (0 ∷ []) (0 ∷ 0 ∷ 0 ∷ []) ≡ 0
+after_three-stayed = refl
+
+after_three-place : first_place (items_of (after two_threads (0 ∷ []) (0 ∷ 0 ∷ 0 ∷ [])) 0) ≡ Some 57
+after_three-place = refl
+
+after_four : (after two_threads (0 ∷ []) (0 ∷ 0 ∷ 0 ∷ 0 ∷ [])).holders ≡ None ∷ []
+after_four = refl
+
+after_four-memory : (after two_threads (0 ∷ []) (0 ∷ 0 ∷ 0 ∷ 0 ∷ [])).memory ≡ 1 ∷ []
+after_four-memory = refl
+
+after_four-second : first_place (items_of (after two_threads (0 ∷ []) (0 ∷ 0 ∷ 0 ∷ 0 ∷ [])) 1) ≡ Some 80
+after_four-second = refl
+
+after_four-stayed : stayed two_threads (0 ∷ []) (0 ∷ 0 ∷ 0 ∷ 0 ∷ []) ≡ 0
+after_four-stayed = refl
+
+after_four-done : first_place (items_of (after two_threads (0 ∷ []) (0 ∷ 0 ∷ 0 ∷ 0 ∷ [])) 0) ≡ None
+after_four-done = refl
+
+-- A leak: var a: low; var s: high; thread t { a := s; } ---------------------------------------------------------
+
+abbrev leak : Plain
+leak = record {
+  vars = variable 97 4 low ∷ variable 115 16 high ∷ [];
+  locks = [];
+  threads = thread_named 116 (next 36 (assign 0 (var 1)) none) ∷ [];
+}
+
+-- The evaluation shows nothing,
+evaluated-left : (after leak (0 ∷ 0 ∷ []) (0 ∷ [])).memory ≡ 0 ∷ 0 ∷ []
+evaluated-left = refl
+
+evaluated-right : (after leak (0 ∷ 1 ∷ []) (0 ∷ [])).memory ≡ 0 ∷ 1 ∷ []
+evaluated-right = refl
+
+evaluated-place : first_place (items_of (after leak (0 ∷ 1 ∷ []) (0 ∷ [])) 0) ≡ Some 36
+evaluated-place = refl
+
+-- no variable of it is a control
+leak-controls : (c : ℕ) → IsTrue (is_control leak c) → ⊥
+leak-controls c h = cc
+
+only_first_low : (m1 m2 : List ℕ) → SameAt m1 m2 0 → (x : ℕ) → IsLow leak m1 x → SameAt m1 m2 x
+only_first_low m1 m2 e zero is_low = e
+only_first_low m1 m2 e (suc zero) is_low = absurd (is_low refl)
+only_first_low m1 m2 e (suc (suc x)) is_low = absurd (is_low refl)
+
+evaluated_alike : (t : ℕ) → AreAlike (items_of (after leak (0 ∷ 0 ∷ []) (0 ∷ [])) t) (items_of (after leak (0 ∷ 1 ∷ []) (0 ∷ [])) t)
+evaluated_alike zero = refl
+evaluated_alike (suc t) = refl
+
+-- the words of the pending stores differ, and the states agree
+evaluated : StatesAgree leak (after leak (0 ∷ 0 ∷ []) (0 ∷ [])) (after leak (0 ∷ 1 ∷ []) (0 ∷ []))
+evaluated = record {
+  memories = record {
+    holders = refl;
+    controls = λ c h. absurd (leak-controls c h);
+    visible = λ x is_low shown. only_first_low (0 ∷ 0 ∷ []) (0 ∷ 1 ∷ []) refl x is_low;
+  };
+  items = evaluated_alike;
+}
+
+leak-fit : AreFitStarts leak (0 ∷ 0 ∷ []) (0 ∷ 1 ∷ [])
+leak-fit = record {
+  low = only_first_low (0 ∷ 0 ∷ []) (0 ∷ 1 ∷ []) refl;
+  left = λ l h. cc;
+  right = λ l h. cc;
+}
+
+nobody_hides : (t : ℕ) → IsTrue (assumes_hide leak t 0) → ⊥
+nobody_hides zero h = cc
+nobody_hides (suc t) h = cc
+
+not_hidden : ¬ IsHiddenNow leak [] 0
+not_hidden (inl (l, (t, e), h)) = cc
+not_hidden (inr (t, h)) = nobody_hides t h
+
+-- and after the store the two states don't agree.
+stored : ¬ StatesAgree leak (after leak (0 ∷ 0 ∷ []) (0 ∷ 0 ∷ [])) (after leak (0 ∷ 1 ∷ []) (0 ∷ 0 ∷ []))
+stored a =
+    let e : ◌≡◌ {A = ℕ} 0 1 = a.memories.visible 0 (λ h. cc) not_hidden in
+    cc
+
+-- So the program isn't secure,
+leak_is_insecure : ¬ IsSecure leak
+leak_is_insecure secure =
+    stored (secure (0 ∷ 0 ∷ []) (0 ∷ 1 ∷ []) (record { complete = refl; words = (omega arith, (omega arith, tt)) }) (record { complete = refl; words = (omega arith, (omega arith, tt)) })
+        leak-fit (0 ∷ 0 ∷ []) (omega arith, (omega arith, tt)))
+
+-- and a program without declarations is.
+abbrev empty : Plain
+empty = record { vars = []; locks = []; threads = [] }
+
+no_steps : (schedule : List ℕ) → IsSchedule 0 schedule → schedule ≡ []
+no_steps [] h = refl
+no_steps (t ∷ ts) h = absurd (omega (arith, h.0))
+
+empty_is_secure : IsSecure empty
+empty_is_secure m1 m2 first second fit schedule entries =
+    rw (no_steps schedule entries) (record {
+      memories = record { holders = refl; controls = λ c h. cc; visible = λ x is_low shown. absurd (is_low refl) };
+      items = λ t. refl;
+    })
+
+-- The word of a pending test counts.
+tests_differ : ¬ AreAlike (test 0 1 none none ∷ []) (test 0 2 none none ∷ [])
+tests_differ h = cc
+
+-- A sum that wraps: var x: low; thread t { x := 4294967295 + 1; } -------------------------------------------------
+
+abbrev wraps : Plain
+wraps = record {
+  vars = variable 120 4 low ∷ [];
+  locks = [];
+  threads = thread_named 116 (next 23 (assign 0 (bin Add (const 4294967295) (const 1))) none) ∷ [];
+}
+
+wrapped : (after wraps (9 ∷ []) (0 ∷ 0 ∷ [])).memory ≡ 0 ∷ []
+wrapped = refl
+
+wrapped-done : first_place (items_of (after wraps (9 ∷ []) (0 ∷ 0 ∷ [])) 0) ≡ None
+wrapped-done = refl
+
+wrapped-stayed : stayed wraps (9 ∷ []) (0 ∷ 0 ∷ []) ≡ 0
+wrapped-stayed = refl
+
+-- A lock that its holder takes again, and that another thread tries to free: lock l;
+-- thread a { lock l; lock l; } thread b { unlock l; } ------------------------------------------------------------
+
+abbrev locked_twice : Plain
+locked_twice = record {
+  vars = [];
+  locks = record { name = 108 ∷ []; at = 5; nowrite = []; hide = []; inv = None } ∷ [];
+  threads = thread_named 97 (next 19 (lock 0) (next 27 (lock 0) none)) ∷ thread_named 98 (next 47 (unlock 0) none) ∷ [];
+}
+
+locked_twice-stayed : stayed locked_twice [] (0 ∷ 0 ∷ 1 ∷ 0 ∷ 1 ∷ []) ≡ 4
+locked_twice-stayed = refl
+
+locked_twice-holders : (after locked_twice [] (0 ∷ 0 ∷ 1 ∷ 0 ∷ 1 ∷ [])).holders ≡ Some 0 ∷ []
+locked_twice-holders = refl
+
+-- A branch and a loop: var x: low; thread t { if 0 { skip; } else { x := 5; } } thread u { while x == 0 { x := 1; } } --
+
+abbrev branches : Plain
+branches = record {
+  vars = variable 120 4 low ∷ [];
+  locks = [];
+  threads =
+      thread_named 116 (next 23 (branch (const 0) (next 30 skip none) (next 45 (assign 0 (const 5)) none)) none)
+      ∷ thread_named 117 (next 67 (loop (bin Eq (var 0) (const 0)) (next 82 (assign 0 (const 1)) none)) none) ∷ [];
+}
+
+branch-second : (after branches (0 ∷ []) (0 ∷ 0 ∷ 0 ∷ 0 ∷ [])).memory ≡ 5 ∷ []
+branch-second = refl
+
+branch-done : first_place (items_of (after branches (0 ∷ []) (0 ∷ 0 ∷ 0 ∷ 0 ∷ [])) 0) ≡ None
+branch-done = refl
+
+-- two steps for the guard, two for the assignment, two for the guard again
+loop-last : first_place (items_of (after branches (0 ∷ []) (1 ∷ 1 ∷ 1 ∷ 1 ∷ 1 ∷ [])) 1) ≡ Some 67
+loop-last = refl
+
+loop-done : first_place (items_of (after branches (0 ∷ []) (1 ∷ 1 ∷ 1 ∷ 1 ∷ 1 ∷ 1 ∷ [])) 1) ≡ None
+loop-done = refl
+
+-- A buffer whose class a control says, under a lock: var mode: low; var buf: low when mode == 0;
+-- lock l hide mode, buf inv mode <= 1; two threads, of which the second assumes nothing ---------------------------
+
+abbrev buffer : Plain
+buffer = record {
+  vars = variable 109 4 low ∷ variable 98 19 (when (bin Eq (var 0) (const 0))) ∷ [];
+  locks = record { name = 108 ∷ []; at = 49; nowrite = []; hide = 0 ∷ 1 ∷ []; inv = Some (bin Le (var 0) (const 1)) } ∷ [];
+  threads = thread_named 119 none ∷ thread_named 114 none ∷ [];
+}
+
+abbrev held : Holders
+held = Some 0 ∷ []
+
+abbrev free : Holders
+free = None ∷ []
+
+buffer-control : controls buffer 0 1 ≡ is_plain_low buffer 0
+buffer-control = refl
+
+buffer-not_plain : IsTrue (is_plain_low buffer 1) → ⊥
+buffer-not_plain h = cc
+
+hidden_while_held : IsHiddenNow buffer held 1
+hidden_while_held = inl (0, (0, refl), refl)
+
+nobody_assumes : (t : ℕ) → IsTrue (assumes_hide buffer t 1) → ⊥
+nobody_assumes zero h = cc
+nobody_assumes (suc zero) h = cc
+nobody_assumes (suc (suc t)) h = cc
+
+stable_for_holder : IsStableNow buffer held 0 1
+stable_for_holder = inr (0, refl, refl)
+
+holder_alone : (l : ℕ) → IsTrue (under buffer l 1) → holder held l ≡ Some 0
+holder_alone zero h = refl
+holder_alone (suc l) h = cc
+
+writable_for_holder : IsWritableNow buffer held 0 1
+writable_for_holder = record { allowed = refl; held = holder_alone }
+
+not_writable_for_other : ¬ IsWritableNow buffer held 1 1
+not_writable_for_other w =
+    let e : ◌≡◌ {A = Option ℕ} (Some 0) (Some 1) = w.held 0 refl in
+    cc
+
+-- A control that is hidden counts all the same.
+hidden_control_counts : ¬ MemoriesAgree buffer (0 ∷ 0 ∷ []) held (1 ∷ 0 ∷ []) held
+hidden_control_counts agree =
+    let e : ◌≡◌ {A = ℕ} 0 1 = agree.controls 0 refl in
+    cc
+
+-- A start that breaks the invariant isn't fit.
+invariant_counts : ¬ AreFitStarts buffer (2 ∷ 0 ∷ []) (2 ∷ 0 ∷ [])
+invariant_counts fit = fit.left 0 refl
+
+-- A variable that is low where the fit starts differ makes them unfit, hidden or not.
+low_counts : ¬ AreFitStarts buffer (0 ∷ 0 ∷ []) (0 ∷ 1 ∷ [])
+low_counts fit =
+    let e : ◌≡◌ {A = ℕ} 0 1 = fit.low 1 (λ h. cc) in
+    cc

@@ -1,0 +1,44 @@
+-- When two memories, two states and two starts agree: low-equivalence, modulo what no thread may read.
+--
+-- (After the value-dependent classification of COVERN: what is low is said by the words of controls.)
+use Rattle.std.specs.Prelude.{◌≡◌, ℕ, List, get_or, map, IsTrue}
+use Rattle.cov_expr.specs.Entailment.{Holds}
+use Rattle.cov_ast.specs.Declarations.{class_of, invariant_of, is_control}
+use Rattle.cov_ast.specs.Plain.{Plain}
+use Rattle.flow_model.specs.Source.{Item, run, put, test, Holders, Run, items_of}
+use Rattle.flow_model.specs.Holdings.{IsHiddenNow}
+
+-- The variable is low in the memory: its class holds there.
+abbrev pub IsLow : Plain → List ℕ → ℕ → Type 0
+IsLow p m x = Holds (class_of p x) m
+
+abbrev pub SameAt : (m1 m2 : List ℕ) → ℕ → Type 0
+SameAt m1 m2 x = get_or m1 x 0 ≡ get_or m2 x 0
+
+-- The holders are the same, every control is equal, also while it is hidden, and so is every variable that is low in the
+-- first memory and that no thread holds unreadable.
+pub record MemoriesAgree (p : Plain) (m1 : List ℕ) (h1 : Holders) (m2 : List ℕ) (h2 : Holders) : Type 0 where
+  pub holders : h1 ≡ h2
+  pub controls : (c : ℕ) → IsTrue (is_control p c) → SameAt m1 m2 c
+  pub visible : (x : ℕ) → IsLow p m1 x → ¬ IsHiddenNow p h1 x → SameAt m1 m2 x
+
+-- an item without the word that a pending store carries; the word of a pending test stays
+abbrev pub shape : Item → Item
+shape (run at c) = run at c
+shape (put at x word) = put at x 0
+shape (test at word yes_block no_block) = test at word yes_block no_block
+
+-- the same but for the words of pending stores
+abbrev pub AreAlike : List Item → List Item → Type 0
+AreAlike is js = map shape is ≡ map shape js
+
+-- The memories agree, and every thread stands at the same items.
+pub record StatesAgree (p : Plain) (s1 s2 : Run) : Type 0 where
+  pub memories : MemoriesAgree p s1.memory s1.holders s2.memory s2.holders
+  pub items : (t : ℕ) → AreAlike (items_of s1 t) (items_of s2 t)
+
+-- Two memories to start from: what is low in the first, hidden or not, is equal, and each lock's invariant holds in both.
+pub record AreFitStarts (p : Plain) (m1 m2 : List ℕ) : Type 0 where
+  pub low : (x : ℕ) → IsLow p m1 x → SameAt m1 m2 x
+  pub left : (l : ℕ) → Holds (invariant_of p l) m1
+  pub right : (l : ℕ) → Holds (invariant_of p l) m2

@@ -1,0 +1,4 @@
+pub mod Source
+pub mod Holdings
+pub mod Agreement
+pub mod Secure
