@@ -1,14 +1,16 @@
-ghost use Rattle.std.specs.Prelude.{◌≡◌, IfOk};
+ghost use Rattle.std.specs.Prelude.{◌≡◌, IfOk, OnOk};
 ghost use Rattle.cov_expr.specs.Trees as tree;
 ghost use Rattle.cov_expr.specs.View.{term};
+ghost use Rattle.cov_expr.specs.Words.{HasWords};
 
 use crate::expr::Expr;
 use crate::list::NoMemory;
 use std::alloc::Global;
 
-/// An equal tree.
+/// An equal tree. That the copy came to its end also tells that the tree is made of words.
 pub fn copy(alloc: Global, e: &Expr) -> Result<Expr, NoMemory>
-    ensures { IfOk result (λ made. term made ≡ term e.now) }
+    ensures copied { IfOk result (λ made. term made ≡ term e.now) }
+    ensures words { OnOk result (HasWords (term e.now)) }
 {
     match e {
         Expr::Const(k) => Ok(Expr::Const(*k)),

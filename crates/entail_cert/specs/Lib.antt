@@ -1,0 +1,3 @@
+pub mod Axioms
+pub mod Valid
+pub mod Words
