@@ -71,8 +71,11 @@ is_accepted p = none_twice [] (declared_roles p) && list_all (λ t. is_body_fine
 
 -- Counts -------------------------------------------------------------------------------------------------------
 
+abbrev pub statements_in : List Thread → ℕ
+statements_in ts = sum_by (λ t. length t.body) ts
+
 abbrev pub statement_count : Program → ℕ
-statement_count p = sum_by (λ t. length t.body) p.threads
+statement_count p = statements_in p.threads
 
 abbrev pub assignments_in : List Stmt → ℕ
 assignments_in [] = 0

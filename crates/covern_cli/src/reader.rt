@@ -1,5 +1,6 @@
-ghost use Rattle.std.specs.Prelude.{◌≡◌, ◌≤◌, length, nat_le, map, IfOk};
+ghost use Rattle.std.specs.Prelude.{◌≡◌, ◌≤◌, length, nat_le, map};
 ghost use Rattle.covern_cli.specs.Judging as judging;
+ghost use Rattle.covern_cli.specs.Reader.{Reads};
 ghost use Rattle.covern_cli.specs.Small as view;
 ghost use Rattle.covern_cli.specs.SmallText as spec;
 
@@ -27,4 +28,79 @@ pub enum ReadFault {
     Malformed,
     /// Memory ran out.
     NoMemory,
+}
+
+impl From<NoMemory> for ReadFault {
+    ghost use Rattle.covern_cli.specs.declared.reader.ReadFault.TheVariants as faults;
+
+    ghost from_gives = { λ _ fault. fault ≡ faults.NoMemory };
+
+    fn from(_error: NoMemory) -> Self {
+        ReadFault::NoMemory
+    }
+}
+
+impl From<LexFault> for ReadFault {
+    ghost use Rattle.covern_cli.specs.Reader.{lex_fault};
+
+    ghost from_gives = { λ error fault. fault ≡ lex_fault error };
+
+    fn from(error: LexFault) -> Self {
+        match error {
+            LexFault::BadByte(_) | LexFault::NumberTooLarge(_) | LexFault::NameTooLong(_) => ReadFault::Malformed,
+            LexFault::NoMemory => ReadFault::NoMemory,
+        }
+    }
+}
+
+impl From<TokenFault> for ReadFault {
+    ghost use Rattle.covern_cli.specs.Reader.{token_fault};
+
+    ghost from_gives = { λ error fault. fault ≡ token_fault error };
+
+    fn from(error: TokenFault) -> Self {
+        match error {
+            TokenFault::Unexpected(_) => ReadFault::Malformed,
+            TokenFault::NoMemory => ReadFault::NoMemory,
+        }
+    }
+}
+
+/// The program that a text spells.
+pub fn read(alloc: Global, bytes: &[u8]) -> Result<Program, ReadFault>
+    requires { length bytes.now ≤ 1048576 }
+    ensures { Reads bytes.now result }
+{
+    let tokens = lex(alloc, bytes)?;
+    let words = read_words(alloc, bytes, tokens.as_slice())?;
+    let mut reader = TokenReader::new(words.tokens.as_slice());
+    let read = read_program(alloc, &mut reader);
+    let program = reader.finish(read, bytes.len() as u32)?;
+    if !is_within_limits(&program) {
+        return Err(ReadFault::Malformed);
+    }
+    Ok(program)
+}
+
+/// Whether a program is within the limits of a text.
+fn is_within_limits(program: &Program) -> bool
+    ensures { result ≡ spec.is_within_limits (view.program program.now) }
+{
+    program.vars.len() <= MOST_VARIABLES
+        && program.threads.len() <= MOST_THREADS
+        && are_few(program.threads.as_slice())
+}
+
+/// Whether the threads have no more statements than a program may have.
+fn are_few(threads: &[ThreadDecl]) -> bool
+    ensures { result ≡ nat_le (judging.statements_in (map view.thread threads.now)) MOST_STATEMENTS }
+{
+    let mut left = MOST_STATEMENTS;
+    for thread in threads {
+        if thread.body.len() > left {
+            return false;
+        }
+        left -= thread.body.len();
+    }
+    true
 }

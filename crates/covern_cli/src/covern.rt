@@ -1,0 +1,110 @@
+ghost use Rattle.std.specs.Prelude.{◌≡◌, IfOk, IfSome, IsTrue, MatchResult, Ok, length, map, string_bytes, ◌≤◌};
+ghost use Rattle.cov_io.specs.Shelves.{Gives, Passes};
+ghost use Rattle.cov_io.specs.Counts.{Rose};
+ghost use Rattle.cov_io.specs.declared.shelf.Fetched.TheVariants as fetched;
+ghost use Rattle.covern_cli.specs.Answers.{seen};
+ghost use Rattle.covern_cli.specs.Outcome.{Command, Does, Ends, Gets, HoldsSecure, Judges, Misses, Outcome, Stops, command_of};
+
+use crate::answer::{Answer, Counts, Status, Stop, report, status_for};
+use crate::judge::{assignment_count, is_accepted, statement_count};
+use crate::reader::{ReadFault, read};
+use cov_expr::Blob;
+use cov_io::{Fetched, Shelf, ShelfFault, Sink, write_whole};
+use std::alloc::Global;
+
+/// The most bytes of a program file.
+const PROGRAM_LIMIT: usize = 1_048_576;
+
+/// Does what the command line says, and writes the report. `words` are the command line without the program's name; files
+/// are read from `shelf` by name, and the report goes to `sink`.
+pub fn covern<S: Shelf, K: Sink>(
+    alloc: Global,
+    words: &[String],
+    shelf: &mut S,
+    sink: &mut K,
+) -> Status
+    // The status, and what is put, are those of a reply that the command may give.
+    ensures outcome { Ends (Does (S.shelved shelf.old) (S.shelved shelf.new) (command_of (map string_bytes words.now)))
+        (K.sunk sink.old) (K.sunk sink.new) result }
+    // On a sure shelf the reply is the one that the files say.
+    ensures exact { IsTrue (S.shelved shelf.old).sure → IfSome (S.shelved shelf.old).told (λ files.
+        Ends (Outcome files (command_of (map string_bytes words.now))) (K.sunk sink.old) (K.sunk sink.new) result) }
+    // A program that is accepted is secure.
+    ensures secure { result ≡ Status.Done → IfSome (S.shelved shelf.old).told (λ files.
+        HoldsSecure files (command_of (map string_bytes words.now))) }
+    ensures read_fault { result ≡ Status.ReadFault → Rose (S.shelved shelf.old).faults (S.shelved shelf.new).faults }
+    ensures write_fault { result ≡ Status.WriteFault → Rose (K.sunk sink.old).faults (K.sunk sink.new).faults }
+{
+    let answer = match answer(alloc, words, shelf) {
+        Ok(answer) | Err(Stop::Answer(answer)) => answer,
+        Err(Stop::NoMemory) => return Status::NoMemory,
+    };
+    let Ok(text) = report(alloc, &answer) else {
+        return Status::NoMemory;
+    };
+    match write_whole(sink, text.as_bytes()) {
+        Ok(()) => status_for(&answer),
+        Err(_) => Status::WriteFault,
+    }
+}
+
+fn answer<'w, S: Shelf>(
+    alloc: Global,
+    words: &'w [String],
+    shelf: &mut S,
+) -> Result<Answer<'w>, Stop<'w>>
+    ensures { Gets (Does (S.shelved shelf.old) (S.shelved shelf.new) (command_of (map string_bytes words.now))) result }
+{
+    match words {
+        [command, name] if command.as_str() == "check" => check(alloc, name.as_str(), shelf),
+        _ => Ok(Answer::Usage),
+    }
+}
+
+/// Checks the program of a file.
+fn check<'w, S: Shelf>(alloc: Global, name: &'w str, shelf: &mut S) -> Result<Answer<'w>, Stop<'w>>
+    ensures { Gets (Does (S.shelved shelf.old) (S.shelved shelf.new) (Command.check name.now)) result }
+{
+    let bytes = fetch(alloc, name, PROGRAM_LIMIT, shelf)?;
+    check_text(alloc, name, bytes.as_slice())
+}
+
+/// The bytes of a file.
+fn fetch<'w, S: Shelf>(
+    alloc: Global,
+    name: &'w str,
+    most: usize,
+    shelf: &mut S,
+) -> Result<Blob, Stop<'w>>
+    ensures answer { MatchResult result
+        (λ bytes. Gives (S.shelved shelf.old) (S.shelved shelf.new) name.now most (Ok (fetched.Whole bytes)))
+        (λ stop. Stops (Misses (S.shelved shelf.old) (S.shelved shelf.new) name.now most) stop) }
+    ensures passes { Passes (S.shelved shelf.old) (S.shelved shelf.new) }
+{
+    match shelf.fetch(alloc, name, most) {
+        Ok(Fetched::Whole(bytes)) => Ok(bytes),
+        Ok(Fetched::TooLong) => Err(Stop::Answer(Answer::TooLong(name))),
+        Err(ShelfFault::Failed) => Err(Stop::Answer(Answer::ReadFault(name))),
+        Err(ShelfFault::NoMemory) => Err(Stop::NoMemory),
+    }
+}
+
+/// Checks the program of a text.
+fn check_text<'w>(alloc: Global, name: &'w str, bytes: &[u8]) -> Result<Answer<'w>, Stop<'w>>
+    requires { length bytes.now ≤ 1048576 }
+    ensures { Gets (Judges name.now bytes.now) result }
+{
+    let program = match read(alloc, bytes) {
+        Ok(program) => program,
+        Err(ReadFault::Malformed) => return Ok(Answer::Malformed(name)),
+        Err(ReadFault::NoMemory) => return Err(Stop::NoMemory),
+    };
+    if !is_accepted(alloc, &program)? {
+        return Ok(Answer::Refused);
+    }
+    Ok(Answer::Accepted(Counts {
+        threads: program.threads.len() as u64,
+        statements: statement_count(&program),
+        entailments: assignment_count(&program),
+    }))
+}
