@@ -1,7 +1,7 @@
 -- Which programs of the first grammar are accepted.
 --
 -- No name is declared twice, each variable that is used is declared, and no high variable is assigned to a low one.
-use Rattle.std.specs.Prelude.{ℕ, ◌+◌, List, [], ◌∷◌, ◌++◌, length, map, Bool, true, false, not, ◌&&◌, Option, Some, None, is_some, nat_eq, sum_by}
+use Rattle.std.specs.Prelude.{ℕ, ◌+◌, List, [], ◌∷◌, ◌++◌, length, map, Bool, true, false, not, ◌&&◌, Option, Some, None, is_some, nat_eq, count_by}
 use Rattle.std.specs.List.{list_all}
 use Rattle.std.specs.Map.{lookup}
 use Rattle.covern_cli.specs.Small.{Program, Thread}
@@ -72,14 +72,22 @@ is_accepted p = none_twice [] (declared_roles p) && list_all (λ t. is_body_fine
 -- Counts -------------------------------------------------------------------------------------------------------
 
 abbrev pub statements_in : List Thread → ℕ
-statements_in ts = sum_by (λ t. length t.body) ts
+statements_in [] = 0
+statements_in (t ∷ ts) = length t.body + statements_in ts
 
 abbrev pub statement_count : Program → ℕ
 statement_count p = statements_in p.threads
 
-abbrev pub assignments_in : List Stmt → ℕ
+abbrev pub is_assignment : StmtKind → Bool
+is_assignment kinds.Skip = false
+is_assignment (kinds.Assign x e) = true
+
+abbrev pub assignments_of : List Stmt → ℕ
+assignments_of body = count_by (λ s. is_assignment s.kind) body
+
+abbrev pub assignments_in : List Thread → ℕ
 assignments_in [] = 0
-assignments_in (s ∷ ss) = elim s.kind [ kinds.Skip ↦ assignments_in ss | kinds.Assign x e ↦ assignments_in ss + 1 ]
+assignments_in (t ∷ ts) = assignments_of t.body + assignments_in ts
 
 abbrev pub assignment_count : Program → ℕ
-assignment_count p = sum_by (λ t. assignments_in t.body) p.threads
+assignment_count p = assignments_in p.threads

@@ -160,14 +160,13 @@ pub fn assignment_count(program: &Program) -> u64
 {
     let mut count = 0;
     for thread in program.threads.as_slice() {
-        count += assignments_in(thread.body.as_slice());
+        count += assignments_of(thread.body.as_slice());
     }
     count
 }
 
-fn assignments_in(body: &[Stmt]) -> u64
-    requires { spec.assignments_in (map view.stmt body.now) < 2 ^ 64 }
-    ensures { result ≡ spec.assignments_in (map view.stmt body.now) }
+fn assignments_of(body: &[Stmt]) -> u64
+    ensures { result ≡ spec.assignments_of (map view.stmt body.now) }
 {
     let mut count = 0;
     for stmt in body {

@@ -5,9 +5,9 @@ ghost use Rattle.covern_cli.specs.Small as view;
 ghost use Rattle.covern_cli.specs.SmallText as spec;
 
 use crate::small::{Program, ThreadDecl};
-use crate::small_reader::read_program;
+use crate::small_reader::read_tokens;
 use cov_expr::NoMemory;
-use cov_grammar::{TokenFault, TokenReader};
+use cov_grammar::TokenFault;
 use cov_lex::{LexFault, lex};
 use cov_parse::read_words;
 use std::alloc::Global;
@@ -73,9 +73,7 @@ pub fn read(alloc: Global, bytes: &[u8]) -> Result<Program, ReadFault>
 {
     let tokens = lex(alloc, bytes)?;
     let words = read_words(alloc, bytes, tokens.as_slice())?;
-    let mut reader = TokenReader::new(words.tokens.as_slice());
-    let read = read_program(alloc, &mut reader);
-    let program = reader.finish(read, bytes.len() as u32)?;
+    let program = read_tokens(alloc, words.tokens.as_slice(), bytes.len() as u32)?;
     if !is_within_limits(&program) {
         return Err(ReadFault::Malformed);
     }

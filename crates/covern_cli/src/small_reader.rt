@@ -1,13 +1,14 @@
 ghost use Rattle.std.specs.Prelude.{◌≡◌, ◌≤◌, length, map};
 ghost use Rattle.cov_grammar.specs.Shapes.{many};
 ghost use Rattle.cov_grammar.specs.Reading.{reading};
-ghost use Rattle.cov_grammar.specs.Answers.{Gives, Shorter};
+ghost use Rattle.cov_grammar.specs.Answers.{Answers, Gives, Only, Shorter};
+ghost use Rattle.cov_grammar.specs.Spelling.{Is};
 ghost use Rattle.covern_cli.specs.SmallGrammar as spec;
 ghost use Rattle.covern_cli.specs.Small as view;
 
 use crate::small::{Class, Program, Stmt, StmtKind, ThreadDecl, Value, VarDecl};
 use cov_expr::List;
-use cov_grammar::{Kind, Stop, TokenReader};
+use cov_grammar::{Kind, Stop, Token, TokenFault, TokenReader};
 use std::alloc::Global;
 
 #[tactic(auto, unfolding(crate::specs::SmallGrammar::class))]
@@ -133,11 +134,24 @@ fn read_threads(alloc: Global, tokens: &mut TokenReader<'_>) -> Result<List<Thre
 
 /// A program at the front of the tokens.
 #[tactic(auto, unfolding(crate::specs::SmallGrammar::program))]
-pub fn read_program(alloc: Global, tokens: &mut TokenReader<'_>) -> Result<Program, Stop>
+fn read_program(alloc: Global, tokens: &mut TokenReader<'_>) -> Result<Program, Stop>
     ensures reads { Gives view.program tokens.new result (reading spec.program tokens.old) }
     ensures shorter { length tokens.new ≤ length tokens.old }
 {
     let vars = read_variables(alloc, tokens)?;
     let threads = read_threads(alloc, tokens)?;
     Ok(Program { vars, threads })
+}
+
+/// The program that the tokens of a text are, where `end` is the length of the text.
+#[tactic(auto, using(crate::proofs::SmallWhole::program_answers))]
+pub fn read_tokens(alloc: Global, tokens: &[Token], end: u32) -> Result<Program, TokenFault>
+    // What is read is spelled so; a fault is at the first wrong token.
+    ensures answers { Answers spec.program view.program end tokens.now result }
+    // What is spelled is read.
+    ensures only { (q : view.Program) → Is spec.program q tokens.now → Only view.program q result }
+{
+    let mut reader = TokenReader::new(tokens);
+    let program = read_program(alloc, &mut reader);
+    reader.finish(program, end)
 }

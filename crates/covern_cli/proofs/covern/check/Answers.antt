@@ -1,0 +1,6 @@
+use Rattle.covern_cli.proofs.OutcomeLaws.{check_reads}
+use Rattle.covern_cli.proofs.covern.check.Goals as goal
+
+pub returns : goal.returns
+returns g c =
+    check_reads _ _ c.args.name.now c.in_ok-bytes.bytes c.as_slice.result.now c.check_text.result c.in_ok-bytes.ensures.answer c.as_slice.ensures c.check_text.ensures
