@@ -1,6 +1,6 @@
 -- Laws of calls of a shelf, for callers that make several.
-use Rattle.std.proofs.Common.{◌≡◌, ℕ, List, Result, Ok, Err, Some, refl, sym, ◌∙◌, subst, arith, length, IfSome, IsTrue, IsNone, IsSomeAnd, ◌<◌, ◌≤◌, ◌+◌}
-use Rattle.cov_io.specs.Counts.{GrewPast}
+use Rattle.std.proofs.Common.{◌≡◌, ℕ, List, Result, Ok, Err, Some, refl, sym, ◌∙◌, subst, arith, length, IfSome, IsTrue, IsNone, IsSomeAnd, ◌<◌}
+use Rattle.cov_io.proofs.CountLaws.{grew_within}
 use Rattle.cov_io.specs.Shelves.{Shelved, Gives, Passes, held}
 use Rattle.cov_io.specs.declared.shelf.Fetched.{Fetched}
 use Rattle.cov_io.specs.declared.shelf.Fetched.TheVariants.{Whole, TooLong}
@@ -20,15 +20,11 @@ passes_both a b c p q = record {
   taken = omega (arith, p.taken, q.taken);
 }
 
--- A count that grew in a call grew over calls before and behind it too.
-pub grew_within : (n a b c d : ℕ) → a ≤ b → c ≤ d → GrewPast n b c → GrewPast n a d
-grew_within n a b c d p q h = λ below. let now : b + n < c = h (omega arith) in omega arith
-
 -- what a fetch answers, also where other calls stand before and behind it
 pub gives_within : (a b c d : Shelved) (name : List ℕ) (limit : ℕ) (r : Result Fetched ShelfFault) → Passes a b → Passes c d → Gives b c name limit r → Gives a d name limit r
 gives_within a b c d name limit (Ok (Whole bytes)) p q h = (h.0, subst (λ t. IfSome t (λ files. held files name ≡ Some bytes)) p.told h.1)
 gives_within a b c d name limit (Ok TooLong) p q h =
-    (grew_within _ _ _ _ _ p.taken q.taken h.0, subst (λ t. IfSome t (λ files. IsSomeAnd (held files name) (λ bytes. limit < length bytes))) p.told h.1)
+    (grew_within limit _ _ _ _ p.taken q.taken h.0, subst (λ t. IfSome t (λ files. IsSomeAnd (held files name) (λ bytes. limit < length bytes))) p.told h.1)
 gives_within a b c d name limit (Err Failed) p q h =
-    (grew_within _ _ _ _ _ p.faults q.faults h.0, λ sure. subst (λ t. IfSome t (λ files. IsNone (held files name))) p.told (h.1 (subst IsTrue (sym p.sure) sure)))
+    (grew_within 0 _ _ _ _ p.faults q.faults h.0, λ sure. subst (λ t. IfSome t (λ files. IsNone (held files name))) p.told (h.1 (subst IsTrue (sym p.sure) sure)))
 gives_within a b c d name limit (Err NoMemory) p q h = tt

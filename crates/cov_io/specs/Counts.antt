@@ -1,5 +1,5 @@
 -- Counts of 64 bits, which stand still at their last value.
-use Rattle.std.specs.Prelude.{ℕ, ◌+◌, ◌-◌, ◌^◌, ◌<◌, min}
+use Rattle.std.specs.Prelude.{ℕ, ◌+◌, ◌-◌, ◌^◌, ◌≤◌, min}
 
 -- where a count stands still
 abbrev pub last_count : ℕ
@@ -9,10 +9,11 @@ last_count = 2 ^ 64 - 1
 abbrev pub raised : ℕ → ℕ → ℕ
 raised count by = min (count + by) last_count
 
--- The count grew by more than n, unless it stands at its last value.
+-- The count rose by n + 1 or more, or as far as it can: it grew by more than n, or stands at its last value.
+-- (`grew_or_stands` and `stands_or_grew` of proofs/CountLaws say that these are the same.)
 abbrev pub GrewPast : ℕ → ℕ → ℕ → Type 0
-GrewPast n before now = now < last_count → before + n < now
+GrewPast n before now = raised before (n + 1) ≤ now
 
--- The count is larger than before, unless it stands at its last value.
+-- The count rose: it is larger than before, or stands at its last value.
 abbrev pub Rose : ℕ → ℕ → Type 0
 Rose before now = GrewPast 0 before now
