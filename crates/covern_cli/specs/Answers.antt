@@ -31,6 +31,10 @@ status_of (malformed name) = s.Malformed
 status_of refused = s.Refused
 status_of (accepted threads statements entailments) = s.Done
 
+-- a number, and what there are so many of
+abbrev pub counted : ℕ → List ℕ → List ℕ
+counted n what = decimal n ++ what
+
 -- the report of a reply, which ends with a line feed
 abbrev pub report_of : Reply → List ℕ
 report_of usage = codes "usage: covern COMMAND WORDS\n"
@@ -39,4 +43,4 @@ report_of (too_long name) = codes "too long: " ++ name ++ 10 ∷ []
 report_of (malformed name) = codes "malformed " ++ name ++ 10 ∷ []
 report_of refused = codes "refused\n"
 report_of (accepted threads statements entailments) =
-    codes "accepted: " ++ decimal threads ++ codes " threads, " ++ decimal statements ++ codes " statements, " ++ decimal entailments ++ codes " entailments\n"
+    codes "accepted: " ++ counted threads (codes " threads, ") ++ counted statements (codes " statements, ") ++ counted entailments (codes " entailments\n")

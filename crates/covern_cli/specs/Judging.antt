@@ -1,7 +1,7 @@
 -- Which programs of the first grammar are accepted.
 --
 -- No name is declared twice, each variable that is used is declared, and no high variable is assigned to a low one.
-use Rattle.std.specs.Prelude.{ℕ, ◌+◌, List, [], ◌∷◌, ◌++◌, length, map, Bool, true, false, not, ◌&&◌, Option, Some, None, is_some, nat_eq, count_by}
+use Rattle.std.specs.Prelude.{ℕ, ◌+◌, List, [], ◌∷◌, ◌++◌, length, map, Bool, true, false, not, ◌&&◌, Option, Some, None, is_some, nat_eq, if◌then◌else◌}
 use Rattle.std.specs.List.{list_all}
 use Rattle.std.specs.Map.{lookup}
 use Rattle.covern_cli.specs.Small.{Program, Thread}
@@ -83,7 +83,8 @@ is_assignment kinds.Skip = false
 is_assignment (kinds.Assign x e) = true
 
 abbrev pub assignments_of : List Stmt → ℕ
-assignments_of body = count_by (λ s. is_assignment s.kind) body
+assignments_of [] = 0
+assignments_of (s ∷ ss) = (if is_assignment s.kind then 1 else 0) + assignments_of ss
 
 abbrev pub assignments_in : List Thread → ℕ
 assignments_in [] = 0

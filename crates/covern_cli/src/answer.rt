@@ -1,4 +1,5 @@
 ghost use Rattle.std.specs.Prelude.{◌≡◌, IfOk, string_bytes};
+ghost use Rattle.covern_cli.specs.Answers as spec;
 ghost use Rattle.covern_cli.specs.Answers.{seen, report_of, status_of};
 ghost use Rattle.covern_cli.specs.declared.answer.Stop.TheVariants as stops;
 
@@ -97,8 +98,15 @@ pub fn report(alloc: Global, answer: &Answer<'_>) -> Result<String, AllocError>
 fn accepted_line(alloc: Global, counts: &Counts) -> Result<String, AllocError>
     ensures { IfOk result (λ text. string_bytes text ≡ report_of (seen (Answer.Accepted counts.now))) }
 {
-    let threads = counts.threads;
-    let statements = counts.statements;
-    let entailments = counts.entailments;
-    format!(in alloc; "accepted: {threads} threads, {statements} statements, {entailments} entailments\n")
+    let threads = counted(alloc, counts.threads, " threads, ")?;
+    let statements = counted(alloc, counts.statements, " statements, ")?;
+    let entailments = counted(alloc, counts.entailments, " entailments\n")?;
+    format!(in alloc; "accepted: {threads}{statements}{entailments}")
+}
+
+/// A number, and what there are so many of.
+fn counted(alloc: Global, n: u64, what: &str) -> Result<String, AllocError>
+    ensures { IfOk result (λ text. string_bytes text ≡ spec.counted n what.now) }
+{
+    format!(in alloc; "{n}{what}")
 }
