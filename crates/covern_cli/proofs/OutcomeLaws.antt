@@ -2,10 +2,9 @@
 use Rattle.std.proofs.Common.{◌≡◌, ◌⊎◌, ℕ, List, Result, Option, Ok, Err, Some, None, IfSome, IsTrue, length, subst, ap, sym, ◌∙◌, inl, inr}
 use Rattle.cov_io.specs.Shelves.{File, Shelved, Gives, held}
 use Rattle.cov_io.specs.declared.shelf.Fetched.TheVariants.{Whole}
-use Rattle.covern_cli.specs.declared.covern.TheConstants.{PROGRAM_LIMIT}
 use Rattle.cov_io.specs.Sinks.{Sunk}
 use Rattle.covern_cli.specs.Answers.{Reply, usage, read_fault, too_long, malformed, refused, accepted, status_of}
-use Rattle.covern_cli.specs.Outcome.{Command, check, nothing, Does, Gets, Stops, Ends, Judges, Misses, HoldsSecure}
+use Rattle.covern_cli.specs.Outcome.{program_limit, Command, check, nothing, Does, Gets, Stops, Ends, Judges, Misses, HoldsSecure}
 use Rattle.covern_cli.specs.declared.answer.Answer.{Answer}
 use Rattle.covern_cli.specs.declared.answer.Stop.{Stop}
 use Rattle.covern_cli.specs.declared.answer.Stop.TheVariants as stops
@@ -21,7 +20,7 @@ gets_onward does does' (Err (stops.Answer answer)) each h = each _ h
 gets_onward does does' (Err stops.NoMemory) each h = tt
 
 -- the bytes of a file, and what is replied to them
-pub check_reads : (before after : Shelved) (name bytes seen_bytes : List ℕ) (r : Result Answer Stop) → Gives before after name PROGRAM_LIMIT (Ok (Whole bytes))
+pub check_reads : (before after : Shelved) (name bytes seen_bytes : List ℕ) (r : Result Answer Stop) → Gives before after name program_limit (Ok (Whole bytes))
     → seen_bytes ≡ bytes → Gets (Judges name seen_bytes) r → Gets (Does before after (check name)) r
 check_reads before after name bytes seen_bytes r fetched same h =
     gets_onward (Judges name seen_bytes) (Does before after (check name)) r (λ reply judged. inl (bytes, fetched, subst (λ b. Judges name b reply) same judged)) h

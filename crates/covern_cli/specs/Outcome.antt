@@ -17,7 +17,6 @@ use Rattle.covern_cli.specs.declared.answer.Stop.{Stop}
 use Rattle.covern_cli.specs.declared.answer.Stop.TheVariants as stops
 use Rattle.covern_cli.specs.declared.answer.Status.{Status}
 use Rattle.covern_cli.specs.declared.answer.Status.TheVariants as s
-use Rattle.covern_cli.specs.declared.covern.TheConstants.{PROGRAM_LIMIT}
 
 -- Commands -----------------------------------------------------------------------------------------------------
 
@@ -47,6 +46,10 @@ Judges name bytes (accepted threads statements entailments) =
 
 -- Files --------------------------------------------------------------------------------------------------------
 
+-- the most bytes of a program file
+abbrev pub program_limit : ℕ
+program_limit = 1048576
+
 -- A file isn't fetched: it is too long, or the shelf fails.
 abbrev pub Misses : (before after : Shelved) (name : List ℕ) (most : ℕ) → Reply → Type 0
 Misses before after name most reply =
@@ -61,7 +64,7 @@ Reads before after name most next reply =
 -- What a command may reply, by the shelf before and after the call. It is a relation, so that it speaks of shelves that
 -- tell nothing and of faults in mid-call too.
 abbrev pub Does : (before after : Shelved) → Command → Reply → Type 0
-Does before after (check name) reply = Reads before after name PROGRAM_LIMIT (Judges name) reply
+Does before after (check name) reply = Reads before after name program_limit (Judges name) reply
 Does before after nothing reply = reply ≡ usage
 
 -- A step of the code gives what the command gives, unless memory ran out.
@@ -91,7 +94,7 @@ GivenBy (Some bytes) name most next reply = MatchBool (nat_lt most (length bytes
 
 -- the reply to a command where all files are told, and no call fails but for a name that isn't told
 abbrev pub Outcome : List File → Command → Reply → Type 0
-Outcome files (check name) reply = GivenBy (held files name) name PROGRAM_LIMIT (Judges name) reply
+Outcome files (check name) reply = GivenBy (held files name) name program_limit (Judges name) reply
 Outcome files nothing reply = reply ≡ usage
 
 -- The headline -------------------------------------------------------------------------------------------------

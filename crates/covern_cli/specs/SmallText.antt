@@ -9,11 +9,11 @@ use Rattle.cov_grammar.specs.Spelling.{Is}
 use Rattle.covern_cli.specs.Small.{Program, program_of}
 use Rattle.covern_cli.specs.SmallGrammar.{program}
 use Rattle.covern_cli.specs.Judging.{statement_count}
-use Rattle.covern_cli.specs.declared.reader.TheConstants.{MOST_VARIABLES, MOST_THREADS, MOST_STATEMENTS}
 
+-- at most 256 variables, 16 threads and 20,000 statements
 abbrev pub is_within_limits : Program → Bool
 is_within_limits q =
-    nat_le (length q.vars) MOST_VARIABLES && nat_le (length q.threads) MOST_THREADS && nat_le (statement_count q) MOST_STATEMENTS
+    nat_le (length q.vars) 256 && nat_le (length q.threads) 16 && nat_le (statement_count q) 20000
 
 -- The bytes spell the program: they have tokens, these spell it by the grammar, and it is within the limits.
 pub record Spells (bytes : List ℕ) (q : Program) : Type 0 where

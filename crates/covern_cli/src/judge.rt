@@ -117,7 +117,10 @@ fn is_kind_fine(roles: &Roles, kind: &StmtKind) -> bool
     match kind {
         StmtKind::Skip => true,
         StmtKind::Assign(x, Value::Number(_)) => is_variable(roles.get(x).copied()),
-        StmtKind::Assign(x, Value::Var(y)) => may_flow(roles.get(y).copied(), roles.get(x).copied()),
+        StmtKind::Assign(x, Value::Var(y)) => may_flow(
+            roles.get(y).copied(),
+            roles.get(x).copied(),
+        ),
     }
 }
 

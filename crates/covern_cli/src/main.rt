@@ -11,6 +11,8 @@ mod judge;
 mod reader;
 mod small;
 mod small_reader;
+#[cfg(test)]
+mod tests;
 
 use crate::covern::covern;
 use cov_io::{FileShelf, StdSink};

@@ -47,7 +47,8 @@ impl From<LexFault> for ReadFault {
 
     fn from(error: LexFault) -> Self {
         match error {
-            LexFault::BadByte(_) | LexFault::NumberTooLarge(_) | LexFault::NameTooLong(_) => ReadFault::Malformed,
+            LexFault::BadByte(_) | LexFault::NumberTooLarge(_) | LexFault::NameTooLong(_) =>
+                ReadFault::Malformed,
             LexFault::NoMemory => ReadFault::NoMemory,
         }
     }
@@ -91,7 +92,7 @@ fn is_within_limits(program: &Program) -> bool
 
 /// Whether the threads have no more statements than a program may have.
 fn are_few(threads: &[ThreadDecl]) -> bool
-    ensures { result ≡ nat_le (judging.statements_in (map view.thread threads.now)) MOST_STATEMENTS }
+    ensures { result ≡ nat_le (judging.statements_in (map view.thread threads.now)) 20000 }
 {
     let mut left = MOST_STATEMENTS;
     for thread in threads {

@@ -1,0 +1,305 @@
+use crate::answer::Status;
+use crate::covern::covern;
+use cov_expr::{Blob, List, Name};
+use cov_io::{MemShelf, MemSink};
+use std::alloc::Global;
+use std::process::Abort;
+use std::test::Fail;
+
+/// What a call of `check p` is made on, and what it must answer and put.
+#[derive(Clone, Copy, Debug)]
+struct Case<'a> {
+    text: &'a [u8],
+    status: Status,
+    put: &'a [u8],
+}
+
+fn bytes_of(alloc: Global, text: &[u8]) -> Result<Blob, Fail> {
+    let mut bytes = List::new(alloc);
+    bytes.extend_from_slice(text)?;
+    Ok(bytes)
+}
+
+fn numbers_of(alloc: Global, numbers: &[u64]) -> Result<List<u64>, Fail> {
+    let mut list = List::new(alloc);
+    list.extend_from_slice(numbers)?;
+    Ok(list)
+}
+
+/// One file under the name `p`; the listed calls fail.
+fn shelf_of(alloc: Global, text: &[u8], fails: &[u64]) -> Result<MemShelf, Fail> {
+    let mut files = List::new(alloc);
+    files.push((Name::new(b"p").ok_or("a name")?, bytes_of(alloc, text)?))?;
+    Ok(MemShelf::new(files, numbers_of(alloc, fails)?))
+}
+
+fn words_of(alloc: Global, words: &[&str]) -> Result<Vec<String>, Fail> {
+    let mut texts = Vec::new(alloc);
+    for word in words {
+        texts.push(String::from_str(alloc, word)?)?;
+    }
+    Ok(texts)
+}
+
+/// Calls with these words, and compares the status and what was put.
+fn shows(
+    rt: &(impl Abort + AllocGlobal),
+    words: &[&str],
+    shelf: &mut MemShelf,
+    step: usize,
+    fails: &[u64],
+    case: &Case<'_>,
+) -> Result<(), Fail> {
+    let alloc = rt.alloc();
+    let texts = words_of(alloc, words)?;
+    assert!(rt; step > 0);
+    let mut sink = MemSink::new(alloc, 1000, step, numbers_of(alloc, fails)?)?;
+    let status = covern(alloc, texts.as_slice(), shelf, &mut sink);
+    assert_eq!(rt; status, case.status);
+    assert_eq!(rt; sink.bytes(), case.put);
+    Ok(())
+}
+
+/// `check p` on a text.
+fn checks(rt: &(impl Abort + AllocGlobal), case: &Case<'_>) -> Result<(), Fail> {
+    let mut shelf = shelf_of(rt.alloc(), case.text, &[])?;
+    shows(rt, &["check", "p"], &mut shelf, 1000, &[], case)
+}
+
+const ONE: &[u8] = b"accepted: 1 threads, 1 statements, 1 entailments\n";
+
+#[test]
+fn answers(rt: HostRuntime) -> Result<(), Fail> {
+    let cases = [
+        Case {
+            text: b"var a: low; var s: high; thread t { s := a; }",
+            status: Status::Done,
+            put: ONE,
+        },
+        Case {
+            text: b"var a: low; var s: high; thread t { a := s; }",
+            status: Status::Refused,
+            put: b"refused\n",
+        },
+        Case {
+            text: b"",
+            status: Status::Done,
+            put: b"accepted: 0 threads, 0 statements, 0 entailments\n",
+        },
+        Case {
+            text: b"var a: low; thread t { a := 4294967295; }",
+            status: Status::Done,
+            put: ONE,
+        },
+        Case {
+            text: b"var a: low; thread t { a := 4294967296; }",
+            status: Status::Malformed,
+            put: b"malformed p\n",
+        },
+        Case {
+            text: b"var a: low; thread t { a := 1;",
+            status: Status::Malformed,
+            put: b"malformed p\n",
+        },
+        Case {
+            text: b"var a: low; var a: low;",
+            status: Status::Refused,
+            put: b"refused\n",
+        },
+        Case {
+            text: b"thread t { } thread t { }",
+            status: Status::Refused,
+            put: b"refused\n",
+        },
+        Case {
+            text: b"thread t { a := 1; }",
+            status: Status::Refused,
+            put: b"refused\n",
+        },
+        Case {
+            text: b"var a: low; thread t { a := t; }",
+            status: Status::Refused,
+            put: b"refused\n",
+        },
+        Case {
+            text: b"var a: high; thread t { a := b; }",
+            status: Status::Refused,
+            put: b"refused\n",
+        },
+        Case {
+            text: b"var a: low; // a comment\nvar s: high;\r\n\tthread t { skip; a := a; s := s; }\nthread u { }//",
+            status: Status::Done,
+            put: b"accepted: 2 threads, 3 statements, 2 entailments\n",
+        },
+        Case {
+            text: b"var a : low; thread t { a : = 1; }",
+            status: Status::Malformed,
+            put: b"malformed p\n",
+        },
+        Case {
+            text: b"\xff\xfe\x00\x01",
+            status: Status::Malformed,
+            put: b"malformed p\n",
+        },
+    ];
+    for case in &cases {
+        checks(&rt, case)?;
+    }
+    Ok(())
+}
+
+#[test]
+fn other_words(rt: HostRuntime) -> Result<(), Fail> {
+    let usage = Case {
+        text: b"",
+        status: Status::Usage,
+        put: b"usage: covern COMMAND WORDS\n",
+    };
+    let words: [&[&str]; 5] = [
+        &[],
+        &["check"],
+        &["chec", "p"],
+        &["check", "p", "p"],
+        &["fmt", "p"],
+    ];
+    for form in words {
+        let mut shelf = shelf_of(rt.alloc(), b"", &[])?;
+        shows(&rt, form, &mut shelf, 1000, &[], &usage)?;
+    }
+    let missing = Case {
+        text: b"",
+        status: Status::ReadFault,
+        put: b"read fault: q r\n",
+    };
+    let mut shelf = shelf_of(rt.alloc(), b"", &[])?;
+    shows(&rt, &["check", "q r"], &mut shelf, 1000, &[], &missing)
+}
+
+#[test]
+fn faults(rt: HostRuntime) -> Result<(), Fail> {
+    let text = b"var a: low; var s: high; thread t { s := a; }";
+    let fails = Case {
+        text,
+        status: Status::ReadFault,
+        put: b"read fault: p\n",
+    };
+    let mut shelf = shelf_of(rt.alloc(), text, &[1])?;
+    shows(&rt, &["check", "p"], &mut shelf, 1000, &[], &fails)?;
+    // Each put fails in turn: 48 bytes in pieces of ten.
+    for put in 1..6 {
+        let mut shelf = shelf_of(rt.alloc(), text, &[])?;
+        let part = (put as usize - 1) * 10;
+        assert!(rt; part <= ONE.len());
+        let case = Case {
+            text,
+            status: Status::WriteFault,
+            put: &ONE[..part],
+        };
+        shows(&rt, &["check", "p"], &mut shelf, 10, &[put], &case)?;
+    }
+    let mut shelf = shelf_of(rt.alloc(), text, &[])?;
+    shows(
+        &rt,
+        &["check", "p"],
+        &mut shelf,
+        10,
+        &[6],
+        &Case {
+            text,
+            status: Status::Done,
+            put: ONE,
+        },
+    )
+}
+
+/// A text repeated, between two others.
+fn repeated(
+    alloc: Global,
+    before: &[u8],
+    text: &[u8],
+    count: usize,
+    after: &[u8],
+) -> Result<Blob, Fail> {
+    let mut bytes = bytes_of(alloc, before)?;
+    for _ in 0..count {
+        bytes.extend_from_slice(text)?;
+    }
+    bytes.extend_from_slice(after)?;
+    Ok(bytes)
+}
+
+/// Declarations with names of their own, in front of an end.
+fn declared(alloc: Global, count: u32, before: &str, after: &str) -> Result<Blob, Fail> {
+    let mut bytes = List::new(alloc);
+    for i in 0..count {
+        let line = format!(in alloc; "{before}n{i}{after}")?;
+        bytes.extend_from_slice(line.as_bytes())?;
+    }
+    Ok(bytes)
+}
+
+#[test]
+fn limits(rt: HostRuntime) -> Result<(), Fail> {
+    let alloc = rt.alloc();
+    let malformed: &[u8] = b"malformed p\n";
+    let none: &[u8] = b"accepted: 0 threads, 0 statements, 0 entailments\n";
+    let long = repeated(alloc, b"//", b"x", 1_048_574, b"")?;
+    let too_long = repeated(alloc, b"//", b"x", 1_048_575, b"")?;
+    let texts = [
+        (declared(alloc, 256, "var ", ": low;")?, Status::Done, none),
+        (
+            declared(alloc, 257, "var ", ": low;")?,
+            Status::Malformed,
+            malformed,
+        ),
+        (
+            declared(alloc, 16, "thread ", " { }")?,
+            Status::Done,
+            b"accepted: 16 threads, 0 statements, 0 entailments\n",
+        ),
+        (
+            declared(alloc, 17, "thread ", " { }")?,
+            Status::Malformed,
+            malformed,
+        ),
+        (
+            repeated(alloc, b"thread t {", b"skip;", 20_000, b"}")?,
+            Status::Done,
+            b"accepted: 1 threads, 20000 statements, 0 entailments\n",
+        ),
+        (
+            repeated(
+                alloc,
+                b"thread t {skip;} thread u {",
+                b"skip;",
+                20_000,
+                b"}",
+            )?,
+            Status::Malformed,
+            malformed,
+        ),
+        (
+            repeated(alloc, b"var ", b"a", 32, b": low;")?,
+            Status::Done,
+            none,
+        ),
+        (
+            repeated(alloc, b"var ", b"a", 33, b": low;")?,
+            Status::Malformed,
+            malformed,
+        ),
+        (long, Status::Done, none),
+        (too_long, Status::TooLong, b"too long: p\n"),
+    ];
+    for (text, status, put) in &texts {
+        checks(
+            &rt,
+            &Case {
+                text: text.as_slice(),
+                status: *status,
+                put,
+            },
+        )?;
+    }
+    Ok(())
+}
