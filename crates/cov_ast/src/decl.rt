@@ -1,3 +1,8 @@
+ghost use Rattle.std.specs.Prelude.{◌≡◌, ◌<◌, length};
+ghost use Rattle.cov_ast.specs.View.{program};
+ghost use Rattle.cov_ast.specs.Plain.{plain};
+ghost use Rattle.cov_ast.specs.Declarations.{name_of};
+
 use crate::stmt::Stmt;
 use cov_expr::{Expr, List, Name};
 
@@ -63,4 +68,15 @@ pub struct Program {
     pub vars: List<VarDecl>,
     pub locks: List<LockDecl>,
     pub threads: List<ThreadDecl>,
+}
+
+impl Program {
+    /// The name of a variable.
+    #[tactic(auto, using(crate::proofs::ViewLaws::var_name))]
+    pub fn var_name(&self, x: u32) -> Name
+        requires { x < length self.now.vars }
+        ensures { result ≡ name_of (plain (program self.now)) x }
+    {
+        self.vars.as_slice()[x as usize].name
+    }
 }

@@ -14,6 +14,7 @@ mod decl;
 mod names;
 mod parsed;
 mod refusal;
+mod sets;
 mod state;
 mod stmt;
 
@@ -22,5 +23,6 @@ pub use decl::{Class, LockDecl, Modes, Program, ThreadDecl, VarDecl};
 pub use names::NameTable;
 pub use parsed::{NameUse, Parsed};
 pub use refusal::{CheckFault, Detail, Refusal, Rule};
+pub use sets::NumberSet;
 pub use state::State;
 pub use stmt::{Retype, Stmt, StmtKind};

@@ -66,3 +66,11 @@ impl From<NoMemory> for CheckFault {
         CheckFault::NoMemory
     }
 }
+
+impl From<Refusal> for CheckFault {
+    ghost from_gives = { λ refusal fault. fault ≡ faults.Refused refusal };
+
+    fn from(refusal: Refusal) -> CheckFault {
+        CheckFault::Refused(refusal)
+    }
+}
