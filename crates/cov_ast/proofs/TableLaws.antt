@@ -1,12 +1,13 @@
 -- Laws of sets as tables.
-use Rattle.std.proofs.Common.{◌≡◌, ◌≢◌, ℕ, ◌+◌, ◌<◌, ◌==◌, ◌||◌, List, [], ◌∷◌, Bool, true, false, length, map, get_or, refl, sym, ap, ◌∙◌, arith, replicate, inl, inr, ◌⊎◌}
+use Rattle.std.proofs.Common.{◌≡◌, ◌≢◌, ℕ, ◌+◌, ◌<◌, ◌==◌, ◌||◌, List, [], ◌∷◌, Bool, true, false, length, map, get_or, refl, sym, ap, ◌∙◌, arith, replicate, inl, inr, ◌⊎◌, ◌++◌, cond, Some}
+use Rattle.std.specs.Option.{option_or}
 use Rattle.std.proofs.lemmas.List.{get_or-set_same, get_or-set_other, length-set, same_lists, length-replicate, get_or-replicate}
 use Rattle.std.proofs.lemmas.List.FromFn.{get_or-map-range_with_len, length-map-range_with_len}
 use Rattle.std.proofs.lemmas.Bool.{cases_eq, eq-eqb, ne_eqb}
 use Rattle.std.specs.Prelude.{set}
 use Rattle.std.specs.List.{range_with_len}
 use Rattle.cov_expr.specs.Trees.{has_number}
-use Rattle.cov_ast.specs.Tables.{table, has, with_all}
+use Rattle.cov_ast.specs.Tables.{table, has, with_all, first_outside}
 
 -- what a table says below its bound
 pub table_at : (n : ℕ) (f : ℕ → Bool) (x : ℕ) → x < n → has (table n f) x ≡ f x
@@ -22,19 +23,19 @@ table_same n f g h =
     (λ k d b. let lt : k < n = omega (arith, table_length n f) in
     get_or-map-range_with_len f 0 n k k d lt (omega arith) ∙ h k lt ∙ sym (get_or-map-range_with_len g 0 n k k d lt (omega arith)))
 
-or_assoc : (a b c : Bool) → (a || (b || c)) ≡ ((a || b) || c)
+pub or_assoc : (a b c : Bool) → (a || (b || c)) ≡ ((a || b) || c)
 or_assoc true b c = refl
 or_assoc false b c = refl
 
-or_true : (a : Bool) → (a || true) ≡ true
+pub or_true : (a : Bool) → (a || true) ≡ true
 or_true true = refl
 or_true false = refl
 
-or_false : (a : Bool) → (a || false) ≡ a
+pub or_false : (a : Bool) → (a || false) ≡ a
 or_false true = refl
 or_false false = refl
 
-set_table : (n : ℕ) (f : ℕ → Bool) (x : ℕ) → set (table n f) x true ≡ table n (λ y. f y || x == y)
+pub set_table : (n : ℕ) (f : ℕ → Bool) (x : ℕ) → set (table n f) x true ≡ table n (λ y. f y || x == y)
 set_table n f x =
     same_lists (set (table n f) x true) (table n (λ y. f y || x == y))
     (length-set (table n f) x true ∙ table_length n f ∙ sym (table_length n (λ y. f y || x == y)))
@@ -55,7 +56,7 @@ with_all_table n f (x ∷ xs) =
     ap (λ m. with_all m xs) (set_table n f x) ∙ with_all_table n (λ y. f y || x == y) xs
     ∙ table_same n (λ y. (f y || x == y) || has_number xs y) (λ y. f y || has_number (x ∷ xs) y) (λ y h. sym (or_assoc (f y) (x == y) (has_number xs y)))
 
-none_table : (n : ℕ) → replicate n false ≡ table n (λ y. false)
+pub none_table : (n : ℕ) → replicate n false ≡ table n (λ y. false)
 none_table n =
     same_lists (replicate n false) (table n (λ y. false)) (length-replicate n false ∙ sym (table_length n (λ y. false)))
     (λ k d b. let lt : k < n = omega (arith, length-replicate n false) in
@@ -66,3 +67,9 @@ with_all_none n xs = ap (λ m. with_all m xs) (none_table n) ∙ with_all_table 
 
 pub with_all_both : (n : ℕ) (xs ys : List ℕ) → with_all (with_all (replicate n false) xs) ys ≡ table n (λ x. has_number xs x || has_number ys x)
 with_all_both n xs ys = ap (λ m. with_all m ys) (with_all_none n xs) ∙ with_all_table n (has_number xs) ys
+
+pub outside_append : (marks : List Bool) (xs ys : List ℕ) → first_outside marks (xs ++ ys) ≡ option_or (first_outside marks xs) (first_outside marks ys)
+outside_append marks [] ys = refl
+outside_append marks (x ∷ xs) ys =
+    elim (has marks x) as (λ b. cond b (first_outside marks (xs ++ ys)) (Some x) ≡ option_or (cond b (first_outside marks xs) (Some x)) (first_outside marks ys))
+    [ true ↦ outside_append marks xs ys | false ↦ refl ]

@@ -1,8 +1,11 @@
 ghost use Rattle.std.specs.Prelude.{◌≡◌, ◌<◌, ◌||◌, ◌++◌, length, map, set, replicate, true, false, IfOk};
-ghost use Rattle.cov_expr.specs.Trees.{has_number};
+ghost use Rattle.cov_expr.specs.Trees.{occurrences};
+ghost use Rattle.cov_expr.specs.Trees as tree;
+ghost use Rattle.cov_expr.specs.View.{term};
 ghost use Rattle.cov_ast.specs.Tables.{table, has, with_all};
+ghost use Rattle.cov_ast.specs.Tables as spec;
 
-use cov_expr::{List, NoMemory};
+use cov_expr::{Expr, List, NoMemory};
 use std::alloc::Global;
 use std::marker::Model;
 
@@ -35,7 +38,7 @@ impl NumberSet {
     /// The set of these numbers; those past the bound are left out.
     #[tactic(auto, using(crate::proofs::TableLaws::with_all_none))]
     pub fn of(alloc: Global, bound: usize, numbers: &[u32]) -> Result<Self, NoMemory>
-        ensures { IfOk result (λ made. made ≡ table bound (has_number numbers.now)) }
+        ensures { IfOk result (λ made. made ≡ table bound (tree.has_number numbers.now)) }
     {
         let mut made = NumberSet::new(alloc, bound)?;
         made.insert_all(numbers);
@@ -45,7 +48,7 @@ impl NumberSet {
     /// The set of the numbers of two lists; those past the bound are left out.
     #[tactic(auto, using(crate::proofs::TableLaws::with_all_both))]
     pub fn of_both(alloc: Global, bound: usize, first: &[u32], second: &[u32]) -> Result<Self, NoMemory>
-        ensures { IfOk result (λ made. made ≡ table bound (λ x. has_number first.now x || has_number second.now x)) }
+        ensures { IfOk result (λ made. made ≡ table bound (λ x. tree.has_number first.now x || tree.has_number second.now x)) }
     {
         let mut made = NumberSet::new(alloc, bound)?;
         made.insert_all(first);
@@ -96,4 +99,27 @@ impl NumberSet {
     {
         self.marks.len()
     }
+}
+
+/// The first occurrence in an expression of a variable outside a set. `None` comes where each variable is in the set.
+pub fn first_outside(e: &Expr, set: &NumberSet) -> Option<u32>
+    ensures { result ≡ spec.first_outside set.now (occurrences (term e.now)) }
+{
+    match e {
+        Expr::Const(_) => None,
+        Expr::Var(x) if set.has(*x) => None,
+        Expr::Var(x) => Some(*x),
+        Expr::Not(a) => first_outside(a, set),
+        Expr::Bin(_, a, b) => match first_outside(a, set) {
+            Some(c) => Some(c),
+            None => first_outside(b, set),
+        },
+    }
+}
+
+/// Whether a number stands in a list.
+pub fn has_number(numbers: &[u32], x: u32) -> bool
+    ensures { result ≡ tree.has_number numbers.now x }
+{
+    numbers.iter().any(|y| *y == x)
 }
