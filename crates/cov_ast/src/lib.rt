@@ -16,6 +16,7 @@ mod names;
 mod parsed;
 mod bare;
 mod refusal;
+mod sets;
 mod state;
 mod stmt;
 
@@ -24,6 +25,7 @@ pub use decl::{Class, LockDecl, Modes, Program, ThreadDecl, VarDecl};
 pub use names::NameTable;
 pub use parsed::{NameUse, Parsed};
 pub use bare::{annotations_do_nothing, plain};
-pub use refusal::{CheckFault, Detail, Refusal, Rule};
+pub use refusal::{CheckFault, Detail, Refusal, Rule, refused, require};
+pub use sets::{NumberSet, first_outside};
 pub use state::State;
 pub use stmt::{Retype, Stmt, StmtKind};
