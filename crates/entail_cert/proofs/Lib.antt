@@ -1,0 +1,4 @@
+pub mod Axioms
+pub mod Instances
+pub mod Sound
+pub mod Truth
