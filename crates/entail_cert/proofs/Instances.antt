@@ -63,7 +63,7 @@ mentioned t (suc n) i h k =
 letters_first : Term → Bool
 letters_first t = mentions_below t (length (vars t))
 
-all_at : (test : Term → Bool) (es : List Term) (i : ℕ) (t : Term) → list_all test es ≡ true → slice_get es i ≡ Some t → test t ≡ true
+pub all_at : (test : Term → Bool) (es : List Term) (i : ℕ) (t : Term) → list_all test es ≡ true → slice_get es i ≡ Some t → test t ≡ true
 all_at test [] i t h k = let c : ◌≡◌ {A = Option Term} None (Some t) = k in cc
 all_at test (e ∷ es) zero t h k = let i : e ≡ t = cc in subst (λ e. test e ≡ true) i (and_left (test e) (list_all test es) h)
 all_at test (e ∷ es) (suc i) t h k = all_at test es i t (and_right (test e) (list_all test es) h) k
@@ -79,7 +79,7 @@ pub record IsInstance (k : ℕ) (es : List Term) (e : Term) : Type 0 where
   pub fits : length es ≡ length (vars schema)
   pub is : instance schema es ≡ e
 
-instance_is : (k : ℕ) (es : List Term) (e : Term) → axiom_for k es ≡ Some e → IsInstance k es e
+pub instance_is : (k : ℕ) (es : List Term) (e : Term) → axiom_for k es ≡ Some e → IsInstance k es e
 instance_is k es e h = at (numbered axioms k) refl h
   where
     fits : (t : Term) → numbered axioms k ≡ Some t → (b : Bool) → (length es == length (vars t)) ≡ b

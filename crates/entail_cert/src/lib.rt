@@ -1,6 +1,8 @@
 //! Certificates of entailments.
 #![tactic(auto)]
 
+mod instance;
+
 ghost use Rattle.std.specs.Prelude.{IsTrue, List, ℕ};
 ghost use Rattle.cov_expr.specs.Entailment.{AllHold, Entails};
 ghost use Rattle.cov_expr.specs.Words.{AreWords};
