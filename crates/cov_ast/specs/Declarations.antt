@@ -25,6 +25,9 @@ no_thread = record { name = []; modes = no_modes; body = none }
 abbrev pub var_at : Plain → ℕ → Var
 var_at p x = get_or p.vars x no_var
 
+abbrev pub name_of : Plain → ℕ → List ℕ
+name_of p x = (var_at p x).name
+
 abbrev pub lock_at : Plain → ℕ → Lock
 lock_at p l = get_or p.locks l no_lock
 
@@ -51,17 +54,32 @@ invariant_of p l = invariant_term (lock_at p l).inv
 abbrev pub hides : Plain → (l x : ℕ) → Bool
 hides p l x = has_number (lock_at p l).hide x
 
+-- whether a variable stands in a list of a lock
+abbrev pub lists : Lock → (x : ℕ) → Bool
+lists l x = has_number l.nowrite x || has_number l.hide x
+
 abbrev pub under : Plain → (l x : ℕ) → Bool
-under p l x = has_number (lock_at p l).nowrite x || hides p l x
+under p l x = lists (lock_at p l) x
 
 abbrev pub assumes_hide : Plain → (t x : ℕ) → Bool
 assumes_hide p t x = has_number (modes_of p t).assume_hide x
 
+-- whether a variable stands in a list of what is assumed
+abbrev pub have_assumed : Modes → (x : ℕ) → Bool
+have_assumed m x = has_number m.assume_nowrite x || has_number m.assume_hide x
+
 abbrev pub assumes : Plain → (t x : ℕ) → Bool
-assumes p t x = has_number (modes_of p t).assume_nowrite x || assumes_hide p t x
+assumes p t x = have_assumed (modes_of p t) x
+
+-- whether a variable stands in a list of what is guaranteed
+abbrev pub have_guaranteed : Modes → (x : ℕ) → Bool
+have_guaranteed m x = has_number m.guarantee_nowrite x || has_number m.guarantee_hide x
 
 abbrev pub guarantees : Plain → (t x : ℕ) → Bool
-guarantees p t x = has_number (modes_of p t).guarantee_nowrite x || has_number (modes_of p t).guarantee_hide x
+guarantees p t x = have_guaranteed (modes_of p t) x
+
+abbrev pub guarantees_hide : Plain → (t x : ℕ) → Bool
+guarantees_hide p t x = has_number (modes_of p t).guarantee_hide x
 
 -- Controls -----------------------------------------------------------------------------------------------------
 

@@ -1,7 +1,7 @@
 -- The plain program: what a program does, without the annotations that say why it may.
 --
 -- Every semantic definition speaks of plain programs alone.
-use Rattle.std.specs.Prelude.{ℕ, List, [], map, None}
+use Rattle.std.specs.Prelude.{ℕ, List, [], map, Option, Some, None}
 use Rattle.cov_expr.specs.Term.{Term, const}
 use Rattle.cov_ast.specs.Syntax.{Class, low, high, when, Var, Lock, Modes, State, Stm, Block, done, more, Thread, Program}
 use Rattle.cov_ast.specs.Syntax as annotated
@@ -66,20 +66,25 @@ plain p = record { vars = p.vars; locks = p.locks; threads = map plain_thread p.
 abbrev pub no_state : State
 no_state = record { preds = []; types = [] }
 
+-- a statement in front of others, if there is one
+abbrev pub in_front : (at : ℕ) → Option Stm → Block → Block
+in_front at None rest = rest
+in_front at (Some s) rest = more at s [] rest
+
 abbrev mutual
-  -- a statement without annotations, in front of others; a note is dropped
-  pub bare_stm : Stm → (at : ℕ) → Block → Block
-  bare_stm annotated.skip at rest = more at annotated.skip [] rest
-  bare_stm (annotated.assign x e q retypes) at rest = more at (annotated.assign x e None []) [] rest
-  bare_stm (annotated.lock l) at rest = more at (annotated.lock l) [] rest
-  bare_stm (annotated.unlock l) at rest = more at (annotated.unlock l) [] rest
-  bare_stm (annotated.branch e a b state) at rest = more at (annotated.branch e (bare_block a) (bare_block b) no_state) [] rest
-  bare_stm (annotated.loop e state b) at rest = more at (annotated.loop e no_state (bare_block b)) [] rest
-  bare_stm (annotated.note state) at rest = rest
+  -- a statement without annotations; a note is nothing
+  pub bare_kind : Stm → Option Stm
+  bare_kind annotated.skip = Some annotated.skip
+  bare_kind (annotated.assign x e q retypes) = Some (annotated.assign x e None [])
+  bare_kind (annotated.lock l) = Some (annotated.lock l)
+  bare_kind (annotated.unlock l) = Some (annotated.unlock l)
+  bare_kind (annotated.branch e a b state) = Some (annotated.branch e (bare_block a) (bare_block b) no_state)
+  bare_kind (annotated.loop e state b) = Some (annotated.loop e no_state (bare_block b))
+  bare_kind (annotated.note state) = None
 
   pub bare_block : Block → Block
   bare_block done = done
-  bare_block (more at s proofs b) = bare_stm s at (bare_block b)
+  bare_block (more at s proofs b) = in_front at (bare_kind s) (bare_block b)
 
 abbrev pub bare_thread : Thread → Thread
 bare_thread t = record { name = t.name; at = t.at; modes = t.modes; body = bare_block t.body; end = t.end }

@@ -71,6 +71,11 @@ abbrev pub block_of : List Placed → s.Block
 block_of [] = s.done
 block_of (p ∷ ps) = s.more p.at p.stm p.proofs (block_of ps)
 
+-- statements in front of a block
+abbrev pub onto : List Placed → s.Block → s.Block
+onto [] b = b
+onto (p ∷ ps) b = s.more p.at p.stm p.proofs (onto ps b)
+
 abbrev pub kind_step : StmtKind-F s.Stm Placed → s.Stm
 kind_step StmtKind-F.Skip = s.skip
 kind_step (StmtKind-F.Assign x e q retypes) = s.assign x (term e) (option_map term q) (map retype retypes)

@@ -1,5 +1,13 @@
+ghost use Rattle.std.specs.Prelude.{◌≡◌, ◌<◌, length, IfOk};
+ghost use Rattle.cov_ast.specs.View.{program, lock};
+ghost use Rattle.cov_ast.specs.Tables.{table};
+ghost use Rattle.cov_ast.specs.Plain.{plain};
+ghost use Rattle.cov_ast.specs.Declarations.{name_of, lists};
+
+use crate::sets::{NumberSet, has_number};
 use crate::stmt::Stmt;
-use cov_expr::{Expr, List, Name};
+use cov_expr::{Expr, List, Name, NoMemory};
+use std::alloc::Global;
 
 /// What an observer may learn of a variable (value-dependent classification, as in COVERN).
 #[derive(Debug, Drop)]
@@ -63,4 +71,31 @@ pub struct Program {
     pub vars: List<VarDecl>,
     pub locks: List<LockDecl>,
     pub threads: List<ThreadDecl>,
+}
+
+impl LockDecl {
+    /// The variables that stand in a list of the lock, of those below a bound.
+    pub fn listed(&self, alloc: Global, bound: usize) -> Result<NumberSet, NoMemory>
+        ensures { IfOk result (λ made. made ≡ table bound (lists (lock self.now))) }
+    {
+        NumberSet::of_both(alloc, bound, self.nowrite.as_slice(), self.hide.as_slice())
+    }
+
+    /// Whether a variable stands in a list of the lock.
+    pub fn lists(&self, x: u32) -> bool
+        ensures { result ≡ lists (lock self.now) x }
+    {
+        has_number(self.nowrite.as_slice(), x) || has_number(self.hide.as_slice(), x)
+    }
+}
+
+impl Program {
+    /// The name of a variable.
+    #[tactic(auto, using(crate::proofs::ViewLaws::var_name))]
+    pub fn var_name(&self, x: u32) -> Name
+        requires { x < length self.now.vars }
+        ensures { result ≡ name_of (plain (program self.now)) x }
+    {
+        self.vars.as_slice()[x as usize].name
+    }
 }

@@ -3,6 +3,7 @@
 //! - [`Program`]: declarations of variables, locks and threads; [`Stmt`]: a statement with its place and its proofs;
 //!   [`State`]: what a join, a loop or a note states; [`Cert`]: a certificate of an entailment.
 //! - [`NameTable`]: the names of a text, each with its number; [`Parsed`]: what a text spells.
+//! - [`plain`]: the program without annotations.
 //! - [`Rule`], [`Detail`], [`Refusal`], [`CheckFault`]: why a program isn't accepted.
 //!
 //! Contracts see a tree as plain data: `specs/Syntax.antt` has that data, `specs/View.antt` the views, and
@@ -13,7 +14,9 @@ mod cert;
 mod decl;
 mod names;
 mod parsed;
+mod bare;
 mod refusal;
+mod sets;
 mod state;
 mod stmt;
 
@@ -21,6 +24,8 @@ pub use cert::{Cert, Proof};
 pub use decl::{Class, LockDecl, Modes, Program, ThreadDecl, VarDecl};
 pub use names::NameTable;
 pub use parsed::{NameUse, Parsed};
-pub use refusal::{CheckFault, Detail, Refusal, Rule};
+pub use bare::{annotations_do_nothing, plain};
+pub use refusal::{CheckFault, Detail, Refusal, Rule, refused, require};
+pub use sets::{NumberSet, first_outside};
 pub use state::State;
 pub use stmt::{Retype, Stmt, StmtKind};

@@ -1,4 +1,5 @@
-ghost use Rattle.std.specs.Prelude.{◌≡◌};
+ghost use Rattle.std.specs.Prelude.{◌≡◌, [], ◌∷◌, false};
+ghost use Rattle.cov_ast.specs.Obligations.{declared_entry, Decides};
 ghost use Rattle.cov_ast.specs.declared.refusal.CheckFault.TheVariants as faults;
 
 use cov_expr::{Name, NoMemory};
@@ -65,4 +66,34 @@ impl From<NoMemory> for CheckFault {
     fn from(_error: NoMemory) -> CheckFault {
         CheckFault::NoMemory
     }
+}
+
+impl From<Refusal> for CheckFault {
+    ghost from_gives = { λ refusal fault. fault ≡ faults.Refused refusal };
+
+    fn from(refusal: Refusal) -> CheckFault {
+        CheckFault::Refused(refusal)
+    }
+}
+
+/// Refuses a program for a rule of declarations, at a place, unless what the rule asks there holds.
+pub fn require(holds: bool, rule: Rule, place: u32, detail: Detail) -> Result<(), CheckFault>
+    ensures { Decides (declared_entry rule place detail holds ∷ []) result }
+{
+    if holds {
+        return Ok(());
+    }
+    Err(refused(rule, place, detail))
+}
+
+/// The refusal of a program for a rule of declarations, at a place.
+pub fn refused(rule: Rule, place: u32, detail: Detail) -> CheckFault
+    ensures { result ≡ faults.Refused (declared_entry rule place detail false).refusal }
+{
+    CheckFault::Refused(Refusal {
+        rule,
+        thread: None,
+        place,
+        detail,
+    })
 }

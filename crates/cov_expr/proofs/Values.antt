@@ -1,7 +1,12 @@
 -- What the value of an expression depends on.
-use Rattle.std.proofs.Common.{◌≡◌, ℕ, ◌<◌, ◌==◌, ◌||◌, not, List, length, get_or, set, Bool, true, false, refl, sym, ◌∙◌, ap, if◌then◌else◌, get_or-set_same, get_or-set_other}
+use Rattle.std.proofs.Common.{◌≡◌, ℕ, zero, suc, ◌+◌, ◌-◌, ◌*◌, ◌%◌, ◌^◌, ◌<◌, ◌==◌, nat_lt, nat_le, ◌&&◌, ◌||◌, not, arith, lit<, List, [], ◌∷◌, length, get_or, set, Bool, true, false, refl, sym, ◌∙◌, ap, if◌then◌else◌, get_or-set_same, get_or-set_other}
 use Rattle.std.proofs.lemmas.Bool.{eqb-true, eq-eqb}
+use Rattle.std.proofs.lemmas.Nat.{or_lt, xor_lt}
+use Rattle.std.specs.Int.Bits.{and_lt}
+use Rattle.cov_expr.specs.declared.expr.Op.{Op}
+use Rattle.cov_expr.specs.declared.expr.Op.TheVariants.{Add, Sub, Mul, And, Or, Xor, Eq, Ne, Lt, Le, Both, Either}
 use Rattle.cov_expr.specs.Term.{Term, const, var, neg, bin, value, apply, flag, is_set}
+use Rattle.cov_expr.specs.Words.{IsWord, AreWords, HasWords}
 use Rattle.cov_expr.specs.Trees.{mentions, is_closed, subst}
 use Rattle.cov_expr.proofs.Trees.{and_left, and_right}
 
@@ -52,3 +57,37 @@ value-subst (neg e) part x m h = ap (λ v. flag (not (is_set v))) (value-subst e
 value-subst (bin op a b) part x m h =
     ap-both op (value (subst a x part) m) (value (subst b x part) m) (value a (set m x (value part m))) (value b (set m x (value part m)))
     (value-subst a part x m h) (value-subst b part x m h)
+
+-- Values are words ---------------------------------------------------------------------------------------------
+
+flag_word : (b : Bool) → IsWord (flag b)
+flag_word true = lit< tt
+flag_word false = lit< tt
+
+rest_word : (n : ℕ) → n % 2 ^ 32 < 2 ^ 32
+rest_word n = omega arith
+
+pub apply_word : (op : Op) (x y : ℕ) → IsWord x → IsWord y → IsWord (apply op x y)
+apply_word Add x y h k = rest_word (x + y)
+apply_word Sub x y h k = rest_word (x + (2 ^ 32 - y))
+apply_word Mul x y h k = rest_word (x * y)
+apply_word And x y h k = and_lt 32 x y h k
+apply_word Or x y h k = or_lt 32 x y h k
+apply_word Xor x y h k = xor_lt 32 x y h k
+apply_word Eq x y h k = flag_word (x == y)
+apply_word Ne x y h k = flag_word (not (x == y))
+apply_word Lt x y h k = flag_word (nat_lt x y)
+apply_word Le x y h k = flag_word (nat_le x y)
+apply_word Both x y h k = flag_word (is_set x && is_set y)
+apply_word Either x y h k = flag_word (is_set x || is_set y)
+
+pub word_at : (m : List ℕ) (x : ℕ) → AreWords m → IsWord (get_or m x 0)
+word_at [] x w = lit< tt
+word_at (v ∷ vs) zero w = w.0
+word_at (v ∷ vs) (suc x) w = word_at vs x w.1
+
+pub value_word : (e : Term) (m : List ℕ) → HasWords e → AreWords m → IsWord (value e m)
+value_word (const k) m h w = h
+value_word (var x) m h w = word_at m x w
+value_word (neg e) m h w = flag_word (not (is_set (value e m)))
+value_word (bin op a b) m h w = apply_word op (value a m) (value b m) (value_word a m h.0 w) (value_word b m h.1 w)

@@ -1,6 +1,7 @@
 ghost use Rattle.std.specs.Prelude.{◌≡◌, ◌↔◌, ℕ, ◌<◌, List, IsTrue, false, length, slice_index, slice_set};
 ghost use Rattle.cov_expr.specs.Term.{Term, value};
 ghost use Rattle.cov_expr.specs.Trees as tree;
+ghost use Rattle.cov_expr.specs.Words.{AreWords, HasWords, IsWord};
 
 /// The test on trees is equality.
 pub fn same_is_equality()
@@ -20,4 +21,9 @@ pub fn closed_mentions_nothing()
 /// The value after a substitution is the value where the variable has the value of the part.
 pub fn substitution_is_a_store()
     ensures { (e part : Term) → (x : ℕ) → (m : List ℕ) → x < length m → value (tree.subst e x part) m ≡ value e (slice_set m x (value part m)) }
+{}
+
+/// The value of an expression of words in a memory of words is a word.
+pub fn values_are_words()
+    ensures { (e : Term) → (m : List ℕ) → HasWords e → AreWords m → IsWord (value e m) }
 {}

@@ -22,6 +22,7 @@ pub use build::{boxed, copy, subst};
 pub use expr::{Expr, HOLE, Op, apply, eval, same};
 pub use laws::{
     closed_mentions_nothing, same_is_equality, substitution_is_a_store, value_depends_on_mentioned,
+    values_are_words,
 };
 pub use list::{Blob, List, NoMemory};
 pub use measures::{height_at_most, nodes_at_most, width_at_most};

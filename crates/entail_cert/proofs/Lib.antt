@@ -1,0 +1,5 @@
+pub mod Axioms
+pub mod Instances
+pub mod Numbers
+pub mod Sound
+pub mod Truth

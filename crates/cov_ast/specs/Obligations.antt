@@ -1,0 +1,40 @@
+-- Obligations: what has to hold of a program, in the order in which it is tried.
+use Rattle.std.specs.Prelude.{◌≡◌, ℕ, List, [], ◌∷◌, Bool, if◌then◌else◌, Option, Some, None, Result, Ok, Err}
+use Rattle.std.specs.List.{list_all}
+use Rattle.cov_expr.specs.Trees.{add_new}
+use Rattle.cov_ast.specs.declared.refusal.Rule.{Rule}
+use Rattle.cov_ast.specs.declared.refusal.Detail.{Detail}
+use Rattle.cov_ast.specs.declared.refusal.Refusal.{Refusal}
+use Rattle.cov_ast.specs.declared.refusal.CheckFault.{CheckFault}
+use Rattle.cov_ast.specs.declared.refusal.CheckFault.TheVariants.{Refused, NoMemory}
+
+-- one obligation: whether it holds, and what is refused where it doesn't
+pub record Entry : Type 0 where
+  pub refusal : Refusal
+  pub holds : Bool
+
+-- an obligation of declarations, which belongs to no thread
+abbrev pub declared_entry : Rule → (place : ℕ) → Detail → Bool → Entry
+declared_entry rule place detail holds = record { refusal = record { rule = rule; thread = None; place = place; detail = detail }; holds = holds }
+
+abbrev pub all_hold : List Entry → Bool
+all_hold entries = list_all (λ e. e.holds) entries
+
+-- the first obligation that doesn't hold
+abbrev pub first_false : List Entry → Option Refusal
+first_false [] = None
+first_false (e ∷ es) = if e.holds then first_false es else Some e.refusal
+
+-- nothing where all hold, else what the first one that doesn't refuses
+abbrev pub verdict : List Entry → Result (Unit {0}) Refusal
+verdict entries = elim (first_false entries) [ None ↦ Ok tt | Some refusal ↦ Err refusal ]
+
+-- The answer is the verdict on the obligations, unless memory ran out.
+abbrev pub Decides : List Entry → Result (Unit {0}) CheckFault → Type 0
+Decides entries (Ok done) = first_false entries ≡ None
+Decides entries (Err (Refused refusal)) = first_false entries ≡ Some refusal
+Decides entries (Err NoMemory) = Unit {0}
+
+-- numbers, each once, by first occurrence
+abbrev pub distinct : List ℕ → List ℕ
+distinct xs = add_new [] xs

@@ -1,0 +1,205 @@
+ghost use Rattle.std.specs.Prelude.{◌≡◌, [], ◌++◌, IfOk, OnOk, map, option_map};
+ghost use Rattle.cov_expr.specs.View.{term};
+ghost use Rattle.cov_ast.specs.Plain as spec;
+ghost use Rattle.cov_ast.specs.Syntax as syntax;
+ghost use Rattle.cov_ast.specs.View as view;
+ghost use Rattle.cov_ast.specs.View.{onto};
+
+use crate::decl::{Class, LockDecl, Modes, Program, ThreadDecl, VarDecl};
+use crate::state::State;
+use crate::stmt::{Stmt, StmtKind};
+use cov_expr::{Expr, List, NoMemory, copy};
+use std::alloc::Global;
+
+/// The plain program: the same declarations and statements, at the same places, without types, states, proofs and
+/// notes. It is what a program does; the rest says why it may.
+pub fn plain(alloc: Global, program: &Program) -> Result<Program, NoMemory>
+    ensures { IfOk result (λ bare. view.program bare ≡ spec.bare (view.program program.now)) }
+{
+    let vars = copy_vars(alloc, program.vars.as_slice())?;
+    let locks = copy_locks(alloc, program.locks.as_slice())?;
+    let threads = plain_threads(alloc, program.threads.as_slice())?;
+    Ok(Program {
+        vars,
+        locks,
+        threads,
+    })
+}
+
+fn copy_vars(alloc: Global, vars: &[VarDecl]) -> Result<List<VarDecl>, NoMemory>
+    ensures { IfOk result (λ copies. map view.var copies ≡ map view.var vars.now) }
+{
+    let mut copies = List::new(alloc);
+    for var in vars {
+        copies.push(VarDecl {
+            name: var.name,
+            at: var.at,
+            class: copy_class(alloc, &var.class)?,
+        })?;
+    }
+    Ok(copies)
+}
+
+fn copy_class(alloc: Global, class: &Class) -> Result<Class, NoMemory>
+    ensures { IfOk result (λ copied. view.class copied ≡ view.class class.now) }
+{
+    match class {
+        Class::Low => Ok(Class::Low),
+        Class::High => Ok(Class::High),
+        Class::When(e) => Ok(Class::When(copy(alloc, e)?)),
+    }
+}
+
+fn copy_locks(alloc: Global, locks: &[LockDecl]) -> Result<List<LockDecl>, NoMemory>
+    ensures { IfOk result (λ copies. map view.lock copies ≡ map view.lock locks.now) }
+{
+    let mut copies = List::new(alloc);
+    for lock in locks {
+        let copied = copy_lock(alloc, lock)?;
+        copies.push(copied)?;
+    }
+    Ok(copies)
+}
+
+fn copy_lock(alloc: Global, lock: &LockDecl) -> Result<LockDecl, NoMemory>
+    ensures { IfOk result (λ copied. view.lock copied ≡ view.lock lock.now) }
+{
+    Ok(LockDecl {
+        name: lock.name,
+        at: lock.at,
+        nowrite: copy_numbers(alloc, &lock.nowrite)?,
+        hide: copy_numbers(alloc, &lock.hide)?,
+        inv: copy_option(alloc, &lock.inv)?,
+    })
+}
+
+fn copy_option(alloc: Global, e: &Option<Expr>) -> Result<Option<Expr>, NoMemory>
+    ensures { IfOk result (λ copied. option_map term copied ≡ option_map term e.now) }
+{
+    match e {
+        Some(e) => Ok(Some(copy(alloc, e)?)),
+        None => Ok(None),
+    }
+}
+
+fn copy_numbers(alloc: Global, numbers: &List<u32>) -> Result<List<u32>, NoMemory>
+    ensures { IfOk result (λ copies. copies ≡ numbers.now) }
+{
+    let mut copies = List::new(alloc);
+    copies.extend_from_slice(numbers.as_slice())?;
+    Ok(copies)
+}
+
+fn copy_modes(alloc: Global, modes: &Modes) -> Result<Modes, NoMemory>
+    ensures { IfOk result (λ copied. view.modes copied ≡ view.modes modes.now) }
+{
+    Ok(Modes {
+        assume_nowrite: copy_numbers(alloc, &modes.assume_nowrite)?,
+        assume_hide: copy_numbers(alloc, &modes.assume_hide)?,
+        guarantee_nowrite: copy_numbers(alloc, &modes.guarantee_nowrite)?,
+        guarantee_hide: copy_numbers(alloc, &modes.guarantee_hide)?,
+    })
+}
+
+fn plain_threads(alloc: Global, threads: &[ThreadDecl]) -> Result<List<ThreadDecl>, NoMemory>
+    ensures { IfOk result (λ bare. map view.thread bare ≡ map spec.bare_thread (map view.thread threads.now)) }
+{
+    let mut bare = List::new(alloc);
+    for thread in threads {
+        let next = plain_thread(alloc, thread)?;
+        bare.push(next)?;
+    }
+    Ok(bare)
+}
+
+fn plain_thread(alloc: Global, thread: &ThreadDecl) -> Result<ThreadDecl, NoMemory>
+    ensures { IfOk result (λ bare. view.thread bare ≡ spec.bare_thread (view.thread thread.now)) }
+{
+    Ok(ThreadDecl {
+        name: thread.name,
+        at: thread.at,
+        modes: copy_modes(alloc, &thread.modes)?,
+        body: plain_block(alloc, thread.body.as_slice())?,
+        end: thread.end,
+    })
+}
+
+#[cycle(blocks)]
+fn plain_block(alloc: Global, body: &[Stmt]) -> Result<List<Stmt>, NoMemory>
+    ensures { IfOk result (λ bare. view.block bare ≡ spec.bare_block (view.block body.now)) }
+{
+    let mut bare = List::new(alloc);
+    for stmt in body {
+        let kind = plain_kind(alloc, &stmt.kind)?;
+        add(alloc, &mut bare, stmt.at, kind)?;
+    }
+    Ok(bare)
+}
+
+/// Adds a statement, if there is one.
+#[tactic(auto, using(crate::proofs::Blocks::onto_append))]
+fn add(alloc: Global, body: &mut List<Stmt>, at: u32, kind: Option<StmtKind>) -> Result<(), NoMemory>
+    ensures { OnOk result ((rest : syntax.Block) →
+        onto (map view.stmt body.new) rest ≡ onto (map view.stmt body.old) (spec.in_front at (option_map view.kind kind) rest)) }
+{
+    if let Some(kind) = kind {
+        let stmt = unproved(alloc, at, kind);
+        body.push(stmt)?;
+    }
+    Ok(())
+}
+
+/// A statement without proofs.
+fn unproved(alloc: Global, at: u32, kind: StmtKind) -> Stmt
+    ensures { view.stmt result ≡ record { at = at; stm = view.kind kind; proofs = [] } }
+{
+    Stmt {
+        at,
+        kind,
+        proofs: List::new(alloc),
+    }
+}
+
+/// A statement without annotations; a note is nothing.
+#[cycle(blocks)]
+fn plain_kind(alloc: Global, kind: &StmtKind) -> Result<Option<StmtKind>, NoMemory>
+    ensures { IfOk result (λ bare. option_map view.kind bare ≡ spec.bare_kind (view.kind kind.now)) }
+{
+    match kind {
+        StmtKind::Skip => Ok(Some(StmtKind::Skip)),
+        StmtKind::Assign(x, e, _, _) => {
+            let value = copy(alloc, e)?;
+            Ok(Some(StmtKind::Assign(*x, value, None, List::new(alloc))))
+        }
+        StmtKind::Lock(l) => Ok(Some(StmtKind::Lock(*l))),
+        StmtKind::Unlock(l) => Ok(Some(StmtKind::Unlock(*l))),
+        StmtKind::If(e, a, b, _) => {
+            let guard = copy(alloc, e)?;
+            let yes = plain_block(alloc, a.as_slice())?;
+            let no = plain_block(alloc, b.as_slice())?;
+            Ok(Some(StmtKind::If(guard, yes, no, no_state(alloc))))
+        }
+        StmtKind::While(e, _, b) => {
+            let guard = copy(alloc, e)?;
+            let turn = plain_block(alloc, b.as_slice())?;
+            Ok(Some(StmtKind::While(guard, no_state(alloc), turn)))
+        }
+        StmtKind::Note(_) => Ok(None),
+    }
+}
+
+fn no_state(alloc: Global) -> State
+    ensures { view.state result ≡ spec.no_state }
+{
+    State {
+        preds: List::new(alloc),
+        types: List::new(alloc),
+    }
+}
+
+/// A law: what is without annotations does the same.
+#[tactic(auto, using(crate::proofs::PlainLaws::plain_bare))]
+pub fn annotations_do_nothing()
+    ensures { (p : syntax.Program) → spec.plain (spec.bare p) ≡ spec.plain p }
+{
+}

@@ -1,0 +1,9 @@
+use Rattle.std.proofs.Common.{arith}
+use Rattle.cov_expr.specs.View.{term}
+use Rattle.entail_cert.proofs.Numbers.{not_of_three}
+use Rattle.entail_cert.proofs.instance.axiom_of_three.Goals as goal
+
+pub returns-in_default-clause-made : goal.returns-in_default-clause-made
+returns-in_default-clause-made c =
+    not_of_three c.args.number (term c.args.a.now) (term c.args.b.now) (term c.args.c.now)
+    (omega arith, (omega arith, (omega arith, tt)))
