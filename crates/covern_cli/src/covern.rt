@@ -29,6 +29,9 @@ pub fn covern<S: Shelf, K: Sink>(
     // On a sure shelf the reply is the one that the files say.
     ensures exact { IsTrue (S.shelved shelf.old).sure → IfSome (S.shelved shelf.old).told (λ files.
         Ends (Outcome files (command_of (map string_bytes words.now))) (K.sunk sink.old) (K.sunk sink.new) result) }
+    // So it is on every shelf that tells its files, if no call of it failed.
+    ensures quiet { ¬ Rose (S.shelved shelf.old).faults (S.shelved shelf.new).faults → IfSome (S.shelved shelf.old).told (λ files.
+        Ends (Outcome files (command_of (map string_bytes words.now))) (K.sunk sink.old) (K.sunk sink.new) result) }
     // A program that is accepted is secure.
     ensures secure { result ≡ Status.Done → IfSome (S.shelved shelf.old).told (λ files.
         HoldsSecure files (command_of (map string_bytes words.now))) }
