@@ -10,8 +10,6 @@ use Rattle.covern_cli.specs.declared.answer.Stop.{Stop}
 use Rattle.covern_cli.specs.declared.answer.Stop.TheVariants as stops
 use Rattle.covern_cli.specs.declared.answer.Status.{Status}
 use Rattle.covern_cli.specs.declared.answer.Status.TheVariants as s
-use Rattle.covern_cli.specs.SmallText.{names_in}
-use Rattle.covern_cli.proofs.AcceptedLaws.{accepted_is_secure}
 
 -- what gives one reply gives another, if that follows
 pub gets_onward : (does does' : Reply → Type 0) (r : Result Answer Stop) → ((reply : Reply) → does reply → does' reply) → Gets does r → Gets does' r
@@ -39,7 +37,7 @@ done_is_secure before after (check name) reply (inl (bytes, fetched, judged)) do
     by (Some files) (malformed file) at judged done = cc
     by (Some files) refused at judged done = cc
     by (Some files) (accepted threads statements entailments) at judged done =
-        (bytes, at, judged.0, judged.1, accepted_is_secure (names_in bytes) judged.0 judged.2)
+        (bytes, at, judged.0, judged.1, judged.6)
 done_is_secure before after (check name) reply (inr (inl h)) done = let e : s.TooLong ≡ s.Done = sym (ap status_of h.1) ∙ done in cc
 done_is_secure before after (check name) reply (inr (inr h)) done = let e : s.ReadFault ≡ s.Done = sym (ap status_of h.1) ∙ done in cc
 done_is_secure before after nothing reply h done = let e : s.Usage ≡ s.Done = sym (ap status_of h) ∙ done in cc

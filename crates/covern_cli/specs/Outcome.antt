@@ -33,7 +33,7 @@ command_of words = nothing
 
 -- The reply to a check of a file with these bytes:
 -- malformed where they spell no program; refused where they spell one that isn't accepted; else accepted, with the numbers
--- of threads, of statements, and of entailments, one an assignment.
+-- of threads, of statements, and of entailments, one an assignment, and then the program is secure.
 abbrev pub Judges : (name bytes : List ℕ) → Reply → Type 0
 Judges name bytes usage = ⊥
 Judges name bytes (read_fault file) = ⊥
@@ -43,6 +43,7 @@ Judges name bytes refused = (q : Program) × Spells bytes q × (is_accepted q �
 Judges name bytes (accepted threads statements entailments) =
     (q : Program) × Spells bytes q × (is_accepted q ≡ true)
     × (threads ≡ length q.threads) × (statements ≡ statement_count q) × (entailments ≡ assignment_count q)
+    × IsSecure (meaning bytes q)
 
 -- Files --------------------------------------------------------------------------------------------------------
 
