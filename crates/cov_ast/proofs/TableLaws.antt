@@ -1,7 +1,7 @@
 -- Laws of sets as tables.
 use Rattle.std.proofs.Common.{◌≡◌, ◌≢◌, ℕ, ◌+◌, ◌<◌, ◌==◌, ◌||◌, List, [], ◌∷◌, Bool, true, false, length, map, get_or, refl, sym, ap, ◌∙◌, arith, replicate, inl, inr, ◌⊎◌, ◌++◌, cond, Some}
 use Rattle.std.specs.Option.{option_or}
-use Rattle.std.proofs.lemmas.List.{get_or-set_same, get_or-set_other, length-set, same_lists, length-replicate, get_or-replicate}
+use Rattle.std.proofs.lemmas.List.{get_or-set_same, get_or-set_other, length-set, same_lists, length-replicate, get_or-replicate, get_or-map, length-map}
 use Rattle.std.proofs.lemmas.List.FromFn.{get_or-map-range_with_len, length-map-range_with_len}
 use Rattle.std.proofs.lemmas.Bool.{cases_eq, eq-eqb, ne_eqb}
 use Rattle.std.specs.Prelude.{set}
@@ -73,3 +73,11 @@ outside_append marks [] ys = refl
 outside_append marks (x ∷ xs) ys =
     elim (has marks x) as (λ b. cond b (first_outside marks (xs ++ ys)) (Some x) ≡ option_or (cond b (first_outside marks xs) (Some x)) (first_outside marks ys))
     [ true ↦ outside_append marks xs ys | false ↦ refl ]
+
+-- what the items of a list give, read by number
+pub by_number : {X Y : Type 0} (f : X → Y) (xs : List X) (d : X) → map f xs ≡ map (λ k. f (get_or xs k d)) (range_with_len 0 (length xs))
+by_number f xs d =
+    same_lists (map f xs) (map (λ k. f (get_or xs k d)) (range_with_len 0 (length xs)))
+    (length-map xs f ∙ sym (length-map-range_with_len (λ k. f (get_or xs k d)) 0 (length xs)))
+    (λ k e lt. let inside : k < length xs = omega (arith, length-map xs f) in
+    get_or-map f xs k d e inside ∙ sym (get_or-map-range_with_len (λ k. f (get_or xs k d)) 0 (length xs) k k e inside (omega arith)))

@@ -91,6 +91,11 @@ controls p c x = mentions (class_of p x) c
 abbrev pub is_control : Plain → (c : ℕ) → Bool
 is_control p c = list_any (λ v. mentions (class_term v.class) c) p.vars
 
--- whether the class is written `low`
+-- whether a class is written `low`
+abbrev pub is_low : Class → Bool
+is_low low = true
+is_low high = false
+is_low (when e) = false
+
 abbrev pub is_plain_low : Plain → (x : ℕ) → Bool
-is_plain_low p x = elim (var_at p x).class [ low ↦ true | high ↦ false | when e ↦ false ]
+is_plain_low p x = is_low (var_at p x).class

@@ -35,6 +35,13 @@ impl NumberSet {
         Ok(NumberSet { marks })
     }
 
+    /// The set of the numbers at which a truth value stands that is true.
+    pub fn from_marks(marks: List<bool>) -> Self
+        ensures { result ≡ marks }
+    {
+        NumberSet { marks }
+    }
+
     /// The set of these numbers; those past the bound are left out.
     #[tactic(auto, using(crate::proofs::TableLaws::with_all_none))]
     pub fn of(alloc: Global, bound: usize, numbers: &[u32]) -> Result<Self, NoMemory>

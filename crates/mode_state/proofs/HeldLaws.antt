@@ -13,24 +13,24 @@ use Rattle.mode_state.specs.Sets.{Sets, modes_at, locks_of, is_stable, is_hidden
 
 -- Tests of all numbers below a bound ---------------------------------------------------------------------------
 
-any_from : (f : ℕ → Bool) (a n l : ℕ) → a ≤ l → l < a + n → f l ≡ true → list_any f (range_with_len a n) ≡ true
+pub any_from : (f : ℕ → Bool) (a n l : ℕ) → a ≤ l → l < a + n → f l ≡ true → list_any f (range_with_len a n) ≡ true
 any_from f a zero l from to h = absurd (omega arith)
 any_from f a (suc n) l from to h = elim (cases_eq a l) [
   inl e ↦ ap (λ b. b || list_any f (range_with_len (a + 1) n)) (ap f e ∙ h)
   | inr ne ↦ ap (λ b. f a || b) (any_from f (a + 1) n l (omega arith) (omega arith) h) ∙ or_true (f a)
 ]
 
-none_from : (f : ℕ → Bool) (a n : ℕ) → ((k : ℕ) → k < a + n → f k ≡ false) → list_any f (range_with_len a n) ≡ false
+pub none_from : (f : ℕ → Bool) (a n : ℕ) → ((k : ℕ) → k < a + n → f k ≡ false) → list_any f (range_with_len a n) ≡ false
 none_from f a zero h = refl
 none_from f a (suc n) h =
     ap (λ b. b || list_any f (range_with_len (a + 1) n)) (h a (omega arith)) ∙ none_from f (a + 1) n (λ k lt. h k (omega arith))
 
-all_from : (f : ℕ → Bool) (a n : ℕ) → ((k : ℕ) → k < a + n → f k ≡ true) → list_all f (range_with_len a n) ≡ true
+pub all_from : (f : ℕ → Bool) (a n : ℕ) → ((k : ℕ) → k < a + n → f k ≡ true) → list_all f (range_with_len a n) ≡ true
 all_from f a zero h = refl
 all_from f a (suc n) h =
     ap (λ b. b && list_all f (range_with_len (a + 1) n)) (h a (omega arith)) ∙ all_from f (a + 1) n (λ k lt. h k (omega arith))
 
-not_all_from : (f : ℕ → Bool) (a n l : ℕ) → a ≤ l → l < a + n → f l ≡ false → list_all f (range_with_len a n) ≡ false
+pub not_all_from : (f : ℕ → Bool) (a n l : ℕ) → a ≤ l → l < a + n → f l ≡ false → list_all f (range_with_len a n) ≡ false
 not_all_from f a zero l from to h = absurd (omega arith)
 not_all_from f a (suc n) l from to h = elim (cases_eq a l) [
   inl e ↦ ap (λ b. b && list_all f (range_with_len (a + 1) n)) (ap f e ∙ h)
