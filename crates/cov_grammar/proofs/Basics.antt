@@ -1,5 +1,5 @@
--- Heads, kinds and tests.
-use Rattle.std.proofs.Common.{◌≡◌, ℕ, zero, suc, ◌+◌, ◌≤◌, ◌<◌, List, [], ◌∷◌, ◌++◌, length, Bool, true, false, not, ◌&&◌, ◌||◌, if◌then◌else◌, Option, Some, None, refl, sym, ap, subst, ◌∙◌, append_assoc, append-nil, arith, length-append, inl, inr}
+-- Small laws of kinds, lists of kinds, first tokens and truth values.
+use Rattle.std.proofs.Common.{◌≡◌, List, [], ◌∷◌, ◌++◌, Bool, true, false, not, ◌&&◌, ◌||◌, Option, Some, None, refl, sym, ap, subst, ◌∙◌}
 use denote.Enum.Bare.{same_true, true_same}
 use Rattle.cov_grammar.specs.declared.token.Kind.{Kind}
 use Rattle.cov_grammar.specs.declared.token.Token.{Token}

@@ -1,5 +1,5 @@
--- What is spelled is read, where nothing goes on it.
-use Rattle.std.proofs.Common.{◌≡◌, ℕ, zero, suc, ◌+◌, ◌≤◌, ◌<◌, List, [], ◌∷◌, ◌++◌, length, Bool, true, false, not, ◌&&◌, ◌||◌, if◌then◌else◌, Option, Some, None, ◌⊎◌, refl, sym, ap, subst, ◌∙◌, append_assoc, append-nil, arith, length-append, inl, inr}
+-- What is spelled is read, in front of a token that doesn't go on it.
+use Rattle.std.proofs.Common.{◌≡◌, List, [], ◌∷◌, ◌++◌, true, false, not, ◌||◌, if◌then◌else◌, Option, Some, None, refl, sym, ap, subst, ◌∙◌, append_assoc, inl, inr}
 use Rattle.cov_grammar.specs.declared.token.Kind.{Kind}
 use Rattle.cov_grammar.specs.declared.token.Token.{Token}
 use Rattle.cov_grammar.specs.Trees.{Rule, Meaning}
@@ -8,9 +8,9 @@ use Rattle.cov_grammar.specs.LookAhead.{kind_is, has, starts, nullable, firsts, 
 use Rattle.cov_grammar.specs.Tables.{first_of, more_of}
 use Rattle.cov_grammar.specs.Reading.{got, stopped, ◌>>=◌, Reader, Inner, take_kind, read}
 use Rattle.cov_grammar.proofs.Basics.{kind_itself, has_append, or_left, or_right, and_left, and_right, not_true, true_false, apart_not}
-use Rattle.cov_grammar.proofs.Honest.{Honest, either_of, made, both_of}
-use Rattle.cov_grammar.proofs.Many.{Shrinks, many_of, many_is, nothing_of, cons_of, turn_of}
-use Rattle.cov_grammar.proofs.Senses.{AtSome, OfShape, nullable_ok, full_some}
+use Rattle.cov_grammar.proofs.Honest.{Honest, made, both_of}
+use Rattle.cov_grammar.proofs.Many.{Shrinks, many_of, many_is, cons_of}
+use Rattle.cov_grammar.proofs.Senses.{AtSome, nullable_ok}
 use Rattle.cov_grammar.proofs.Samples.{Begins, first_ok, first_each}
 use Rattle.cov_grammar.proofs.Shapely.{honest, shrinks_of}
 

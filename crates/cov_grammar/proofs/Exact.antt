@@ -1,13 +1,13 @@
--- Reading all tokens is exact.
-use Rattle.std.proofs.Common.{◌≡◌, ℕ, zero, suc, List, [], ◌∷◌, ◌++◌, length, Bool, true, false, Option, Some, None, refl, sym, ap, subst, ◌∙◌, append_assoc, append-nil}
+-- Reading all tokens is exact, for every right side that the next token decides.
+use Rattle.std.proofs.Common.{◌≡◌, List, [], ◌∷◌, ◌++◌, true, refl, sym, ap, subst, ◌∙◌, append_assoc, append-nil}
 use Rattle.cov_grammar.specs.declared.token.Token.{Token}
 use Rattle.cov_grammar.specs.Trees.{Rule, Meaning}
 use Rattle.cov_grammar.specs.Shapes.{Shape}
 use Rattle.cov_grammar.specs.Spelling.{Is, FirstWrong}
 use Rattle.cov_grammar.specs.LookAhead.{fine}
 use Rattle.cov_grammar.specs.Tables.{first_of, more_of}
-use Rattle.cov_grammar.specs.Reading.{Reading, got, stopped, spent, ◌>>=◌, read, rule_of, reading, ended, all_of}
-use Rattle.cov_grammar.proofs.Honest.{Took, Fell, Fact, Honest}
+use Rattle.cov_grammar.specs.Reading.{Reading, got, stopped, spent, ◌>>=◌, rule_of, reading, ended, all_of}
+use Rattle.cov_grammar.proofs.Honest.{Fact, Honest}
 use Rattle.cov_grammar.proofs.Senses.{AtSome, OfShape, full_some, gather, spread}
 use Rattle.cov_grammar.proofs.Samples.{first_at, Begins}
 use Rattle.cov_grammar.proofs.Shapely.{honest}

@@ -1,6 +1,5 @@
 -- The laws of the grammar, for every right side that the next token decides, and for those that programs are read by.
-use Rattle.std.proofs.Common.{◌≡◌, List, Bool, true, refl}
-use Rattle.cov_grammar.specs.declared.token.Token.{Token}
+use Rattle.std.proofs.Common.{◌≡◌, true, refl}
 use Rattle.cov_grammar.specs.Trees.{Rule}
 use Rattle.cov_grammar.specs.Shapes.{Shape, rule}
 use Rattle.cov_grammar.specs.Grammar.{program, whole}

@@ -1,29 +1,37 @@
--- What is read is spelled so, what stops could go on, and nothing behind the token ahead counts.
-use Rattle.std.proofs.Common.{◌≡◌, ℕ, zero, suc, ◌+◌, ◌≤◌, ◌<◌, List, [], ◌∷◌, ◌++◌, length, Bool, true, false, not, ◌&&◌, ◌||◌, if◌then◌else◌, Option, Some, None, refl, sym, ap, subst, ◌∙◌, append_assoc, append-nil, arith, length-append, inl, inr}
+-- Honest readers: what is read is spelled so, what stops could go on, and of what stands behind nothing counts but the kind of
+-- the next token.
+--
+-- From the last, with completeness, it follows that a fault is where no text goes on: a text that went on there would be
+-- read, and would not, since the reader sees no further.
+use Rattle.std.proofs.Common.{◌≡◌, List, ◌++◌, Bool, true, false, if◌then◌else◌, refl, sym, ap, ◌∙◌, append_assoc}
 use Rattle.cov_grammar.specs.declared.token.Kind.{Kind}
 use Rattle.cov_grammar.specs.declared.token.Token.{Token}
-use Rattle.cov_grammar.specs.Shapes.{token, head}
+use Rattle.cov_grammar.specs.Shapes.{head}
 use Rattle.cov_grammar.specs.LookAhead.{starts}
-use Rattle.cov_grammar.specs.Reading.{Reading, got, stopped, spent, ◌>>=◌, Reader, read}
-use Rattle.cov_grammar.proofs.Basics.{head_alike, headless}
+use Rattle.cov_grammar.specs.Reading.{Reading, got, stopped, spent, ◌>>=◌, Reader}
+use Rattle.cov_grammar.proofs.Basics.{head_alike}
 
+-- The reader took a front that spells the value, and would take it in front of anything that begins with the same kind.
 pub record Took {A : Type 0} (P : A → List Token → Type 0) (R : Reader A) (v : A) (ts rest : List Token) : Type 0 where
   pub front : List Token
   pub split : ts ≡ front ++ rest
   pub is : P v front
   pub local : (x : List Token) → head x ≡ head rest → R (front ++ x) ≡ got v x
 
+-- The reader stopped behind a front that can go on, and would stop there in front of anything that begins with the same kind.
 pub record Fell {A : Type 0} (P : A → List Token → Type 0) (R : Reader A) (ts bad : List Token) : Type 0 where
   pub front : List Token
   pub split : ts ≡ front ++ bad
   pub local : (x : List Token) → head x ≡ head bad → R (front ++ x) ≡ stopped x
   pub viable : (v : A) × (rest : List Token) × P v (front ++ rest)
 
+-- what is so of what the reader gave
 abbrev pub Fact : {A : Type 0} → (A → List Token → Type 0) → Reader A → List Token → Reading A → Type 0
 Fact P R ts (got v rest) = Took P R v ts rest
 Fact P R ts (stopped bad) = Fell P R ts bad
 Fact P R ts spent = Unit {0}
 
+-- The reader is honest about what P says is spelled.
 abbrev pub Honest : {A : Type 0} → (A → List Token → Type 0) → Reader A → Type 0
 Honest P R = (ts : List Token) → Fact P R ts (R ts)
 

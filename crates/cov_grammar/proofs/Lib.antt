@@ -1,5 +1,6 @@
-pub mod TableLaws
+-- The generic theorem, in the order in which it is proved.
 pub mod Basics
+pub mod TableLaws
 pub mod Honest
 pub mod Many
 pub mod Senses
@@ -9,8 +10,9 @@ pub mod Complete
 pub mod Turns
 pub mod Exact
 pub mod Unique
-pub mod Stops
-pub mod Repeats
 pub mod Wholes
 pub mod Exactness
+-- For code that reads by it.
+pub mod Repeats
+pub mod Stops
 mod Rows

@@ -1,11 +1,11 @@
--- Repetitions without their count of turns.
-use Rattle.std.proofs.Common.{◌≡◌, ℕ, zero, suc, ◌+◌, ◌≤◌, ◌<◌, List, [], ◌∷◌, ◌++◌, length, Bool, true, false, if◌then◌else◌, refl, sym, ap, subst, ◌∙◌, arith, length-append}
+-- Repetitions: one turn and the rest of them, without the count of turns.
+use Rattle.std.proofs.Common.{◌≡◌, ℕ, zero, suc, ◌≤◌, ◌<◌, List, [], ◌∷◌, ◌++◌, length, if◌then◌else◌, refl, sym, ap, subst, ◌∙◌, arith}
 use Rattle.cov_grammar.specs.declared.token.Kind.{Kind}
 use Rattle.cov_grammar.specs.declared.token.Token.{Token}
 use Rattle.cov_grammar.specs.Shapes.{Each, head}
 use Rattle.cov_grammar.specs.LookAhead.{starts}
 use Rattle.cov_grammar.specs.Reading.{Reading, got, stopped, spent, ◌>>=◌, Reader, read_many}
-use Rattle.cov_grammar.proofs.Honest.{Took, Fell, Fact, Honest, made, made_fact, either_of, either_fact, both_of, Both, both_fact}
+use Rattle.cov_grammar.proofs.Honest.{Fact, Honest, made, made_fact, either_of, either_fact, both_of, Both, both_fact}
 
 -- what is read is taken off
 abbrev pub Shrinks : {A : Type 0} → Reader A → Type 0

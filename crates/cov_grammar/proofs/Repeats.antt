@@ -1,5 +1,7 @@
--- Lists that are pushed as they are read.
-use Rattle.std.proofs.Common.{◌≡◌, ℕ, List, [], ◌∷◌, ◌++◌, length, map, Bool, true, false, if◌then◌else◌, refl, sym, ap, subst, ◌∙◌, append_assoc, append-nil}
+-- Lists that code builds item by item, as it reads them.
+--
+-- The loop of such code keeps `pushed (items so far) (reading (many a) (tokens left)) ≡ reading (many a) (tokens at first)`.
+use Rattle.std.proofs.Common.{◌≡◌, List, [], ◌∷◌, ◌++◌, map, Bool, true, false, if◌then◌else◌, refl, sym, ap, ◌∙◌, append_assoc, append-nil}
 use Rattle.cov_grammar.specs.declared.token.Token.{Token}
 use Rattle.cov_grammar.specs.declared.token.Kind.{Kind}
 use Rattle.cov_grammar.specs.Shapes.{Shape, many, head}
@@ -7,7 +9,7 @@ use Rattle.cov_grammar.specs.Grammar.{◌▸◌, separated}
 use Rattle.cov_grammar.specs.LookAhead.{starts, nullable, firsts, fine}
 use Rattle.cov_grammar.specs.Tables.{first_of, more_of}
 use Rattle.cov_grammar.specs.Reading.{take_kind, Reading, got, stopped, spent, ◌>>=◌, Reader, rule_of, reading}
-use Rattle.cov_grammar.proofs.Many.{Shrinks, many_is}
+use Rattle.cov_grammar.proofs.Many.{many_is}
 use Rattle.cov_grammar.proofs.Shapely.{honest, shrinks_of}
 use Rattle.cov_grammar.proofs.Turns.{rule_honest}
 
@@ -56,6 +58,7 @@ map_append f (x ∷ xs) ys = ap (λ zs. f x ∷ zs) (map_append f xs ys)
 
 -- Items by the kinds that they begin with ----------------------------------------------------------------------
 
+-- A right side that can be repeated, and the kinds that it begins with.
 pub record Item {A : Type 0} (a : Shape A) (ks : List Kind) : Type 0 where
   pub fine : fine first_of more_of a ≡ true
   pub full : nullable a ≡ false
@@ -65,13 +68,16 @@ module _ {X A : Type 0} (view : X → A) (a : Shape A) (ks : List Kind) (i : Ite
   ahead : (ts : List Token) (b : Bool) → starts ks (head ts) ≡ b → starts (firsts first_of a) (head ts) ≡ b
   ahead ts b e = ap (λ js. starts js (head ts)) i.first ∙ e
 
+  -- one more item
   pub item_goes : (xs ys : List X) (x : X) (ts rest : List Token) → starts ks (head ts) ≡ true → reading a ts ≡ got (view x) rest → ys ≡ xs ++ x ∷ [] → pushed (map view ys) (reading (many a) rest) ≡ pushed (map view xs) (reading (many a) ts)
   item_goes xs ys x ts rest e h g =
       ap (λ zs. pushed zs (reading (many a) rest)) (ap (map view) g ∙ map_append view xs (x ∷ [])) ∙ rep_goes a i.fine i.full (map view xs) (view x) ts rest (ahead ts true e) h
 
+  -- no more items
   pub item_ends : (xs : List X) (ts : List Token) → starts ks (head ts) ≡ false → pushed (map view xs) (reading (many a) ts) ≡ got (map view xs) ts
   item_ends xs ts e = rep_ends a i.fine i.full (map view xs) ts (ahead ts false e)
 
+  -- a fault in an item
   pub item_breaks : (xs : List X) (ts rest : List Token) → starts ks (head ts) ≡ true → reading a ts ≡ stopped rest → pushed (map view xs) (reading (many a) ts) ≡ stopped rest
   item_breaks xs ts rest e h = rep_breaks a i.fine i.full (map view xs) ts rest (ahead ts true e) h
 
@@ -86,9 +92,11 @@ module _ {A : Type 0} (j : Kind) (a : Shape A) where
   sep_is v (stopped ts) = refl
   sep_is v spent = refl
 
+  -- the first item
   pub sep_begins : (v : A) (ts rest : List Token) → reading a ts ≡ got v rest → pushed (v ∷ []) (reading (many (j ▸ a)) rest) ≡ reading (separated j a) ts
   sep_begins v ts rest h = sym (ap (λ o. (o >>= λ v us. pair v (reading (many (j ▸ a)) us)) >>= λ x last. got (one x) last) h ∙ sep_is v (reading (many (j ▸ a)) rest))
 
+  -- a fault in the first item
   pub sep_stops : (ts rest : List Token) → reading a ts ≡ stopped rest → reading (separated j a) ts ≡ stopped rest
   sep_stops ts rest h = ap (λ o. (o >>= λ v us. pair v (reading (many (j ▸ a)) us)) >>= λ x last. got (one x) last) h
 
@@ -96,5 +104,6 @@ module _ {A : Type 0} (j : Kind) (a : Shape A) where
   pub behind_sign : (v : A) (t : Token) (ts us rest : List Token) → take_kind j ts ≡ got t us → reading a us ≡ got v rest → reading (j ▸ a) ts ≡ got v rest
   behind_sign v t ts us rest h g = ap (λ o. (o >>= λ w us. pair w (reading a us)) >>= λ x last. got (x.1) last) h ∙ ap (λ o. pair t o >>= λ x last. got (x.1) last) g
 
+  -- a fault behind a sign
   pub stopped_sign : (t : Token) (ts us rest : List Token) → take_kind j ts ≡ got t us → reading a us ≡ stopped rest → reading (j ▸ a) ts ≡ stopped rest
   stopped_sign t ts us rest h g = ap (λ o. (o >>= λ w us. pair w (reading a us)) >>= λ x last. got (x.1) last) h ∙ ap (λ o. pair t o >>= λ x last. got (x.1) last) g

@@ -1,6 +1,6 @@
 -- Worked rows: the trees of a few texts, and where a few wrong ones are wrong, by computation.
-use Rattle.std.proofs.Common.{◌≡◌, ℕ, ◌+◌, List, [], ◌∷◌, Option, Some, None, refl}
-use Rattle.cov_expr.specs.Term.{const, var, neg, bin}
+use Rattle.std.proofs.Common.{◌≡◌, ℕ, ◌+◌, List, [], ◌∷◌, refl}
+use Rattle.cov_expr.specs.Term.{var, neg, bin}
 use Rattle.cov_expr.specs.declared.expr.Op.TheVariants as ops
 use Rattle.cov_grammar.specs.declared.token.Kind.{Kind}
 use Rattle.cov_grammar.specs.declared.token.Kind.TheVariants as k

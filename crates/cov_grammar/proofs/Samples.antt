@@ -1,5 +1,5 @@
--- Each shape spells something, and begins with one of its first kinds.
-use Rattle.std.proofs.Common.{◌≡◌, ℕ, zero, suc, ◌+◌, ◌≤◌, ◌<◌, List, [], ◌∷◌, ◌++◌, length, Bool, true, false, not, ◌&&◌, ◌||◌, if◌then◌else◌, Option, Some, None, ◌⊎◌, refl, sym, ap, subst, ◌∙◌, append_assoc, append-nil, arith, length-append, inl, inr}
+-- Each right side spells something, and what it spells begins with one of its first kinds.
+use Rattle.std.proofs.Common.{◌≡◌, ℕ, zero, suc, List, [], ◌∷◌, ◌++◌, Bool, true, false, ◌&&◌, if◌then◌else◌, Some, None, refl, sym, subst, ◌∙◌, inl, inr}
 use Rattle.cov_grammar.specs.declared.token.Token.{Token}
 use Rattle.cov_grammar.specs.declared.token.Kind.{Kind}
 use Rattle.cov_grammar.specs.Trees.{Rule, Meaning, expr, template, cert, block}
@@ -9,8 +9,8 @@ use Rattle.cov_grammar.specs.Spelling.{Within}
 use Rattle.cov_grammar.specs.LookAhead.{nullable, firsts, has, kind_is, within}
 use Rattle.cov_grammar.specs.Tables.{first_of}
 use Rattle.cov_grammar.proofs.Basics.{kind_itself, has_append, or_true, or_true_right, within_has, and_left, and_right}
-use Rattle.cov_grammar.proofs.TableLaws.{full_body, firsts_body}
-use Rattle.cov_grammar.proofs.Senses.{nil_parts, nullable_ok, full_at, AtSome, OfShape, full_some, close}
+use Rattle.cov_grammar.proofs.TableLaws.{firsts_body}
+use Rattle.cov_grammar.proofs.Senses.{nullable_ok, full_at, AtSome}
 
 -- whether the leftmost choices lead through no rule
 abbrev pub direct : {A : Type 0} → Shape A → Bool

@@ -1,14 +1,15 @@
--- Depths of spellings.
-use Rattle.std.proofs.Common.{◌≡◌, ℕ, zero, suc, ◌+◌, ◌≤◌, ◌<◌, List, [], ◌∷◌, ◌++◌, length, Bool, true, false, not, ◌&&◌, ◌||◌, if◌then◌else◌, Option, Some, None, ◌⊎◌, refl, sym, ap, subst, ◌∙◌, append_assoc, append-nil, arith, length-append, inl, inr}
+-- What rules spell, at every depth: deeper spells no less, and one depth is enough for all parts.
+use Rattle.std.proofs.Common.{◌≡◌, ℕ, zero, suc, List, [], ◌∷◌, ◌++◌, true, false, ◌&&◌, Some, None, refl, sym, ap, subst, ◌∙◌, inl, inr}
 use Rattle.cov_grammar.specs.declared.token.Token.{Token}
 use Rattle.cov_grammar.specs.Trees.{Rule, Meaning}
 use Rattle.cov_grammar.specs.Shapes.{Shape, token, rule, seq, alt, opt, many, act, placed, Each, Sense, Spells}
 use Rattle.cov_grammar.specs.Grammar.{body}
 use Rattle.cov_grammar.specs.Spelling.{Within, Is}
 use Rattle.cov_grammar.specs.LookAhead.{nullable}
-use Rattle.cov_grammar.proofs.Basics.{kind_itself, has_append, or_true, or_true_right, within_has}
-use Rattle.cov_grammar.proofs.TableLaws.{full_body, firsts_body}
+use Rattle.cov_grammar.proofs.Basics.{or_true, or_true_right}
+use Rattle.cov_grammar.proofs.TableLaws.{full_body}
 
+-- what the first says is spelled, the second does
 abbrev pub Implies : {A : Type 0} → (A → List Token → Type 0) → (A → List Token → Type 0) → Type 0
 Implies {A} P Q = (v : A) (ts : List Token) → P v ts → Q v ts
 
@@ -91,11 +92,11 @@ close r v ts h = let x = gather (body r) v ts h in (suc x.0, x.1)
 pub spread : {A : Type 0} (a : Shape A) (v : A) (ts : List Token) → Is a v ts → OfShape a v ts
 spread a v ts h = spells_map (Within h.0) AtSome (λ r v us g. (h.0, g)) a v ts h.1
 
--- no empty list, where none is spelled
 pub nil_parts : (us vs : List Token) → [] ≡ us ++ vs → (us ≡ []) × (vs ≡ [])
 nil_parts [] vs h = (refl, sym h)
 nil_parts (u ∷ us) vs h = cc
 
+-- Where no rule spells the empty list, `nullable` says what does.
 module _ (S : Sense) (full : (r : Rule) (v : Meaning r) → S r v [] → ⊥) where
   pub nullable_ok : {A : Type 0} (a : Shape A) (v : A) (ts : List Token) → ts ≡ [] → Spells S a v ts → nullable a ≡ true
   nullable_ok (token k) v ts e h = let no : v ∷ [] ≡ [] = sym h.1 ∙ e in cc
@@ -116,5 +117,3 @@ full_at (suc d) r v h = let e : true ≡ false = sym (nullable_ok (Within d) (fu
 
 pub full_some : (r : Rule) (v : Meaning r) → AtSome r v [] → ⊥
 full_some r v h = full_at h.0 r v h.1
-
--- some spelling of each shape

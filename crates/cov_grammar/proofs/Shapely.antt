@@ -1,5 +1,5 @@
--- Reading is honest: what is read is spelled so, and what stops could go on.
-use Rattle.std.proofs.Common.{◌≡◌, ℕ, zero, suc, ◌+◌, ◌≤◌, ◌<◌, List, [], ◌∷◌, ◌++◌, length, Bool, true, false, not, ◌&&◌, ◌||◌, if◌then◌else◌, Option, Some, None, ◌⊎◌, refl, sym, ap, subst, ◌∙◌, append_assoc, append-nil, arith, length-append, inl, inr}
+-- Reading a right side is honest, where the next token decides its choices and the readers of rules are honest.
+use Rattle.std.proofs.Common.{◌≡◌, ℕ, zero, suc, ◌<◌, List, [], ◌∷◌, ◌++◌, length, Bool, true, false, if◌then◌else◌, Some, None, refl, sym, ap, subst, ◌∙◌, append-nil, arith, length-append, inl, inr}
 use Rattle.cov_grammar.specs.declared.token.Kind.{Kind}
 use Rattle.cov_grammar.specs.declared.token.Token.{Token}
 use Rattle.cov_grammar.specs.Trees.{Rule}
@@ -8,12 +8,12 @@ use Rattle.cov_grammar.specs.Grammar.{body}
 use Rattle.cov_grammar.specs.LookAhead.{kind_is, nullable, firsts, fine}
 use Rattle.cov_grammar.specs.Tables.{first_of, more_of}
 use Rattle.cov_grammar.specs.Reading.{Reading, got, stopped, spent, ◌>>=◌, Reader, Inner, take_kind, read, reads}
-use Rattle.cov_grammar.proofs.Basics.{kind_one, head_alike, headless, and_left, and_right, not_true, true_false}
+use Rattle.cov_grammar.proofs.Basics.{kind_one, headless, and_left, and_right, not_true, true_false}
 use Rattle.cov_grammar.proofs.TableLaws.{fine_body}
-use Rattle.cov_grammar.proofs.Honest.{Took, Fell, Fact, Honest, made, made_honest, either_of, either_fact, both_of, Both, both_fact}
-use Rattle.cov_grammar.proofs.Many.{Shrinks, many_of, many_honest}
+use Rattle.cov_grammar.proofs.Honest.{Fact, Honest, made, made_honest, either_fact, both_fact}
+use Rattle.cov_grammar.proofs.Many.{Shrinks, many_honest}
 use Rattle.cov_grammar.proofs.Senses.{Implies, AtSome, OfShape, close, nullable_ok, full_some}
-use Rattle.cov_grammar.proofs.Samples.{Some_of, some_of}
+use Rattle.cov_grammar.proofs.Samples.{some_of}
 
 weaken_fact : {A : Type 0} (P Q : A → List Token → Type 0) (R : Reader A) → Implies P Q → (ts : List Token) (out : Reading A) → Fact P R ts out → Fact Q R ts out
 weaken_fact P Q R f ts (got v rest) h = record { front = h.front; split = h.split; is = f v h.front h.is; local = h.local }

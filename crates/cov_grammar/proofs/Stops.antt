@@ -1,5 +1,5 @@
 -- Where a reader stops, the reader above it stops.
-use Rattle.std.proofs.Common.{◌≡◌, List, Result, Ok, Err}
+use Rattle.std.proofs.Common.{◌≡◌, List, Err}
 use Rattle.cov_grammar.specs.declared.token.Token.{Token}
 use Rattle.cov_grammar.specs.declared.stop.Stop.{Stop}
 use Rattle.cov_grammar.specs.declared.stop.Stop.TheVariants as stops

@@ -1,26 +1,26 @@
--- A rule has turns enough.
-use Rattle.std.proofs.Common.{◌≡◌, ℕ, zero, suc, ◌+◌, ◌≤◌, ◌<◌, List, [], ◌∷◌, ◌++◌, length, Bool, true, false, not, ◌&&◌, ◌||◌, if◌then◌else◌, Option, Some, None, ◌⊎◌, refl, sym, ap, subst, ◌∙◌, append_assoc, append-nil, arith, length-append, inl, inr}
+-- A rule has turns enough: more turns change nothing, and each one takes a token.
+use Rattle.std.proofs.Common.{◌≡◌, ℕ, zero, suc, ◌≤◌, ◌<◌, List, [], ◌∷◌, ◌++◌, length, Bool, true, false, not, ◌&&◌, ◌||◌, if◌then◌else◌, Some, None, ◌⊎◌, refl, sym, ap, subst, ◌∙◌, arith, length-append, inl, inr}
 use Rattle.cov_grammar.specs.declared.token.Kind.{Kind}
 use Rattle.cov_grammar.specs.declared.token.Token.{Token}
 use Rattle.cov_grammar.specs.Trees.{Rule, Meaning, expr, template, cert, block}
-use Rattle.cov_grammar.specs.Shapes.{Shape, token, rule, seq, alt, opt, many, act, placed, place, Each, head}
+use Rattle.cov_grammar.specs.Shapes.{Shape, token, rule, seq, alt, opt, many, act, placed, place, head}
 use Rattle.cov_grammar.specs.Grammar.{atom, template_atom, unary, prod, sum, band, bxor, bor, cmp, both, either, part, arguments, last_certs, more_certs, certificate, proof, proofs, retype, assigned, branched, looped, state, statement, braces, body, types}
 use Rattle.cov_grammar.specs.Spelling.{Within}
-use Rattle.cov_grammar.specs.LookAhead.{kind_is, has, starts, nullable, firsts, fine, more}
+use Rattle.cov_grammar.specs.LookAhead.{kind_is, starts, nullable, firsts, fine, more}
 use Rattle.cov_grammar.specs.Tables.{first_of, more_of}
 use Rattle.cov_grammar.specs.Reading.{Reading, got, stopped, spent, ◌>>=◌, Reader, Inner, read_many, read, reads, rule_of}
-use Rattle.cov_grammar.proofs.Basics.{or_left, or_right, and_left, and_right, not_true, true_false}
+use Rattle.cov_grammar.proofs.Basics.{and_left, and_right}
 use Rattle.cov_grammar.proofs.TableLaws.{fine_body, more_body}
-use Rattle.cov_grammar.proofs.Honest.{Took, Fell, Fact, Honest}
-use Rattle.cov_grammar.proofs.Many.{Shrinks}
-use Rattle.cov_grammar.proofs.Senses.{AtSome, OfShape, top, full_at, full_some}
-use Rattle.cov_grammar.proofs.Samples.{first_at, Begins}
+use Rattle.cov_grammar.proofs.Honest.{Fact, Honest}
+use Rattle.cov_grammar.proofs.Senses.{AtSome, OfShape, top, full_at}
+use Rattle.cov_grammar.proofs.Samples.{first_at}
 use Rattle.cov_grammar.proofs.Shapely.{honest, shrinks_of, rules_honest}
 use Rattle.cov_grammar.proofs.Complete.{complete}
 use Rattle.cov_grammar.proofs.Basics.{starts_less, within_not}
 
 -- More turns change nothing ------------------------------------------------------------------------------------
 
+-- The first reader gives what the second does, or lacks turns.
 abbrev pub Below : {A : Type 0} → Reader A → Reader A → Type 0
 Below R S = (ts : List Token) → (R ts ≡ spent) ⊎ (R ts ≡ S ts)
 
@@ -94,6 +94,7 @@ guarded_body template = refl
 guarded_body cert = refl
 guarded_body block = refl
 
+-- turns that tokens pay for: one more behind a guard
 abbrev cost : Bool → ℕ → ℕ
 cost true d = suc d
 cost false d = d

@@ -1,14 +1,14 @@
 -- What is answered for all tokens of a text.
 --
 -- The first part is for every right side that one token of look-ahead decides. A reader of a whole text cites it for its own.
-use Rattle.std.proofs.Common.{◌≡◌, ℕ, List, [], ◌∷◌, ◌⊎◌, Bool, true, Result, Ok, Err, refl, sym, ap, ◌∙◌, inl, inr}
+use Rattle.std.proofs.Common.{◌≡◌, ℕ, List, [], ◌∷◌, ◌⊎◌, true, Result, Ok, Err, refl, sym, ap, ◌∙◌, inl, inr}
 use Rattle.cov_grammar.specs.declared.token.Token.{Token}
 use Rattle.cov_grammar.specs.declared.stop.Stop.{Stop}
 use Rattle.cov_grammar.specs.declared.stop.Stop.TheVariants as stops
 use Rattle.cov_grammar.specs.declared.fault.TokenFault.{TokenFault}
 use Rattle.cov_grammar.specs.declared.fault.TokenFault.TheVariants as faults
 use Rattle.cov_grammar.specs.Shapes.{Shape}
-use Rattle.cov_grammar.specs.Spelling.{Is, FirstWrong, spot}
+use Rattle.cov_grammar.specs.Spelling.{Is, FirstWrong}
 use Rattle.cov_grammar.specs.LookAhead.{fine}
 use Rattle.cov_grammar.specs.Tables.{first_of, more_of}
 use Rattle.cov_grammar.specs.Reading.{Reading, got, stopped, spent, ◌>>=◌, reading, ended, all_of}

@@ -1,10 +1,9 @@
 -- What the grammar spells, and which token of a text is the first wrong one.
 --
--- Nothing here speaks of a reader: the first wrong token is that of the language itself, the first one behind which no
--- text of the language begins so (the viable-prefix property).
-use Rattle.std.specs.Prelude.{◌≡◌, ℕ, zero, suc, List, [], ◌∷◌, ◌++◌, Option, Some}
+-- Nothing here speaks of a reader: a token is wrong where no text of the language begins with the tokens up to it, whatever
+-- follows. A reader that stops there has the viable-prefix property.
+use Rattle.std.specs.Prelude.{◌≡◌, ℕ, zero, suc, List, [], ◌∷◌, ◌++◌, Some}
 use Rattle.cov_grammar.specs.declared.token.Token.{Token}
-use Rattle.cov_grammar.specs.Trees.{Rule, Meaning}
 use Rattle.cov_grammar.specs.Shapes.{Shape, Sense, Spells, head}
 use Rattle.cov_grammar.specs.Grammar.{body}
 

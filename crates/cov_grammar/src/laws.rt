@@ -1,6 +1,9 @@
+ghost use Rattle.std.specs.Prelude.{◌≡◌, map};
+ghost use Rattle.cov_expr.specs.declared.name.TheConstants.{KEYWORDS};
 ghost use Rattle.cov_grammar.specs.Trees.{Rule};
 ghost use Rattle.cov_grammar.specs.Shapes.{rule};
 ghost use Rattle.cov_grammar.specs.Grammar.{program, whole};
+ghost use Rattle.cov_grammar.specs.Words.{keyword_kinds};
 ghost use Rattle.cov_grammar.specs.Laws.{IsReadExactly, IsDecided};
 
 /// A law: reading with one token of look-ahead gives a tree exactly where the tokens spell it, and else stops in front of the
@@ -10,8 +13,7 @@ pub fn reading_is_exact()
     ensures programs { IsReadExactly program }
     ensures expressions { IsReadExactly whole }
     ensures rules { (r : Rule) → IsReadExactly (rule r) }
-{
-}
+{}
 
 /// A law: all tokens together spell one tree, or have one first wrong token, and never both.
 #[tactic(auto, using(crate::proofs::Exactness::program_decided, crate::proofs::Exactness::whole_decided, crate::proofs::Exactness::rule_decided))]
@@ -19,5 +21,10 @@ pub fn tree_or_fault_is_one()
     ensures programs { IsDecided program }
     ensures expressions { IsDecided whole }
     ensures rules { (r : Rule) → IsDecided (rule r) }
-{
-}
+{}
+
+/// A law: the keywords that have a kind are those that can't be names.
+#[tactic(auto, unfolding(crate::specs::Words::keyword_kinds))]
+pub fn keywords_are_no_names()
+    ensures { map (λ word. word.0) keyword_kinds ≡ map (λ word. word.now) KEYWORDS }
+{}

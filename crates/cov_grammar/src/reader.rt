@@ -1,4 +1,5 @@
-ghost use Rattle.std.specs.Prelude.{◌≡◌, ◌+◌, length, [], ◌∷◌, false, true, MatchOption, IsTrue, ◌↔◌};
+ghost use Rattle.std.specs.Prelude.{◌≡◌, ◌+◌, length, [], ◌∷◌, false, true, MatchOption, IfErr, IsTrue, ◌↔◌};
+ghost use Rattle.cov_grammar.specs.declared.stop.Stop.TheVariants as stops;
 ghost use Rattle.cov_grammar.specs.Shapes.{head};
 ghost use Rattle.cov_grammar.specs.Spelling.{spot};
 ghost use Rattle.cov_grammar.specs.LookAhead.{kind_is, has, starts};
@@ -119,6 +120,7 @@ impl TokenReader<'_> {
     /// Takes off the next token, which has to be of a kind.
     pub fn expect(&mut self, kind: Kind) -> Result<Token, Stop>
         ensures reads { Gives (λ t. t) self.new result (take_kind kind self.old) }
+        ensures fault { IfErr result (λ stop. stop ≡ stops.Unexpected) }
         ensures shorter { Shorter self.old self.new result }
     {
         self.take(kind).ok_or(Stop::Unexpected)

@@ -146,7 +146,7 @@ pub enum Kind {
 }
 
 /// A token of a text.
-#[derive(Clone, Copy, Debug)]
+#[derive(Clone, Copy, Debug, PartialEq, Eq)]
 pub struct Token {
     /// What it is.
     pub kind: Kind,
