@@ -1,1 +1,6 @@
 pub mod Numbers
+pub mod Levels
+pub mod CertLaws
+pub mod StateLaws
+pub mod StmtLaws
+pub mod DeclLaws

@@ -1,1 +1,8 @@
 pub mod Words
+pub mod Depth
+pub mod WrittenViews
+pub mod CertViews
+pub mod StateViews
+pub mod StmtViews
+pub mod DeclViews
+pub mod Levels

@@ -3,6 +3,17 @@
 //! - [`read_words`]: the tokens of a text as the grammar takes them, and its names.
 #![tactic(auto)]
 
+mod cert;
+mod certs;
+mod decl;
+mod decls;
+mod depth;
+mod expressions;
+mod level;
+mod states;
+mod stmt;
+mod stmts;
 mod words;
+mod written;
 
 pub use words::{Words, read_words};
