@@ -1,4 +1,6 @@
 pub mod Words
+pub mod Measures
+pub mod Limits
 pub mod Depth
 pub mod WrittenViews
 pub mod CertViews

@@ -9,11 +9,16 @@ mod decl;
 mod decls;
 mod depth;
 mod expressions;
+mod fault;
 mod level;
+mod limits;
+mod measures;
+mod numbers;
 mod states;
 mod stmt;
 mod stmts;
 mod words;
 mod written;
 
+pub use fault::{Counted, ParseFault};
 pub use words::{Words, read_words};
