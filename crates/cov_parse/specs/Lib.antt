@@ -1,4 +1,6 @@
 pub mod Words
+pub mod Trees
+pub mod Uses
 pub mod Measures
 pub mod Limits
 pub mod Depth

@@ -9,6 +9,7 @@ mod decl;
 mod decls;
 mod depth;
 mod expressions;
+mod exprs;
 mod fault;
 mod level;
 mod limits;
@@ -17,6 +18,7 @@ mod numbers;
 mod states;
 mod stmt;
 mod stmts;
+mod uses;
 mod words;
 mod written;
 
