@@ -1,1 +1,9 @@
-pub mod Numbers
+pub mod NameNumbers
+pub mod Items
+pub mod MeasureLaws
+pub mod LimitLaws
+pub mod Levels
+pub mod CertLaws
+pub mod StateLaws
+pub mod StmtLaws
+pub mod DeclLaws

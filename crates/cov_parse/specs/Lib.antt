@@ -1,1 +1,12 @@
 pub mod Words
+pub mod Trees
+pub mod Uses
+pub mod Measures
+pub mod Limits
+pub mod Depth
+pub mod WrittenViews
+pub mod CertViews
+pub mod StateViews
+pub mod StmtViews
+pub mod DeclViews
+pub mod Levels

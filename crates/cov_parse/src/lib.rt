@@ -3,6 +3,24 @@
 //! - [`read_words`]: the tokens of a text as the grammar takes them, and its names.
 #![tactic(auto)]
 
+mod cert;
+mod certs;
+mod decl;
+mod decls;
+mod depth;
+mod expressions;
+mod exprs;
+mod fault;
+mod level;
+mod limits;
+mod measures;
+mod numbers;
+mod states;
+mod stmt;
+mod stmts;
+mod uses;
 mod words;
+mod written;
 
+pub use fault::{Counted, ParseFault};
 pub use words::{Words, read_words};

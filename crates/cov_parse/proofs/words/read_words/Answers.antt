@@ -1,6 +1,6 @@
 use Rattle.std.proofs.Common.{◌∙◌, arith}
 use Rattle.cov_parse.specs.Words.{names_of}
-use Rattle.cov_parse.proofs.Numbers.{token_inside, few_step, names_step, words_step}
+use Rattle.cov_parse.proofs.NameNumbers.{token_inside, few_step, names_step, words_step}
 use Rattle.cov_parse.proofs.words.read_words.Goals as goal
 
 pub word-requires-clause-room : goal.word-requires-clause-room

@@ -1,0 +1,23 @@
+-- Blocks and their statements.
+use Rattle.std.proofs.Common.{◌≡◌, List, [], ◌∷◌, refl}
+use Rattle.cov_grammar.specs.declared.token.Token.{Token}
+use Rattle.cov_grammar.specs.declared.token.Kind.TheVariants as k
+use Rattle.cov_grammar.specs.Trees as t
+use Rattle.cov_grammar.specs.LookAhead.{kind_is}
+use Rattle.cov_grammar.specs.Shapes.{rule, placed}
+use Rattle.cov_grammar.specs.Grammar.{body, part, proof, proofs, types, state, retype, assigned, branched, looped, statement, braces}
+use Rattle.cov_grammar.specs.Reading.{reading}
+use Rattle.cov_grammar.proofs.Repeats.{Item}
+use Rattle.cov_grammar.proofs.Turns.{rule_is}
+
+pub rule_block : (ts : List Token) → reading (rule t.block) ts ≡ reading braces ts
+unfolding body
+rule_block ts = rule_is t.block ts
+
+pub statement_item : Item (placed statement) (k.Skip ∷ k.Name ∷ k.Lock ∷ k.Unlock ∷ k.If ∷ k.While ∷ k.Note ∷ [])
+unfolding kind_is proof proofs types state retype assigned branched looped statement
+statement_item = record { fine = refl; full = refl; first = refl }
+
+pub retype_item : Item retype (k.Retype ∷ [])
+unfolding kind_is retype
+retype_item = record { fine = refl; full = refl; first = refl }

@@ -1,0 +1,8 @@
+use Rattle.std.proofs.Common.{◌≡◌, ◌++◌, map, drop}
+use Rattle.cov_expr.specs.View.{term}
+use Rattle.cov_parse.specs.CertViews as certs
+use Rattle.cov_parse.specs.Trees as spec
+use Rattle.cov_parse.proofs.exprs.exprs_of.Given as goal
+
+abbrev pub invariant-loop-e : goal.invariant-loop-e
+invariant-loop-e l = map term l.made ++ map spec.expr_of (map certs.whole (drop l.e-index l.es)) ≡ map spec.expr_of (map certs.whole l.es)

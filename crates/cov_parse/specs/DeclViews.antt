@@ -1,0 +1,39 @@
+-- Declarations without where their parts lie.
+use Rattle.std.specs.Prelude.{ℕ, List, map, Option, option_map}
+use Rattle.cov_parse.specs.declared.decl.ClassDecl.{ClassDecl}
+use Rattle.cov_parse.specs.declared.decl.ClassDecl.TheVariants as classes
+use Rattle.cov_parse.specs.declared.decl.Variable.{Variable}
+use Rattle.cov_parse.specs.declared.decl.Lock as code
+use Rattle.cov_parse.specs.declared.decl.Pair as pairs
+use Rattle.cov_parse.specs.declared.decl.Thread as threads
+use Rattle.cov_parse.specs.declared.decl.PlacedProgram.{PlacedProgram}
+use Rattle.cov_parse.specs.CertViews.{whole}
+use Rattle.cov_parse.specs.StmtViews.{stmt, block_of}
+use Rattle.cov_grammar.specs.Trees as t
+
+abbrev pub number : ℕ → ℕ
+number n = n
+
+abbrev pub class : ClassDecl → t.Class
+class classes.Low = t.low
+class classes.High = t.high
+class (classes.When e) = t.low_when (whole e)
+
+abbrev pub var : Variable → t.Var
+var v = record { name = (v.name, v.at); class = class v.class }
+
+abbrev pub lock : code.Lock → t.Lock
+lock l = record { name = (l.name, l.at); nowrite = map number l.nowrite; hide = map number l.hide; inv = option_map whole l.inv }
+
+abbrev pub pair : pairs.Pair → List ℕ × List ℕ
+pair p = (map number p.nowrite, map number p.hide)
+
+abbrev pub thread : threads.Thread → t.Thread
+thread h = record {
+  name = (h.name, h.at);
+  modes = record { assume_nowrite = map number h.assumes.nowrite; assume_hide = map number h.assumes.hide; guarantee_nowrite = map number h.guarantees.nowrite; guarantee_hide = map number h.guarantees.hide };
+  body = block_of h.braces (map stmt h.body);
+}
+
+abbrev pub program : PlacedProgram → t.Program
+program p = record { vars = map var p.vars; locks = map lock p.locks; threads = map thread p.threads }

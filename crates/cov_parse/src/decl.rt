@@ -1,0 +1,51 @@
+use crate::cert::Whole;
+use crate::stmt::{Braces, Stmt};
+use cov_expr::List;
+
+#[derive(Debug, Drop)]
+pub enum ClassDecl {
+    Low,
+    High,
+    When(Whole),
+}
+
+#[derive(Debug, Drop)]
+pub struct Variable {
+    pub name: u32,
+    pub at: u32,
+    pub class: ClassDecl,
+}
+
+#[derive(Debug, Drop)]
+pub struct Lock {
+    pub name: u32,
+    pub at: u32,
+    pub nowrite: List<u32>,
+    pub hide: List<u32>,
+    pub inv: Option<Whole>,
+}
+
+/// Two lists of names.
+#[derive(Debug, Drop)]
+pub struct Pair {
+    pub nowrite: List<u32>,
+    pub hide: List<u32>,
+}
+
+#[derive(Debug, Drop)]
+pub struct Thread {
+    pub name: u32,
+    pub at: u32,
+    pub assumes: Pair,
+    pub guarantees: Pair,
+    pub braces: Braces,
+    pub body: List<Stmt>,
+}
+
+/// A program with its places.
+#[derive(Debug, Drop)]
+pub struct PlacedProgram {
+    pub vars: List<Variable>,
+    pub locks: List<Lock>,
+    pub threads: List<Thread>,
+}

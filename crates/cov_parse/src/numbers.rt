@@ -1,0 +1,122 @@
+ghost use Rattle.std.specs.Prelude.{◌≡◌, map, flat_map};
+ghost use Rattle.cov_grammar.specs.Trees.{stms};
+ghost use Rattle.cov_parse.specs.Limits as spec;
+ghost use Rattle.cov_parse.specs.Measures.{counted, onward};
+ghost use Rattle.cov_parse.specs.StmtViews as stmts;
+ghost use Rattle.cov_parse.specs.DeclViews as decls;
+
+use crate::decl::{PlacedProgram, Thread};
+use crate::fault::{Counted, Counting, Excess, Limit};
+use crate::stmt::{Stmt, StmtKind};
+
+/// The fault of the variable past the 256th.
+pub fn past_variables(program: &PlacedProgram) -> Option<Excess>
+    ensures { result ≡ spec.past_variables (decls.program program.now) }
+{
+    let vars = program.vars.as_slice();
+    if vars.len() <= 256 {
+        return None;
+    }
+    Some(Excess {
+        at: vars[256].at,
+        limit: Limit::TooMany(Counted::Variables),
+    })
+}
+
+/// The fault of the lock past the 64th.
+pub fn past_locks(program: &PlacedProgram) -> Option<Excess>
+    ensures { result ≡ spec.past_locks (decls.program program.now) }
+{
+    let locks = program.locks.as_slice();
+    if locks.len() <= 64 {
+        return None;
+    }
+    Some(Excess {
+        at: locks[64].at,
+        limit: Limit::TooMany(Counted::Locks),
+    })
+}
+
+/// The fault of the thread past the 16th.
+pub fn past_threads(program: &PlacedProgram) -> Option<Excess>
+    ensures { result ≡ spec.past_threads (decls.program program.now) }
+{
+    let threads = program.threads.as_slice();
+    if threads.len() <= 16 {
+        return None;
+    }
+    Some(Excess {
+        at: threads[16].at,
+        limit: Limit::TooMany(Counted::Threads),
+    })
+}
+
+/// The fault of the statement past the 20,000th.
+pub fn past_statements(program: &PlacedProgram) -> Option<Excess>
+    ensures { result ≡ spec.past_statements (decls.program program.now) }
+{
+    match count_threads(program.threads.as_slice(), 20000) {
+        Counting::Left(_) => None,
+        Counting::Past(at) => Some(Excess {
+            at,
+            limit: Limit::TooMany(Counted::Statements),
+        }),
+    }
+}
+
+/// Counts the statements of threads, of which so many may come.
+fn count_threads(threads: &[Thread], room: u32) -> Counting
+    ensures { result ≡ counted room (flat_map (λ h. spec.places_of h.body) (map decls.thread threads.now)) }
+{
+    let mut left = room;
+    for thread in threads {
+        match count_stmts(thread.body.as_slice(), left) {
+            Counting::Left(n) => left = n,
+            Counting::Past(at) => return Counting::Past(at),
+        }
+    }
+    Counting::Left(left)
+}
+
+/// Counts statements, those inside others too.
+#[cycle(count)]
+fn count_stmts(body: &[Stmt], room: u32) -> Counting
+    ensures { result ≡ counted room (spec.places (stms (map stmts.stmt body.now))) }
+{
+    let mut left = room;
+    for stmt in body {
+        if left == 0 {
+            return Counting::Past(stmt.at);
+        }
+        match count_inside(&stmt.kind, left - 1) {
+            Counting::Left(n) => left = n,
+            Counting::Past(at) => return Counting::Past(at),
+        }
+    }
+    Counting::Left(left)
+}
+
+/// Counts the statements behind others.
+#[cycle(count)]
+fn count_more(before: Counting, body: &[Stmt]) -> Counting
+    ensures { result ≡ onward before (spec.places (stms (map stmts.stmt body.now))) }
+{
+    match before {
+        Counting::Left(n) => count_stmts(body, n),
+        Counting::Past(at) => Counting::Past(at),
+    }
+}
+
+#[cycle(count)]
+fn count_inside(kind: &StmtKind, room: u32) -> Counting
+    ensures { result ≡ counted room (spec.places_in (stmts.kind kind.now)) }
+{
+    match kind {
+        StmtKind::Skip | StmtKind::Lock(_) => Counting::Left(room),
+        StmtKind::Assign(..) | StmtKind::Unlock(..) | StmtKind::Note(..) => Counting::Left(room),
+        StmtKind::If(_, _, first, _, second, _, _) => {
+            count_more(count_stmts(first.as_slice(), room), second.as_slice())
+        }
+        StmtKind::While(_, _, _, body, _) => count_stmts(body.as_slice(), room),
+    }
+}
