@@ -138,7 +138,12 @@ fn plain_block(alloc: Global, body: &[Stmt]) -> Result<List<Stmt>, NoMemory>
 
 /// Adds a statement, if there is one.
 #[tactic(auto, using(crate::proofs::Blocks::onto_append))]
-fn add(alloc: Global, body: &mut List<Stmt>, at: u32, kind: Option<StmtKind>) -> Result<(), NoMemory>
+fn add(
+    alloc: Global,
+    body: &mut List<Stmt>,
+    at: u32,
+    kind: Option<StmtKind>,
+) -> Result<(), NoMemory>
     ensures { OnOk result ((rest : syntax.Block) →
         onto (map view.stmt body.new) rest ≡ onto (map view.stmt body.old) (spec.in_front at (option_map view.kind kind) rest)) }
 {
@@ -201,5 +206,4 @@ fn no_state(alloc: Global) -> State
 #[tactic(auto, using(crate::proofs::PlainLaws::plain_bare))]
 pub fn annotations_do_nothing()
     ensures { (p : syntax.Program) → spec.plain (spec.bare p) ≡ spec.plain p }
-{
-}
+{}

@@ -10,21 +10,23 @@
 //! `specs/Plain.antt` the program without annotations, of which the semantics speaks.
 #![tactic(auto)]
 
+mod bare;
 mod cert;
 mod decl;
 mod names;
 mod parsed;
-mod bare;
 mod refusal;
 mod sets;
 mod state;
 mod stmt;
+#[cfg(test)]
+mod tests;
 
+pub use bare::{annotations_do_nothing, plain};
 pub use cert::{Cert, Proof};
 pub use decl::{Class, LockDecl, Modes, Program, ThreadDecl, VarDecl};
 pub use names::NameTable;
 pub use parsed::{NameUse, Parsed};
-pub use bare::{annotations_do_nothing, plain};
 pub use refusal::{CheckFault, Detail, Refusal, Rule, refused, require};
 pub use sets::{NumberSet, first_outside};
 pub use state::State;
