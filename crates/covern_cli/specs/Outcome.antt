@@ -1,6 +1,5 @@
 -- What a call of the program does: what it asks, what it replies, how it ends.
 use Rattle.std.specs.Prelude.{◌≡◌, ◌⊎◌, ℕ, List, [], ◌∷◌, length, nat_lt, true, false, Option, None, Some, Result, Ok, Err, IfSome, MatchBool, codes, if◌then◌else◌}
-use Rattle.std.specs.Io.KnownBytes.{Keeps}
 use Rattle.std.specs.Str.{bytes_eq}
 use Rattle.cov_io.specs.Shelves.{File, Shelved, Gives, held}
 use Rattle.cov_io.specs.Sinks.{Sunk, Writes}
@@ -80,9 +79,9 @@ Gets does (Err stop) = Stops does stop
 -- The end of a call --------------------------------------------------------------------------------------------
 
 -- How a call ends whose command may reply so: the whole report of a reply is put, and the status is that of the reply; or
--- the write failed, and a proper prefix of the report is put; or memory ran out, and nothing is put.
+-- the write failed, and a proper prefix of the report is put; or memory ran out before anything was put.
 abbrev pub Ends : (Reply → Type 0) → (before after : Sunk) → Status → Type 0
-Ends does before after s.NoMemory = Keeps before.has after.has
+Ends does before after s.NoMemory = after ≡ before
 Ends does before after s.WriteFault = (reply : Reply) × does reply × (e : Failed) × Writes before after (report_of reply) (Err e)
 Ends does before after status = (reply : Reply) × does reply × (status ≡ status_of reply) × Writes before after (report_of reply) (Ok tt)
 

@@ -37,6 +37,9 @@ pub fn covern<S: Shelf, K: Sink>(
         HoldsSecure files (command_of (map string_bytes words.now))) }
     ensures read_fault { result ≡ Status.ReadFault → Rose (S.shelved shelf.old).faults (S.shelved shelf.new).faults }
     ensures write_fault { result ≡ Status.WriteFault → Rose (K.sunk sink.old).faults (K.sunk sink.new).faults }
+    // What a shelf tells stays, and no count falls.
+    ensures passes { Passes (S.shelved shelf.old) (S.shelved shelf.new) }
+    ensures counts { (K.sunk sink.old).faults ≤ (K.sunk sink.new).faults }
 {
     let answer = match answer(alloc, words, shelf) {
         Ok(answer) | Err(Stop::Answer(answer)) => answer,
@@ -56,7 +59,8 @@ fn answer<'w, S: Shelf>(
     words: &'w [String],
     shelf: &mut S,
 ) -> Result<Answer<'w>, Stop<'w>>
-    ensures { Gets (Does (S.shelved shelf.old) (S.shelved shelf.new) (command_of (map string_bytes words.now))) result }
+    ensures does { Gets (Does (S.shelved shelf.old) (S.shelved shelf.new) (command_of (map string_bytes words.now))) result }
+    ensures passes { Passes (S.shelved shelf.old) (S.shelved shelf.new) }
 {
     match words {
         [command, name] if command.as_str() == "check" => check(alloc, name.as_str(), shelf),
@@ -66,7 +70,8 @@ fn answer<'w, S: Shelf>(
 
 /// Checks the program of a file.
 fn check<'w, S: Shelf>(alloc: Global, name: &'w str, shelf: &mut S) -> Result<Answer<'w>, Stop<'w>>
-    ensures { Gets (Does (S.shelved shelf.old) (S.shelved shelf.new) (Command.check name.now)) result }
+    ensures does { Gets (Does (S.shelved shelf.old) (S.shelved shelf.new) (Command.check name.now)) result }
+    ensures passes { Passes (S.shelved shelf.old) (S.shelved shelf.new) }
 {
     let bytes = fetch(alloc, name, PROGRAM_LIMIT, shelf)?;
     check_text(alloc, name, bytes.as_slice())

@@ -69,7 +69,7 @@ fn checks(rt: &(impl Abort + AllocGlobal), case: &Case<'_>) -> Result<(), Fail> 
 const ONE: &[u8] = b"accepted: 1 threads, 1 statements, 1 entailments\n";
 
 #[test]
-fn answers(rt: HostRuntime) -> Result<(), Fail> {
+fn ample(rt: HostRuntime) -> Result<(), Fail> {
     let cases = [
         Case {
             text: b"var a: low; var s: high; thread t { s := a; }",
@@ -302,4 +302,23 @@ fn limits(rt: HostRuntime) -> Result<(), Fail> {
         )?;
     }
     Ok(())
+}
+
+#[test]
+fn statuses(rt: HostRuntime) {
+    let numbers = [
+        (Status::Done, 0),
+        (Status::Refused, 1),
+        (Status::Usage, 2),
+        (Status::Malformed, 3),
+        (Status::ReadFault, 4),
+        (Status::WriteFault, 5),
+        (Status::NoMemory, 6),
+        (Status::TooLong, 7),
+        (Status::Differ, 8),
+        (Status::BadStarts, 9),
+    ];
+    for (status, number) in numbers {
+        assert_eq!(rt; status as u8, number);
+    }
 }
