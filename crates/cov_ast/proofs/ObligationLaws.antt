@@ -139,9 +139,23 @@ pub outside_below : (n : ℕ) (marks : List Bool) (e : Term) (y : ℕ) → HasVa
 outside_below n marks e y h found = outside_among n marks (occurrences e) y (occurrences_below e n h) (sym found)
 
 -- the refusal, if any, of the first that is found
-abbrev refused_at : (ℕ → Refusal) → Option ℕ → Option Refusal
+abbrev pub refused_at : (ℕ → Refusal) → Option ℕ → Option Refusal
 refused_at r None = None
 refused_at r (Some x) = Some (r x)
+
+module _ (marks : List Bool) (r : ℕ → Refusal) where
+  marked_in : (xs : List ℕ) → first_false (map (λ x. record { refusal = r x; holds = has marks x }) xs) ≡ refused_at r (first_outside marks xs)
+  marked_in [] = refl
+  marked_in (x ∷ xs) =
+      elim (has marks x) as (λ b. cond b (first_false (map (λ x. record { refusal = r x; holds = has marks x }) xs)) (Some (r x)) ≡ refused_at r (cond b (first_outside marks xs) (Some x)))
+      [ true ↦ marked_in xs | false ↦ refl ]
+
+  -- the obligations that the variables of an expression are in a set, against the first occurrence outside it
+  pub marked_found : (e seen : Term) → e ≡ seen
+      → first_false (map (λ x. record { refusal = r x; holds = has marks x }) (vars e)) ≡ refused_at r (first_outside marks (occurrences seen))
+  marked_found e seen same =
+      distinct_map_same (λ x. record { refusal = r x; holds = has marks x }) (occurrences e) ∙ marked_in (occurrences e)
+      ∙ ap (λ t. refused_at r (first_outside marks (occurrences t))) same
 
 module _ (n : ℕ) (test : ℕ → Bool) (r : ℕ → Refusal) where
   entry : ℕ → Entry

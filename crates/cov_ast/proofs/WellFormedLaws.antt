@@ -2,7 +2,8 @@
 use Rattle.std.proofs.Common.{◌≡◌, ℕ, ◌<◌, ◌≤◌, List, length, map, get_or, ap, sym, ◌∙◌, subst, All}
 use Rattle.std.proofs.lemmas.List.{get_or-map, length-map}
 use Rattle.cov_expr.specs.Words.{HasVarsBelow}
-use Rattle.cov_ast.specs.Plain.{class_term}
+use Rattle.cov_ast.specs.Plain.{class_term, plain}
+use Rattle.cov_ast.specs.Declarations.{class_of, no_var}
 use Rattle.cov_ast.specs.WellFormed.{IsWellFormed, IsLockInRange, IsThreadInRange, AreModesInRange}
 use Rattle.cov_ast.specs.declared.decl.Program.{Program}
 use Rattle.cov_ast.specs.declared.decl.VarDecl.{VarDecl}
@@ -52,3 +53,7 @@ module _ (p : Program) (fine : IsWellFormed (view.program p)) where
 
   pub few_threads : length p.threads ≤ 16
   few_threads = subst (λ n. n ≤ 16) (length-map p.threads view.thread) fine.limits.declared_threads
+
+  pub class_at : (x : ℕ) → x < length p.vars → HasVarsBelow (class_of (plain (view.program p)) x) (length p.vars)
+  class_at x inside =
+      subst (HasVarsBelow (class_of (plain (view.program p)) x)) counts (fine.ids.classes x no_var (subst (λ n. x < n) (sym counts) inside))

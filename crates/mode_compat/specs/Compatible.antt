@@ -69,8 +69,11 @@ module _ (p : Program) where
   abbrev pub numbered : ℕ → Thread
   numbered t = get_or p.threads t no_thread
 
+  abbrev pub w9_other : (t u : ℕ) → List Entry
+  w9_other t u = if t == u then [] else w9_pair (numbered t) (numbered u)
+
   abbrev pub w9_entries : ℕ → List Entry
-  w9_entries t = flat_map (λ u. if t == u then [] else w9_pair (numbered t) (numbered u)) threads_of
+  w9_entries t = flat_map (w9_other t) threads_of
 
   abbrev pub mode_obligations : List Entry
   mode_obligations = flat_map w6_entries p.threads ++ flat_map w7_entries p.locks ++ flat_map w8_entries p.threads ++ flat_map w9_entries threads_of

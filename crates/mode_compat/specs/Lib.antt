@@ -1,3 +1,4 @@
 pub mod Compatible
 pub mod Declared
 pub mod Disjoint
+pub mod Marked

@@ -6,6 +6,11 @@
 //! - [`writable_and_stable_are_disjoint`] and [`sets_are_holdings`] have no body: their contracts are laws.
 #![tactic(auto)]
 
+mod controls;
 mod laws;
+mod locked;
+mod modes;
+mod pairs;
 
 pub use laws::{sets_are_holdings, writable_and_stable_are_disjoint};
+pub use modes::check_modes;

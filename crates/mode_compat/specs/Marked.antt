@@ -1,0 +1,33 @@
+-- The obligations of modes, where sets say which variables are locked, kept and guaranteed.
+use Rattle.std.specs.Prelude.{ℕ, List, [], ◌∷◌, Bool, not, map}
+use Rattle.cov_expr.specs.Trees.{vars}
+use Rattle.cov_ast.specs.Syntax.{Lock, Thread, Program}
+use Rattle.cov_ast.specs.Plain.{plain}
+use Rattle.cov_ast.specs.Declarations.{class_of}
+use Rattle.cov_ast.specs.Tables.{has, with_all}
+use Rattle.cov_ast.specs.Obligations.{Entry, declared_entry}
+use Rattle.cov_ast.specs.declared.refusal.Rule.{Rule}
+use Rattle.cov_ast.specs.declared.refusal.Rule.TheVariants.{W6}
+use Rattle.cov_ast.specs.declared.refusal.Detail.TheVariants.{One, Two}
+use Rattle.mode_compat.specs.Compatible.{shown, controls_of, w9_entry}
+
+-- with the variables of locks
+abbrev pub with_locks : (marks : List Bool) → List Lock → List Bool
+with_locks marks [] = marks
+with_locks marks (l ∷ ls) = with_locks (with_all (with_all marks l.nowrite) l.hide) ls
+
+module _ (p : Program) where
+  -- none of the set is assumed
+  abbrev pub apart_entry : Thread → (marks : List Bool) → ℕ → Entry
+  apart_entry t marks x = declared_entry W6 t.at (One (shown p x)) (not (has marks x))
+
+  abbrev pub kept_entry : Rule → (place : ℕ) → (marks : List Bool) → (x c : ℕ) → Entry
+  kept_entry rule place marks x c = declared_entry rule place (Two (shown p x) (shown p c)) (has marks c)
+
+  -- each control of a variable is in the set
+  abbrev pub kept_entries : Rule → (place : ℕ) → (marks : List Bool) → ℕ → List Entry
+  kept_entries rule place marks x = map (kept_entry rule place marks x) (controls_of p x)
+
+  -- what a thread assumes is in the set
+  abbrev pub met_entry : (t u : Thread) → (marks : List Bool) → ℕ → Entry
+  met_entry t u marks x = w9_entry p t u x (has marks x)
