@@ -1,5 +1,6 @@
 pub mod NameNumbers
 pub mod Items
+pub mod BlockLaws
 pub mod MeasureLaws
 pub mod LimitLaws
 pub mod Levels

@@ -1,4 +1,5 @@
 pub mod Words
+pub mod Text
 pub mod Trees
 pub mod Uses
 pub mod Measures

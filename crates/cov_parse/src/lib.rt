@@ -3,6 +3,7 @@
 //! - [`read_words`]: the tokens of a text as the grammar takes them, and its names.
 #![tactic(auto)]
 
+mod annotations;
 mod cert;
 mod certs;
 mod decl;
@@ -15,6 +16,7 @@ mod level;
 mod limits;
 mod measures;
 mod numbers;
+mod programs;
 mod states;
 mod stmt;
 mod stmts;
