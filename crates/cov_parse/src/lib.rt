@@ -16,13 +16,16 @@ mod level;
 mod limits;
 mod measures;
 mod numbers;
+
 mod programs;
 mod states;
 mod stmt;
 mod stmts;
+mod text;
 mod uses;
 mod words;
 mod written;
 
 pub use fault::{Counted, ParseFault};
+pub use text::{ParsedExpr, parse, parse_expr};
 pub use words::{Words, read_words};
