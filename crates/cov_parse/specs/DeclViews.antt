@@ -28,12 +28,11 @@ lock l = record { name = (l.name, l.at); nowrite = map number l.nowrite; hide = 
 abbrev pub pair : pairs.Pair → List ℕ × List ℕ
 pair p = (map number p.nowrite, map number p.hide)
 
+abbrev pub modes : pairs.Pair → pairs.Pair → t.Modes
+modes a g = record { assume_nowrite = map number a.nowrite; assume_hide = map number a.hide; guarantee_nowrite = map number g.nowrite; guarantee_hide = map number g.hide }
+
 abbrev pub thread : threads.Thread → t.Thread
-thread h = record {
-  name = (h.name, h.at);
-  modes = record { assume_nowrite = map number h.assumes.nowrite; assume_hide = map number h.assumes.hide; guarantee_nowrite = map number h.guarantees.nowrite; guarantee_hide = map number h.guarantees.hide };
-  body = block_of h.braces (map stmt h.body);
-}
+thread h = record { name = (h.name, h.at); modes = modes h.assumes h.guarantees; body = block_of h.braces (map stmt h.body) }
 
 abbrev pub program : PlacedProgram → t.Program
 program p = record { vars = map var p.vars; locks = map lock p.locks; threads = map thread p.threads }

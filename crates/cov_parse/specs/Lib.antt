@@ -1,4 +1,6 @@
 pub mod Words
+pub mod Text
+pub mod Replies
 pub mod Trees
 pub mod Uses
 pub mod Measures

@@ -1,7 +1,11 @@
 ghost use Rattle.std.specs.Prelude.{◌≡◌};
 ghost use Rattle.cov_parse.specs.declared.fault.ParseFault.TheVariants as faults;
+ghost use Rattle.cov_parse.specs.Text.{lexical, fault_of};
+ghost use Rattle.cov_parse.specs.Replies.{unexpected};
 
 use cov_expr::NoMemory;
+use cov_grammar::TokenFault;
+use cov_lex::LexFault;
 
 /// What a text may have only so many of.
 #[derive(Clone, Copy, Debug, PartialEq, Eq)]
@@ -48,6 +52,41 @@ impl From<NoMemory> for ParseFault {
 
     fn from(_error: NoMemory) -> Self {
         ParseFault::NoMemory
+    }
+}
+
+impl From<LexFault> for ParseFault {
+    ghost from_gives = { λ error fault. fault ≡ lexical error };
+
+    fn from(error: LexFault) -> Self {
+        match error {
+            LexFault::BadByte(at) => ParseFault::BadByte(at),
+            LexFault::NumberTooLarge(at) => ParseFault::NumberTooLarge(at),
+            LexFault::NameTooLong(at) => ParseFault::NameTooLong(at),
+            LexFault::NoMemory => ParseFault::NoMemory,
+        }
+    }
+}
+
+impl From<TokenFault> for ParseFault {
+    ghost from_gives = { λ error fault. fault ≡ unexpected error };
+
+    fn from(error: TokenFault) -> Self {
+        match error {
+            TokenFault::Unexpected(at) => ParseFault::Unexpected(at),
+            TokenFault::NoMemory => ParseFault::NoMemory,
+        }
+    }
+}
+
+impl From<Excess> for ParseFault {
+    ghost from_gives = { λ error fault. fault ≡ fault_of error };
+
+    fn from(error: Excess) -> Self {
+        match error.limit {
+            Limit::TooMany(counted) => ParseFault::TooMany(counted, error.at),
+            Limit::TooDeep => ParseFault::TooDeep(error.at),
+        }
     }
 }
 

@@ -3,6 +3,7 @@
 //! - [`read_words`]: the tokens of a text as the grammar takes them, and its names.
 #![tactic(auto)]
 
+mod annotations;
 mod cert;
 mod certs;
 mod decl;
@@ -15,12 +16,16 @@ mod level;
 mod limits;
 mod measures;
 mod numbers;
+
+mod programs;
 mod states;
 mod stmt;
 mod stmts;
+mod text;
 mod uses;
 mod words;
 mod written;
 
 pub use fault::{Counted, ParseFault};
+pub use text::{ParsedExpr, parse, parse_expr};
 pub use words::{Words, read_words};

@@ -1,0 +1,144 @@
+-- From tokens and trees to the answer for a text.
+use Rattle.std.proofs.Common.{◌≡◌, ℕ, List, [], ◌∷◌, length, ◌⊎◌, inl, inr, Bool, true, Option, Some, None, Result, Ok, Err, refl, sym, ap, subst, ◌∙◌, ⊎_elim}
+use Rattle.cov_expr.specs.Term.{Term}
+use Rattle.cov_lex.specs.declared.token.Token as lexed
+use Rattle.cov_lex.specs.declared.fault.LexFault.{LexFault}
+use Rattle.cov_lex.specs.declared.fault.LexFault.TheVariants as lex
+use Rattle.cov_lex.specs.Lexing.{tokens_of}
+use Rattle.cov_lex.specs.Lexing as lexing
+use Rattle.cov_grammar.specs.declared.token.Token.{Token}
+use Rattle.cov_grammar.specs.declared.stop.Stop.{Stop}
+use Rattle.cov_grammar.specs.declared.fault.TokenFault.{TokenFault}
+use Rattle.cov_grammar.specs.declared.fault.TokenFault.TheVariants as tokens
+use Rattle.cov_grammar.specs.Trees.{Program, Placed}
+use Rattle.cov_grammar.specs.Shapes.{Shape}
+use Rattle.cov_grammar.specs.Grammar.{program, whole}
+use Rattle.cov_grammar.specs.Spelling.{Is, FirstWrong, spot}
+use Rattle.cov_grammar.specs.LookAhead.{fine}
+use Rattle.cov_grammar.specs.Tables.{first_of, more_of}
+use Rattle.cov_grammar.specs.Reading.{Reading, reading}
+use Rattle.cov_grammar.specs.Answers as answers
+use Rattle.cov_grammar.proofs.TableLaws.{fine_program}
+use Rattle.cov_grammar.proofs.Wholes.{finish_stands, whole_answers, value_one}
+use Rattle.cov_grammar.proofs.Unique.{spelled_right}
+use Rattle.cov_parse.specs.declared.fault.ParseFault.{ParseFault}
+use Rattle.cov_parse.specs.declared.fault.ParseFault.TheVariants as faults
+use Rattle.cov_parse.specs.declared.fault.Limit.{Limit}
+use Rattle.cov_parse.specs.declared.fault.Limit.TheVariants.{TooMany, TooDeep}
+use Rattle.cov_parse.specs.declared.fault.Excess.{Excess}
+use Rattle.cov_parse.specs.Depth.{deep}
+use Rattle.cov_parse.specs.Words as words
+use Rattle.cov_parse.specs.declared.words.Words.{Words}
+use Rattle.cov_parse.specs.declared.decl.PlacedProgram.{PlacedProgram}
+use Rattle.cov_parse.specs.declared.cert.Whole.{Whole}
+use Rattle.cov_parse.specs.CertViews as certs
+use Rattle.cov_parse.specs.DeclViews as decls
+use Rattle.cov_parse.specs.Text.{lexed_of, words_of, names_of, lexical, fault_at, fault_of, IsFirstFault, IsShallow, IsText, IsUnexpected, IsPastLimit, IsFault, Answers, Only}
+use Rattle.cov_parse.specs.Replies.{Reads, unexpected}
+
+-- All tokens ---------------------------------------------------------------------------------------------------
+
+pub program_answers : (end : ℕ) (ts left : List Token) (read : Result PlacedProgram Stop) (r : Result PlacedProgram TokenFault) → answers.Gives decls.program left read (reading program ts) → r ≡ answers.whole_answer end left read
+    → answers.Answers program decls.program end ts r
+program_answers end ts left read r h e =
+    subst (answers.Answers program decls.program end ts) (sym e) (whole_answers program fine_program decls.program end ts (answers.whole_answer end left read) (finish_stands decls.program end left read (reading program ts) h))
+
+pub expr_answers : (end : ℕ) (ts left : List Token) (read : Result Whole Stop) (r : Result Whole TokenFault) → answers.Gives certs.whole left read (reading whole ts) → r ≡ answers.whole_answer end left read
+    → answers.Answers whole certs.whole end ts r
+expr_answers end ts left read r h e =
+    subst (answers.Answers whole certs.whole end ts) (sym e) (whole_answers whole refl certs.whole end ts (answers.whole_answer end left read) (finish_stands certs.whole end left read (reading whole ts) h))
+
+-- Bytes --------------------------------------------------------------------------------------------------------
+
+pub lexes_so : (text : List ℕ) (ts : List lexed.Token) → tokens_of text ≡ Ok ts → tokens_of text ≡ Ok (lexed_of text)
+unfolding lexed_of
+lexes_so text ts e = e ∙ ap (λ r. Ok (Rattle.cov_parse.specs.Text.or_none r)) (sym e)
+
+pub lexed_is : (text : List ℕ) (ts : List lexed.Token) → tokens_of text ≡ Ok ts → lexed_of text ≡ ts
+unfolding lexed_of
+lexed_is text ts e = ap Rattle.cov_parse.specs.Text.or_none e
+
+pub words_are : (text : List ℕ) (ts : List lexed.Token) → tokens_of text ≡ Ok ts → words_of text ≡ words.words_of text ts
+unfolding words_of
+words_are text ts e = ap (words.words_of text) (lexed_is text ts e)
+
+pub names_are : (text : List ℕ) (ts : List lexed.Token) → tokens_of text ≡ Ok ts → names_of text ≡ words.names_of text ts
+unfolding names_of
+names_are text ts e = ap (words.names_of text) (lexed_is text ts e)
+
+pub lexical_fault : (text : List ℕ) (e : LexFault) → lexing.Gives (Err e) (tokens_of text) → Reads text (Err (lexical e))
+lexical_fault text (lex.BadByte at) h = subst (λ r. IsFirstFault r (words_of text) (faults.BadByte at)) (sym h) refl
+lexical_fault text (lex.NumberTooLarge at) h = subst (λ r. IsFirstFault r (words_of text) (faults.NumberTooLarge at)) (sym h) refl
+lexical_fault text (lex.NameTooLong at) h = subst (λ r. IsFirstFault r (words_of text) (faults.NameTooLong at)) (sym h) refl
+lexical_fault text lex.NoMemory h = tt
+
+-- what was read of the bytes
+module _ (text : List ℕ) (ts : List lexed.Token) (e : tokens_of text ≡ Ok ts) (w : Words) (named : w.names ≡ words.names_of text ts) (read : w.tokens ≡ words.words_of text ts) where
+  pub deep_fault : (at : ℕ) → Some at ≡ deep 0 0 w.tokens → Reads text (Err (faults.TooDeep at))
+  deep_fault at h =
+      subst (λ r. IsFirstFault r (words_of text) (faults.TooDeep at)) (sym e)
+      (at, ap (deep 0 0) (words_are text ts e ∙ sym read) ∙ sym h, refl)
+
+  pub reads_words : None ≡ deep 0 0 w.tokens → Reads text (Ok w)
+  reads_words h = (
+    record { lexes = lexes_so text ts e; shallow = ap (deep 0 0) (words_are text ts e ∙ sym read) ∙ sym h },
+    named ∙ sym (names_are text ts e),
+    read ∙ sym (words_are text ts e),
+  )
+
+-- Answers ------------------------------------------------------------------------------------------------------
+
+module _ {A X B : Type 0} (a : Shape A) (limits : A → Option Excess) (text : List ℕ) (view : X → B) (made : A → B) where
+  pub fault_before : (fault : ParseFault) → Reads text (Err fault) → Answers a limits text view made (Err fault)
+  fault_before (faults.BadByte at) h = inl h
+  fault_before (faults.NumberTooLarge at) h = inl h
+  fault_before (faults.NameTooLong at) h = inl h
+  fault_before (faults.Unexpected at) h = inl h
+  fault_before (faults.TooMany c at) h = inl h
+  fault_before (faults.TooDeep at) h = inl h
+  fault_before faults.NoMemory h = tt
+
+  pub fault_within : {Y : Type 0} (shown : Y → A) (end : ℕ) (ws : List Token) (e : TokenFault) → IsShallow text → ws ≡ words_of text → end ≡ length text → answers.Answers a shown end ws (Err e)
+      → Answers a limits text view made (Err (unexpected e))
+  fault_within shown end ws (tokens.Unexpected at) shallow same len h =
+      inr (inl (record {
+        tokens = shallow;
+        bad = h.0;
+        first = subst (λ us. FirstWrong a us h.0) same h.1;
+        is = ap faults.Unexpected (h.2 ∙ ap (λ n. spot n h.0) len);
+      }))
+  fault_within shown end ws tokens.NoMemory shallow same len h = tt
+
+  pub fault_past : {Y : Type 0} (shown : Y → A) (y : Y) (end : ℕ) (ws : List Token) (at : ℕ) (limit : Limit) → IsShallow text → ws ≡ words_of text → answers.Answers a shown end ws (Ok y) → limits (shown y) ≡ Some (record { at = at; limit = limit })
+      → Answers a limits text view made (Err (fault_at at limit))
+  fault_past shown y end ws at (TooMany c) shallow same h g =
+      inr (inr (record { tokens = shallow; tree = shown y; spelled = subst (Is a (shown y)) same h; excess = record { at = at; limit = TooMany c }; least = g; is = refl }))
+  fault_past shown y end ws at TooDeep shallow same h g =
+      inr (inr (record { tokens = shallow; tree = shown y; spelled = subst (Is a (shown y)) same h; excess = record { at = at; limit = TooDeep }; least = g; is = refl }))
+
+  pub answer_is : {Y : Type 0} (shown : Y → A) (y : Y) (x : X) (end : ℕ) (ws : List Token) → IsShallow text → ws ≡ words_of text → answers.Answers a shown end ws (Ok y) → limits (shown y) ≡ None → view x ≡ made (shown y)
+      → Answers a limits text view made (Ok x)
+  answer_is shown y x end ws shallow same h g e = (shown y, record { tokens = shallow; spelled = subst (Is a (shown y)) same h; small = g }, e)
+
+  -- a text that spells a tree within the limits has no fault
+  no_fault : fine first_of more_of a ≡ true → (tree : A) → IsText a limits text tree → (fault : ParseFault) → IsFault a limits text fault → ⊥
+  no_fault f tree is fault h =
+      ⊎_elim (λ first. by_first (tokens_of text) is.tokens.lexes first)
+      (⊎_elim (λ g. spelled_right a tree (words_of text) g.bad is.spelled g.first)
+      (λ g. let same : tree ≡ g.tree = value_one a f (words_of text) tree g.tree is.spelled g.spelled in
+        let no : None ≡ Some g.excess = sym is.small ∙ ap limits same ∙ g.least in cc))
+      h
+    where
+      by_first : (r : Result (List lexed.Token) LexFault) → r ≡ Ok (lexed_of text) → IsFirstFault r (words_of text) fault → ⊥
+      by_first (Ok ts) e g = let no : None ≡ Some g.0 = sym is.tokens.shallow ∙ g.1 in cc
+      by_first (Err x) e g = cc
+
+  pub only_is : fine first_of more_of a ≡ true → (tree : A) → IsText a limits text tree → (r : Result X ParseFault) → Answers a limits text view made r → Only view (made tree) r
+  only_is f tree is (Ok x) h = h.2 ∙ ap made (value_one a f (words_of text) h.0 tree h.1.spelled is.spelled)
+  only_is f tree is (Err (faults.BadByte at)) h = no_fault f tree is (faults.BadByte at) h
+  only_is f tree is (Err (faults.NumberTooLarge at)) h = no_fault f tree is (faults.NumberTooLarge at) h
+  only_is f tree is (Err (faults.NameTooLong at)) h = no_fault f tree is (faults.NameTooLong at) h
+  only_is f tree is (Err (faults.Unexpected at)) h = no_fault f tree is (faults.Unexpected at) h
+  only_is f tree is (Err (faults.TooMany c at)) h = no_fault f tree is (faults.TooMany c at) h
+  only_is f tree is (Err (faults.TooDeep at)) h = no_fault f tree is (faults.TooDeep at) h
+  only_is f tree is (Err faults.NoMemory) h = tt

@@ -1,0 +1,11 @@
+use Rattle.cov_ast.specs.View as ast
+use Rattle.cov_grammar.specs.Grammar.{program}
+use Rattle.cov_grammar.proofs.TableLaws.{fine_program}
+use Rattle.cov_parse.specs.Limits.{in_program}
+use Rattle.cov_parse.specs.Text.{program_of}
+use Rattle.cov_parse.proofs.ParseLaws.{only_is}
+use Rattle.cov_parse.proofs.text.parse.Goals as goal
+
+pub returns-clause-only : goal.returns-clause-only
+returns-clause-only c tree is =
+    only_is program in_program c.args.bytes.now ast.parsed (program_of c.args.bytes.now) fine_program tree is c.read_program_text.result c.read_program_text.ensures

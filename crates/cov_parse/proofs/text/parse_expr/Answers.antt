@@ -1,0 +1,11 @@
+use Rattle.std.proofs.Common.{refl}
+use Rattle.cov_grammar.specs.Grammar.{whole}
+use Rattle.cov_parse.specs.Limits.{in_expr}
+use Rattle.cov_parse.specs.Text.{expression_of}
+use Rattle.cov_parse.specs.Replies.{parsed_expr}
+use Rattle.cov_parse.proofs.ParseLaws.{only_is}
+use Rattle.cov_parse.proofs.text.parse_expr.Goals as goal
+
+pub returns-clause-only : goal.returns-clause-only
+returns-clause-only c tree is =
+    only_is whole in_expr c.args.bytes.now parsed_expr (expression_of c.args.bytes.now) refl tree is c.read_expr_text.result c.read_expr_text.ensures

@@ -1,0 +1,25 @@
+-- What parts of the code answer. These are words of the code's contracts.
+use Rattle.std.specs.Prelude.{◌≡◌, ℕ, List, Result, Ok, Err}
+use Rattle.cov_expr.specs.View.{term}
+use Rattle.cov_grammar.specs.declared.fault.TokenFault.{TokenFault}
+use Rattle.cov_grammar.specs.declared.fault.TokenFault.TheVariants as tokens
+use Rattle.cov_lex.specs.Lexing.{tokens_of}
+use Rattle.cov_parse.specs.declared.fault.ParseFault.{ParseFault}
+use Rattle.cov_parse.specs.declared.fault.ParseFault.TheVariants as faults
+use Rattle.cov_parse.specs.declared.words.Words.{Words}
+use Rattle.cov_parse.specs.declared.text.ParsedExpr.{ParsedExpr}
+use Rattle.cov_parse.specs.Text.{words_of, names_of, IsShallow, IsFirstFault, Expression}
+
+-- tokens that aren't too deep, or the first fault of bytes or brackets
+abbrev pub Reads : (text : List ℕ) → Result Words ParseFault → Type 0
+Reads text (Ok w) = IsShallow text × (w.names ≡ names_of text) × (w.tokens ≡ words_of text)
+Reads text (Err faults.NoMemory) = Unit {0}
+Reads text (Err fault) = IsFirstFault (tokens_of text) (words_of text) fault
+
+abbrev pub unexpected : TokenFault → ParseFault
+unexpected (tokens.Unexpected at) = faults.Unexpected at
+unexpected tokens.NoMemory = faults.NoMemory
+
+-- what callers get of one expression
+abbrev pub parsed_expr : ParsedExpr → Expression
+parsed_expr p = record { names = p.names; uses = p.uses; expr = term p.expr }

@@ -1,0 +1,118 @@
+ghost use Rattle.std.specs.Prelude.{◌≡◌, ◌≤◌, length};
+ghost use Rattle.cov_ast.specs.View as ast;
+ghost use Rattle.cov_grammar.specs.Trees.{Program, Placed};
+ghost use Rattle.cov_grammar.specs.Grammar as grammar;
+ghost use Rattle.cov_grammar.specs.Answers as answers;
+ghost use Rattle.cov_expr.specs.Term.{Term};
+ghost use Rattle.cov_parse.specs.CertViews as certs;
+ghost use Rattle.cov_parse.specs.DeclViews as decls;
+ghost use Rattle.cov_parse.specs.Limits as limits;
+ghost use Rattle.cov_parse.specs.Text.{IsText, Answers, Only, program_of, expression_of};
+ghost use Rattle.cov_parse.specs.Replies.{Reads, parsed_expr};
+
+use crate::cert::Whole;
+use crate::certs::read_whole;
+use crate::decl::PlacedProgram;
+use crate::decls::read_program;
+use crate::depth::deep;
+use crate::exprs::expr_of;
+use crate::fault::ParseFault;
+use crate::limits::{in_expr, in_program};
+use crate::programs::parsed_of;
+use crate::uses::uses;
+use crate::words::{Words, read_words};
+use cov_ast::{NameTable, NameUse, Parsed};
+use cov_expr::{Expr, List};
+use cov_grammar::{Token, TokenFault, TokenReader};
+use cov_lex::lex;
+use std::alloc::Global;
+
+/// What a text spells that is one expression.
+#[derive(Debug, Drop)]
+pub struct ParsedExpr {
+    pub names: NameTable,
+    /// Every use of a name, in the order of the text.
+    pub uses: List<NameUse>,
+    /// Each variable is named by the number of its name.
+    pub expr: Expr,
+}
+
+/// The program that a text of at most 1 MiB spells, or its first fault.
+pub fn parse(alloc: Global, bytes: &[u8]) -> Result<Parsed, ParseFault>
+    requires { length bytes.now ≤ 1048576 }
+    // What is answered is what the text spells, within the limits; else its first fault.
+    ensures answer { Answers grammar.program limits.in_program bytes.now ast.parsed (program_of bytes.now) result }
+    // What the text spells within the limits is answered.
+    ensures only { (tree : Program) → IsText grammar.program limits.in_program bytes.now tree → Only ast.parsed (program_of bytes.now tree) result }
+{
+    read_program_text(alloc, bytes)
+}
+
+fn read_program_text(alloc: Global, bytes: &[u8]) -> Result<Parsed, ParseFault>
+    requires { length bytes.now ≤ 1048576 }
+    ensures { Answers grammar.program limits.in_program bytes.now ast.parsed (program_of bytes.now) result }
+{
+    let Words { names, tokens } = read_text(alloc, bytes)?;
+    let program = tokens_as_program(alloc, tokens.as_slice(), bytes.len() as u32)?;
+    if let Some(excess) = in_program(&program) {
+        return Err(ParseFault::from(excess));
+    }
+    let uses = uses(alloc, tokens.as_slice())?;
+    Ok(parsed_of(alloc, names, uses, &program)?)
+}
+
+/// The expression that a text of at most 1 MiB spells, or its first fault.
+pub fn parse_expr(alloc: Global, bytes: &[u8]) -> Result<ParsedExpr, ParseFault>
+    requires { length bytes.now ≤ 1048576 }
+    ensures answer { Answers grammar.whole limits.in_expr bytes.now parsed_expr (expression_of bytes.now) result }
+    ensures only { (tree : Placed Term) → IsText grammar.whole limits.in_expr bytes.now tree → Only parsed_expr (expression_of bytes.now tree) result }
+{
+    read_expr_text(alloc, bytes)
+}
+
+fn read_expr_text(alloc: Global, bytes: &[u8]) -> Result<ParsedExpr, ParseFault>
+    requires { length bytes.now ≤ 1048576 }
+    ensures { Answers grammar.whole limits.in_expr bytes.now parsed_expr (expression_of bytes.now) result }
+{
+    let Words { names, tokens } = read_text(alloc, bytes)?;
+    let whole = tokens_as_expr(alloc, tokens.as_slice(), bytes.len() as u32)?;
+    if let Some(excess) = in_expr(&whole) {
+        return Err(ParseFault::from(excess));
+    }
+    let uses = uses(alloc, tokens.as_slice())?;
+    let expr = expr_of(alloc, &whole.expr)?;
+    Ok(ParsedExpr { names, uses, expr })
+}
+
+/// The tokens of a text and its names, or the first fault of its bytes or its brackets.
+fn read_text(alloc: Global, bytes: &[u8]) -> Result<Words, ParseFault>
+    requires { length bytes.now ≤ 1048576 }
+    ensures { Reads bytes.now result }
+{
+    let lexed = lex(alloc, bytes)?;
+    let words = read_words(alloc, bytes, lexed.as_slice())?;
+    match deep(words.tokens.as_slice()) {
+        Some(at) => Err(ParseFault::TooDeep(at)),
+        None => Ok(words),
+    }
+}
+
+/// The program that tokens are, in a text of so many bytes.
+#[tactic(auto, using(crate::proofs::ParseLaws::program_answers))]
+fn tokens_as_program(alloc: Global, tokens: &[Token], end: u32) -> Result<PlacedProgram, TokenFault>
+    ensures { answers.Answers grammar.program decls.program end tokens.now result }
+{
+    let mut reader = TokenReader::new(tokens);
+    let read = read_program(&mut reader, alloc);
+    reader.finish(read, end)
+}
+
+/// The expression that tokens are, in a text of so many bytes.
+#[tactic(auto, using(crate::proofs::ParseLaws::expr_answers))]
+fn tokens_as_expr(alloc: Global, tokens: &[Token], end: u32) -> Result<Whole, TokenFault>
+    ensures { answers.Answers grammar.whole certs.whole end tokens.now result }
+{
+    let mut reader = TokenReader::new(tokens);
+    let read = read_whole(&mut reader, alloc, false);
+    reader.finish(read, end)
+}
