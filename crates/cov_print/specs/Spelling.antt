@@ -1,7 +1,7 @@
 -- The canonical spelling of a program: one text for each tree. Comments and places of the text that was read aren't kept.
 --
 -- Variables and locks are numbers of a list of names. A number that has no name is the hole of a template.
-use Rattle.std.specs.Prelude.{ℕ, List, [], ◌∷◌, ◌++◌, get_or, Bool, true, false, Option, Some, None, codes, decimal, flat_map, if◌then◌else◌}
+use Rattle.std.specs.Prelude.{ℕ, List, [], ◌∷◌, ◌++◌, get_or, Bool, true, false, ◌&&◌, Option, Some, None, codes, decimal, flat_map, if◌then◌else◌}
 use Rattle.cov_expr.specs.declared.expr.Op.{Op}
 use Rattle.cov_expr.specs.declared.expr.Op.TheVariants.{Add, Sub, Mul, And, Or, Xor, Eq, Ne, Lt, Le, Both, Either}
 use Rattle.cov_expr.specs.Term.{Term, const, var, neg, bin}
@@ -23,6 +23,10 @@ more spelled xs = flat_map (λ x. codes ", " ++ spelled x) xs
 abbrev pub listed : {A : Type 0} → (A → List ℕ) → List A → List ℕ
 listed spelled [] = []
 listed spelled (x ∷ xs) = spelled x ++ more spelled xs
+
+abbrev pub is_nothing : {A : Type 0} → List A → Bool
+is_nothing [] = true
+is_nothing (x ∷ xs) = false
 
 -- Expressions --------------------------------------------------------------------------------------------------
 
@@ -107,7 +111,7 @@ by names (p ∷ ps) = codes " by { " ++ listed (proof names) (p ∷ ps) ++ codes
 abbrev pub typed : Names → ℕ × Term → List ℕ
 typed names t = name names t.0 ++ codes ": " ++ whole names t.1
 
-abbrev pub state_of : Names → List Term → List (ℕ × Term) → List ℕ
+unfoldable pub state_of : Names → List Term → List (ℕ × Term) → List ℕ
 state_of names [] [] = codes "{}"
 state_of names (p ∷ ps) [] = codes "{ " ++ listed (whole names) (p ∷ ps) ++ codes " }"
 state_of names [] (t ∷ ts) = codes "{ ; " ++ listed (typed names) (t ∷ ts) ++ codes " }"
@@ -117,9 +121,8 @@ abbrev pub state : Names → s.State → List ℕ
 state names j = state_of names j.preds j.types
 
 -- a state behind its word; an empty one is left out
-abbrev pub stated_of : Names → (word : List ℕ) → List Term → List (ℕ × Term) → List ℕ
-stated_of names word [] [] = []
-stated_of names word preds types = word ++ state_of names preds types
+unfoldable pub stated_of : Names → (word : List ℕ) → List Term → List (ℕ × Term) → List ℕ
+stated_of names word preds types = if is_nothing preds && is_nothing types then [] else word ++ state_of names preds types
 
 abbrev pub stated : Names → (word : List ℕ) → s.State → List ℕ
 stated names word j = stated_of names word j.preds j.types

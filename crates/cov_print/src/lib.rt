@@ -4,6 +4,11 @@
 #![tactic(auto)]
 
 mod cert;
+mod decl;
 mod expr;
+mod program;
+mod state;
+mod stmt;
 mod text;
 
+pub use program::print;
