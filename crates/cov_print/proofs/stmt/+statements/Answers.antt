@@ -1,0 +1,5 @@
+use Rattle.cov_print.proofs.StatementKinds.{note_is, branch_is, loop_is}
+use Rattle.cov_print.proofs.stmt.+statements.Goals as goal
+
+pub add_statement-returns-in-Note : goal.add_statement-returns-in-Note
+add_statement-returns-in-Note t c = rw (c.in-Note.is, note_is) c.add_note.ensures

@@ -1,0 +1,157 @@
+ghost use Rattle.std.specs.Prelude.{◌≡◌, ◌++◌, OnOk, map, codes, decimal};
+ghost use Rattle.cov_expr.specs.View.{term};
+ghost use Rattle.cov_ast.specs.View as view;
+ghost use Rattle.cov_print.specs.Spelling as spec;
+
+use crate::expr::{add_expr, add_exprs};
+use crate::text::add_number;
+use cov_ast::{Cert, NameTable, Proof};
+use cov_expr::{Expr, List, NoMemory};
+
+/// Adds a word and a number behind it.
+fn add_numbered(word: &[u8], n: u32, out: &mut List<u8>) -> Result<(), NoMemory>
+    ensures { OnOk result (out.new ≡ out.old ++ word.now ++ decimal n) }
+{
+    out.extend_from_slice(word)?;
+    add_number(n, out)
+}
+
+/// Adds a word and an expression in brackets behind it.
+fn add_bracketed(names: &NameTable, word: &[u8], e: &Expr, out: &mut List<u8>) -> Result<(), NoMemory>
+    ensures { OnOk result (out.new ≡ out.old ++ word.now ++ codes " [" ++ spec.whole names.now (term e.now) ++ codes "]") }
+{
+    out.extend_from_slice(word)?;
+    out.extend_from_slice(b" [")?;
+    add_expr(names, false, e, out)?;
+    out.extend_from_slice(b"]")
+}
+
+/// Whether a certificate is a lone word.
+fn is_word(c: &Cert) -> bool
+    ensures { result ≡ spec.is_word (view.cert c.now) }
+{
+    match c {
+        Cert::Auto | Cert::Calc | Cert::Refl | Cert::Ring | Cert::Range => true,
+        Cert::Hyp(_) | Cert::Clash(_) | Cert::Absurd(..) | Cert::And(..) | Cert::Left(_) | Cert::Right(_) => false,
+        Cert::Unpack(..) | Cert::Cases(..) | Cert::Split(..) | Cert::Have(..) | Cert::Not(_) => false,
+        Cert::Contra(_) | Cert::Fwd(..) | Cert::Rev(..) | Cert::Axiom(..) => false,
+    }
+}
+
+/// Adds a certificate.
+#[cycle(certs)]
+pub fn add_cert(names: &NameTable, c: &Cert, out: &mut List<u8>) -> Result<(), NoMemory>
+    ensures { OnOk result (out.new ≡ out.old ++ spec.cert names.now (view.cert c.now)) }
+{
+    match c {
+        Cert::Auto => out.extend_from_slice(b"auto"),
+        Cert::Calc => out.extend_from_slice(b"calc"),
+        Cert::Refl => out.extend_from_slice(b"refl"),
+        Cert::Ring => out.extend_from_slice(b"ring"),
+        Cert::Range => out.extend_from_slice(b"range"),
+        Cert::Hyp(i) => add_numbered(b"hyp ", *i, out),
+        Cert::Clash(i) => add_numbered(b"clash ", *i, out),
+        Cert::Absurd(i, j) => {
+            add_numbered(b"absurd ", *i, out)?;
+            add_numbered(b" ", *j, out)
+        }
+        Cert::And(c, d) => {
+            out.extend_from_slice(b"and")?;
+            add_inner(names, c, out)?;
+            add_inner(names, d, out)
+        }
+        Cert::Left(c) => {
+            out.extend_from_slice(b"left")?;
+            add_inner(names, c, out)
+        }
+        Cert::Right(c) => {
+            out.extend_from_slice(b"right")?;
+            add_inner(names, c, out)
+        }
+        Cert::Unpack(i, c) => {
+            add_numbered(b"use ", *i, out)?;
+            add_inner(names, c, out)
+        }
+        Cert::Cases(i, c, d) => {
+            add_numbered(b"cases ", *i, out)?;
+            add_inner(names, c, out)?;
+            add_inner(names, d, out)
+        }
+        Cert::Split(e, c, d) => {
+            add_bracketed(names, b"split", e, out)?;
+            add_inner(names, c, out)?;
+            add_inner(names, d, out)
+        }
+        Cert::Have(e, c, d) => {
+            add_bracketed(names, b"have", e, out)?;
+            add_inner(names, c, out)?;
+            add_inner(names, d, out)
+        }
+        Cert::Not(c) => {
+            out.extend_from_slice(b"not")?;
+            add_inner(names, c, out)
+        }
+        Cert::Contra(c) => {
+            out.extend_from_slice(b"contra")?;
+            add_inner(names, c, out)
+        }
+        Cert::Fwd(i, e, c) => {
+            add_numbered(b"fwd ", *i, out)?;
+            add_bracketed(names, b"", e, out)?;
+            add_inner(names, c, out)
+        }
+        Cert::Rev(i, e, c) => {
+            add_numbered(b"rev ", *i, out)?;
+            add_bracketed(names, b"", e, out)?;
+            add_inner(names, c, out)
+        }
+        Cert::Axiom(k, es, c) => {
+            add_numbered(b"axiom ", *k, out)?;
+            out.extend_from_slice(b" (")?;
+            add_exprs(names, es.as_slice(), out)?;
+            out.extend_from_slice(b")")?;
+            add_inner(names, c, out)
+        }
+    }
+}
+
+/// Adds a blank and a certificate that stands inside of another.
+#[cycle(certs)]
+fn add_inner(names: &NameTable, c: &Cert, out: &mut List<u8>) -> Result<(), NoMemory>
+    ensures { OnOk result (out.new ≡ out.old ++ spec.inner (view.cert c.now) (spec.cert names.now (view.cert c.now))) }
+{
+    if is_word(c) {
+        out.extend_from_slice(b" ")?;
+        add_cert(names, c, out)
+    } else {
+        out.extend_from_slice(b" (")?;
+        add_cert(names, c, out)?;
+        out.extend_from_slice(b")")
+    }
+}
+
+fn add_proof(names: &NameTable, p: &Proof, out: &mut List<u8>) -> Result<(), NoMemory>
+    ensures { OnOk result (out.new ≡ out.old ++ spec.proof names.now (view.proof p.now)) }
+{
+    add_number(p.number, out)?;
+    out.extend_from_slice(b": ")?;
+    add_cert(names, &p.cert, out)
+}
+
+/// Adds the proofs of a statement, with the blank before them, or nothing where there are none.
+pub fn add_proofs(names: &NameTable, ps: &[Proof], out: &mut List<u8>) -> Result<(), NoMemory>
+    ensures { OnOk result (out.new ≡ out.old ++ spec.by names.now (map view.proof ps.now)) }
+{
+    match ps {
+        [] => Ok(()),
+        [first, rest @ ..] => {
+            out.extend_from_slice(b" by { ")?;
+            add_proof(names, first, out)?;
+            for p in rest {
+                out.extend_from_slice(b", ")?;
+                add_proof(names, p, out)?;
+            }
+            out.extend_from_slice(b" }")
+        }
+    }
+}

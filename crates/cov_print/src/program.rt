@@ -1,0 +1,48 @@
+ghost use Rattle.std.specs.Prelude.{◌≡◌, ◌++◌, OnOk, IfOk, map, flat_map};
+ghost use Rattle.cov_ast.specs.View as view;
+ghost use Rattle.cov_print.specs.Spelling as spec;
+
+use crate::decl::{add_lock, add_thread, add_var};
+use cov_ast::{LockDecl, NameTable, Parsed, ThreadDecl, VarDecl};
+use cov_expr::{List, NoMemory};
+use std::alloc::Global;
+
+fn add_vars(names: &NameTable, vars: &[VarDecl], out: &mut List<u8>) -> Result<(), NoMemory>
+    ensures { OnOk result (out.new ≡ out.old ++ flat_map (spec.var_line names.now) (map view.var vars.now)) }
+{
+    for v in vars {
+        add_var(names, v, out)?;
+    }
+    Ok(())
+}
+
+fn add_locks(names: &NameTable, locks: &[LockDecl], out: &mut List<u8>) -> Result<(), NoMemory>
+    ensures { OnOk result (out.new ≡ out.old ++ flat_map (spec.lock_line names.now) (map view.lock locks.now)) }
+{
+    for l in locks {
+        add_lock(names, l, out)?;
+    }
+    Ok(())
+}
+
+fn add_threads(alloc: Global, names: &NameTable, threads: &[ThreadDecl], out: &mut List<u8>) -> Result<(), NoMemory>
+    ensures { OnOk result (out.new ≡ out.old ++ flat_map (spec.thread_lines names.now) (map view.thread threads.now)) }
+{
+    for t in threads {
+        add_thread(alloc, names, t, out)?;
+    }
+    Ok(())
+}
+
+/// The canonical spelling of a program: a text of lines that end with a line feed, without comments. A number that has
+/// no name is spelled `_`, as the hole of a template. It takes memory in proportion to the text, and recurses as deep
+/// as blocks, certificates or expressions nest.
+pub fn print(alloc: Global, p: &Parsed) -> Result<List<u8>, NoMemory>
+    ensures { IfOk result (λ text. text ≡ spec.spelling (view.parsed p.now)) }
+{
+    let mut out = List::new(alloc);
+    add_vars(&p.names, p.vars.as_slice(), &mut out)?;
+    add_locks(&p.names, p.locks.as_slice(), &mut out)?;
+    add_threads(alloc, &p.names, p.threads.as_slice(), &mut out)?;
+    Ok(out)
+}
