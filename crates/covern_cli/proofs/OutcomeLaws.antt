@@ -3,8 +3,8 @@ use Rattle.std.proofs.Common.{◌≡◌, ◌⊎◌, ℕ, List, Result, Option, O
 use Rattle.cov_io.specs.Shelves.{File, Shelved, Gives, held}
 use Rattle.cov_io.specs.declared.shelf.Fetched.TheVariants.{Whole}
 use Rattle.cov_io.specs.Sinks.{Sunk}
-use Rattle.covern_cli.specs.Answers.{Reply, usage, read_fault, too_long, malformed, refused, accepted, status_of}
-use Rattle.covern_cli.specs.Outcome.{program_limit, Command, check, nothing, Does, Gets, Stops, Ends, Judges, Misses, HoldsSecure}
+use Rattle.covern_cli.specs.Answers.{Reply, usage, read_fault, too_long, malformed, not_built, refused, accepted, spelled, status_of}
+use Rattle.covern_cli.specs.Outcome.{program_limit, Command, check, fmt, nothing, Does, Gets, Stops, Ends, Judges, Formats, Misses, HoldsSecure}
 use Rattle.covern_cli.specs.declared.answer.Answer.{Answer}
 use Rattle.covern_cli.specs.declared.answer.Stop.{Stop}
 use Rattle.covern_cli.specs.declared.answer.Stop.TheVariants as stops
@@ -23,6 +23,11 @@ pub check_reads : (before after : Shelved) (name bytes seen_bytes : List ℕ) (r
 check_reads before after name bytes seen_bytes r fetched same h =
     gets_onward (Judges name seen_bytes) (Does before after (check name)) r (λ reply judged. inl (bytes, fetched, subst (λ b. Judges name b reply) same judged)) h
 
+pub format_reads : (before after : Shelved) (name bytes seen_bytes : List ℕ) (r : Result Answer Stop) → Gives before after name program_limit (Ok (Whole bytes))
+    → seen_bytes ≡ bytes → Gets (Formats name seen_bytes) r → Gets (Does before after (fmt name)) r
+format_reads before after name bytes seen_bytes r fetched same h =
+    gets_onward (Formats name seen_bytes) (Does before after (fmt name)) r (λ reply judged. inl (bytes, fetched, subst (λ b. Formats name b reply) same judged)) h
+
 -- A program that is accepted is secure.
 pub done_is_secure : (before after : Shelved) (command : Command) (reply : Reply) → Does before after command reply → status_of reply ≡ s.Done
     → IfSome before.told (λ files. HoldsSecure files command)
@@ -34,10 +39,17 @@ done_is_secure before after (check name) reply (inl (bytes, fetched, judged)) do
     by (Some files) usage at judged done = cc
     by (Some files) (read_fault file) at judged done = cc
     by (Some files) (too_long file) at judged done = cc
-    by (Some files) (malformed file) at judged done = cc
+    by (Some files) (malformed file fault) at judged done = cc
+    by (Some files) not_built at judged done = cc
     by (Some files) refused at judged done = cc
     by (Some files) (accepted threads statements entailments) at judged done =
-        (bytes, at, judged.0, judged.1, judged.6)
+        (bytes, at, judged.2, judged.3, judged.8)
+    by (Some files) (spelled text) at judged done = absurd judged
 done_is_secure before after (check name) reply (inr (inl h)) done = let e : s.TooLong ≡ s.Done = sym (ap status_of h.1) ∙ done in cc
 done_is_secure before after (check name) reply (inr (inr h)) done = let e : s.ReadFault ≡ s.Done = sym (ap status_of h.1) ∙ done in cc
+done_is_secure before after (fmt name) reply h done = by before.told
+  where
+    by : (told : Option (List File)) → IfSome told (λ files. HoldsSecure files (fmt name))
+    by None = tt
+    by (Some files) = tt
 done_is_secure before after nothing reply h done = let e : s.Usage ≡ s.Done = sym (ap status_of h) ∙ done in cc

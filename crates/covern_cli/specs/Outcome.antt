@@ -7,7 +7,12 @@ use Rattle.cov_io.specs.declared.sink.Failed.{Failed}
 use Rattle.cov_io.specs.declared.shelf.Fetched.TheVariants.{Whole, TooLong}
 use Rattle.cov_io.specs.declared.shelf.ShelfFault.TheVariants as faults
 use Rattle.flow_model.specs.Secure.{IsSecure}
-use Rattle.covern_cli.specs.Answers.{seen, Reply, usage, read_fault, too_long, malformed, refused, accepted, status_of, report_of}
+use Rattle.cov_grammar.specs.Trees as trees
+use Rattle.cov_grammar.specs.Grammar as grammar
+use Rattle.cov_parse.specs.Limits.{in_program}
+use Rattle.cov_parse.specs.Text.{IsText, IsFault, program_of}
+use Rattle.cov_print.specs.Spelling.{spelling}
+use Rattle.covern_cli.specs.Answers.{seen, Reply, usage, read_fault, too_long, malformed, not_built, refused, accepted, spelled, status_of, report_of}
 use Rattle.covern_cli.specs.Small.{Program}
 use Rattle.covern_cli.specs.SmallText.{Spells, meaning}
 use Rattle.covern_cli.specs.Judging.{is_accepted, statement_count, assignment_count}
@@ -22,27 +27,48 @@ use Rattle.covern_cli.specs.declared.answer.Status.TheVariants as s
 -- what a command line asks
 pub data Command : Type 0 where
   check : (name : List ℕ) → Command
+  fmt : (name : List ℕ) → Command
   nothing : Command
 
 abbrev pub command_of : List (List ℕ) → Command
-command_of (word ∷ name ∷ []) = if bytes_eq word (codes "check") then check name else nothing
+command_of (word ∷ name ∷ []) =
+    if bytes_eq word (codes "check") then check name else (if bytes_eq word (codes "fmt") then fmt name else nothing)
 command_of words = nothing
 
 -- Programs -----------------------------------------------------------------------------------------------------
 
+-- The bytes spell a program of the whole language, within its limits.
+abbrev pub SpellsTree : List ℕ → trees.Program → Type 0
+SpellsTree bytes tree = IsText grammar.program in_program bytes tree
+
 -- The reply to a check of a file with these bytes:
--- malformed where they spell no program; refused where they spell one that isn't accepted; else accepted, with the numbers
--- of threads, of statements, and of entailments, one an assignment, and then the program is secure.
+-- malformed, with the first fault, where they spell no program; not built where they spell one, but none of the first
+-- grammar, which is all that is judged so far; refused where that one isn't accepted; else accepted, with the numbers of
+-- threads, of statements, and of entailments, one an assignment, and then the program is secure.
 abbrev pub Judges : (name bytes : List ℕ) → Reply → Type 0
 Judges name bytes usage = ⊥
 Judges name bytes (read_fault file) = ⊥
 Judges name bytes (too_long file) = ⊥
-Judges name bytes (malformed file) = (file ≡ name) × ((q : Program) → Spells bytes q → ⊥)
-Judges name bytes refused = (q : Program) × Spells bytes q × (is_accepted q ≡ false)
+Judges name bytes (malformed file fault) = (file ≡ name) × IsFault grammar.program in_program bytes fault
+Judges name bytes not_built = (tree : trees.Program) × SpellsTree bytes tree × ((q : Program) → Spells bytes q → ⊥)
+Judges name bytes refused = (tree : trees.Program) × SpellsTree bytes tree × (q : Program) × Spells bytes q × (is_accepted q ≡ false)
 Judges name bytes (accepted threads statements entailments) =
-    (q : Program) × Spells bytes q × (is_accepted q ≡ true)
+    (tree : trees.Program) × SpellsTree bytes tree × (q : Program) × Spells bytes q × (is_accepted q ≡ true)
     × (threads ≡ length q.threads) × (statements ≡ statement_count q) × (entailments ≡ assignment_count q)
     × IsSecure (meaning bytes q)
+Judges name bytes (spelled text) = ⊥
+
+-- The reply that formats a file with these bytes: malformed, with the first fault, where they spell no program; else the
+-- canonical spelling of the program that they spell.
+abbrev pub Formats : (name bytes : List ℕ) → Reply → Type 0
+Formats name bytes usage = ⊥
+Formats name bytes (read_fault file) = ⊥
+Formats name bytes (too_long file) = ⊥
+Formats name bytes (malformed file fault) = (file ≡ name) × IsFault grammar.program in_program bytes fault
+Formats name bytes not_built = ⊥
+Formats name bytes refused = ⊥
+Formats name bytes (accepted threads statements entailments) = ⊥
+Formats name bytes (spelled text) = (tree : trees.Program) × SpellsTree bytes tree × (text ≡ spelling (program_of bytes tree))
 
 -- Files --------------------------------------------------------------------------------------------------------
 
@@ -65,6 +91,7 @@ Reads before after name most next reply =
 -- tell nothing and of faults in mid-call too.
 abbrev pub Does : (before after : Shelved) → Command → Reply → Type 0
 Does before after (check name) reply = Reads before after name program_limit (Judges name) reply
+Does before after (fmt name) reply = Reads before after name program_limit (Formats name) reply
 Does before after nothing reply = reply ≡ usage
 
 -- A step of the code gives what the command gives, unless memory ran out.
@@ -95,13 +122,15 @@ GivenBy (Some bytes) name most next reply = MatchBool (nat_lt most (length bytes
 -- the reply to a command where all files are told, and no call fails but for a name that isn't told
 abbrev pub Outcome : List File → Command → Reply → Type 0
 Outcome files (check name) reply = GivenBy (held files name) name program_limit (Judges name) reply
+Outcome files (fmt name) reply = GivenBy (held files name) name program_limit (Formats name) reply
 Outcome files nothing reply = reply ≡ usage
 
 -- The headline -------------------------------------------------------------------------------------------------
 
--- The file holds a program that is secure: from any two fit starts, under every schedule, its two runs agree after each
--- step.
+-- A file that is checked holds a program that is secure: from any two fit starts, under every schedule, its two runs agree
+-- after each step.
 abbrev pub HoldsSecure : List File → Command → Type 0
 HoldsSecure files (check name) =
     (bytes : List ℕ) × (held files name ≡ Some bytes) × (q : Program) × Spells bytes q × IsSecure (meaning bytes q)
+HoldsSecure files (fmt name) = Unit {0}
 HoldsSecure files nothing = ⊥

@@ -1,9 +1,10 @@
 ghost use Rattle.std.specs.Prelude.{◌≡◌, IfOk, string_bytes};
 ghost use Rattle.covern_cli.specs.Answers as spec;
-ghost use Rattle.covern_cli.specs.Answers.{seen, report_of, status_of};
+ghost use Rattle.covern_cli.specs.Answers.{IsLine, Reply, seen, report_of, status_of};
 ghost use Rattle.covern_cli.specs.declared.answer.Stop.TheVariants as stops;
 
-use cov_expr::NoMemory;
+use cov_expr::{Blob, List, NoMemory};
+use cov_parse::ParseFault;
 use std::alloc::{AllocError, Global};
 
 /// How a call ends. The number is the exit status.
@@ -40,18 +41,22 @@ pub struct Counts {
 }
 
 /// What a call answers, the want of memory and a failed write aside. Names are words of the command line.
-#[derive(Clone, Copy, Debug)]
+#[derive(Debug, Drop)]
 pub enum Answer<'w> {
     Usage,
     ReadFault(&'w str),
     TooLong(&'w str),
-    Malformed(&'w str),
+    Malformed(&'w str, ParseFault),
+    /// The program has a part that isn't judged yet.
+    NotBuilt,
     Refused,
     Accepted(Counts),
+    /// The canonical spelling of a program.
+    Spelled(Blob),
 }
 
 /// Why a step of a command gives no value.
-#[derive(Clone, Copy, Debug)]
+#[derive(Debug, Drop)]
 pub enum Stop<'w> {
     /// This is what the call answers.
     Answer(Answer<'w>),
@@ -75,23 +80,81 @@ pub fn status_for(answer: &Answer<'_>) -> Status
         Answer::Usage => Status::Usage,
         Answer::ReadFault(_) => Status::ReadFault,
         Answer::TooLong(_) => Status::TooLong,
-        Answer::Malformed(_) => Status::Malformed,
-        Answer::Refused => Status::Refused,
-        Answer::Accepted(_) => Status::Done,
+        Answer::Malformed(_, _) => Status::Malformed,
+        Answer::NotBuilt | Answer::Refused => Status::Refused,
+        Answer::Accepted(_) | Answer::Spelled(_) => Status::Done,
     }
 }
 
 /// The report of an answer.
-pub fn report(alloc: Global, answer: &Answer<'_>) -> Result<String, AllocError>
-    ensures { IfOk result (λ text. string_bytes text ≡ report_of (seen answer.now)) }
+pub fn report(alloc: Global, answer: Answer<'_>) -> Result<Blob, NoMemory>
+    ensures { IfOk result (λ text. text ≡ report_of (seen answer.entry)) }
+{
+    match answer {
+        Answer::Spelled(text) => Ok(text),
+        other => Ok(bytes_of(alloc, line(alloc, &other)?.as_str())?),
+    }
+}
+
+fn bytes_of(alloc: Global, text: &str) -> Result<Blob, NoMemory>
+    ensures { IfOk result (λ bytes. bytes ≡ text.now) }
+{
+    let mut bytes = List::new(alloc);
+    bytes.extend_from_slice(text.as_bytes())?;
+    Ok(bytes)
+}
+
+/// The report of an answer that is one line.
+fn line(alloc: Global, answer: &Answer<'_>) -> Result<String, AllocError>
+    ensures { IfOk result (λ text. IsLine (seen answer.now) (string_bytes text)) }
 {
     match answer {
         Answer::Usage => String::from_str(alloc, "usage: covern COMMAND WORDS\n"),
         Answer::ReadFault(name) => format!(in alloc; "read fault: {name}\n"),
         Answer::TooLong(name) => format!(in alloc; "too long: {name}\n"),
-        Answer::Malformed(name) => format!(in alloc; "malformed {name}\n"),
+        Answer::Malformed(name, fault) => malformed_line(alloc, name, *fault),
+        Answer::NotBuilt => String::from_str(alloc, "refused: not built\n"),
         Answer::Refused => String::from_str(alloc, "refused\n"),
         Answer::Accepted(counts) => accepted_line(alloc, counts),
+        Answer::Spelled(_) => Ok(String::new(alloc)),
+    }
+}
+
+fn malformed_line(alloc: Global, name: &str, fault: ParseFault) -> Result<String, AllocError>
+    ensures { IfOk result (λ text. string_bytes text ≡ report_of (Reply.malformed name.now fault)) }
+{
+    let kind = kind_of(fault);
+    let at = place_of(fault);
+    format!(in alloc; "malformed {name}: {kind} at {at}\n")
+}
+
+/// What a fault of a text is called.
+fn kind_of(fault: ParseFault) -> &'static str
+    ensures { result.now ≡ spec.kind_of fault }
+{
+    match fault {
+        ParseFault::BadByte(_) => "byte",
+        ParseFault::NumberTooLarge(_) => "number",
+        ParseFault::NameTooLong(_) => "name",
+        ParseFault::Unexpected(_) => "token",
+        ParseFault::TooMany(_, _) => "limit",
+        ParseFault::TooDeep(_) => "depth",
+        ParseFault::NoMemory => "",
+    }
+}
+
+/// Where a fault of a text is.
+fn place_of(fault: ParseFault) -> u32
+    ensures { result ≡ spec.place_of fault }
+{
+    match fault {
+        ParseFault::BadByte(at)
+        | ParseFault::NumberTooLarge(at)
+        | ParseFault::NameTooLong(at)
+        | ParseFault::Unexpected(at)
+        | ParseFault::TooMany(_, at)
+        | ParseFault::TooDeep(at) => at,
+        ParseFault::NoMemory => 0,
     }
 }
 

@@ -3,12 +3,15 @@ ghost use Rattle.cov_io.specs.Shelves.{Gives, Passes};
 ghost use Rattle.cov_io.specs.Counts.{Rose};
 ghost use Rattle.cov_io.specs.declared.shelf.Fetched.TheVariants as fetched;
 ghost use Rattle.covern_cli.specs.Answers.{seen};
-ghost use Rattle.covern_cli.specs.Outcome.{Command, Does, Ends, Gets, HoldsSecure, Judges, Misses, Outcome, Stops, command_of};
+ghost use Rattle.cov_grammar.specs.Trees as trees;
+ghost use Rattle.covern_cli.specs.Outcome.{Command, Does, Ends, Formats, Gets, SpellsTree, HoldsSecure, Judges, Misses, Outcome, Stops, command_of};
 
 use crate::answer::{Answer, Counts, Status, Stop, report, status_for};
 use crate::judge::{assignment_count, is_accepted, statement_count};
 use crate::reader::{ReadFault, read};
 use cov_expr::Blob;
+use cov_parse::{ParseFault, parse};
+use cov_print::print;
 use cov_io::{Fetched, Shelf, ShelfFault, Sink, write_whole};
 use std::alloc::Global;
 
@@ -45,11 +48,12 @@ pub fn covern<S: Shelf, K: Sink>(
         Ok(answer) | Err(Stop::Answer(answer)) => answer,
         Err(Stop::NoMemory) => return Status::NoMemory,
     };
-    let Ok(text) = report(alloc, &answer) else {
+    let status = status_for(&answer);
+    let Ok(text) = report(alloc, answer) else {
         return Status::NoMemory;
     };
-    match write_whole(sink, text.as_bytes()) {
-        Ok(()) => status_for(&answer),
+    match write_whole(sink, text.as_slice()) {
+        Ok(()) => status,
         Err(_) => Status::WriteFault,
     }
 }
@@ -64,6 +68,7 @@ fn answer<'w, S: Shelf>(
 {
     match words {
         [command, name] if command.as_str() == "check" => check(alloc, name.as_str(), shelf),
+        [command, name] if command.as_str() == "fmt" => format(alloc, name.as_str(), shelf),
         _ => Ok(Answer::Usage),
     }
 }
@@ -75,6 +80,15 @@ fn check<'w, S: Shelf>(alloc: Global, name: &'w str, shelf: &mut S) -> Result<An
 {
     let bytes = fetch(alloc, name, PROGRAM_LIMIT, shelf)?;
     check_text(alloc, name, bytes.as_slice())
+}
+
+/// Formats the program of a file.
+fn format<'w, S: Shelf>(alloc: Global, name: &'w str, shelf: &mut S) -> Result<Answer<'w>, Stop<'w>>
+    ensures does { Gets (Does (S.shelved shelf.old) (S.shelved shelf.new) (Command.fmt name.now)) result }
+    ensures passes { Passes (S.shelved shelf.old) (S.shelved shelf.new) }
+{
+    let bytes = fetch(alloc, name, PROGRAM_LIMIT, shelf)?;
+    format_text(alloc, name, bytes.as_slice())
 }
 
 /// The bytes of a file.
@@ -102,9 +116,22 @@ fn check_text<'w>(alloc: Global, name: &'w str, bytes: &[u8]) -> Result<Answer<'
     requires { length bytes.now ≤ 1048576 }
     ensures { Gets (Judges name.now bytes.now) result }
 {
+    match parse(alloc, bytes) {
+        Ok(_) => judge_text(alloc, name, bytes),
+        Err(ParseFault::NoMemory) => Err(Stop::NoMemory),
+        Err(fault) => Ok(Answer::Malformed(name, fault)),
+    }
+}
+
+/// Judges the program of a text that spells one.
+fn judge_text<'w>(alloc: Global, name: &'w str, bytes: &[u8]) -> Result<Answer<'w>, Stop<'w>>
+    requires short { length bytes.now ≤ 1048576 }
+    requires spelled { (tree : trees.Program) × SpellsTree bytes.now tree }
+    ensures { Gets (Judges name.now bytes.now) result }
+{
     let program = match read(alloc, bytes) {
         Ok(program) => program,
-        Err(ReadFault::Malformed) => return Ok(Answer::Malformed(name)),
+        Err(ReadFault::Malformed) => return Ok(Answer::NotBuilt),
         Err(ReadFault::NoMemory) => return Err(Stop::NoMemory),
     };
     if !is_accepted(alloc, &program)? {
@@ -115,4 +142,16 @@ fn check_text<'w>(alloc: Global, name: &'w str, bytes: &[u8]) -> Result<Answer<'
         statements: statement_count(&program),
         entailments: assignment_count(&program),
     }))
+}
+
+/// Formats the program of a text.
+fn format_text<'w>(alloc: Global, name: &'w str, bytes: &[u8]) -> Result<Answer<'w>, Stop<'w>>
+    requires { length bytes.now ≤ 1048576 }
+    ensures { Gets (Formats name.now bytes.now) result }
+{
+    match parse(alloc, bytes) {
+        Ok(parsed) => Ok(Answer::Spelled(print(alloc, &parsed)?)),
+        Err(ParseFault::NoMemory) => Err(Stop::NoMemory),
+        Err(fault) => Ok(Answer::Malformed(name, fault)),
+    }
 }

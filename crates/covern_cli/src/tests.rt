@@ -60,90 +60,69 @@ fn shows(
     Ok(())
 }
 
-/// `check p` on a text.
-fn checks(rt: &(impl Abort + AllocGlobal), case: &Case<'_>) -> Result<(), Fail> {
+/// A command on the file `p`.
+fn shows_on_file(rt: &(impl Abort + AllocGlobal), command: &str, case: &Case<'_>) -> Result<(), Fail> {
     let mut shelf = shelf_of(rt.alloc(), case.text, &[])?;
-    shows(rt, &["check", "p"], &mut shelf, 1000, &[], case)
+    shows(rt, &[command, "p"], &mut shelf, 1000, &[], case)
 }
 
 const ONE: &[u8] = b"accepted: 1 threads, 1 statements, 1 entailments\n";
 
+/// A case: a text, the status, and what is put.
+const fn case<'a>(text: &'a [u8], status: Status, put: &'a [u8]) -> Case<'a> {
+    Case { text, status, put }
+}
+
 #[test]
 fn ample(rt: HostRuntime) -> Result<(), Fail> {
     let cases = [
-        Case {
-            text: b"var a: low; var s: high; thread t { s := a; }",
-            status: Status::Done,
-            put: ONE,
-        },
-        Case {
-            text: b"var a: low; var s: high; thread t { a := s; }",
-            status: Status::Refused,
-            put: b"refused\n",
-        },
-        Case {
-            text: b"",
-            status: Status::Done,
-            put: b"accepted: 0 threads, 0 statements, 0 entailments\n",
-        },
-        Case {
-            text: b"var a: low; thread t { a := 4294967295; }",
-            status: Status::Done,
-            put: ONE,
-        },
-        Case {
-            text: b"var a: low; thread t { a := 4294967296; }",
-            status: Status::Malformed,
-            put: b"malformed p\n",
-        },
-        Case {
-            text: b"var a: low; thread t { a := 1;",
-            status: Status::Malformed,
-            put: b"malformed p\n",
-        },
-        Case {
-            text: b"var a: low; var a: low;",
-            status: Status::Refused,
-            put: b"refused\n",
-        },
-        Case {
-            text: b"thread t { } thread t { }",
-            status: Status::Refused,
-            put: b"refused\n",
-        },
-        Case {
-            text: b"thread t { a := 1; }",
-            status: Status::Refused,
-            put: b"refused\n",
-        },
-        Case {
-            text: b"var a: low; thread t { a := t; }",
-            status: Status::Refused,
-            put: b"refused\n",
-        },
-        Case {
-            text: b"var a: high; thread t { a := b; }",
-            status: Status::Refused,
-            put: b"refused\n",
-        },
-        Case {
-            text: b"var a: low; // a comment\nvar s: high;\r\n\tthread t { skip; a := a; s := s; }\nthread u { }//",
-            status: Status::Done,
-            put: b"accepted: 2 threads, 3 statements, 2 entailments\n",
-        },
-        Case {
-            text: b"var a : low; thread t { a : = 1; }",
-            status: Status::Malformed,
-            put: b"malformed p\n",
-        },
-        Case {
-            text: b"\xff\xfe\x00\x01",
-            status: Status::Malformed,
-            put: b"malformed p\n",
-        },
+        case(b"var a: low; var s: high; thread t { s := a; }", Status::Done, ONE),
+        case(b"var a: low; var s: high; thread t { a := s; }", Status::Refused, b"refused\n"),
+        case(b"", Status::Done, b"accepted: 0 threads, 0 statements, 0 entailments\n"),
+        case(b"var a: low; thread t { a := 4294967295; }", Status::Done, ONE),
+        case(b"var a: low; thread t { a := 4294967296; }", Status::Malformed, b"malformed p: number at 28\n"),
+        case(b"var a: low; thread t { a := 1;", Status::Malformed, b"malformed p: token at 30\n"),
+        case(b"var a: low; thr", Status::Malformed, b"malformed p: token at 12\n"),
+        case(b"var a: low; var a: low;", Status::Refused, b"refused\n"),
+        case(b"thread t { } thread t { }", Status::Refused, b"refused\n"),
+        case(b"thread t { a := 1; }", Status::Refused, b"refused\n"),
+        case(b"var a: low; thread t { a := t; }", Status::Refused, b"refused\n"),
+        case(b"var a: high; thread t { a := b; }", Status::Refused, b"refused\n"),
+        case(
+            b"var a: low; // a comment\nvar s: high;\r\n\tthread t { skip; a := a; s := s; }\nthread u { }//",
+            Status::Done,
+            b"accepted: 2 threads, 3 statements, 2 entailments\n",
+        ),
+        case(b"var a : low; thread t { a : = 1; }", Status::Malformed, b"malformed p: byte at 28\n"),
+        case(b"\xff\xfe\x00\x01", Status::Malformed, b"malformed p: byte at 0\n"),
+        case(b"lock l; thread t { }", Status::Refused, b"refused: not built\n"),
+        case(b"var a: low; thread t { a := a + 1; }", Status::Refused, b"refused: not built\n"),
     ];
     for case in &cases {
-        checks(&rt, case)?;
+        shows_on_file(&rt, "check", case)?;
+    }
+    Ok(())
+}
+
+#[test]
+fn formats(rt: HostRuntime) -> Result<(), Fail> {
+    let cases = [
+        case(
+            b"var a: low; var s: high; thread t { a := s; }",
+            Status::Done,
+            b"var a: low;\nvar s: high;\nthread t {\n  a := s;\n}\n",
+        ),
+        case(
+            b"var a:low;thread t{if a{}else{}while a{note{}by{1:hyp 1};}}",
+            Status::Done,
+            b"var a: low;\nthread t {\n  if a {\n  } else {\n  }\n  while a {\n    note {} by { 1: hyp 1 };\n  }\n}\n",
+        ),
+        case(b"", Status::Done, b""),
+        case(b"var a: low; thread t { a = 1; }", Status::Malformed, b"malformed p: byte at 25\n"),
+        case(b"var a: low; thread t { output a; }", Status::Malformed, b"malformed p: token at 23\n"),
+    ];
+    for case in &cases {
+        shows_on_file(&rt, "fmt", case)?;
     }
     Ok(())
 }
@@ -160,7 +139,7 @@ fn other_words(rt: HostRuntime) -> Result<(), Fail> {
         &["check"],
         &["chec", "p"],
         &["check", "p", "p"],
-        &["fmt", "p"],
+        &["compile", "p"],
     ];
     for form in words {
         let mut shelf = shelf_of(rt.alloc(), b"", &[])?;
@@ -241,55 +220,26 @@ fn declared(alloc: Global, count: u32, before: &str, after: &str) -> Result<Blob
 #[test]
 fn limits(rt: HostRuntime) -> Result<(), Fail> {
     let alloc = rt.alloc();
-    let malformed: &[u8] = b"malformed p\n";
     let none: &[u8] = b"accepted: 0 threads, 0 statements, 0 entailments\n";
-    let long = repeated(alloc, b"//", b"x", 1_048_574, b"")?;
-    let too_long = repeated(alloc, b"//", b"x", 1_048_575, b"")?;
-    let texts = [
+    let texts: [(Blob, Status, &[u8]); 10] = [
         (declared(alloc, 256, "var ", ": low;")?, Status::Done, none),
-        (
-            declared(alloc, 257, "var ", ": low;")?,
-            Status::Malformed,
-            malformed,
-        ),
-        (
-            declared(alloc, 16, "thread ", " { }")?,
-            Status::Done,
-            b"accepted: 16 threads, 0 statements, 0 entailments\n",
-        ),
-        (
-            declared(alloc, 17, "thread ", " { }")?,
-            Status::Malformed,
-            malformed,
-        ),
+        (declared(alloc, 257, "var ", ": low;")?, Status::Malformed, b"malformed p: limit at 3478\n"),
+        (declared(alloc, 16, "thread ", " { }")?, Status::Done, b"accepted: 16 threads, 0 statements, 0 entailments\n"),
+        (declared(alloc, 17, "thread ", " { }")?, Status::Malformed, b"malformed p: limit at 221\n"),
         (
             repeated(alloc, b"thread t {", b"skip;", 20_000, b"}")?,
             Status::Done,
             b"accepted: 1 threads, 20000 statements, 0 entailments\n",
         ),
         (
-            repeated(
-                alloc,
-                b"thread t {skip;} thread u {",
-                b"skip;",
-                20_000,
-                b"}",
-            )?,
+            repeated(alloc, b"thread t {skip;} thread u {", b"skip;", 20_000, b"}")?,
             Status::Malformed,
-            malformed,
+            b"malformed p: limit at 100022\n",
         ),
-        (
-            repeated(alloc, b"var ", b"a", 32, b": low;")?,
-            Status::Done,
-            none,
-        ),
-        (
-            repeated(alloc, b"var ", b"a", 33, b": low;")?,
-            Status::Malformed,
-            malformed,
-        ),
-        (long, Status::Done, none),
-        (too_long, Status::TooLong, b"too long: p\n"),
+        (repeated(alloc, b"var ", b"a", 32, b": low;")?, Status::Done, none),
+        (repeated(alloc, b"var ", b"a", 33, b": low;")?, Status::Malformed, b"malformed p: name at 4\n"),
+        (repeated(alloc, b"//", b"x", 1_048_574, b"")?, Status::Done, none),
+        (repeated(alloc, b"//", b"x", 1_048_575, b"")?, Status::TooLong, b"too long: p\n"),
     ];
     for (text, status, put) in &texts {
         checks(
