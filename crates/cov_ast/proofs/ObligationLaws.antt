@@ -79,7 +79,7 @@ module _ (g : ℕ → List Entry) where
   among (x ∷ xs) y h n =
       let parts = or_none (first_false (g x)) (first_of xs) (sym (first_of-cons x xs) ∙ n) in
       elim (or_cases (x == y) (has_number xs y) h) [
-        inl e ↦ ap (λ z. first_false (g z)) (sym (eqb-true x y e)) ∙ parts.0
+        | inl e ↦ ap (λ z. first_false (g z)) (sym (eqb-true x y e)) ∙ parts.0
         | inr e ↦ among xs y e parts.1
       ]
 

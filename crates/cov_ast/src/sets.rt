@@ -54,7 +54,12 @@ impl NumberSet {
 
     /// The set of the numbers of two lists; those past the bound are left out.
     #[tactic(auto, using(crate::proofs::TableLaws::with_all_both))]
-    pub fn of_both(alloc: Global, bound: usize, first: &[u32], second: &[u32]) -> Result<Self, NoMemory>
+    pub fn of_both(
+        alloc: Global,
+        bound: usize,
+        first: &[u32],
+        second: &[u32],
+    ) -> Result<Self, NoMemory>
         ensures { IfOk result (λ made. made ≡ table bound (λ x. tree.has_number first.now x || tree.has_number second.now x)) }
     {
         let mut made = NumberSet::new(alloc, bound)?;
