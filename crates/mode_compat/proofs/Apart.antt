@@ -34,7 +34,7 @@ number_holds g [] x h k = absurd (true≢false (sym k))
 number_holds g (y ∷ ys) x h k =
     let parts = all_parts (g y) (flat_map g ys) h in
     elim (or_cases (y == x) (has_number ys x) k) [
-      inl e ↦ subst (λ z. IsTrue (all_hold (g z))) (eqb-true y x e) parts.0
+      | inl e ↦ subst (λ z. IsTrue (all_hold (g z))) (eqb-true y x e) parts.0
       | inr e ↦ number_holds g ys x parts.1 e
     ]
 
@@ -44,7 +44,7 @@ entry_holds f [] x h k = absurd (true≢false (sym k))
 entry_holds f (y ∷ ys) x h k =
     let parts = and_parts (f y).holds (all_hold (map f ys)) h in
     elim (or_cases (y == x) (has_number ys x) k) [
-      inl e ↦ subst (λ z. (f z).holds ≡ true) (eqb-true y x e) parts.0
+      | inl e ↦ subst (λ z. (f z).holds ≡ true) (eqb-true y x e) parts.0
       | inr e ↦ entry_holds f ys x parts.1 e
     ]
 
@@ -52,7 +52,7 @@ in_range : (a n x : ℕ) → a ≤ x → x < a + n → has_number (range_with_le
 in_range a zero x from to = absurd (omega arith)
 in_range a (suc n) x from to =
     elim (cases_lt a x) [
-      inl lt ↦ ap (λ b. (a == x) || b) (in_range (a + 1) n x (omega arith) (omega arith)) ∙ or_true (a == x)
+      | inl lt ↦ ap (λ b. (a == x) || b) (in_range (a + 1) n x (omega arith) (omega arith)) ∙ or_true (a == x)
       | inr ge ↦ let e : a ≡ x = omega arith in ap (λ b. b || has_number (range_with_len (a + 1) n) x) (eq-eqb a x e)
     ]
 
@@ -65,9 +65,9 @@ in_added xs (y ∷ ys) x h = go (λ zs k. in_added zs ys x k) (has_number xs y) 
     go : ((zs : List ℕ) → has_number (zs ++ ys) x ≡ true → has_number (add_new zs ys) x ≡ true) → (b : Bool) → has_number xs y ≡ b
         → has_number (add_new (cond b xs (xs ++ y ∷ [])) ys) x ≡ true
     go rest true there = rest xs (elim (or_cases (has_number xs x) (has_number (y ∷ ys) x) (sym (list_any-append (λ z. z == x) xs (y ∷ ys)) ∙ h)) [
-      inl e ↦ list_any-append (λ z. z == x) xs ys ∙ ap (λ b. b || has_number ys x) e
+      | inl e ↦ list_any-append (λ z. z == x) xs ys ∙ ap (λ b. b || has_number ys x) e
       | inr e ↦ elim (or_cases (y == x) (has_number ys x) e) [
-        inl f ↦ list_any-append (λ z. z == x) xs ys ∙ ap (λ b. b || has_number ys x) (subst (λ z. has_number xs z ≡ true) (eqb-true y x f) there)
+        | inl f ↦ list_any-append (λ z. z == x) xs ys ∙ ap (λ b. b || has_number ys x) (subst (λ z. has_number xs z ≡ true) (eqb-true y x f) there)
         | inr f ↦ list_any-append (λ z. z == x) xs ys ∙ ap (λ b. has_number xs x || b) f ∙ or_true (has_number xs x)
       ]
     ])
@@ -81,7 +81,7 @@ in_distinct xs x h = in_added [] xs x h
 -- a thread past the end assumes nothing
 assuming_is_declared : (p : Plain) (t x : ℕ) → IsTrue (assumes p t x) → t < length p.threads
 assuming_is_declared p t x h = elim (cases_lt t (length p.threads)) [
-  inl lt ↦ lt
+  | inl lt ↦ lt
   | inr past ↦ absurd (true≢false (sym h ∙ ap (λ th. have_assumed th.modes x) (get_or_past p.threads t no_thread past)))
 ]
 
@@ -99,8 +99,8 @@ module _ (p : Program) (h : IsTrue (all_hold (declaration_obligations p))) where
   pair_holds t u lt ku ne =
       let each = number_holds (w9_entries p) (threads_of p) t w9 (in_range 0 (length p.threads) t (omega arith) (omega arith)) in
       let one : IsTrue (all_hold (if t == u then [] else w9_pair p (numbered p t) (numbered p u))) =
-          number_holds (λ v. if t == v then [] else w9_pair p (numbered p t) (numbered p v)) (threads_of p) u each
-          (in_range 0 (length p.threads) u (omega arith) (omega arith)) in
+      number_holds (λ v. if t == v then [] else w9_pair p (numbered p t) (numbered p v)) (threads_of p) u each
+      (in_range 0 (length p.threads) u (omega arith) (omega arith)) in
       subst (λ b. IsTrue (all_hold (cond b [] (w9_pair p (numbered p t) (numbered p u))))) (ne_eqb t u ne) one
 
   pub met_hide : (t u x : ℕ) → u < length p.threads → t ≢ u → t < length p.threads → IsTrue (assumes_hide (plain p) t x) → IsTrue (guarantees_hide (plain p) u x)
@@ -125,7 +125,7 @@ module _ (p : Program) (h : IsTrue (all_hold (declaration_obligations p))) where
   met t u x ku ne a =
       let lt : t < length p.threads = omega (arith, assuming_is_declared (plain p) t x a, length-map p.threads plain_thread) in
       elim (or_cases (has_number (modes_of (plain p) t).assume_nowrite x) (assumes_hide (plain p) t x) a) [
-        inl e ↦ met_nowrite t u x ku ne lt e
+        | inl e ↦ met_nowrite t u x ku ne lt e
         | inr e ↦ ap (λ b. has_number (modes_of (plain p) u).guarantee_nowrite x || b) (met_hide t u x ku ne lt e)
             ∙ or_true (has_number (modes_of (plain p) u).guarantee_nowrite x)
       ]
@@ -134,7 +134,7 @@ module _ (p : Program) (h : IsTrue (all_hold (declaration_obligations p))) where
   disjoint hs t u x ku ne w s =
       let inside : u < length p.threads = omega (arith, ku, length-map p.threads plain_thread) in
       elim s [
-        inl a ↦ true≢false (sym (met t u x inside ne a) ∙ w.allowed)
+        | inl a ↦ true≢false (sym (met t u x inside ne a) ∙ w.allowed)
         | inr s ↦ let same : ◌≡◌ {A = Option ℕ} (Some t) (Some u) = sym s.1 ∙ w.held s.0 s.2 in ne (same_Some t u same)
       ]
 
@@ -156,21 +156,21 @@ each f a zero l from to h = absurd (omega arith)
 each f a (suc n) l from to h =
     let parts = and_parts (f a) (list_all f (range_with_len (a + 1) n)) h in
     elim (cases_lt a l) [
-      inl lt ↦ each f (a + 1) n l (omega arith) (omega arith) parts.1
+      | inl lt ↦ each f (a + 1) n l (omega arith) (omega arith) parts.1
       | inr ge ↦ let e : a ≡ l = omega arith in subst (λ k. f k ≡ true) e parts.0
     ]
 
 -- a lock past the end lists nothing
 listing_is_declared : (p : Plain) (l x : ℕ) → IsTrue (under p l x) → l < length p.locks
 listing_is_declared p l x h = elim (cases_lt l (length p.locks)) [
-  inl lt ↦ lt
+  | inl lt ↦ lt
   | inr past ↦ absurd (true≢false (sym h ∙ ap (λ k. lists k x) (get_or_past p.locks l no_lock past)))
 ]
 
 module _ (p : Plain) (h : Holders) (t : ℕ) (held : List Bool) (fits : AreHeldBy h t held) where
   stable_now : (x : ℕ) → IsTrue (is_stable p t held x) → IsStableNow p h t x
   stable_now x s = elim (or_cases (assumes p t x) (list_any (λ l. has held l && under p l x) (locks_of p)) s) [
-    inl a ↦ inl a
+    | inl a ↦ inl a
     | inr e ↦ let lock = found (λ l. has held l && under p l x) 0 (length p.locks) e in
         let parts = and_parts (has held lock.0) (under p lock.0 x) lock.1 in
         inr (lock.0, held_is (holder h lock.0) t (sym (fits lock.0) ∙ parts.0), parts.1)

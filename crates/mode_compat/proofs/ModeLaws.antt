@@ -80,8 +80,8 @@ module _ (p : Program) (n : ℕ) where
       let a = t.modes.assume_nowrite in
       let b = t.modes.assume_hide in
       let same : (x : ℕ) → x < n → apart_entry p t marks x ≡ w6_entry p t x =
-          λ x lt. ap (λ m. apart_entry p t m x) (made ∙ all_locks n p.locks)
-          ∙ ap (λ v. record (w6_entry p t x) { holds = not v }) (table_at n (is_locked p) x lt) in
+      λ x lt. ap (λ m. apart_entry p t m x) (made ∙ all_locks n p.locks)
+      ∙ ap (λ v. record (w6_entry p t x) { holds = not v }) (table_at n (is_locked p) x lt) in
       both_same (map (apart_entry p t marks) a) (map (apart_entry p t marks) b) (map (w6_entry p t) a) (map (w6_entry p t) b)
       (ap first_false (map_same n (apart_entry p t marks) (w6_entry p t) a below_a same))
       (ap first_false (map_same n (apart_entry p t marks) (w6_entry p t) b below_b same))
@@ -103,10 +103,10 @@ module _ (p : Program) (n : ℕ) where
         let test : ℕ → Bool = λ c. lists l c || all_assume p c in
         let h : ℕ → List Entry = λ x. map (w7_entry p l x) (controls_of p x) in
         let is : marks ≡ table n test =
-            made ∙ ap (λ m. with_all m l.hide) (with_all_table n (all_assume p) l.nowrite)
-            ∙ with_all_table n (λ y. all_assume p y || has_number l.nowrite y) l.hide
-            ∙ table_same n (λ y. (all_assume p y || has_number l.nowrite y) || has_number l.hide y) test
-            (λ y lt. turned (all_assume p y) (has_number l.nowrite y) (has_number l.hide y)) in
+        made ∙ ap (λ m. with_all m l.hide) (with_all_table n (all_assume p) l.nowrite)
+        ∙ with_all_table n (λ y. all_assume p y || has_number l.nowrite y) l.hide
+        ∙ table_same n (λ y. (all_assume p y || has_number l.nowrite y) || has_number l.hide y) test
+        (λ y lt. turned (all_assume p y) (has_number l.nowrite y) (has_number l.hide y)) in
         both_same (flat_map (kept_entries p W7 l.at marks) l.nowrite) (flat_map (kept_entries p W7 l.at marks) l.hide) (flat_map h l.nowrite) (flat_map h l.hide)
         (flat_same n (kept_entries p W7 l.at marks) h l.nowrite below_a (kept_same W7 l.at test marks is))
         (flat_same n (kept_entries p W7 l.at marks) h l.hide below_b (kept_same W7 l.at test marks is))

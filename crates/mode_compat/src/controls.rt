@@ -68,7 +68,12 @@ fn assumed_set(alloc: Global, count: usize, thread: &ThreadDecl) -> Result<Numbe
     ensures { IfOk result (λ made. made ≡ table count (declared.have_assumed (view.modes thread.now.modes))) }
 {
     let modes = &thread.modes;
-    NumberSet::of_both(alloc, count, modes.assume_nowrite.as_slice(), modes.assume_hide.as_slice())
+    NumberSet::of_both(
+        alloc,
+        count,
+        modes.assume_nowrite.as_slice(),
+        modes.assume_hide.as_slice(),
+    )
 }
 
 fn check_locks(alloc: Global, p: &Program, assumed: &NumberSet) -> Result<(), CheckFault>
@@ -123,8 +128,20 @@ fn check_thread(alloc: Global, p: &Program, thread: &ThreadDecl) -> Result<(), C
     ensures { Decides (spec.w8_entries (view.program p.now) (view.thread thread.now)) result }
 {
     let kept = assumed_set(alloc, p.vars.len(), thread)?;
-    match check_controls(p, &kept, thread.modes.assume_nowrite.as_slice(), Rule::W8, thread.at) {
-        Ok(()) => check_controls(p, &kept, thread.modes.assume_hide.as_slice(), Rule::W8, thread.at),
+    match check_controls(
+        p,
+        &kept,
+        thread.modes.assume_nowrite.as_slice(),
+        Rule::W8,
+        thread.at,
+    ) {
+        Ok(()) => check_controls(
+            p,
+            &kept,
+            thread.modes.assume_hide.as_slice(),
+            Rule::W8,
+            thread.at,
+        ),
         Err(fault) => Err(fault),
     }
 }

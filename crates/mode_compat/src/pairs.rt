@@ -23,12 +23,7 @@ pub fn check_guarantees(alloc: Global, p: &Program) -> Result<(), CheckFault>
 }
 
 /// What the thread of a number assumes every other guarantees.
-fn check_others(
-    alloc: Global,
-    p: &Program,
-    t: usize,
-    thread: &ThreadDecl,
-) -> Result<(), CheckFault>
+fn check_others(alloc: Global, p: &Program, t: usize, thread: &ThreadDecl) -> Result<(), CheckFault>
     requires formed { IsWellFormed (view.program p.now) }
     requires range { IsThreadInRange (length p.now.vars) (length p.now.locks) (view.thread thread.now) }
     requires number { view.thread thread.now ≡ spec.numbered (view.program p.now) t }
@@ -74,11 +69,22 @@ fn check_pair(
 {
     let (unwritten, left_alone) = (&other.modes.guarantee_nowrite, &other.modes.guarantee_hide);
     let count = p.vars.len();
-    let guaranteed =
-        NumberSet::of_both(alloc, count, unwritten.as_slice(), left_alone.as_slice())?;
+    let guaranteed = NumberSet::of_both(alloc, count, unwritten.as_slice(), left_alone.as_slice())?;
     let hidden = NumberSet::of(alloc, count, left_alone.as_slice())?;
-    match check_met(p, thread, other, thread.modes.assume_nowrite.as_slice(), &guaranteed) {
-        Ok(()) => check_met(p, thread, other, thread.modes.assume_hide.as_slice(), &hidden),
+    match check_met(
+        p,
+        thread,
+        other,
+        thread.modes.assume_nowrite.as_slice(),
+        &guaranteed,
+    ) {
+        Ok(()) => check_met(
+            p,
+            thread,
+            other,
+            thread.modes.assume_hide.as_slice(),
+            &hidden,
+        ),
         Err(fault) => Err(fault),
     }
 }

@@ -16,7 +16,7 @@ use Rattle.mode_state.specs.Sets.{Sets, modes_at, locks_of, is_stable, is_hidden
 pub any_from : (f : ℕ → Bool) (a n l : ℕ) → a ≤ l → l < a + n → f l ≡ true → list_any f (range_with_len a n) ≡ true
 any_from f a zero l from to h = absurd (omega arith)
 any_from f a (suc n) l from to h = elim (cases_eq a l) [
-  inl e ↦ ap (λ b. b || list_any f (range_with_len (a + 1) n)) (ap f e ∙ h)
+  | inl e ↦ ap (λ b. b || list_any f (range_with_len (a + 1) n)) (ap f e ∙ h)
   | inr ne ↦ ap (λ b. f a || b) (any_from f (a + 1) n l (omega arith) (omega arith) h) ∙ or_true (f a)
 ]
 
@@ -33,7 +33,7 @@ all_from f a (suc n) h =
 pub not_all_from : (f : ℕ → Bool) (a n l : ℕ) → a ≤ l → l < a + n → f l ≡ false → list_all f (range_with_len a n) ≡ false
 not_all_from f a zero l from to h = absurd (omega arith)
 not_all_from f a (suc n) l from to h = elim (cases_eq a l) [
-  inl e ↦ ap (λ b. b && list_all f (range_with_len (a + 1) n)) (ap f e ∙ h)
+  | inl e ↦ ap (λ b. b && list_all f (range_with_len (a + 1) n)) (ap f e ∙ h)
   | inr ne ↦ and_right (f a) (list_all f (range_with_len (a + 1) n)) (not_all_from f (a + 1) n l (omega arith) (omega arith) h)
 ]
 

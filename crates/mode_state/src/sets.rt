@@ -10,7 +10,11 @@ use cov_expr::{List, NoMemory};
 use std::alloc::Global;
 
 /// The variables that each lock lists, of those below a bound.
-pub fn listed_sets(alloc: Global, bound: usize, locks: &[LockDecl]) -> Result<List<NumberSet>, NoMemory>
+pub fn listed_sets(
+    alloc: Global,
+    bound: usize,
+    locks: &[LockDecl],
+) -> Result<List<NumberSet>, NoMemory>
     ensures { IfOk result (λ made. made ≡ map (λ l. table bound (lists (view.lock l))) locks.now) }
 {
     let mut made = List::new(alloc);
@@ -21,7 +25,11 @@ pub fn listed_sets(alloc: Global, bound: usize, locks: &[LockDecl]) -> Result<Li
 }
 
 /// The variables that each lock hides, of those below a bound.
-pub fn hidden_sets(alloc: Global, bound: usize, locks: &[LockDecl]) -> Result<List<NumberSet>, NoMemory>
+pub fn hidden_sets(
+    alloc: Global,
+    bound: usize,
+    locks: &[LockDecl],
+) -> Result<List<NumberSet>, NoMemory>
     ensures { IfOk result (λ made. made ≡ map (λ l. table bound (has_number l.hide)) locks.now) }
 {
     let mut made = List::new(alloc);

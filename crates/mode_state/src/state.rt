@@ -31,13 +31,13 @@ impl Model for ModeState {
     ghost Value = { Sets };
 
     ghost view = { λ s. record {
-        assumed = s.assumed;
-        assumed_hidden = s.assumed_hidden;
-        guaranteed = s.guaranteed;
-        guaranteed_hidden = s.guaranteed_hidden;
-        listed = s.listed;
-        hidden = s.hidden;
-        held = s.held;
+      assumed = s.assumed;
+      assumed_hidden = s.assumed_hidden;
+      guaranteed = s.guaranteed;
+      guaranteed_hidden = s.guaranteed_hidden;
+      listed = s.listed;
+      hidden = s.hidden;
+      held = s.held;
     } };
 }
 
@@ -51,8 +51,14 @@ impl ModeState {
         let count = p.vars.len();
         let locks = p.locks.as_slice();
         let modes = &p.threads.as_slice()[t as usize].modes;
-        let (nowrite, hide) = (modes.assume_nowrite.as_slice(), modes.assume_hide.as_slice());
-        let (unwritten, left_alone) = (modes.guarantee_nowrite.as_slice(), modes.guarantee_hide.as_slice());
+        let (nowrite, hide) = (
+            modes.assume_nowrite.as_slice(),
+            modes.assume_hide.as_slice(),
+        );
+        let (unwritten, left_alone) = (
+            modes.guarantee_nowrite.as_slice(),
+            modes.guarantee_hide.as_slice(),
+        );
         Ok(ModeState {
             assumed: NumberSet::of_both(alloc, count, nowrite, hide)?,
             assumed_hidden: NumberSet::of(alloc, count, hide)?,
@@ -106,7 +112,8 @@ impl ModeState {
     pub fn may_read(&self, x: u32) -> bool
         ensures { Tells spec.may_read self.now x result }
     {
-        !self.guaranteed_hidden.has(x) && is_each_held(self.held.as_slice(), self.hidden.as_slice(), x)
+        !self.guaranteed_hidden.has(x)
+            && is_each_held(self.held.as_slice(), self.hidden.as_slice(), x)
     }
 
     /// Whether the thread may write the variable: it gave no guarantee not to, and holds each lock that lists it.

@@ -9,7 +9,9 @@ ghost use Rattle.cov_ast.specs.Obligations.{Decides};
 ghost use Rattle.cov_ast.specs.WellFormed.{IsWellFormed};
 ghost use Rattle.policy_class.specs.Policy as spec;
 
-use cov_ast::{CheckFault, Class, Detail, NumberSet, Program, Rule, VarDecl, first_outside, refused};
+use cov_ast::{
+    CheckFault, Class, Detail, NumberSet, Program, Rule, VarDecl, first_outside, refused,
+};
 use cov_expr::{List, NoMemory, mentions};
 use std::alloc::Global;
 

@@ -20,7 +20,7 @@ returns-in-Ok c =
     let first = flat_map (kept_entries p W8 t.at kept) t.modes.assume_nowrite in
     let second = flat_map (kept_entries p W8 t.at kept) t.modes.assume_hide in
     let same = w8_same p (length c.args.p.now.vars) (class_at c.args.p.now c.requires.formed) t kept
-        (c.in_ok-kept.ensures ∙ ap (λ n. table n (have_assumed t.modes)) c.len.ensures) c.requires.range.modes.assume_nowrite c.requires.range.modes.assume_hide in
+    (c.in_ok-kept.ensures ∙ ap (λ n. table n (have_assumed t.modes)) c.len.ensures) c.requires.range.modes.assume_nowrite c.requires.range.modes.assume_hide in
     same_decided (first ++ second) (w8_entries p t) c.check_controls-in-Ok.result same
     (append_decided first second c.check_controls-in-Ok.result
     (rw c.as_slice.ensures at c.in-Ok.ensures) (rw c.as_slice-in-Ok.ensures at c.check_controls-in-Ok.ensures))
@@ -33,7 +33,7 @@ returns c =
     let first = flat_map (kept_entries p W8 t.at kept) t.modes.assume_nowrite in
     let second = flat_map (kept_entries p W8 t.at kept) t.modes.assume_hide in
     let same = w8_same p (length c.args.p.now.vars) (class_at c.args.p.now c.requires.formed) t kept
-        (c.in_ok-kept.ensures ∙ ap (λ n. table n (have_assumed t.modes)) c.len.ensures) c.requires.range.modes.assume_nowrite c.requires.range.modes.assume_hide in
+    (c.in_ok-kept.ensures ∙ ap (λ n. table n (have_assumed t.modes)) c.len.ensures) c.requires.range.modes.assume_nowrite c.requires.range.modes.assume_hide in
     let stop : Decides (flat_map (kept_entries p W8 t.at kept) c.as_slice.result.now) (Err c.in-Err.fault) = c.in-Err.ensures in
     same_decided (first ++ second) (w8_entries p t) (Err c.in-Err.fault) same
     (append_refused first second c.in-Err.fault (subst (λ xs. Decides (flat_map (kept_entries p W8 t.at kept) xs) (Err c.in-Err.fault)) c.as_slice.ensures stop))
