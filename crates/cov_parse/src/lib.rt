@@ -16,7 +16,6 @@ mod level;
 mod limits;
 mod measures;
 mod numbers;
-
 mod programs;
 mod states;
 mod stmt;
