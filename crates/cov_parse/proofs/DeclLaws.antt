@@ -1,5 +1,5 @@
 -- Repeated declarations.
-use Rattle.std.proofs.Common.{List, [], ◌∷◌, refl}
+use Rattle.std.proofs.Common.{[], ◌∷◌, refl}
 use Rattle.cov_grammar.specs.declared.token.Kind.TheVariants as k
 use Rattle.cov_grammar.specs.LookAhead.{kind_is}
 use Rattle.cov_grammar.specs.Grammar.{◌▸◌, name, class, var_decl, names, lock_decl, modes_behind, two_modes, thread_decl}

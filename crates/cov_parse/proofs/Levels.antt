@@ -1,6 +1,6 @@
 -- Steps of the reader of expressions.
-use Rattle.std.proofs.Common.{◌≡◌, ℕ, zero, suc, ◌+◌, ◌≤◌, ◌<◌, List, [], ◌∷◌, ◌++◌, length, Bool, true, false, not, ◌&&◌, ◌||◌, if◌then◌else◌, Option, Some, None, refl, sym, ap, subst, ◌∙◌, arith, append-nil}
-use Rattle.cov_expr.specs.Term.{Term, const, var, neg, bin}
+use Rattle.std.proofs.Common.{◌≡◌, ℕ, zero, suc, ◌<◌, List, [], ◌∷◌, ◌++◌, length, Bool, true, false, ◌&&◌, ◌||◌, if◌then◌else◌, Option, Some, None, refl, sym, ap, subst, ◌∙◌, arith, append-nil}
+use Rattle.cov_expr.specs.Term.{Term, neg, bin}
 use Rattle.cov_expr.specs.declared.expr.Op.{Op}
 use Rattle.cov_expr.specs.declared.expr.Op.TheVariants as ops
 use Rattle.cov_grammar.specs.declared.token.Kind.{Kind}
@@ -8,19 +8,18 @@ use Rattle.cov_grammar.specs.declared.token.Kind.TheVariants as k
 use Rattle.cov_grammar.specs.declared.token.Token.{Token}
 use Rattle.cov_parse.specs.declared.level.Level.{Level}
 use Rattle.cov_parse.specs.declared.level.Level.TheVariants.{Prod, Sum, Band, Bxor, Bor, Both, Either}
-use Rattle.cov_grammar.specs.Trees.{Rule, expr, template}
+use Rattle.cov_grammar.specs.Trees.{expr, template}
 use Rattle.cov_grammar.specs.LookAhead.{kind_is, has, starts, nullable, firsts, fine}
-use Rattle.cov_grammar.specs.Shapes.{Shape, token, rule, seq, alt, opt, many, act, placed, head}
-use Rattle.cov_grammar.specs.Reading.{Reading, got, stopped, spent, ◌>>=◌, Reader, take_kind, read_many, read}
+use Rattle.cov_grammar.specs.Shapes.{Shape, seq, opt, many, head}
+use Rattle.cov_grammar.specs.Reading.{Reading, got, stopped, spent, ◌>>=◌, Reader, take_kind}
 use Rattle.cov_grammar.specs.Tables.{first_of, more_of}
-use Rattle.cov_grammar.specs.Grammar.{sign, signs, grouped, compared, negated, chain, atom, template_atom, unary, prod, sum, band, bxor, bor, cmp, both, either, body}
-use Rattle.cov_grammar.specs.Reading.{rule_of, reading}
+use Rattle.cov_grammar.specs.Grammar.{signs, grouped, compared, negated, chain, atom, template_atom, unary, prod, sum, band, bxor, bor, cmp, both, either, body}
+use Rattle.cov_grammar.specs.Reading.{reading}
 use Rattle.cov_parse.specs.Levels.{first_sign, other_signs, level, operand, atom_of, rule_for, SignOf, comparisons, tail}
 use Rattle.cov_grammar.proofs.Repeats.{Item}
-use Rattle.cov_grammar.proofs.Basics.{kind_one, kind_itself, or_true}
+use Rattle.cov_grammar.proofs.Basics.{or_true}
 use Rattle.cov_grammar.proofs.Many.{Shrinks, many_of, many_is}
-use Rattle.cov_grammar.proofs.Shapely.{honest, shrinks_of}
-use Rattle.cov_grammar.proofs.Turns.{rule_is, rule_honest}
+use Rattle.cov_grammar.proofs.Turns.{rule_is}
 
 pub rule_level : (holes : Bool) (ts : List Token) → reading (rule_for holes) ts ≡ reading (level Either (atom_of holes)) ts
 unfolding body

@@ -1,6 +1,6 @@
 -- Measures up to a bound.
-use Rattle.std.proofs.Common.{◌≡◌, ℕ, zero, suc, ◌+◌, ◌≤◌, ◌<◌, max, min, List, [], ◌∷◌, refl, sym, ap, ◌∙◌, arith}
-use Rattle.cov_expr.specs.Term.{Term, neg, bin}
+use Rattle.std.proofs.Common.{◌≡◌, ℕ, zero, suc, ◌+◌, max, min, List, [], ◌∷◌, refl, sym, ap, ◌∙◌, arith}
+use Rattle.cov_expr.specs.Term.{Term, bin}
 use Rattle.cov_expr.specs.Trees.{nodes, height}
 use Rattle.cov_expr.specs.declared.expr.Op.{Op}
 use Rattle.cov_grammar.specs.Grammar.{grouped, negated}

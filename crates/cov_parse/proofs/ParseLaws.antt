@@ -1,6 +1,5 @@
 -- From tokens and trees to the answer for a text.
-use Rattle.std.proofs.Common.{◌≡◌, ℕ, List, [], ◌∷◌, length, ◌⊎◌, inl, inr, Bool, true, Option, Some, None, Result, Ok, Err, refl, sym, ap, subst, ◌∙◌, ⊎_elim}
-use Rattle.cov_expr.specs.Term.{Term}
+use Rattle.std.proofs.Common.{◌≡◌, ℕ, List, length, inl, inr, true, Option, Some, None, Result, Ok, Err, refl, sym, ap, subst, ◌∙◌, ⊎_elim}
 use Rattle.cov_lex.specs.declared.token.Token as lexed
 use Rattle.cov_lex.specs.declared.fault.LexFault.{LexFault}
 use Rattle.cov_lex.specs.declared.fault.LexFault.TheVariants as lex
@@ -10,13 +9,12 @@ use Rattle.cov_grammar.specs.declared.token.Token.{Token}
 use Rattle.cov_grammar.specs.declared.stop.Stop.{Stop}
 use Rattle.cov_grammar.specs.declared.fault.TokenFault.{TokenFault}
 use Rattle.cov_grammar.specs.declared.fault.TokenFault.TheVariants as tokens
-use Rattle.cov_grammar.specs.Trees.{Program, Placed}
 use Rattle.cov_grammar.specs.Shapes.{Shape}
 use Rattle.cov_grammar.specs.Grammar.{program, whole}
 use Rattle.cov_grammar.specs.Spelling.{Is, FirstWrong, spot}
 use Rattle.cov_grammar.specs.LookAhead.{fine}
 use Rattle.cov_grammar.specs.Tables.{first_of, more_of}
-use Rattle.cov_grammar.specs.Reading.{Reading, reading}
+use Rattle.cov_grammar.specs.Reading.{reading}
 use Rattle.cov_grammar.specs.Answers as answers
 use Rattle.cov_grammar.proofs.TableLaws.{fine_program}
 use Rattle.cov_grammar.proofs.Wholes.{finish_stands, whole_answers, value_one}
@@ -126,7 +124,7 @@ module _ {A X B : Type 0} (a : Shape A) (limits : A → Option Excess) (text : L
       ⊎_elim (λ first. by_first (tokens_of text) is.tokens.lexes first)
       (⊎_elim (λ g. spelled_right a tree (words_of text) g.bad is.spelled g.first)
       (λ g. let same : tree ≡ g.tree = value_one a f (words_of text) tree g.tree is.spelled g.spelled in
-        let no : None ≡ Some g.excess = sym is.small ∙ ap limits same ∙ g.least in cc))
+      let no : None ≡ Some g.excess = sym is.small ∙ ap limits same ∙ g.least in cc))
       h
     where
       by_first : (r : Result (List lexed.Token) LexFault) → r ≡ Ok (lexed_of text) → IsFirstFault r (words_of text) fault → ⊥

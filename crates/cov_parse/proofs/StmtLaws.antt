@@ -5,7 +5,7 @@ use Rattle.cov_grammar.specs.declared.token.Kind.TheVariants as k
 use Rattle.cov_grammar.specs.Trees as t
 use Rattle.cov_grammar.specs.LookAhead.{kind_is}
 use Rattle.cov_grammar.specs.Shapes.{rule, placed}
-use Rattle.cov_grammar.specs.Grammar.{body, part, proof, proofs, types, state, retype, assigned, branched, looped, statement, braces}
+use Rattle.cov_grammar.specs.Grammar.{body, proof, proofs, types, state, retype, assigned, branched, looped, statement, braces}
 use Rattle.cov_grammar.specs.Reading.{reading}
 use Rattle.cov_grammar.proofs.Repeats.{Item}
 use Rattle.cov_grammar.proofs.Turns.{rule_is}

@@ -1,5 +1,5 @@
 -- Certificates without where their parts lie.
-use Rattle.std.specs.Prelude.{ℕ, map, Box}
+use Rattle.std.specs.Prelude.{map, Box}
 use Rattle.cov_expr.specs.Term.{Term}
 use Rattle.cov_parse.specs.WrittenViews.{written}
 use Rattle.cov_parse.specs.declared.cert.Whole.{Whole}

@@ -1,5 +1,5 @@
 -- Declarations without where their parts lie.
-use Rattle.std.specs.Prelude.{ℕ, List, map, Option, option_map}
+use Rattle.std.specs.Prelude.{ℕ, List, map, option_map}
 use Rattle.cov_parse.specs.declared.decl.ClassDecl.{ClassDecl}
 use Rattle.cov_parse.specs.declared.decl.ClassDecl.TheVariants as classes
 use Rattle.cov_parse.specs.declared.decl.Variable.{Variable}

@@ -37,4 +37,3 @@ counted other n m at go = go n 0
 abbrev pub deep : (n m : ℕ) → List Token → Option ℕ
 deep n m [] = None
 deep n m (t ∷ ts) = counted (effect t.kind) n m t.at (λ x y. deep x y ts)
-

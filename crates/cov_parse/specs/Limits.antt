@@ -1,5 +1,5 @@
 -- Limits of trees with places: the fault of least place.
-use Rattle.std.specs.Prelude.{ℕ, zero, suc, ◌+◌, ◌-◌, ◌==◌, max, nat_lt, nat_le, List, [], ◌∷◌, ◌++◌, length, map, flat_map, slice_get, if◌then◌else◌, Option, Some, None}
+use Rattle.std.specs.Prelude.{ℕ, zero, suc, ◌+◌, ◌-◌, ◌==◌, max, nat_lt, nat_le, List, [], ◌∷◌, ◌++◌, length, map, flat_map, if◌then◌else◌, Option, Some, None}
 use Rattle.cov_expr.specs.Term.{Term}
 use Rattle.cov_expr.specs.Trees.{nodes, height}
 use Rattle.cov_grammar.specs.Trees.{Placed, Class, low, high, low_when, Var, Lock, State, Cert, Proofs, Stm, Block, Stms, Thread, Program, skip, assign, lock, unlock, branch, loop, note, block, none, next}
@@ -9,8 +9,6 @@ use Rattle.cov_parse.specs.declared.fault.Counted.TheVariants.{Variables, Locks,
 use Rattle.cov_parse.specs.declared.fault.Limit.{Limit}
 use Rattle.cov_parse.specs.declared.fault.Limit.TheVariants.{TooMany, TooDeep}
 use Rattle.cov_parse.specs.declared.fault.Excess.{Excess}
-use Rattle.cov_parse.specs.declared.fault.Counting.{Counting}
-use Rattle.cov_parse.specs.declared.fault.Counting.TheVariants.{Left, Past}
 
 -- Certificates -------------------------------------------------------------------------------------------------
 

@@ -1,5 +1,5 @@
 -- Statements without where their parts lie.
-use Rattle.std.specs.Prelude.{ℕ, List, map, Option, option_map}
+use Rattle.std.specs.Prelude.{List, map, Option, option_map}
 use Rattle.cov_expr.specs.Term.{Term}
 use Rattle.cov_parse.specs.declared.cert.Whole.{Whole}
 use Rattle.cov_parse.specs.declared.states.Typed.{Typed}

@@ -1,5 +1,5 @@
 -- What a text spells, and its fault.
-use Rattle.std.specs.Prelude.{◌≡◌, ℕ, List, [], ◌∷◌, length, ◌⊎◌, Option, Some, None, Result, Ok, Err}
+use Rattle.std.specs.Prelude.{◌≡◌, ℕ, List, [], length, ◌⊎◌, Option, Some, None, Result, Ok, Err}
 use Rattle.cov_lex.specs.declared.token.Token as lexed
 use Rattle.cov_lex.specs.declared.fault.LexFault.{LexFault}
 use Rattle.cov_lex.specs.declared.fault.LexFault.TheVariants as lex

@@ -1,6 +1,6 @@
 -- The tree that callers get: the grammar's tree without the places that only faults need. A missing join or invariant of a
 -- loop is a state that says nothing.
-use Rattle.std.specs.Prelude.{ℕ, List, [], ◌∷◌, map, get_or, Option, Some, None, option_map}
+use Rattle.std.specs.Prelude.{ℕ, List, [], map, get_or, Option, Some, None, option_map}
 use Rattle.cov_expr.specs.Term.{Term}
 use Rattle.cov_grammar.specs.Trees.{Placed}
 use Rattle.cov_grammar.specs.Trees as t

@@ -1,5 +1,4 @@
 -- The expression that is written so.
-use Rattle.std.specs.Prelude.{ℕ, List, map}
 use Rattle.cov_expr.specs.Term.{Term, const, var}
 use Rattle.cov_expr.specs.declared.expr.Op.{Op}
 use Rattle.cov_grammar.specs.Grammar.{grouped, negated}

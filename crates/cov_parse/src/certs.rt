@@ -11,8 +11,8 @@ ghost use Rattle.cov_parse.specs.CertViews as views;
 
 use crate::cert::{Cert, Whole};
 use crate::expressions::read_expr;
-use cov_grammar::{Kind, Stop, TokenReader};
 use cov_expr::{List, NoMemory};
+use cov_grammar::{Kind, Stop, TokenReader};
 use std::alloc::Global;
 
 fn boxed_cert(alloc: Global, cert: Cert) -> Result<Box<Cert>, NoMemory>
@@ -87,7 +87,10 @@ fn read_one_part(reader: &mut TokenReader<'_>, alloc: Global) -> Result<Box<Cert
 }
 
 #[cycle(cert)]
-fn read_two_parts(reader: &mut TokenReader<'_>, alloc: Global) -> Result<(Box<Cert>, Box<Cert>), Stop>
+fn read_two_parts(
+    reader: &mut TokenReader<'_>,
+    alloc: Global,
+) -> Result<(Box<Cert>, Box<Cert>), Stop>
     ensures reads { Gives views.two reader.new result (reading (seq grammar.part grammar.part) reader.old) }
     ensures shorter { length reader.new ≤ length reader.old }
 {

@@ -8,8 +8,8 @@ ghost use Rattle.cov_parse.specs.DeclViews as decls;
 
 use crate::decl::{ClassDecl, Lock, Pair, PlacedProgram, Thread, Variable};
 use crate::stmts::{read_block, read_whole_behind};
-use cov_grammar::{Kind, Stop, TokenReader};
 use cov_expr::List;
+use cov_grammar::{Kind, Stop, TokenReader};
 use std::alloc::Global;
 
 #[tactic(auto, unfolding(cov_grammar::specs::Grammar::class))]
@@ -75,7 +75,11 @@ fn read_name_list(reader: &mut TokenReader<'_>, alloc: Global) -> Result<List<u3
 }
 
 /// Names behind a word, if it is next.
-fn read_names_behind(reader: &mut TokenReader<'_>, alloc: Global, word: Kind) -> Result<List<u32>, Stop>
+fn read_names_behind(
+    reader: &mut TokenReader<'_>,
+    alloc: Global,
+    word: Kind,
+) -> Result<List<u32>, Stop>
     ensures reads { Gives (map decls.number) reader.new result (reading (grammar.listed (grammar.◌▸◌ word grammar.names)) reader.old) }
     ensures shorter { length reader.new ≤ length reader.old }
 {
@@ -87,7 +91,11 @@ fn read_names_behind(reader: &mut TokenReader<'_>, alloc: Global, word: Kind) ->
 }
 
 /// Names to be hidden behind a word, if it is next.
-fn read_hidden_behind(reader: &mut TokenReader<'_>, alloc: Global, word: Kind) -> Result<List<u32>, Stop>
+fn read_hidden_behind(
+    reader: &mut TokenReader<'_>,
+    alloc: Global,
+    word: Kind,
+) -> Result<List<u32>, Stop>
     ensures reads { Gives (map decls.number) reader.new result (reading (grammar.listed (grammar.◌▸◌ word (grammar.◌▸◌ kinds.Hide grammar.names))) reader.old) }
     ensures shorter { length reader.new ≤ length reader.old }
 {

@@ -50,7 +50,12 @@ pub fn read_expr(reader: &mut TokenReader<'_>, alloc: Global, holes: bool) -> Re
 
 /// Operands with the operators of a level between them.
 #[cycle(expr)]
-fn read_level(reader: &mut TokenReader<'_>, alloc: Global, level: Level, holes: bool) -> Result<Written, Stop>
+fn read_level(
+    reader: &mut TokenReader<'_>,
+    alloc: Global,
+    level: Level,
+    holes: bool,
+) -> Result<Written, Stop>
     ensures reads { Gives written reader.new result (reading (spec.level level (atom_of holes)) reader.old) }
     ensures shorter { length reader.new ≤ length reader.old }
 {
@@ -61,7 +66,12 @@ fn read_level(reader: &mut TokenReader<'_>, alloc: Global, level: Level, holes: 
 
 /// Operators of a level, each with the operand behind it.
 #[cycle(expr)]
-fn read_tails(reader: &mut TokenReader<'_>, alloc: Global, level: Level, holes: bool) -> Result<List<Tail>, Stop>
+fn read_tails(
+    reader: &mut TokenReader<'_>,
+    alloc: Global,
+    level: Level,
+    holes: bool,
+) -> Result<List<Tail>, Stop>
     ensures reads { Gives (map views.tail) reader.new result (reading (many (spec.tail level (atom_of holes))) reader.old) }
     ensures shorter { length reader.new ≤ length reader.old }
 {
@@ -74,7 +84,12 @@ fn read_tails(reader: &mut TokenReader<'_>, alloc: Global, level: Level, holes: 
 }
 
 #[cycle(expr)]
-fn read_operand(reader: &mut TokenReader<'_>, alloc: Global, level: Level, holes: bool) -> Result<Written, Stop>
+fn read_operand(
+    reader: &mut TokenReader<'_>,
+    alloc: Global,
+    level: Level,
+    holes: bool,
+) -> Result<Written, Stop>
     ensures reads { Gives written reader.new result (reading (spec.operand level (atom_of holes)) reader.old) }
     ensures shorter { length reader.new ≤ length reader.old }
 {
@@ -91,7 +106,11 @@ fn read_operand(reader: &mut TokenReader<'_>, alloc: Global, level: Level, holes
 
 /// One operand of a comparison, or two with its sign between them.
 #[cycle(expr)]
-fn read_comparison(reader: &mut TokenReader<'_>, alloc: Global, holes: bool) -> Result<Written, Stop>
+fn read_comparison(
+    reader: &mut TokenReader<'_>,
+    alloc: Global,
+    holes: bool,
+) -> Result<Written, Stop>
     ensures reads { Gives written reader.new result (reading (cmp (atom_of holes)) reader.old) }
     ensures shorter { length reader.new ≤ length reader.old }
 {

@@ -1,5 +1,8 @@
 //! Texts of programs as trees.
 //!
+//! - [`parse`]: the program that a text spells, or its first fault; [`parse_expr`]: the same of one expression.
+//!   `specs/Text.antt` says what a text spells and which fault is its first.
+//! - [`ParseFault`], [`Counted`]: why a text isn't read.
 //! - [`read_words`]: the tokens of a text as the grammar takes them, and its names.
 #![tactic(auto)]
 
@@ -16,7 +19,6 @@ mod level;
 mod limits;
 mod measures;
 mod numbers;
-
 mod programs;
 mod states;
 mod stmt;

@@ -21,13 +21,7 @@ fn sooner(a: Option<Excess>, b: Option<Excess>) -> Option<Excess>
     match (a, b) {
         (None, y) => y,
         (Some(x), None) => Some(x),
-        (Some(x), Some(y)) => {
-            if x.at <= y.at {
-                Some(x)
-            } else {
-                Some(y)
-            }
-        }
+        (Some(x), Some(y)) => { if x.at <= y.at { Some(x) } else { Some(y) } }
     }
 }
 
@@ -47,7 +41,13 @@ pub fn in_expr(e: &Whole) -> Option<Excess>
     ensures { result ≡ spec.in_expr (certs.whole e.now) }
 {
     let deep = above(e.at, 64, height(&e.expr), Limit::TooDeep, None);
-    above(e.at, 1000, nodes(&e.expr), Limit::TooMany(Counted::Nodes), deep)
+    above(
+        e.at,
+        1000,
+        nodes(&e.expr),
+        Limit::TooMany(Counted::Nodes),
+        deep,
+    )
 }
 
 fn in_exprs(es: &[Whole]) -> Option<Excess>
@@ -103,7 +103,13 @@ fn in_proof(proof: &Proof) -> Option<Excess>
 {
     let at = proof.at;
     let deep = above(at, 64, cert_height(&proof.cert), Limit::TooDeep, None);
-    let whole = above(at, 10000, cert_nodes(&proof.cert), Limit::TooMany(Counted::CertNodes), deep);
+    let whole = above(
+        at,
+        10000,
+        cert_nodes(&proof.cert),
+        Limit::TooMany(Counted::CertNodes),
+        deep,
+    );
     sooner(whole, inside_cert(&proof.cert))
 }
 
@@ -131,9 +137,24 @@ fn crowd(at: u32, most: usize, n: usize, limit: Limit, rest: Option<Excess>) -> 
 fn in_state(state: &State) -> Option<Excess>
     ensures { result ≡ spec.in_state (states.state state.now) }
 {
-    let types = crowd(state.at, 256, state.types.len(), Limit::TooMany(Counted::Types), None);
-    let preds = crowd(state.at, 64, state.preds.len(), Limit::TooMany(Counted::Predicates), types);
-    let inside = sooner(in_exprs(state.preds.as_slice()), in_pairs(state.types.as_slice()));
+    let types = crowd(
+        state.at,
+        256,
+        state.types.len(),
+        Limit::TooMany(Counted::Types),
+        None,
+    );
+    let preds = crowd(
+        state.at,
+        64,
+        state.preds.len(),
+        Limit::TooMany(Counted::Predicates),
+        types,
+    );
+    let inside = sooner(
+        in_exprs(state.preds.as_slice()),
+        in_pairs(state.types.as_slice()),
+    );
     sooner(preds, inside)
 }
 

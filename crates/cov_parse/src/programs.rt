@@ -144,7 +144,11 @@ fn modes_of(alloc: Global, assumes: &Pair, guarantees: &Pair) -> Result<Modes, N
     })
 }
 
-fn threads_of(alloc: Global, names: &NameTable, threads: &[Thread]) -> Result<List<ThreadDecl>, NoMemory>
+fn threads_of(
+    alloc: Global,
+    names: &NameTable,
+    threads: &[Thread],
+) -> Result<List<ThreadDecl>, NoMemory>
     ensures { IfOk result (λ made. map ast.thread made ≡ map (spec.thread_of names.now) (map decls.thread threads.now)) }
 {
     let mut made = List::new(alloc);
@@ -161,7 +165,12 @@ fn threads_of(alloc: Global, names: &NameTable, threads: &[Thread]) -> Result<Li
 }
 
 /// The tree that callers get, of a program within its limits.
-pub fn parsed_of(alloc: Global, names: NameTable, uses: List<NameUse>, program: &PlacedProgram) -> Result<Parsed, NoMemory>
+pub fn parsed_of(
+    alloc: Global,
+    names: NameTable,
+    uses: List<NameUse>,
+    program: &PlacedProgram,
+) -> Result<Parsed, NoMemory>
     ensures { IfOk result (λ made. ast.parsed made ≡ spec.parsed_of names uses (decls.program program.now)) }
 {
     let vars = vars_of(alloc, &names, program.vars.as_slice())?;

@@ -9,8 +9,8 @@ ghost use Rattle.cov_parse.specs.StateViews as states;
 
 use crate::cert::{Cert, Whole};
 use crate::certs::{read_cert, read_number, read_whole, read_wholes};
-use cov_grammar::{Kind, Stop, TokenReader};
 use cov_expr::List;
+use cov_grammar::{Kind, Stop, TokenReader};
 use std::alloc::Global;
 
 /// A variable and an expression.
@@ -108,7 +108,11 @@ pub fn read_state(reader: &mut TokenReader<'_>, alloc: Global) -> Result<State, 
 }
 
 /// A state behind a word, if the word is next.
-pub fn read_state_behind(reader: &mut TokenReader<'_>, alloc: Global, word: Kind) -> Result<Option<State>, Stop>
+pub fn read_state_behind(
+    reader: &mut TokenReader<'_>,
+    alloc: Global,
+    word: Kind,
+) -> Result<Option<State>, Stop>
     ensures reads { Gives (option_map states.state) reader.new result (reading (opt (grammar.◌▸◌ word grammar.state)) reader.old) }
     ensures shorter { length reader.new ≤ length reader.old }
 {

@@ -10,16 +10,19 @@ ghost use Rattle.cov_parse.specs.StateViews as states;
 ghost use Rattle.cov_parse.specs.StmtViews as stmts;
 
 use crate::cert::Whole;
-use crate::states::{Proof, Typed};
-use crate::stmt::{Braces, Stmt, StmtKind};
 use crate::certs::read_whole;
-use crate::states::{read_proofs, read_state, read_state_behind};
-use cov_grammar::{Kind, Stop, TokenReader};
+use crate::states::{Proof, Typed, read_proofs, read_state, read_state_behind};
+use crate::stmt::{Braces, Stmt, StmtKind};
 use cov_expr::List;
+use cov_grammar::{Kind, Stop, TokenReader};
 use std::alloc::Global;
 
 /// An expression behind a word, if the word is next.
-pub fn read_whole_behind(reader: &mut TokenReader<'_>, alloc: Global, word: Kind) -> Result<Option<Whole>, Stop>
+pub fn read_whole_behind(
+    reader: &mut TokenReader<'_>,
+    alloc: Global,
+    word: Kind,
+) -> Result<Option<Whole>, Stop>
     ensures reads { Gives (option_map views.whole) reader.new result (reading (opt (grammar.◌▸◌ word grammar.whole)) reader.old) }
     ensures shorter { length reader.new ≤ length reader.old }
 {
@@ -59,7 +62,9 @@ fn read_retypes(reader: &mut TokenReader<'_>, alloc: Global) -> Result<List<Type
 
 /// What stands behind the name of an assignment.
 #[tactic(auto, unfolding(cov_grammar::specs::Grammar::assigned))]
-fn read_assigned(reader: &mut TokenReader<'_>, alloc: Global,
+fn read_assigned(
+    reader: &mut TokenReader<'_>,
+    alloc: Global,
 ) -> Result<(Whole, Option<Whole>, List<Typed>, List<Proof>), Stop>
     ensures reads { Gives stmts.assigned reader.new result (reading grammar.assigned reader.old) }
     ensures shorter { length reader.new ≤ length reader.old }

@@ -22,7 +22,12 @@ pub fn uses(alloc: Global, tokens: &[Token]) -> Result<List<NameUse>, NoMemory>
 }
 
 /// Puts the use that a token is behind another at the end of a list.
-fn add_use(list: &mut List<NameUse>, in_thread: bool, before: Kind, token: Token) -> Result<(), NoMemory>
+fn add_use(
+    list: &mut List<NameUse>,
+    in_thread: bool,
+    before: Kind,
+    token: Token,
+) -> Result<(), NoMemory>
     ensures { OnOk result (list.new ≡ list.old ++ spec.use_of in_thread before token) }
 {
     if is(Kind::Name, token.kind) && !declares(in_thread, before) {

@@ -1,17 +1,14 @@
-use Rattle.std.proofs.Common.{arith, rules, ◌≡◌, ◌+◌, ◌-◌, ◌∙◌, suc, sym, ap, length, List, add-one, map}
+use Rattle.std.proofs.Common.{arith, ◌≡◌, ◌-◌, ◌∙◌, suc, sym, ap, length, map}
 use Rattle.std.proofs.lemmas.Result.{err_from_is_err_and}
 use Rattle.cov_grammar.specs.Shapes.{many}
-use Rattle.cov_grammar.specs.Grammar.{bor, cmp}
-use Rattle.cov_grammar.specs.LookAhead.{firsts}
-use Rattle.cov_grammar.specs.Tables.{first_of}
-use Rattle.cov_grammar.specs.Grammar.{signs}
+use Rattle.cov_grammar.specs.Grammar.{bor}
 use Rattle.cov_grammar.specs.Reading.{reading, got}
 use Rattle.cov_grammar.proofs.Repeats.{item_goes, item_ends, item_breaks}
 use Rattle.cov_grammar.proofs.Stops.{stop_onward}
-use Rattle.cov_parse.specs.Levels.{atom_of, level, operand, tail, first_sign, other_signs}
+use Rattle.cov_parse.specs.Levels.{atom_of, operand, tail}
 use Rattle.cov_parse.specs.WrittenViews as views
 use Rattle.cov_parse.specs.WrittenViews.{written}
-use Rattle.cov_parse.proofs.Levels.{level_got, level_stops, level_breaks, tail_item, tail_got, tail_stopped, cmp_one, cmp_two, cmp_stops, cmp_breaks, behind, unary_begins, unary_goes, unary_ends, unary_stops}
+use Rattle.cov_parse.proofs.Levels.{level_got, level_stops, level_breaks, tail_item, tail_got, tail_stopped, cmp_one, cmp_two, cmp_stops, cmp_breaks, behind, unary_begins, unary_goes}
 use Rattle.cov_parse.proofs.expressions.+expr.Goals as goal
 
 pub read_comparison-returns-in_err-right-in-Some-clause-reads : goal.read_comparison-returns-in_err-right-in-Some-clause-reads

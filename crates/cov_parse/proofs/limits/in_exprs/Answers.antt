@@ -1,7 +1,7 @@
-use Rattle.std.proofs.Common.{◌∙◌, sym, rules}
+use Rattle.std.proofs.Common.{◌∙◌, rules}
 use Rattle.cov_parse.specs.Limits as spec
 use Rattle.cov_parse.specs.CertViews as views
-use Rattle.cov_parse.proofs.LimitLaws.{found_step, sooner_none}
+use Rattle.cov_parse.proofs.LimitLaws.{found_step}
 use Rattle.cov_parse.proofs.limits.in_exprs.Goals as goal
 
 pub loop-e-preserved : goal.loop-e-preserved

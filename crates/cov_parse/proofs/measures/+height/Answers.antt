@@ -1,4 +1,4 @@
-use Rattle.std.proofs.Common.{◌≡◌, ◌+◌, ◌∙◌, ℕ, min, map, drop, sym, ap, arith, rules, ◌∷◌}
+use Rattle.std.proofs.Common.{◌≡◌, ◌+◌, ◌∙◌, min, map, drop, sym, ap, arith, rules, ◌∷◌}
 use Rattle.cov_expr.specs.Trees.{height}
 use Rattle.cov_grammar.specs.Grammar.{negated, grouped}
 use Rattle.cov_parse.specs.declared.written.Written.{the_lemmas}
@@ -29,11 +29,11 @@ chain_height-loop-tail-preserved t c =
     let ahead = item_ahead views.tail c.args.tails.now c.loop-tail.tail-index tail _ c.loop-tail-test.true c.tail-item.is in
     let rest = map views.tail (drop (c.loop-tail.tail-index + 1) c.args.tails.now) in
     record {
-  same =
-      height_step (map views.tail (drop (c.loop-tail.tail-index + 1) c.args.tails.now)) 65 c.loop-tail.top (height (written c.tail-item.result.operand)) c.lesser-top.result c.height.result
-      (c.lesser-top.ensures ∙ ap (λ n. min (n + 1) 65) c.greater.ensures) c.height.ensures
-      ∙ ap (λ x. min (height_onto c.loop-tail.top (x ∷ rest)) 65) (sym e)
-      ∙ ap (λ xs. min (height_onto c.loop-tail.top xs) 65) (sym ahead)
-      ∙ c.loop-tail.invariant.same;
-  small = omega (arith, c.lesser-top.ensures);
-}
+      same =
+          height_step (map views.tail (drop (c.loop-tail.tail-index + 1) c.args.tails.now)) 65 c.loop-tail.top (height (written c.tail-item.result.operand)) c.lesser-top.result c.height.result
+          (c.lesser-top.ensures ∙ ap (λ n. min (n + 1) 65) c.greater.ensures) c.height.ensures
+          ∙ ap (λ x. min (height_onto c.loop-tail.top (x ∷ rest)) 65) (sym e)
+          ∙ ap (λ xs. min (height_onto c.loop-tail.top xs) 65) (sym ahead)
+          ∙ c.loop-tail.invariant.same;
+      small = omega (arith, c.lesser-top.ensures);
+    }

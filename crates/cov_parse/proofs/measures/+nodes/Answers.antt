@@ -1,4 +1,4 @@
-use Rattle.std.proofs.Common.{◌≡◌, ◌+◌, ◌∙◌, ℕ, min, map, drop, sym, ap, arith, rules, ◌∷◌}
+use Rattle.std.proofs.Common.{◌≡◌, ◌+◌, ◌∙◌, min, map, drop, sym, ap, arith, rules, ◌∷◌}
 use Rattle.cov_expr.specs.Trees.{nodes}
 use Rattle.cov_grammar.specs.Grammar.{negated, grouped}
 use Rattle.cov_parse.specs.declared.written.Written.{the_lemmas}
@@ -29,11 +29,11 @@ chain_nodes-loop-tail-preserved t c =
     let ahead = item_ahead views.tail c.args.tails.now c.loop-tail.tail-index tail _ c.loop-tail-test.true c.tail-item.is in
     let rest = map views.tail (drop (c.loop-tail.tail-index + 1) c.args.tails.now) in
     record {
-  same =
-      nodes_step (map views.tail (drop (c.loop-tail.tail-index + 1) c.args.tails.now)) 1001 c.loop-tail.sum (nodes (written c.tail-item.result.operand)) c.lesser-sum.result c.nodes.result
-      c.lesser-sum.ensures c.nodes.ensures
-      ∙ ap (λ x. min (nodes_onto c.loop-tail.sum (x ∷ rest)) 1001) (sym e)
-      ∙ ap (λ xs. min (nodes_onto c.loop-tail.sum xs) 1001) (sym ahead)
-      ∙ c.loop-tail.invariant.same;
-  small = omega (arith, c.lesser-sum.ensures);
-}
+      same =
+          nodes_step (map views.tail (drop (c.loop-tail.tail-index + 1) c.args.tails.now)) 1001 c.loop-tail.sum (nodes (written c.tail-item.result.operand)) c.lesser-sum.result c.nodes.result
+          c.lesser-sum.ensures c.nodes.ensures
+          ∙ ap (λ x. min (nodes_onto c.loop-tail.sum (x ∷ rest)) 1001) (sym e)
+          ∙ ap (λ xs. min (nodes_onto c.loop-tail.sum xs) 1001) (sym ahead)
+          ∙ c.loop-tail.invariant.same;
+      small = omega (arith, c.lesser-sum.ensures);
+    }

@@ -1,6 +1,5 @@
-use Rattle.std.proofs.Common.{◌≡◌, ◌∙◌, ◌-◌, ◌++◌, suc, sym, ap, map, arith, rules}
+use Rattle.std.proofs.Common.{◌≡◌, ◌∙◌, ◌-◌, ◌++◌, sym, ap, map, arith, rules}
 use Rattle.cov_grammar.specs.Trees.{stms}
-use Rattle.cov_parse.specs.declared.fault.Counting.TheVariants.{Left, Past}
 use Rattle.cov_parse.specs.declared.stmt.Stmt.{the_lemmas}
 use Rattle.cov_parse.specs.Limits.{places, places_in}
 use Rattle.cov_parse.specs.Measures.{counted, onward}

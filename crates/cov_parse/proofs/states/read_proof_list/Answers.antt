@@ -1,5 +1,4 @@
-use Rattle.std.proofs.Common.{◌∙◌, ◌∷◌, [], sym, map, arith}
-use Rattle.cov_expr.specs.View.{term}
+use Rattle.std.proofs.Common.{◌∙◌, ◌∷◌, [], arith}
 use Rattle.cov_grammar.specs.declared.token.Kind.TheVariants as k
 use Rattle.cov_grammar.specs.Grammar.{◌▸◌, proof}
 use Rattle.cov_parse.specs.StateViews as views

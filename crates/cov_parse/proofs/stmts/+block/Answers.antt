@@ -1,7 +1,7 @@
 use Rattle.std.proofs.Common.{◌∙◌, ◌∷◌, [], sym, map, arith}
 use Rattle.std.proofs.lemmas.Result.{err_from_is_err_and}
 use Rattle.cov_grammar.specs.declared.token.Kind.TheVariants as k
-use Rattle.cov_grammar.specs.Shapes.{many, placed}
+use Rattle.cov_grammar.specs.Shapes.{placed}
 use Rattle.cov_grammar.specs.Reading.{reading}
 use Rattle.cov_grammar.specs.Grammar as spec
 use Rattle.cov_parse.specs.StmtViews as views

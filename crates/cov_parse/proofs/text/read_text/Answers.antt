@@ -1,4 +1,4 @@
-use Rattle.std.proofs.Common.{◌≡◌, ◌∙◌, sym, ap}
+use Rattle.std.proofs.Common.{◌∙◌, sym, ap}
 use Rattle.cov_parse.specs.Depth.{deep}
 use Rattle.cov_parse.specs.Words as words
 use Rattle.cov_parse.proofs.ParseLaws.{deep_fault, reads_words}
