@@ -60,12 +60,12 @@ full_lock : lock_line names (record { name = codes "l"; at = 0; nowrite = 0 ∷ 
 full_lock = simp (decimal_digit 9 (lit< tt))
 
 all_modes : thread_lines names (record {
-      name = codes "t";
-      at = 0;
-      modes = record { assume_nowrite = 0 ∷ 1 ∷ []; assume_hide = 1 ∷ []; guarantee_nowrite = 0 ∷ []; guarantee_hide = 1 ∷ [] };
-      body = s.done;
-      end = 0;
-    })
+  name = codes "t";
+  at = 0;
+  modes = record { assume_nowrite = 0 ∷ 1 ∷ []; assume_hide = 1 ∷ []; guarantee_nowrite = 0 ∷ []; guarantee_hide = 1 ∷ [] };
+  body = s.done;
+  end = 0;
+})
     ≡ codes "thread t assume nowrite a, s assume hide s guarantee nowrite a guarantee hide s {\n}\n"
 all_modes = refl
 
@@ -82,7 +82,7 @@ locking = simp (decimal_digit 1 (lit< tt))
 -- margins, a join and an invariant
 deep : block names (codes "  ")
     (s.more 0 (s.branch (var 0) (s.more 0 (s.loop (var 1) (stated (var 0 ∷ []) []) (s.more 0 s.skip [] s.done)) [] s.done) (s.more 0 s.skip [] s.done)
-      (stated [] ((0, const 1) ∷ []))) (proved 2 s.range ∷ []) s.done)
+    (stated [] ((0, const 1) ∷ []))) (proved 2 s.range ∷ []) s.done)
     ≡ codes "  if a {\n    while s inv { a } {\n      skip;\n    }\n  } else {\n    skip;\n  } join { ; a: 1 } by { 2: range }\n"
 unfolding state_of stated_of
 deep = simp (decimal_digit 1 (lit< tt), decimal_digit 2 (lit< tt))
@@ -100,8 +100,8 @@ states_two = simp (decimal_digit 1 (lit< tt), decimal_digit 2 (lit< tt))
 -- each operand that is a binary operation is in parentheses, the whole isn't
 operators : whole names
     (bin Either (bin Both (bin Eq (const 1) (const 2)) (bin Ne (const 3) (const 4)))
-      (bin Lt (bin Le (const 5) (const 6)) (bin Or (bin Xor (const 7) (bin And (const 8) (const 9)))
-        (bin Add (bin Sub (const 0) (const 1)) (bin Mul (const 2) (const 3))))))
+    (bin Lt (bin Le (const 5) (const 6)) (bin Or (bin Xor (const 7) (bin And (const 8) (const 9)))
+    (bin Add (bin Sub (const 0) (const 1)) (bin Mul (const 2) (const 3))))))
     ≡ codes "((1 == 2) && (3 != 4)) || ((5 <= 6) < ((7 ^ (8 & 9)) | ((0 - 1) + (2 * 3))))"
 operators = simp (decimal_digit 0 (lit< tt), decimal_digit 1 (lit< tt), decimal_digit 2 (lit< tt), decimal_digit 3 (lit< tt), decimal_digit 4 (lit< tt), decimal_digit 5 (lit< tt), decimal_digit 6 (lit< tt), decimal_digit 7 (lit< tt), decimal_digit 8 (lit< tt), decimal_digit 9 (lit< tt))
 

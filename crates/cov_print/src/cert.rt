@@ -17,7 +17,12 @@ fn add_numbered(word: &[u8], n: u32, out: &mut List<u8>) -> Result<(), NoMemory>
 }
 
 /// Adds a word and an expression in brackets behind it.
-fn add_bracketed(names: &NameTable, word: &[u8], e: &Expr, out: &mut List<u8>) -> Result<(), NoMemory>
+fn add_bracketed(
+    names: &NameTable,
+    word: &[u8],
+    e: &Expr,
+    out: &mut List<u8>,
+) -> Result<(), NoMemory>
     ensures { OnOk result (out.new ≡ out.old ++ word.now ++ codes " [" ++ spec.whole names.now (term e.now) ++ codes "]") }
 {
     out.extend_from_slice(word)?;
@@ -32,8 +37,14 @@ fn is_word(c: &Cert) -> bool
 {
     match c {
         Cert::Auto | Cert::Calc | Cert::Refl | Cert::Ring | Cert::Range => true,
-        Cert::Hyp(_) | Cert::Clash(_) | Cert::Absurd(..) | Cert::And(..) | Cert::Left(_) | Cert::Right(_) => false,
-        Cert::Unpack(..) | Cert::Cases(..) | Cert::Split(..) | Cert::Have(..) | Cert::Not(_) => false,
+        Cert::Hyp(_)
+        | Cert::Clash(_)
+        | Cert::Absurd(..)
+        | Cert::And(..)
+        | Cert::Left(_)
+        | Cert::Right(_) => false,
+        Cert::Unpack(..) | Cert::Cases(..) | Cert::Split(..) | Cert::Have(..) | Cert::Not(_) =>
+            false,
         Cert::Contra(_) | Cert::Fwd(..) | Cert::Rev(..) | Cert::Axiom(..) => false,
     }
 }

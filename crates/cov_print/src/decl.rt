@@ -34,7 +34,12 @@ pub fn add_var(names: &NameTable, v: &VarDecl, out: &mut List<u8>) -> Result<(),
 }
 
 /// Adds a word and the names behind it, or nothing where there are none.
-fn add_named(names: &NameTable, word: &[u8], ids: &[u32], out: &mut List<u8>) -> Result<(), NoMemory>
+fn add_named(
+    names: &NameTable,
+    word: &[u8],
+    ids: &[u32],
+    out: &mut List<u8>,
+) -> Result<(), NoMemory>
     ensures { OnOk result (out.new ≡ out.old ++ spec.named names.now word.now ids.now) }
 {
     match ids {
@@ -63,12 +68,22 @@ fn add_modes(names: &NameTable, m: &Modes, out: &mut List<u8>) -> Result<(), NoM
 {
     add_named(names, b" assume nowrite ", m.assume_nowrite.as_slice(), out)?;
     add_named(names, b" assume hide ", m.assume_hide.as_slice(), out)?;
-    add_named(names, b" guarantee nowrite ", m.guarantee_nowrite.as_slice(), out)?;
+    add_named(
+        names,
+        b" guarantee nowrite ",
+        m.guarantee_nowrite.as_slice(),
+        out,
+    )?;
     add_named(names, b" guarantee hide ", m.guarantee_hide.as_slice(), out)
 }
 
 /// Adds the lines of a thread.
-pub fn add_thread(alloc: Global, names: &NameTable, t: &ThreadDecl, out: &mut List<u8>) -> Result<(), NoMemory>
+pub fn add_thread(
+    alloc: Global,
+    names: &NameTable,
+    t: &ThreadDecl,
+    out: &mut List<u8>,
+) -> Result<(), NoMemory>
     ensures { OnOk result (out.new ≡ out.old ++ spec.thread_lines names.now (view.thread t.now)) }
 {
     out.extend_from_slice(b"thread ")?;

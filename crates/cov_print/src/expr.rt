@@ -30,18 +30,31 @@ fn operator(op: Op) -> &'static [u8]
 fn open(operand: bool, out: &mut List<u8>) -> Result<(), NoMemory>
     ensures { OnOk result (out.new ≡ out.old ++ spec.given operand (codes "(")) }
 {
-    if operand { out.extend_from_slice(b"(") } else { Ok(()) }
+    if operand {
+        out.extend_from_slice(b"(")
+    } else {
+        Ok(())
+    }
 }
 
 /// Adds the parenthesis that closes an operand.
 fn close(operand: bool, out: &mut List<u8>) -> Result<(), NoMemory>
     ensures { OnOk result (out.new ≡ out.old ++ spec.given operand (codes ")")) }
 {
-    if operand { out.extend_from_slice(b")") } else { Ok(()) }
+    if operand {
+        out.extend_from_slice(b")")
+    } else {
+        Ok(())
+    }
 }
 
 /// Adds an expression.
-pub fn add_expr(names: &NameTable, operand: bool, e: &Expr, out: &mut List<u8>) -> Result<(), NoMemory>
+pub fn add_expr(
+    names: &NameTable,
+    operand: bool,
+    e: &Expr,
+    out: &mut List<u8>,
+) -> Result<(), NoMemory>
     ensures { OnOk result (out.new ≡ out.old ++ spec.expr names.now operand (term e.now)) }
 {
     match e {
@@ -79,7 +92,12 @@ pub fn add_exprs(names: &NameTable, es: &[Expr], out: &mut List<u8>) -> Result<(
 }
 
 /// Adds a word and the expression behind it, or nothing where there is none.
-pub fn add_option(names: &NameTable, word: &[u8], part: &Option<Expr>, out: &mut List<u8>) -> Result<(), NoMemory>
+pub fn add_option(
+    names: &NameTable,
+    word: &[u8],
+    part: &Option<Expr>,
+    out: &mut List<u8>,
+) -> Result<(), NoMemory>
     ensures { OnOk result (out.new ≡ out.old ++ spec.maybe names.now word.now (option_map term part.now)) }
 {
     match part {

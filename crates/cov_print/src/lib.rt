@@ -9,6 +9,8 @@ mod expr;
 mod program;
 mod state;
 mod stmt;
+#[cfg(test)]
+mod tests;
 mod text;
 
 pub use program::print;

@@ -25,7 +25,12 @@ fn add_locks(names: &NameTable, locks: &[LockDecl], out: &mut List<u8>) -> Resul
     Ok(())
 }
 
-fn add_threads(alloc: Global, names: &NameTable, threads: &[ThreadDecl], out: &mut List<u8>) -> Result<(), NoMemory>
+fn add_threads(
+    alloc: Global,
+    names: &NameTable,
+    threads: &[ThreadDecl],
+    out: &mut List<u8>,
+) -> Result<(), NoMemory>
     ensures { OnOk result (out.new ≡ out.old ++ flat_map (spec.thread_lines names.now) (map view.thread threads.now)) }
 {
     for t in threads {

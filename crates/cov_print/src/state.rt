@@ -71,7 +71,12 @@ fn is_empty(j: &State) -> bool
 
 /// Adds a word and the state behind it, or nothing where the state is empty.
 #[tactic(auto, unfolding(crate::specs::Spelling::stated_of))]
-pub fn add_stated(names: &NameTable, word: &[u8], j: &State, out: &mut List<u8>) -> Result<(), NoMemory>
+pub fn add_stated(
+    names: &NameTable,
+    word: &[u8],
+    j: &State,
+    out: &mut List<u8>,
+) -> Result<(), NoMemory>
     ensures { OnOk result (out.new ≡ out.old ++ spec.stated names.now word.now (view.state j.now)) }
 {
     if is_empty(j) {

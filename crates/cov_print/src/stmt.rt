@@ -25,7 +25,12 @@ fn add_retypes(names: &NameTable, retypes: &[Retype], out: &mut List<u8>) -> Res
 }
 
 /// Adds a note with its proofs.
-fn add_note(names: &NameTable, j: &State, proofs: &[Proof], out: &mut List<u8>) -> Result<(), NoMemory>
+fn add_note(
+    names: &NameTable,
+    j: &State,
+    proofs: &[Proof],
+    out: &mut List<u8>,
+) -> Result<(), NoMemory>
     ensures { OnOk result (out.new ≡ out.old ++ (codes "note " ++ spec.state names.now (view.state j.now) ++ spec.by names.now (map view.proof proofs.now) ++ codes ";")) }
 {
     out.extend_from_slice(b"note ")?;
@@ -52,7 +57,13 @@ fn add_else(margin: &[u8], out: &mut List<u8>) -> Result<(), NoMemory>
 }
 
 /// Adds what stands behind the second block of an `if`.
-fn end_if(names: &NameTable, margin: &[u8], join: &State, proofs: &[Proof], out: &mut List<u8>) -> Result<(), NoMemory>
+fn end_if(
+    names: &NameTable,
+    margin: &[u8],
+    join: &State,
+    proofs: &[Proof],
+    out: &mut List<u8>,
+) -> Result<(), NoMemory>
     ensures { OnOk result (out.new ≡ out.old ++ (margin.now ++ codes "}" ++ spec.stated names.now (codes " join ") (view.state join.now) ++ spec.by names.now (map view.proof proofs.now))) }
 {
     out.extend_from_slice(margin)?;
@@ -72,7 +83,12 @@ fn begin_while(names: &NameTable, e: &Expr, inv: &State, out: &mut List<u8>) -> 
 }
 
 /// Adds what stands behind the block of a `while`.
-fn end_while(names: &NameTable, margin: &[u8], proofs: &[Proof], out: &mut List<u8>) -> Result<(), NoMemory>
+fn end_while(
+    names: &NameTable,
+    margin: &[u8],
+    proofs: &[Proof],
+    out: &mut List<u8>,
+) -> Result<(), NoMemory>
     ensures { OnOk result (out.new ≡ out.old ++ (margin.now ++ codes "}" ++ spec.by names.now (map view.proof proofs.now))) }
 {
     out.extend_from_slice(margin)?;
@@ -92,7 +108,13 @@ pub fn deeper(alloc: Global, margin: &[u8]) -> Result<List<u8>, NoMemory>
 
 /// Adds the lines of statements, each of which begins with the margin.
 #[cycle(statements)]
-pub fn add_block(alloc: Global, names: &NameTable, margin: &[u8], body: &[Stmt], out: &mut List<u8>) -> Result<(), NoMemory>
+pub fn add_block(
+    alloc: Global,
+    names: &NameTable,
+    margin: &[u8],
+    body: &[Stmt],
+    out: &mut List<u8>,
+) -> Result<(), NoMemory>
     ensures { OnOk result (out.new ≡ out.old ++ spec.block names.now margin.now (view.block body.now)) }
 {
     for s in body {
@@ -105,7 +127,14 @@ pub fn add_block(alloc: Global, names: &NameTable, margin: &[u8], body: &[Stmt],
 
 /// Adds a statement with its proofs, without the margin before its first line.
 #[cycle(statements)]
-fn add_statement(alloc: Global, names: &NameTable, margin: &[u8], kind: &StmtKind, proofs: &[Proof], out: &mut List<u8>) -> Result<(), NoMemory>
+fn add_statement(
+    alloc: Global,
+    names: &NameTable,
+    margin: &[u8],
+    kind: &StmtKind,
+    proofs: &[Proof],
+    out: &mut List<u8>,
+) -> Result<(), NoMemory>
     ensures { OnOk result (out.new ≡ out.old ++ spec.stm names.now margin.now (view.kind kind.now) (map view.proof proofs.now)) }
 {
     match kind {
