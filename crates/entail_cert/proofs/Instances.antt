@@ -1,20 +1,22 @@
 -- Instances of axioms hold, where they are made of words.
-use Rattle.std.proofs.Common.{◌≡◌, ◌≢◌, nat_lt, ℕ, zero, suc, ◌<◌, ◌==◌, ◌^◌, ◌&&◌, not, List, [], ◌∷◌, length, map, get_or, slice_get, Bool, true, false, Option, Some, None, refl, sym, ◌∙◌, ap, subst, if◌then◌else◌, inl, inr, arith, lit<}
+use Rattle.std.proofs.Common.{◌≡◌, ◌≢◌, nat_lt, ℕ, zero, suc, ◌<◌, ◌==◌, ◌^◌, ◌&&◌, not, List, [], ◌∷◌, length, map, get_or, slice_get, Bool, true, false, Option, Some, None, IfSome, refl, sym, ◌∙◌, ap, subst, if◌then◌else◌, inl, inr, arith, lit<}
 use Rattle.std.proofs.lemmas.Bool.{eqb-true, ltb-true}
 use Rattle.std.proofs.lemmas.Bool.Decides.{eqb_tells}
 use Rattle.std.specs.List.{list_all}
 use Rattle.cov_expr.specs.Term.{Term, const, var, neg, bin, value, apply, flag, is_set}
 use Rattle.cov_expr.specs.Trees.{mentions, vars}
 use Rattle.cov_expr.specs.Words.{AreWords, HasWords}
-use Rattle.cov_expr.specs.Entailment.{Holds}
+use Rattle.cov_expr.specs.Entailment.{Holds, Entails}
 use Rattle.cov_ast.specs.Syntax.{Cert}
 use Rattle.cov_ast.specs.Syntax as by
 use Rattle.entail_cert.specs.Axioms.{axioms, numbered, instance, instance_for, axiom_for}
+use Rattle.entail_cert.specs.Valid.{first_bad}
+use Rattle.entail_cert.specs.Walks.{InstancesHaveWords}
 use Rattle.entail_cert.specs.Words.{HaveWords, CertHasWords}
 use Rattle.cov_expr.proofs.Values.{value_word}
 use Rattle.entail_cert.proofs.Axioms.{axioms_hold}
 use Rattle.entail_cert.proofs.Truth.{and_left, and_right, or_cases, numbered_holds}
-use Rattle.entail_cert.proofs.Sound.{InstancesHold}
+use Rattle.entail_cert.proofs.Sound.{InstancesHold, cert_sound}
 
 -- Instances ----------------------------------------------------------------------------------------------------
 
@@ -158,3 +160,33 @@ instances_hold m w (by.instance k es c) h = (
 )
 instances_hold m w by.ring h = tt
 instances_hold m w by.range h = tt
+
+-- each instance that is made of words holds
+instances_of_words : (m : List ℕ) → AreWords m → (c : Cert) → InstancesHaveWords c → InstancesHold m c
+instances_of_words m w by.auto h = tt
+instances_of_words m w (by.hyp i) h = tt
+instances_of_words m w by.calc h = tt
+instances_of_words m w (by.clash i) h = tt
+instances_of_words m w (by.and c d) h = (instances_of_words m w c h.0, instances_of_words m w d h.1)
+instances_of_words m w (by.left c) h = instances_of_words m w c h
+instances_of_words m w (by.right c) h = instances_of_words m w c h
+instances_of_words m w (by.unpack i c) h = instances_of_words m w c h
+instances_of_words m w (by.cases i c d) h = (instances_of_words m w c h.0, instances_of_words m w d h.1)
+instances_of_words m w (by.split e c d) h = (instances_of_words m w c h.0, instances_of_words m w d h.1)
+instances_of_words m w (by.have e c d) h = (instances_of_words m w c h.0, instances_of_words m w d h.1)
+instances_of_words m w (by.absurdity i j) h = tt
+instances_of_words m w (by.negation c) h = instances_of_words m w c h
+instances_of_words m w (by.contra c) h = instances_of_words m w c h
+instances_of_words m w by.reflexive h = tt
+instances_of_words m w (by.fwd i t c) h = instances_of_words m w c h
+instances_of_words m w (by.rev i t c) h = instances_of_words m w c h
+instances_of_words m w (by.instance k es c) h = (λ e i. instance_holds m w k es e i (there (axiom_for k es) e i h.0), instances_of_words m w c h.1)
+  where
+    there : (o : Option Term) (e : Term) → o ≡ Some e → IfSome o HasWords → HasWords e
+    there None e i w = let c : ◌≡◌ {A = Option Term} None (Some e) = i in cc
+    there (Some f) e i w = let j : f ≡ e = cc in subst HasWords j w
+instances_of_words m w by.ring h = tt
+instances_of_words m w by.range h = tt
+
+pub walked_entails : (hyps : List Term) (goal : Term) (c : Cert) → first_bad hyps goal c ≡ None → InstancesHaveWords c → Entails hyps goal
+walked_entails hyps goal c h w m m_words k = cert_sound m c hyps goal h (instances_of_words m m_words c w) k

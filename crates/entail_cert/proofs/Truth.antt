@@ -8,6 +8,7 @@ use Rattle.cov_expr.specs.declared.expr.Op.TheVariants.{Eq, Both, Either}
 use Rattle.cov_expr.specs.declared.expr.TheConstants.{HOLE}
 use Rattle.cov_expr.specs.Term.{Term, const, var, neg, bin, value, apply, flag, is_set}
 use Rattle.cov_expr.specs.Trees.{op_number, same, is_closed, conjuncts, has_term, has_conjunct}
+use Rattle.cov_expr.specs.Words.{HasVarsBelow}
 use Rattle.cov_expr.specs.Entailment.{Holds, AllHold}
 use Rattle.cov_expr.proofs.Trees.{same_is, op_is}
 use Rattle.cov_expr.proofs.Values.{value-closed}
@@ -107,6 +108,12 @@ negated_is (const k) a h = let c : ◌≡◌ {A = Option Term} None (Some a) = h
 negated_is (var x) a h = let c : ◌≡◌ {A = Option Term} None (Some a) = h in cc
 negated_is (neg e) a h = let i : e ≡ a = cc in ap neg i
 negated_is (bin o c d) a h = let c : ◌≡◌ {A = Option Term} None (Some a) = h in cc
+
+pub closed_below : (e : Term) (n : ℕ) → is_closed e ≡ true → HasVarsBelow e n
+closed_below (const k) n h = tt
+closed_below (var x) n h = let c : false ≡ true = h in cc
+closed_below (neg e) n h = closed_below e n h
+closed_below (bin op a b) n h = (closed_below a n (and_left (is_closed a) (is_closed b) h), closed_below b n (and_right (is_closed a) (is_closed b) h))
 
 -- In a memory --------------------------------------------------------------------------------------------------
 

@@ -1,3 +1,5 @@
+pub mod Answers
 pub mod Axioms
 pub mod Valid
+pub mod Walks
 pub mod Words

@@ -27,9 +27,12 @@ is_false e = is_closed e && not (is_set (value e []))
 abbrev pub is_known : List Term → Term → Bool
 is_known hyps e = list_any (λ h. has_conjunct h e) hyps
 
--- some hypothesis is false, or each conjunct of the goal is true or known
+-- each conjunct of the goal is true or known
+abbrev pub is_all_known : List Term → Term → Bool
+is_all_known hyps goal = list_all (λ e. is_true e || is_known hyps e) (conjuncts goal)
+
 abbrev pub is_plain : List Term → Term → Bool
-is_plain hyps goal = list_any is_false hyps || list_all (λ e. is_true e || is_known hyps e) (conjuncts goal)
+is_plain hyps goal = list_any is_false hyps || is_all_known hyps goal
 
 abbrev pub is_some_and : {A : Type 0} → (A → Bool) → Option A → Bool
 is_some_and test None = false

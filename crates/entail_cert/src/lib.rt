@@ -1,23 +1,19 @@
-//! Certificates of entailments.
+//! Certificates of entailments: a check of the claim that a goal holds in every memory in which all hypotheses hold.
+//!
+//! - [`check_cert`] says whether a certificate is valid, and names the first node that fails. Nothing is searched for.
+//! - [`axioms_hold`] and [`valid_gives_entailment`] have no body: their contracts are the laws on which its answer rests.
+//!
+//! `specs/Valid.antt` says which certificates are valid, and `specs/Axioms.antt` has the axioms.
 #![tactic(auto)]
 
+mod check;
 mod instance;
+mod known;
+mod laws;
+mod parts;
+#[cfg(test)]
+mod tests;
+mod walk;
 
-ghost use Rattle.std.specs.Prelude.{IsTrue, List, ℕ};
-ghost use Rattle.cov_expr.specs.Entailment.{AllHold, Entails};
-ghost use Rattle.cov_expr.specs.Words.{AreWords};
-ghost use Rattle.entail_cert.specs.Axioms.{axioms};
-ghost use Rattle.cov_expr.specs.Term.{Term};
-ghost use Rattle.cov_ast.specs.Syntax.{Cert};
-ghost use Rattle.entail_cert.specs.Valid.{is_valid};
-ghost use Rattle.entail_cert.specs.Words.{CertHasWords};
-
-/// A valid certificate gives its entailment.
-pub fn valid_gives_entailment()
-    ensures { (hyps : List Term) → (goal : Term) → (cert : Cert) → CertHasWords cert → IsTrue (is_valid hyps goal cert) → Entails hyps goal }
-{}
-
-/// Each axiom holds whatever words its letters stand for.
-pub fn axioms_hold()
-    ensures { (m : List ℕ) → AreWords m → AllHold axioms m }
-{}
+pub use check::{CertFault, check_cert};
+pub use laws::{axioms_hold, valid_gives_entailment};

@@ -1,0 +1,47 @@
+-- A hypothesis by its number, where hypotheses stand in two lists.
+use Rattle.std.proofs.Common.{◌≡◌, ℕ, zero, suc, ◌-◌, ◌<◌, ◌≤◌, List, [], ◌∷◌, true, false, ◌++◌, length, map, get_or, slice_get, Option, Some, None, option_map, IfSome, IsSome, MatchOption, refl, sym, ◌∙◌, ap, arith}
+use Rattle.std.proofs.lemmas.List.{length-map}
+use Rattle.std.proofs.lemmas.Option.{slice_get-map, slice_get_read, slice_get_past}
+use Rattle.entail_cert.specs.Axioms.{numbered}
+
+module _ {A : Type 0} where
+  slice_get-front : (xs ys : List A) (i : ℕ) → i < length xs → slice_get (xs ++ ys) i ≡ slice_get xs i
+  slice_get-front [] ys i h = absurd (omega arith)
+  slice_get-front (x ∷ xs) ys zero h = refl
+  slice_get-front (x ∷ xs) ys (suc i) h = slice_get-front xs ys i (omega arith)
+
+  slice_get-back : (xs ys : List A) (i j : ℕ) → length xs ≤ i → j ≡ i - length xs → slice_get (xs ++ ys) i ≡ slice_get ys j
+  slice_get-back [] ys i j h e = let k : i ≡ j = omega arith in ap (λ i. slice_get ys i) k
+  slice_get-back (x ∷ xs) ys zero j h e = absurd (omega arith)
+  slice_get-back (x ∷ xs) ys (suc i) j h e = slice_get-back xs ys i j (omega arith) (omega arith)
+
+  numbered-place : (xs : List A) (number place : ℕ) → 1 ≤ number → place ≡ number - 1 → numbered xs number ≡ slice_get xs place
+  numbered-place xs zero place h e = absurd (omega arith)
+  numbered-place xs (suc number) place h e = let k : number ≡ place = omega arith in ap (λ i. slice_get xs i) k
+
+module _ {A B C : Type 0} (now : B → A) (v : A → C) (given : List A) where
+  pub hypothesis_given : (added : List C) (number place : ℕ) (o : Option B) → 1 ≤ number → place ≡ number - 1 → place < length given
+      → IfSome o (λ x. now x ≡ get_or given place (now x)) → (place < length given → IsSome o)
+      → option_map (λ x. v (now x)) o ≡ numbered (map v given ++ added) number
+  hypothesis_given added number place None m e h is some = let c : false ≡ true = some h in cc
+  hypothesis_given added number place (Some x) m e h is some =
+      let found : slice_get given place ≡ Some (now x) = slice_get_read given (length given) place (now x) refl h is in
+      sym (numbered-place (map v given ++ added) number place m e
+      ∙ slice_get-front (map v given) added place (simp length-map h)
+      ∙ slice_get-map v given place
+      ∙ ap (λ o. option_map v o) found)
+
+  pub hypothesis_added : (Q : B → Type 0) (before : List C) (number place at : ℕ) (o : Option B) → 1 ≤ number → place ≡ number - 1 → length before ≤ place → at ≡ place - length before
+      → IfSome o (λ x. now x ≡ get_or given at (now x)) → MatchOption o (length given ≤ at) (λ x. (at < length given) × Q x)
+      → option_map (λ x. v (now x)) o ≡ numbered (before ++ map v given) number
+  hypothesis_added Q before number place at None m e h k is past =
+      sym (numbered-place (before ++ map v given) number place m e
+      ∙ slice_get-back before (map v given) place at h k
+      ∙ slice_get-map v given at
+      ∙ ap (λ o. option_map v o) (slice_get_past given at past))
+  hypothesis_added Q before number place at (Some x) m e h k is within =
+      let found : slice_get given at ≡ Some (now x) = slice_get_read given (length given) at (now x) refl within.0 is in
+      sym (numbered-place (before ++ map v given) number place m e
+      ∙ slice_get-back before (map v given) place at h k
+      ∙ slice_get-map v given at
+      ∙ ap (λ o. option_map v o) found)

@@ -1,0 +1,47 @@
+ghost use Rattle.std.specs.Prelude.{OnOk, map};
+ghost use Rattle.cov_expr.specs.Entailment.{Entails};
+ghost use Rattle.cov_expr.specs.View.{term};
+ghost use Rattle.cov_ast.specs.View as view;
+ghost use Rattle.entail_cert.specs.Answers.{Answers};
+ghost use Rattle.entail_cert.specs.Valid.{first_bad};
+
+use crate::walk::{Stop, Walk};
+use cov_ast::Cert;
+use cov_expr::{Expr, List};
+use std::alloc::Global;
+
+/// Why a certificate isn't accepted.
+#[derive(Debug, Drop)]
+pub enum CertFault {
+    /// The own condition of a node fails, the first such node in pre-order. The path to it has the numbers of the children, from 1,
+    /// that lead there from the root.
+    Invalid(List<u8>),
+    /// Memory ran out, which says nothing of the certificate.
+    NoMemory,
+}
+
+/// Checks a certificate for the claim that a goal holds in every memory in which all hypotheses hold.
+///
+/// `Ok` comes exactly where the certificate is valid, and then the claim is true. Nothing is searched for. The time is that of one
+/// walk over the certificate. Each replacement by an equation builds its new goal, so a certificate whose replacements nest
+/// can take memory far past its own size.
+pub fn check_cert(
+    alloc: Global,
+    hyps: &List<Expr>,
+    goal: &Expr,
+    cert: &Cert,
+) -> Result<(), CertFault>
+    ensures answers { Answers (first_bad (map term hyps.now) (term goal.now) (view.cert cert.now)) result }
+    ensures entails { OnOk result (Entails (map term hyps.now) (term goal.now)) }
+{
+    let mut walk = Walk {
+        alloc,
+        added: List::new(alloc),
+        path: List::new(alloc),
+    };
+    match walk.node(cert, hyps.as_slice(), goal) {
+        Ok(()) => Ok(()),
+        Err(Stop::Bad) => Err(CertFault::Invalid(walk.path)),
+        Err(Stop::NoMemory) => Err(CertFault::NoMemory),
+    }
+}

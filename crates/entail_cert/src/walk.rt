@@ -1,0 +1,352 @@
+ghost use Rattle.std.specs.Prelude.{◌≡◌, [], ◌∷◌, ◌++◌, ◌||◌, None, Some, Ok, Err, IfOk, MatchBool, OnOk, map, option_map};
+ghost use Rattle.cov_expr.specs.declared.expr.Op.TheVariants.{Eq};
+ghost use Rattle.cov_expr.specs.Term.{const, neg};
+ghost use Rattle.cov_expr.specs.Trees as tree;
+ghost use Rattle.cov_expr.specs.View.{term};
+ghost use Rattle.cov_ast.specs.Syntax as by;
+ghost use Rattle.cov_ast.specs.View as view;
+ghost use Rattle.entail_cert.specs.declared.walk.Stop.TheVariants as stops;
+ghost use Rattle.entail_cert.specs.Axioms.{numbered};
+ghost use Rattle.entail_cert.specs.Valid.{filled, first_bad, in_child, is_negation, is_plain, is_some_and, two};
+ghost use Rattle.entail_cert.specs.Valid as spec;
+ghost use Rattle.entail_cert.specs.Walks.{Copies, Finds, Parts, InstancesHaveWords, Replaces, Rewrites, hypotheses};
+
+use crate::instance::axiom_for;
+use crate::known::{has_false, knows_each};
+use crate::parts::{is_false, is_filled, is_negation_of, is_reflexive, is_true, negated, operands};
+use cov_ast::Cert;
+use cov_expr::{Expr, HOLE, List, NoMemory, Op, boxed, copy, same, subst};
+use std::alloc::Global;
+
+/// Where a walk over a certificate stands: the hypotheses that it has added to the given ones, and the numbers of the children that
+/// lead from the root to its node.
+#[derive(Drop)]
+pub struct Walk {
+    pub alloc: Global,
+    pub added: List<Expr>,
+    pub path: List<u8>,
+}
+
+/// Why a walk stops.
+#[derive(Clone, Copy, Debug, PartialEq, Eq)]
+pub enum Stop {
+    /// The own condition of the node fails.
+    Bad,
+    /// Memory ran out.
+    NoMemory,
+}
+
+impl From<NoMemory> for Stop {
+    ghost use Rattle.entail_cert.specs.declared.walk.Stop.TheVariants as stops;
+
+    ghost from_gives = { λ _ stop. stop ≡ stops.NoMemory };
+
+    fn from(_error: NoMemory) -> Stop {
+        Stop::NoMemory
+    }
+}
+
+/// The negation of a copy.
+fn negation_of(alloc: Global, e: &Expr) -> Result<Expr, NoMemory>
+    ensures { IfOk result (λ made. term made ≡ neg (term e.now)) }
+{
+    Ok(Expr::Not(boxed(alloc, copy(alloc, e)?)?))
+}
+
+/// The operands, where the expression has this operator.
+fn parts<'a>(op: Op, e: &'a Expr) -> Result<(&'a Expr, &'a Expr), Stop>
+    ensures { Parts (spec.operands op (term e.now)) result }
+{
+    operands(op, e).ok_or(Stop::Bad)
+}
+
+/// Goes on where a condition holds.
+fn accept(holds: bool) -> Result<(), Stop>
+    ensures { MatchBool holds (result ≡ Ok tt) (result ≡ Err stops.Bad) }
+{
+    if holds { Ok(()) } else { Err(Stop::Bad) }
+}
+
+/// A template with another part in its holes, where the goal is the template with the first part.
+fn replaced(
+    alloc: Global,
+    template: &Expr,
+    from: &Expr,
+    to: &Expr,
+    goal: &Expr,
+) -> Result<Expr, Stop>
+    ensures { Replaces (tree.same (filled (term template.now) (term from.now)) (term goal.now)) (filled (term template.now) (term to.now)) result }
+{
+    if !is_filled(template, from, goal) {
+        return Err(Stop::Bad);
+    }
+    Ok(subst(alloc, template, HOLE, to)?)
+}
+
+impl Walk {
+    /// The hypothesis of a number, counted from 1.
+    fn hypothesis<'a>(&'a self, given: &'a [Expr], number: u32) -> Option<&'a Expr>
+        ensures { option_map (λ e. term e.now) result ≡ numbered (hypotheses given.now self.now) number }
+    {
+        let place = (number as usize).checked_sub(1)?;
+        if place < given.len() {
+            given.get(place)
+        } else {
+            self.added.as_slice().get(place - given.len())
+        }
+    }
+
+    /// Whether a hypothesis is false, or each conjunct of the goal is true or known.
+    fn is_plain(&self, given: &[Expr], goal: &Expr) -> bool
+        ensures { result ≡ is_plain (hypotheses given.now self.now) (term goal.now) }
+    {
+        has_false(given)
+            || has_false(self.added.as_slice())
+            || knows_each(goal, given, self.added.as_slice())
+    }
+
+    /// Whether the goal is this hypothesis.
+    fn is_hypothesis(&self, given: &[Expr], number: u32, goal: &Expr) -> bool
+        ensures { result ≡ is_some_and (λ h. tree.same h (term goal.now)) (numbered (hypotheses given.now self.now) number) }
+    {
+        match self.hypothesis(given, number) {
+            Some(h) => same(h, goal),
+            None => false,
+        }
+    }
+
+    /// Whether this hypothesis is false.
+    fn is_false_hypothesis(&self, given: &[Expr], number: u32) -> bool
+        ensures { result ≡ is_some_and spec.is_false (numbered (hypotheses given.now self.now) number) }
+    {
+        match self.hypothesis(given, number) {
+            Some(h) => is_false(h),
+            None => false,
+        }
+    }
+
+    /// Whether the second hypothesis is the negation of the first.
+    fn is_contradiction(&self, given: &[Expr], first: u32, second: u32) -> bool
+        ensures { result ≡ is_negation (numbered (hypotheses given.now self.now) first) (numbered (hypotheses given.now self.now) second) }
+    {
+        match (
+            self.hypothesis(given, first),
+            self.hypothesis(given, second),
+        ) {
+            (Some(e), Some(f)) => is_negation_of(f, e),
+            (Some(_), None) | (None, Some(_)) | (None, None) => false,
+        }
+    }
+
+    /// The operands of a hypothesis that has this operator.
+    fn operands_of<'a>(
+        &'a self,
+        given: &'a [Expr],
+        number: u32,
+        op: Op,
+    ) -> Option<(&'a Expr, &'a Expr)>
+        ensures { option_map (λ p. (term p.0.now, term p.1.now)) result ≡ spec.operands_of op (numbered (hypotheses given.now self.now) number) }
+    {
+        operands(op, self.hypothesis(given, number)?)
+    }
+
+    /// Copies of the operands of a hypothesis that has this operator.
+    fn copies(&self, given: &[Expr], number: u32, op: Op) -> Result<(Expr, Expr), Stop>
+        ensures { Copies (spec.operands_of op (numbered (hypotheses given.now self.now) number)) result }
+    {
+        let (a, b) = self.operands_of(given, number, op).ok_or(Stop::Bad)?;
+        Ok((copy(self.alloc, a)?, copy(self.alloc, b)?))
+    }
+
+    /// The goal after a replacement of the sides of a hypothesis, from left to right or from right to left.
+    fn rewritten(
+        &self,
+        given: &[Expr],
+        number: u32,
+        forward: bool,
+        template: &Expr,
+        goal: &Expr,
+    ) -> Result<Expr, Stop>
+        ensures { Rewrites (spec.operands_of Eq (numbered (hypotheses given.now self.now) number)) forward (term template.now) (term goal.now) result }
+    {
+        let (a, b) = self.operands_of(given, number, Op::Eq).ok_or(Stop::Bad)?;
+        if forward {
+            replaced(self.alloc, template, a, b, goal)
+        } else {
+            replaced(self.alloc, template, b, a, goal)
+        }
+    }
+
+    /// Looks for the first node that fails below a certificate, its own node first.
+    #[cycle(check)]
+    pub fn node(&mut self, cert: &Cert, given: &[Expr], goal: &Expr) -> Result<(), Stop>
+        ensures finds { Finds self.old self.new (first_bad (hypotheses given.now self.old) (term goal.now) (view.cert cert.now)) result }
+        ensures words { OnOk result (InstancesHaveWords (view.cert cert.now)) }
+    {
+        match cert {
+            Cert::Auto => accept(self.is_plain(given, goal)),
+            Cert::Hyp(i) => accept(self.is_hypothesis(given, *i, goal)),
+            Cert::Calc => accept(is_true(goal)),
+            Cert::Clash(i) => accept(self.is_false_hypothesis(given, *i)),
+            Cert::And(c, d) => {
+                let (a, b) = parts(Op::Both, goal)?;
+                self.child(c, 1, given, a)?;
+                self.child(d, 2, given, b)
+            }
+            Cert::Left(c) => self.left(c, given, goal),
+            Cert::Right(c) => self.right(c, given, goal),
+            Cert::Unpack(i, c) => self.unpack(c, *i, given, goal),
+            Cert::Cases(i, c, d) => {
+                let (a, b) = self.copies(given, *i, Op::Either)?;
+                self.under(c, 1, a, given, goal)?;
+                self.under(d, 2, b, given, goal)
+            }
+            Cert::Split(e, c, d) => {
+                self.under(c, 1, copy(self.alloc, e)?, given, goal)?;
+                self.under(d, 2, negation_of(self.alloc, e)?, given, goal)
+            }
+            Cert::Have(e, c, d) => {
+                self.child(c, 1, given, e)?;
+                self.under(d, 2, copy(self.alloc, e)?, given, goal)
+            }
+            Cert::Absurd(i, j) => accept(self.is_contradiction(given, *i, *j)),
+            Cert::Not(c) => self.negation(c, given, goal),
+            Cert::Contra(c) => self.contra(c, given, goal),
+            Cert::Refl => accept(is_reflexive(goal)),
+            Cert::Fwd(i, t, c) => self.forward(c, *i, t, given, goal),
+            Cert::Rev(i, t, c) => self.backward(c, *i, t, given, goal),
+            Cert::Axiom(k, args, c) => self.axiom(c, *k, args, given, goal),
+            Cert::Ring | Cert::Range => Err(Stop::Bad),
+        }
+    }
+
+    #[cycle(check)]
+    fn left(&mut self, c: &Cert, given: &[Expr], goal: &Expr) -> Result<(), Stop>
+        ensures finds { Finds self.old self.new (first_bad (hypotheses given.now self.old) (term goal.now) (by.left (view.cert c.now))) result }
+        ensures words { OnOk result (InstancesHaveWords (view.cert c.now)) }
+    {
+        let (a, _) = parts(Op::Either, goal)?;
+        self.child(c, 1, given, a)
+    }
+
+    #[cycle(check)]
+    fn right(&mut self, c: &Cert, given: &[Expr], goal: &Expr) -> Result<(), Stop>
+        ensures finds { Finds self.old self.new (first_bad (hypotheses given.now self.old) (term goal.now) (by.right (view.cert c.now))) result }
+        ensures words { OnOk result (InstancesHaveWords (view.cert c.now)) }
+    {
+        let (_, b) = parts(Op::Either, goal)?;
+        self.child(c, 1, given, b)
+    }
+
+    #[cycle(check)]
+    fn unpack(&mut self, c: &Cert, i: u32, given: &[Expr], goal: &Expr) -> Result<(), Stop>
+        ensures finds { Finds self.old self.new (first_bad (hypotheses given.now self.old) (term goal.now) (by.unpack i (view.cert c.now))) result }
+        ensures words { OnOk result (InstancesHaveWords (view.cert c.now)) }
+    {
+        let (a, b) = self.copies(given, i, Op::Both)?;
+        self.added.push(a)?;
+        self.under(c, 1, b, given, goal)?;
+        self.added.pop();
+        Ok(())
+    }
+
+    #[cycle(check)]
+    fn negation(&mut self, c: &Cert, given: &[Expr], goal: &Expr) -> Result<(), Stop>
+        ensures finds { Finds self.old self.new (first_bad (hypotheses given.now self.old) (term goal.now) (by.negation (view.cert c.now))) result }
+        ensures words { OnOk result (InstancesHaveWords (view.cert c.now)) }
+    {
+        let a = negated(goal).ok_or(Stop::Bad)?;
+        let fact = copy(self.alloc, a)?;
+        self.under(c, 1, fact, given, &Expr::Const(0))
+    }
+
+    #[cycle(check)]
+    fn contra(&mut self, c: &Cert, given: &[Expr], goal: &Expr) -> Result<(), Stop>
+        ensures finds { Finds self.old self.new (first_bad (hypotheses given.now self.old) (term goal.now) (by.contra (view.cert c.now))) result }
+        ensures words { OnOk result (InstancesHaveWords (view.cert c.now)) }
+    {
+        let opposite = negation_of(self.alloc, goal)?;
+        self.under(c, 1, opposite, given, &Expr::Const(0))
+    }
+
+    #[cycle(check)]
+    fn forward(
+        &mut self,
+        c: &Cert,
+        i: u32,
+        t: &Expr,
+        given: &[Expr],
+        goal: &Expr,
+    ) -> Result<(), Stop>
+        ensures finds { Finds self.old self.new (first_bad (hypotheses given.now self.old) (term goal.now) (by.fwd i (term t.now) (view.cert c.now))) result }
+        ensures words { OnOk result (InstancesHaveWords (view.cert c.now)) }
+    {
+        let next = self.rewritten(given, i, true, t, goal)?;
+        self.child(c, 1, given, &next)
+    }
+
+    #[cycle(check)]
+    fn backward(
+        &mut self,
+        c: &Cert,
+        i: u32,
+        t: &Expr,
+        given: &[Expr],
+        goal: &Expr,
+    ) -> Result<(), Stop>
+        ensures finds { Finds self.old self.new (first_bad (hypotheses given.now self.old) (term goal.now) (by.rev i (term t.now) (view.cert c.now))) result }
+        ensures words { OnOk result (InstancesHaveWords (view.cert c.now)) }
+    {
+        let next = self.rewritten(given, i, false, t, goal)?;
+        self.child(c, 1, given, &next)
+    }
+
+    #[cycle(check)]
+    fn axiom(
+        &mut self,
+        c: &Cert,
+        k: u32,
+        args: &List<Expr>,
+        given: &[Expr],
+        goal: &Expr,
+    ) -> Result<(), Stop>
+        ensures finds { Finds self.old self.new (first_bad (hypotheses given.now self.old) (term goal.now) (by.instance k (map term args.now) (view.cert c.now))) result }
+        ensures words { OnOk result (InstancesHaveWords (by.instance k (map term args.now) (view.cert c.now))) }
+    {
+        match axiom_for(self.alloc, k, args.as_slice())? {
+            None => Err(Stop::Bad),
+            Some(e) => self.under(c, 1, e, given, goal),
+        }
+    }
+
+    /// Looks below a child with one hypothesis more.
+    #[cycle(check)]
+    fn under(
+        &mut self,
+        c: &Cert,
+        step: u8,
+        hypothesis: Expr,
+        given: &[Expr],
+        goal: &Expr,
+    ) -> Result<(), Stop>
+        ensures finds { Finds self.old self.new (in_child step (first_bad (hypotheses given.now self.old ++ term hypothesis ∷ []) (term goal.now) (view.cert c.now))) result }
+        ensures words { OnOk result (InstancesHaveWords (view.cert c.now)) }
+    {
+        self.added.push(hypothesis)?;
+        self.child(c, step, given, goal)?;
+        self.added.pop();
+        Ok(())
+    }
+
+    /// Looks below a child.
+    #[cycle(check)]
+    fn child(&mut self, c: &Cert, step: u8, given: &[Expr], goal: &Expr) -> Result<(), Stop>
+        ensures finds { Finds self.old self.new (in_child step (first_bad (hypotheses given.now self.old) (term goal.now) (view.cert c.now))) result }
+        ensures words { OnOk result (InstancesHaveWords (view.cert c.now)) }
+    {
+        self.path.push(step)?;
+        self.node(c, given, goal)?;
+        self.path.pop();
+        Ok(())
+    }
+}
