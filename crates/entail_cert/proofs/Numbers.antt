@@ -1,8 +1,9 @@
 -- Which numbers are those of axioms of one, two and three letters.
-use Rattle.std.proofs.Common.{◌≡◌, ◌≢◌, ℕ, zero, suc, ◌+◌, ◌<◌, ◌≤◌, nat_lt, ◌==◌, List, [], ◌∷◌, length, slice_get, Bool, true, false, Option, Some, None, refl, sym, ◌∙◌, ap, subst, if◌then◌else◌, arith}
+use Rattle.std.proofs.Common.{◌≡◌, ◌≢◌, ℕ, zero, suc, ◌+◌, ◌<◌, ◌≤◌, nat_lt, ◌==◌, List, [], ◌∷◌, length, slice_get, Bool, true, false, Option, Some, None, IfSome, refl, sym, ◌∙◌, ap, subst, if◌then◌else◌, arith}
 use Rattle.std.proofs.lemmas.Bool.{eq-eqb, ltb-true}
 use Rattle.cov_expr.specs.Term.{Term}
 use Rattle.cov_expr.specs.Trees.{vars}
+use Rattle.cov_expr.specs.Words.{HasWords}
 use Rattle.entail_cert.specs.Axioms.{axioms, numbered, axiom_for}
 use Rattle.entail_cert.proofs.Instances.{instance_is, all_at}
 
@@ -40,25 +41,32 @@ none_for n es h = at (axiom_for n es) refl
         unnumbered zero t i f h = let c : ◌≡◌ {A = Option Term} None (Some t) = i in cc
         unnumbered (suc n) t i f h = not_there (length es) axioms 1 n t i (sym f) (subst (λ v. IsNoneOf v (numbers_with (length es) axioms 1)) (omega arith) h)
 
-pub not_of_one : (n : ℕ) (a : Term) → IsNoneOf n (7 ∷ 14 ∷ 15 ∷ 18 ∷ 19 ∷ 22 ∷ 24 ∷ []) → None ≡ axiom_for n (a ∷ [])
-not_of_one n a h = none_for n (a ∷ []) h
+-- there is no axiom of the number for these expressions
+abbrev pub IsNoAxiom : ℕ → List Term → Type 0
+IsNoAxiom n es = (None ≡ axiom_for n es) × IfSome (axiom_for n es) HasWords
 
-pub not_of_two : (n : ℕ) (a b : Term) → IsNoneOf n (1 ∷ 2 ∷ 3 ∷ 4 ∷ 6 ∷ 9 ∷ 10 ∷ 11 ∷ 13 ∷ 16 ∷ 17 ∷ 20 ∷ 21 ∷ 23 ∷ []) → None ≡ axiom_for n (a ∷ b ∷ [])
-not_of_two n a b h = none_for n (a ∷ b ∷ []) h
+no_axiom : (n : ℕ) (es : List Term) → None ≡ axiom_for n es → IsNoAxiom n es
+no_axiom n es e = (e, subst (λ o. IfSome o HasWords) e tt)
 
-pub not_of_three : (n : ℕ) (a b c : Term) → IsNoneOf n (5 ∷ 8 ∷ 12 ∷ []) → None ≡ axiom_for n (a ∷ b ∷ c ∷ [])
-not_of_three n a b c h = none_for n (a ∷ b ∷ c ∷ []) h
+pub not_of_one : (n : ℕ) (a : Term) → IsNoneOf n (7 ∷ 14 ∷ 15 ∷ 18 ∷ 19 ∷ 22 ∷ 24 ∷ []) → IsNoAxiom n (a ∷ [])
+not_of_one n a h = no_axiom n (a ∷ []) (none_for n (a ∷ []) h)
 
-pub not_of_none : (n : ℕ) (es : List Term) → length es < 1 → None ≡ axiom_for n es
-not_of_none n [] h = none_for n [] tt
+pub not_of_two : (n : ℕ) (a b : Term) → IsNoneOf n (1 ∷ 2 ∷ 3 ∷ 4 ∷ 6 ∷ 9 ∷ 10 ∷ 11 ∷ 13 ∷ 16 ∷ 17 ∷ 20 ∷ 21 ∷ 23 ∷ []) → IsNoAxiom n (a ∷ b ∷ [])
+not_of_two n a b h = no_axiom n (a ∷ b ∷ []) (none_for n (a ∷ b ∷ []) h)
+
+pub not_of_three : (n : ℕ) (a b c : Term) → IsNoneOf n (5 ∷ 8 ∷ 12 ∷ []) → IsNoAxiom n (a ∷ b ∷ c ∷ [])
+not_of_three n a b c h = no_axiom n (a ∷ b ∷ c ∷ []) (none_for n (a ∷ b ∷ c ∷ []) h)
+
+pub not_of_none : (n : ℕ) (es : List Term) → length es < 1 → IsNoAxiom n es
+not_of_none n [] h = no_axiom n [] (none_for n [] tt)
 not_of_none n (e ∷ es) h = absurd (omega arith)
 
 few_letters : (n : ℕ) (t : Term) → numbered axioms n ≡ Some t → length (vars t) < 4
 few_letters zero t h = let c : ◌≡◌ {A = Option Term} None (Some t) = h in cc
 few_letters (suc n) t h = ltb-true (length (vars t)) 4 (all_at (λ t. nat_lt (length (vars t)) 4) axioms n t refl h)
 
-pub not_of_more : (n : ℕ) (es : List Term) → 4 ≤ length es → None ≡ axiom_for n es
-not_of_more n es h = at (axiom_for n es) refl
+pub not_of_more : (n : ℕ) (es : List Term) → 4 ≤ length es → IsNoAxiom n es
+not_of_more n es h = no_axiom n es (at (axiom_for n es) refl)
   where
     at : (o : Option Term) → axiom_for n es ≡ o → None ≡ axiom_for n es
     at None e = sym e

@@ -11,6 +11,7 @@ mod instance;
 mod known;
 mod laws;
 mod parts;
+mod shapes;
 #[cfg(test)]
 mod tests;
 mod walk;

@@ -3,7 +3,7 @@ use Rattle.cov_expr.specs.View.{term}
 use Rattle.entail_cert.proofs.Numbers.{not_of_three}
 use Rattle.entail_cert.proofs.instance.axiom_of_three.Goals as goal
 
-pub returns-in_default-clause-made : goal.returns-in_default-clause-made
-returns-in_default-clause-made c =
+pub returns-in_default : goal.returns-in_default
+returns-in_default c =
     not_of_three c.args.number (term c.args.a.now) (term c.args.b.now) (term c.args.c.now)
     (omega arith, (omega arith, (omega arith, tt)))
