@@ -1,8 +1,7 @@
 -- Answers for all tokens of a text of the first grammar.
-use Rattle.std.proofs.Common.{◌≡◌, ℕ, List, [], Result, Ok, Err, sym, subst}
+use Rattle.std.proofs.Common.{ℕ, List, Result}
 use Rattle.cov_grammar.specs.declared.token.Token.{Token}
 use Rattle.cov_grammar.specs.declared.stop.Stop.{Stop}
-use Rattle.cov_grammar.specs.declared.fault.TokenFault.{TokenFault}
 use Rattle.cov_grammar.specs.Reading.{reading}
 use Rattle.cov_grammar.specs.Spelling.{Is}
 use Rattle.cov_grammar.specs.Answers.{Gives, whole_answer, Answers, Only}

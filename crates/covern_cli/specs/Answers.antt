@@ -49,7 +49,7 @@ kind_of (f.BadByte at) = codes "byte"
 kind_of (f.NumberTooLarge at) = codes "number"
 kind_of (f.NameTooLong at) = codes "name"
 kind_of (f.Unexpected at) = codes "token"
-kind_of (f.TooMany counted at) = codes "limit"
+kind_of (f.TooMany what at) = codes "limit"
 kind_of (f.TooDeep at) = codes "depth"
 kind_of f.NoMemory = []
 
@@ -58,16 +58,20 @@ place_of (f.BadByte at) = at
 place_of (f.NumberTooLarge at) = at
 place_of (f.NameTooLong at) = at
 place_of (f.Unexpected at) = at
-place_of (f.TooMany counted at) = at
+place_of (f.TooMany what at) = at
 place_of (f.TooDeep at) = at
 place_of f.NoMemory = 0
+
+-- what a fault of a text is, and where
+abbrev pub fault_text : ParseFault → List ℕ
+fault_text fault = codes ": " ++ kind_of fault ++ codes " at " ++ counted (place_of fault) (10 ∷ [])
 
 -- the report of a reply: lines that end with a line feed
 abbrev pub report_of : Reply → List ℕ
 report_of usage = codes "usage: covern COMMAND WORDS\n"
 report_of (read_fault name) = codes "read fault: " ++ name ++ 10 ∷ []
 report_of (too_long name) = codes "too long: " ++ name ++ 10 ∷ []
-report_of (malformed name fault) = codes "malformed " ++ name ++ codes ": " ++ kind_of fault ++ codes " at " ++ decimal (place_of fault) ++ 10 ∷ []
+report_of (malformed name fault) = codes "malformed " ++ name ++ fault_text fault
 report_of not_built = codes "refused: not built\n"
 report_of (spelled text) = text
 report_of refused = codes "refused\n"

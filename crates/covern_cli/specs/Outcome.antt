@@ -1,5 +1,5 @@
 -- What a call of the program does: what it asks, what it replies, how it ends.
-use Rattle.std.specs.Prelude.{◌≡◌, ◌⊎◌, ℕ, List, [], ◌∷◌, length, nat_lt, true, false, Option, None, Some, Result, Ok, Err, IfSome, MatchBool, codes, if◌then◌else◌}
+use Rattle.std.specs.Prelude.{◌≡◌, ◌⊎◌, ℕ, List, [], ◌∷◌, length, nat_lt, true, false, Option, None, Some, Result, Ok, Err, MatchBool, codes, if◌then◌else◌}
 use Rattle.std.specs.Str.{bytes_eq}
 use Rattle.cov_io.specs.Shelves.{File, Shelved, Gives, held}
 use Rattle.cov_io.specs.Sinks.{Sunk, Writes}

@@ -1,5 +1,5 @@
 -- What the reader of a text answers.
-use Rattle.std.specs.Prelude.{◌≡◌, ℕ, List, Result, Ok, Err}
+use Rattle.std.specs.Prelude.{ℕ, List, Result, Ok, Err}
 use Rattle.cov_lex.specs.declared.fault.LexFault.{LexFault}
 use Rattle.cov_lex.specs.declared.fault.LexFault.TheVariants as lex
 use Rattle.cov_grammar.specs.declared.fault.TokenFault.{TokenFault}

@@ -123,9 +123,17 @@ fn line(alloc: Global, answer: &Answer<'_>) -> Result<String, AllocError>
 fn malformed_line(alloc: Global, name: &str, fault: ParseFault) -> Result<String, AllocError>
     ensures { IfOk result (λ text. string_bytes text ≡ report_of (Reply.malformed name.now fault)) }
 {
+    let fault = fault_text(alloc, fault)?;
+    format!(in alloc; "malformed {name}{fault}")
+}
+
+/// What a fault of a text is, and where.
+fn fault_text(alloc: Global, fault: ParseFault) -> Result<String, AllocError>
+    ensures { IfOk result (λ text. string_bytes text ≡ spec.fault_text fault) }
+{
     let kind = kind_of(fault);
-    let at = place_of(fault);
-    format!(in alloc; "malformed {name}: {kind} at {at}\n")
+    let at = counted(alloc, place_of(fault) as u64, "\n")?;
+    format!(in alloc; ": {kind} at {at}")
 }
 
 /// What a fault of a text is called.

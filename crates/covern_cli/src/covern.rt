@@ -10,9 +10,9 @@ use crate::answer::{Answer, Counts, Status, Stop, report, status_for};
 use crate::judge::{assignment_count, is_accepted, statement_count};
 use crate::reader::{ReadFault, read};
 use cov_expr::Blob;
+use cov_io::{Fetched, Shelf, ShelfFault, Sink, write_whole};
 use cov_parse::{ParseFault, parse};
 use cov_print::print;
-use cov_io::{Fetched, Shelf, ShelfFault, Sink, write_whole};
 use std::alloc::Global;
 
 /// The most bytes of a program file.

@@ -61,7 +61,11 @@ fn shows(
 }
 
 /// A command on the file `p`.
-fn shows_on_file(rt: &(impl Abort + AllocGlobal), command: &str, case: &Case<'_>) -> Result<(), Fail> {
+fn shows_on_file(
+    rt: &(impl Abort + AllocGlobal),
+    command: &str,
+    case: &Case<'_>,
+) -> Result<(), Fail> {
     let mut shelf = shelf_of(rt.alloc(), case.text, &[])?;
     shows(rt, &[command, "p"], &mut shelf, 1000, &[], case)
 }
@@ -76,27 +80,79 @@ const fn case<'a>(text: &'a [u8], status: Status, put: &'a [u8]) -> Case<'a> {
 #[test]
 fn ample(rt: HostRuntime) -> Result<(), Fail> {
     let cases = [
-        case(b"var a: low; var s: high; thread t { s := a; }", Status::Done, ONE),
-        case(b"var a: low; var s: high; thread t { a := s; }", Status::Refused, b"refused\n"),
-        case(b"", Status::Done, b"accepted: 0 threads, 0 statements, 0 entailments\n"),
-        case(b"var a: low; thread t { a := 4294967295; }", Status::Done, ONE),
-        case(b"var a: low; thread t { a := 4294967296; }", Status::Malformed, b"malformed p: number at 28\n"),
-        case(b"var a: low; thread t { a := 1;", Status::Malformed, b"malformed p: token at 30\n"),
-        case(b"var a: low; thr", Status::Malformed, b"malformed p: token at 12\n"),
+        case(
+            b"var a: low; var s: high; thread t { s := a; }",
+            Status::Done,
+            ONE,
+        ),
+        case(
+            b"var a: low; var s: high; thread t { a := s; }",
+            Status::Refused,
+            b"refused\n",
+        ),
+        case(
+            b"",
+            Status::Done,
+            b"accepted: 0 threads, 0 statements, 0 entailments\n",
+        ),
+        case(
+            b"var a: low; thread t { a := 4294967295; }",
+            Status::Done,
+            ONE,
+        ),
+        case(
+            b"var a: low; thread t { a := 4294967296; }",
+            Status::Malformed,
+            b"malformed p: number at 28\n",
+        ),
+        case(
+            b"var a: low; thread t { a := 1;",
+            Status::Malformed,
+            b"malformed p: token at 30\n",
+        ),
+        case(
+            b"var a: low; thr",
+            Status::Malformed,
+            b"malformed p: token at 12\n",
+        ),
         case(b"var a: low; var a: low;", Status::Refused, b"refused\n"),
         case(b"thread t { } thread t { }", Status::Refused, b"refused\n"),
         case(b"thread t { a := 1; }", Status::Refused, b"refused\n"),
-        case(b"var a: low; thread t { a := t; }", Status::Refused, b"refused\n"),
-        case(b"var a: high; thread t { a := b; }", Status::Refused, b"refused\n"),
+        case(
+            b"var a: low; thread t { a := t; }",
+            Status::Refused,
+            b"refused\n",
+        ),
+        case(
+            b"var a: high; thread t { a := b; }",
+            Status::Refused,
+            b"refused\n",
+        ),
         case(
             b"var a: low; // a comment\nvar s: high;\r\n\tthread t { skip; a := a; s := s; }\nthread u { }//",
             Status::Done,
             b"accepted: 2 threads, 3 statements, 2 entailments\n",
         ),
-        case(b"var a : low; thread t { a : = 1; }", Status::Malformed, b"malformed p: byte at 28\n"),
-        case(b"\xff\xfe\x00\x01", Status::Malformed, b"malformed p: byte at 0\n"),
-        case(b"lock l; thread t { }", Status::Refused, b"refused: not built\n"),
-        case(b"var a: low; thread t { a := a + 1; }", Status::Refused, b"refused: not built\n"),
+        case(
+            b"var a : low; thread t { a : = 1; }",
+            Status::Malformed,
+            b"malformed p: byte at 28\n",
+        ),
+        case(
+            b"\xff\xfe\x00\x01",
+            Status::Malformed,
+            b"malformed p: byte at 0\n",
+        ),
+        case(
+            b"lock l; thread t { }",
+            Status::Refused,
+            b"refused: not built\n",
+        ),
+        case(
+            b"var a: low; thread t { a := a + 1; }",
+            Status::Refused,
+            b"refused: not built\n",
+        ),
     ];
     for case in &cases {
         shows_on_file(&rt, "check", case)?;
@@ -118,8 +174,16 @@ fn formats(rt: HostRuntime) -> Result<(), Fail> {
             b"var a: low;\nthread t {\n  if a {\n  } else {\n  }\n  while a {\n    note {} by { 1: hyp 1 };\n  }\n}\n",
         ),
         case(b"", Status::Done, b""),
-        case(b"var a: low; thread t { a = 1; }", Status::Malformed, b"malformed p: byte at 25\n"),
-        case(b"var a: low; thread t { output a; }", Status::Malformed, b"malformed p: token at 23\n"),
+        case(
+            b"var a: low; thread t { a = 1; }",
+            Status::Malformed,
+            b"malformed p: byte at 25\n",
+        ),
+        case(
+            b"var a: low; thread t { output a; }",
+            Status::Malformed,
+            b"malformed p: token at 23\n",
+        ),
     ];
     for case in &cases {
         shows_on_file(&rt, "fmt", case)?;
@@ -223,23 +287,57 @@ fn limits(rt: HostRuntime) -> Result<(), Fail> {
     let none: &[u8] = b"accepted: 0 threads, 0 statements, 0 entailments\n";
     let texts: [(Blob, Status, &[u8]); 10] = [
         (declared(alloc, 256, "var ", ": low;")?, Status::Done, none),
-        (declared(alloc, 257, "var ", ": low;")?, Status::Malformed, b"malformed p: limit at 3478\n"),
-        (declared(alloc, 16, "thread ", " { }")?, Status::Done, b"accepted: 16 threads, 0 statements, 0 entailments\n"),
-        (declared(alloc, 17, "thread ", " { }")?, Status::Malformed, b"malformed p: limit at 221\n"),
+        (
+            declared(alloc, 257, "var ", ": low;")?,
+            Status::Malformed,
+            b"malformed p: limit at 3478\n",
+        ),
+        (
+            declared(alloc, 16, "thread ", " { }")?,
+            Status::Done,
+            b"accepted: 16 threads, 0 statements, 0 entailments\n",
+        ),
+        (
+            declared(alloc, 17, "thread ", " { }")?,
+            Status::Malformed,
+            b"malformed p: limit at 221\n",
+        ),
         (
             repeated(alloc, b"thread t {", b"skip;", 20_000, b"}")?,
             Status::Done,
             b"accepted: 1 threads, 20000 statements, 0 entailments\n",
         ),
         (
-            repeated(alloc, b"thread t {skip;} thread u {", b"skip;", 20_000, b"}")?,
+            repeated(
+                alloc,
+                b"thread t {skip;} thread u {",
+                b"skip;",
+                20_000,
+                b"}",
+            )?,
             Status::Malformed,
             b"malformed p: limit at 100022\n",
         ),
-        (repeated(alloc, b"var ", b"a", 32, b": low;")?, Status::Done, none),
-        (repeated(alloc, b"var ", b"a", 33, b": low;")?, Status::Malformed, b"malformed p: name at 4\n"),
-        (repeated(alloc, b"//", b"x", 1_048_574, b"")?, Status::Done, none),
-        (repeated(alloc, b"//", b"x", 1_048_575, b"")?, Status::TooLong, b"too long: p\n"),
+        (
+            repeated(alloc, b"var ", b"a", 32, b": low;")?,
+            Status::Done,
+            none,
+        ),
+        (
+            repeated(alloc, b"var ", b"a", 33, b": low;")?,
+            Status::Malformed,
+            b"malformed p: name at 4\n",
+        ),
+        (
+            repeated(alloc, b"//", b"x", 1_048_574, b"")?,
+            Status::Done,
+            none,
+        ),
+        (
+            repeated(alloc, b"//", b"x", 1_048_575, b"")?,
+            Status::TooLong,
+            b"too long: p\n",
+        ),
     ];
     for (text, status, put) in &texts {
         checks(

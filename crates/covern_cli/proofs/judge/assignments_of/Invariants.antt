@@ -1,4 +1,4 @@
-use Rattle.std.proofs.Common.{◌≡◌, ◌≤◌, ◌+◌, drop, map, length}
+use Rattle.std.proofs.Common.{◌≡◌, ◌≤◌, ◌+◌, drop, map}
 use Rattle.covern_cli.specs.Judging.{assignments_of}
 use Rattle.covern_cli.specs.Small.{stmt}
 use Rattle.covern_cli.proofs.judge.assignments_of.Given as goal
