@@ -73,82 +73,82 @@ fn shows_on_file(
 const ONE: &[u8] = b"accepted: 1 threads, 1 statements, 1 entailments\n";
 
 /// A case: a text, the status, and what is put.
-const fn case<'a>(text: &'a [u8], status: Status, put: &'a [u8]) -> Case<'a> {
+const fn row<'a>(text: &'a [u8], status: Status, put: &'a [u8]) -> Case<'a> {
     Case { text, status, put }
 }
 
 #[test]
 fn ample(rt: HostRuntime) -> Result<(), Fail> {
     let cases = [
-        case(
+        row(
             b"var a: low; var s: high; thread t { s := a; }",
             Status::Done,
             ONE,
         ),
-        case(
+        row(
             b"var a: low; var s: high; thread t { a := s; }",
             Status::Refused,
             b"refused\n",
         ),
-        case(
+        row(
             b"",
             Status::Done,
             b"accepted: 0 threads, 0 statements, 0 entailments\n",
         ),
-        case(
+        row(
             b"var a: low; thread t { a := 4294967295; }",
             Status::Done,
             ONE,
         ),
-        case(
+        row(
             b"var a: low; thread t { a := 4294967296; }",
             Status::Malformed,
             b"malformed p: number at 28\n",
         ),
-        case(
+        row(
             b"var a: low; thread t { a := 1;",
             Status::Malformed,
             b"malformed p: token at 30\n",
         ),
-        case(
+        row(
             b"var a: low; thr",
             Status::Malformed,
             b"malformed p: token at 12\n",
         ),
-        case(b"var a: low; var a: low;", Status::Refused, b"refused\n"),
-        case(b"thread t { } thread t { }", Status::Refused, b"refused\n"),
-        case(b"thread t { a := 1; }", Status::Refused, b"refused\n"),
-        case(
+        row(b"var a: low; var a: low;", Status::Refused, b"refused\n"),
+        row(b"thread t { } thread t { }", Status::Refused, b"refused\n"),
+        row(b"thread t { a := 1; }", Status::Refused, b"refused\n"),
+        row(
             b"var a: low; thread t { a := t; }",
             Status::Refused,
             b"refused\n",
         ),
-        case(
+        row(
             b"var a: high; thread t { a := b; }",
             Status::Refused,
             b"refused\n",
         ),
-        case(
+        row(
             b"var a: low; // a comment\nvar s: high;\r\n\tthread t { skip; a := a; s := s; }\nthread u { }//",
             Status::Done,
             b"accepted: 2 threads, 3 statements, 2 entailments\n",
         ),
-        case(
+        row(
             b"var a : low; thread t { a : = 1; }",
             Status::Malformed,
             b"malformed p: byte at 28\n",
         ),
-        case(
+        row(
             b"\xff\xfe\x00\x01",
             Status::Malformed,
             b"malformed p: byte at 0\n",
         ),
-        case(
+        row(
             b"lock l; thread t { }",
             Status::Refused,
             b"refused: not built\n",
         ),
-        case(
+        row(
             b"var a: low; thread t { a := a + 1; }",
             Status::Refused,
             b"refused: not built\n",
@@ -163,23 +163,23 @@ fn ample(rt: HostRuntime) -> Result<(), Fail> {
 #[test]
 fn formats(rt: HostRuntime) -> Result<(), Fail> {
     let cases = [
-        case(
+        row(
             b"var a: low; var s: high; thread t { a := s; }",
             Status::Done,
             b"var a: low;\nvar s: high;\nthread t {\n  a := s;\n}\n",
         ),
-        case(
+        row(
             b"var a:low;thread t{if a{}else{}while a{note{}by{1:hyp 1};}}",
             Status::Done,
             b"var a: low;\nthread t {\n  if a {\n  } else {\n  }\n  while a {\n    note {} by { 1: hyp 1 };\n  }\n}\n",
         ),
-        case(b"", Status::Done, b""),
-        case(
+        row(b"", Status::Done, b""),
+        row(
             b"var a: low; thread t { a = 1; }",
             Status::Malformed,
             b"malformed p: byte at 25\n",
         ),
-        case(
+        row(
             b"var a: low; thread t { output a; }",
             Status::Malformed,
             b"malformed p: token at 23\n",
@@ -340,14 +340,7 @@ fn limits(rt: HostRuntime) -> Result<(), Fail> {
         ),
     ];
     for (text, status, put) in &texts {
-        checks(
-            &rt,
-            &Case {
-                text: text.as_slice(),
-                status: *status,
-                put,
-            },
-        )?;
+        shows_on_file(&rt, "check", &row(text.as_slice(), *status, put))?;
     }
     Ok(())
 }
