@@ -167,7 +167,7 @@ stored a =
 leak_is_insecure : ¬ IsSecure leak
 leak_is_insecure secure =
     stored (secure (0 ∷ 0 ∷ []) (0 ∷ 1 ∷ []) (record { complete = refl; words = (omega arith, (omega arith, tt)) }) (record { complete = refl; words = (omega arith, (omega arith, tt)) })
-        leak-fit (0 ∷ 0 ∷ []) (omega arith, (omega arith, tt)))
+    leak-fit (0 ∷ 0 ∷ []) (omega arith, (omega arith, tt)))
 
 -- and a program without declarations is.
 abbrev empty : Plain
