@@ -47,7 +47,7 @@ done_is_secure before after (check name) reply (inl (bytes, fetched, judged)) do
     by (Some files) not_built at judged done = cc
     by (Some files) refused at judged done = cc
     by (Some files) (accepted threads statements entailments) at judged done =
-        (bytes, at, judged.2, judged.3, judged.8)
+        (bytes, at, judged.0, judged.1, judged.6)
     by (Some files) (spelled text) at judged done = absurd judged
 done_is_secure before after (check name) reply (inr (inl h)) done = let e : s.TooLong ≡ s.Done = sym (ap status_of h.1) ∙ done in cc
 done_is_secure before after (check name) reply (inr (inr h)) done = let e : s.ReadFault ≡ s.Done = sym (ap status_of h.1) ∙ done in cc

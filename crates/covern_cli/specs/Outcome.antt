@@ -43,17 +43,17 @@ SpellsTree bytes tree = IsText grammar.program in_program bytes tree
 
 -- The reply to a check of a file with these bytes:
 -- malformed, with the first fault, where they spell no program; not built where they spell one, but none of the first
--- grammar, which is all that is judged so far; refused where that one isn't accepted; else accepted, with the numbers of
--- threads, of statements, and of entailments, one an assignment, and then the program is secure.
+-- grammar, a part of the language, which is all that is judged so far; refused where that one isn't accepted; else accepted,
+-- with the numbers of threads, of statements, and of entailments, one an assignment, and then the program is secure.
 abbrev pub Judges : (name bytes : List ℕ) → Reply → Type 0
 Judges name bytes usage = ⊥
 Judges name bytes (read_fault file) = ⊥
 Judges name bytes (too_long file) = ⊥
 Judges name bytes (malformed file fault) = (file ≡ name) × IsFault grammar.program in_program bytes fault
 Judges name bytes not_built = (tree : trees.Program) × SpellsTree bytes tree × ((q : Program) → Spells bytes q → ⊥)
-Judges name bytes refused = (tree : trees.Program) × SpellsTree bytes tree × (q : Program) × Spells bytes q × (is_accepted q ≡ false)
+Judges name bytes refused = (q : Program) × Spells bytes q × (is_accepted q ≡ false)
 Judges name bytes (accepted threads statements entailments) =
-    (tree : trees.Program) × SpellsTree bytes tree × (q : Program) × Spells bytes q × (is_accepted q ≡ true)
+    (q : Program) × Spells bytes q × (is_accepted q ≡ true)
     × (threads ≡ length q.threads) × (statements ≡ statement_count q) × (entailments ≡ assignment_count q)
     × IsSecure (meaning bytes q)
 Judges name bytes (spelled text) = ⊥

@@ -3,8 +3,9 @@ ghost use Rattle.cov_io.specs.Shelves.{Gives, Passes};
 ghost use Rattle.cov_io.specs.Counts.{Rose};
 ghost use Rattle.cov_io.specs.declared.shelf.Fetched.TheVariants as fetched;
 ghost use Rattle.covern_cli.specs.Answers.{seen};
-ghost use Rattle.cov_grammar.specs.Trees as trees;
-ghost use Rattle.covern_cli.specs.Outcome.{Command, Does, Ends, Formats, Gets, SpellsTree, HoldsSecure, Judges, Misses, Outcome, Stops, command_of};
+ghost use Rattle.covern_cli.specs.Small.{Program};
+ghost use Rattle.covern_cli.specs.SmallText.{Spells};
+ghost use Rattle.covern_cli.specs.Outcome.{Command, Does, Ends, Formats, Gets, HoldsSecure, Judges, Misses, Outcome, Stops, command_of};
 
 use crate::answer::{Answer, Counts, Status, Stop, report, status_for};
 use crate::judge::{assignment_count, is_accepted, statement_count};
@@ -116,22 +117,9 @@ fn check_text<'w>(alloc: Global, name: &'w str, bytes: &[u8]) -> Result<Answer<'
     requires { length bytes.now ≤ 1048576 }
     ensures { Gets (Judges name.now bytes.now) result }
 {
-    match parse(alloc, bytes) {
-        Ok(_) => judge_text(alloc, name, bytes),
-        Err(ParseFault::NoMemory) => Err(Stop::NoMemory),
-        Err(fault) => Ok(Answer::Malformed(name, fault)),
-    }
-}
-
-/// Judges the program of a text that spells one.
-fn judge_text<'w>(alloc: Global, name: &'w str, bytes: &[u8]) -> Result<Answer<'w>, Stop<'w>>
-    requires short { length bytes.now ≤ 1048576 }
-    requires spelled { (tree : trees.Program) × SpellsTree bytes.now tree }
-    ensures { Gets (Judges name.now bytes.now) result }
-{
     let program = match read(alloc, bytes) {
         Ok(program) => program,
-        Err(ReadFault::Malformed) => return Ok(Answer::NotBuilt),
+        Err(ReadFault::Malformed) => return not_judged(alloc, name, bytes),
         Err(ReadFault::NoMemory) => return Err(Stop::NoMemory),
     };
     if !is_accepted(alloc, &program)? {
@@ -142,6 +130,19 @@ fn judge_text<'w>(alloc: Global, name: &'w str, bytes: &[u8]) -> Result<Answer<'
         statements: statement_count(&program),
         entailments: assignment_count(&program),
     }))
+}
+
+/// Why a text that spells no program of the first grammar isn't judged.
+fn not_judged<'w>(alloc: Global, name: &'w str, bytes: &[u8]) -> Result<Answer<'w>, Stop<'w>>
+    requires short { length bytes.now ≤ 1048576 }
+    requires other { (q : Program) → Spells bytes.now q → ⊥ }
+    ensures { Gets (Judges name.now bytes.now) result }
+{
+    match parse(alloc, bytes) {
+        Ok(_) => Ok(Answer::NotBuilt),
+        Err(ParseFault::NoMemory) => Err(Stop::NoMemory),
+        Err(fault) => Ok(Answer::Malformed(name, fault)),
+    }
 }
 
 /// Formats the program of a text.
