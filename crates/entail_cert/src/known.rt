@@ -1,11 +1,12 @@
 ghost use Rattle.std.specs.Prelude.{◌≡◌, ◌++◌, ◌||◌, map};
 ghost use Rattle.std.specs.List.{list_any};
+ghost use Rattle.cov_expr.specs.Trees.{has_term};
 ghost use Rattle.cov_expr.specs.View.{term};
 ghost use Rattle.entail_cert.specs.Valid.{is_all_known, is_known};
 ghost use Rattle.entail_cert.specs.Valid as spec;
 
 use crate::parts::{is_false, is_true};
-use cov_expr::{Expr, Op, has_conjunct};
+use cov_expr::{Expr, Op, has_conjunct, same};
 
 /// Whether some expression is closed and doesn't hold.
 pub fn has_false(es: &[Expr]) -> bool
@@ -13,6 +14,18 @@ pub fn has_false(es: &[Expr]) -> bool
 {
     for e in es {
         if is_false(e) {
+            return true;
+        }
+    }
+    false
+}
+
+/// Whether an expression is one of the hypotheses.
+fn states(hyps: &[Expr], e: &Expr) -> bool
+    ensures { result ≡ has_term (map term hyps.now) (term e.now) }
+{
+    for h in hyps {
+        if same(h, e) {
             return true;
         }
     }
@@ -32,12 +45,14 @@ fn knows(hyps: &[Expr], e: &Expr) -> bool
 }
 
 /// Whether each conjunct of a goal is closed and holds, or is a conjunct of one of the hypotheses, which are given in two parts.
-#[tactic(auto, using(crate::proofs::Conjuncts::known_both))]
+#[tactic(auto, using(crate::proofs::Conjuncts::known_rules))]
 pub fn knows_each(goal: &Expr, first: &[Expr], more: &[Expr]) -> bool
     ensures { result ≡ is_all_known (map term first.now ++ map term more.now) (term goal.now) }
 {
     match goal {
-        Expr::Bin(Op::Both, a, b) => knows_each(a, first, more) && knows_each(b, first, more),
+        Expr::Bin(Op::Both, a, b) => {
+            states(first, goal) || (knows_each(a, first, more) && knows_each(b, first, more))
+        }
         Expr::Const(_) | Expr::Var(_) | Expr::Not(_) | Expr::Bin(..) => knows_one(
             goal, first, more,
         ),
