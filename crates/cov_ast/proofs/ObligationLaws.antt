@@ -1,10 +1,10 @@
 -- Laws of lists of obligations: the first false one of parts, of lists without repeats, and at a step of a loop.
-use Rattle.std.proofs.Common.{◌≡◌, ℕ, ◌+◌, ◌<◌, ◌==◌, ◌||◌, not, List, [], ◌∷◌, ◌++◌, Bool, true, false, length, map, get_or, drop, refl, sym, ap, ◌∙◌, Option, Some, None, Result, Ok, Err, inl, inr, ◌⊎◌, cond, if◌then◌else◌, append_assoc, subst}
+use Rattle.std.proofs.Common.{◌≡◌, ℕ, ◌+◌, ◌<◌, ◌==◌, List, [], ◌∷◌, ◌++◌, Bool, true, false, length, map, get_or, drop, refl, sym, ap, ◌∙◌, Option, Some, None, Result, Ok, Err, inl, inr, cond, append_assoc, subst}
 use Rattle.std.specs.List.{flat_map}
 use Rattle.std.specs.Option.{option_or}
 use Rattle.std.proofs.lemmas.List.{append-nil, at_drop_more}
 use Rattle.std.proofs.lemmas.List.Concat.{flat_map-append, flat_map_single}
-use Rattle.std.proofs.lemmas.Bool.{eqb-true, cases_Bool, or_cases}
+use Rattle.std.proofs.lemmas.Bool.{eqb-true, or_cases}
 use Rattle.cov_expr.specs.Term.{Term, const, var, neg, bin}
 use Rattle.cov_expr.specs.Trees.{add_new, has_number, occurrences, vars}
 use Rattle.cov_expr.specs.Words.{HasVarsBelow}

@@ -1,8 +1,8 @@
 -- Annotations do nothing.
-use Rattle.std.proofs.Common.{◌≡◌, ℕ, List, [], ◌∷◌, map, Some, None, refl, ap, ap₂, ◌∙◌}
+use Rattle.std.proofs.Common.{◌≡◌, ℕ, List, [], ◌∷◌, map, refl, ap, ap₂, ◌∙◌}
 use Rattle.cov_ast.specs.Syntax.{Stm, Block, done, more, Thread, Program}
 use Rattle.cov_ast.specs.Syntax as annotated
-use Rattle.cov_ast.specs.Plain.{Cmds, next, branch, loop, plain_stm, plain_block, plain_thread, plain, in_front, bare_kind, bare_block, bare_thread, bare}
+use Rattle.cov_ast.specs.Plain.{next, branch, loop, plain_stm, plain_block, plain_thread, plain, in_front, bare_kind, bare_block, bare_thread, bare}
 
 mutual
   stm_bare : (s : Stm) (at : ℕ) (rest : Block) → plain_block (in_front at (bare_kind s) rest) ≡ plain_stm s at (plain_block rest)

@@ -1,5 +1,5 @@
 -- Laws of sets as tables.
-use Rattle.std.proofs.Common.{◌≡◌, ◌≢◌, ℕ, ◌+◌, ◌<◌, ◌==◌, ◌||◌, List, [], ◌∷◌, Bool, true, false, length, map, get_or, refl, sym, ap, ◌∙◌, arith, replicate, inl, inr, ◌⊎◌, ◌++◌, cond, Some}
+use Rattle.std.proofs.Common.{◌≡◌, ℕ, ◌<◌, ◌==◌, ◌||◌, List, [], ◌∷◌, Bool, true, false, length, map, get_or, refl, sym, ap, ◌∙◌, arith, replicate, inl, inr, ◌⊎◌, ◌++◌, cond, Some}
 use Rattle.std.specs.Option.{option_or}
 use Rattle.std.proofs.lemmas.List.{get_or-set_same, get_or-set_other, length-set, same_lists, length-replicate, get_or-replicate, get_or-map, length-map}
 use Rattle.std.proofs.lemmas.List.FromFn.{get_or-map-range_with_len, length-map-range_with_len}

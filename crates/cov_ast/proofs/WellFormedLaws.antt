@@ -4,7 +4,7 @@ use Rattle.std.proofs.lemmas.List.{get_or-map, length-map}
 use Rattle.cov_expr.specs.Words.{HasVarsBelow}
 use Rattle.cov_ast.specs.Plain.{class_term, plain}
 use Rattle.cov_ast.specs.Declarations.{class_of, no_var}
-use Rattle.cov_ast.specs.WellFormed.{IsWellFormed, IsLockInRange, IsThreadInRange, AreModesInRange}
+use Rattle.cov_ast.specs.WellFormed.{IsWellFormed, IsLockInRange, IsThreadInRange}
 use Rattle.cov_ast.specs.declared.decl.Program.{Program}
 use Rattle.cov_ast.specs.declared.decl.VarDecl.{VarDecl}
 use Rattle.cov_ast.specs.declared.decl.LockDecl.{LockDecl}

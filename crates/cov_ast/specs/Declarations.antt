@@ -1,5 +1,5 @@
 -- What a program declares, by number: the class of a variable, what a lock stands for, the modes of a thread.
-use Rattle.std.specs.Prelude.{◌==◌, ℕ, ◌||◌, List, [], ◌∷◌, get_or, Bool, true, false}
+use Rattle.std.specs.Prelude.{ℕ, ◌||◌, List, [], get_or, Bool, true, false}
 use Rattle.std.specs.Prelude.{Option, Some, None}
 use Rattle.std.specs.List.{list_any}
 use Rattle.cov_expr.specs.Term.{Term, const}

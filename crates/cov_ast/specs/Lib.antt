@@ -6,4 +6,4 @@ pub mod Names
 pub mod Obligations
 pub mod Tables
 pub mod WellFormed
-pub mod Ids
+pub mod Ready

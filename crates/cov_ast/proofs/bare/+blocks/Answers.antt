@@ -1,6 +1,5 @@
 use Rattle.std.proofs.Common.{◌≡◌, ◌∙◌, sym, map, drop, ap, []}
 use Rattle.std.proofs.lemmas.List.{drop_all}
-use Rattle.cov_ast.specs.Syntax.{done}
 use Rattle.cov_ast.specs.Plain.{bare_block}
 use Rattle.cov_ast.specs.View as view
 use Rattle.cov_ast.proofs.Blocks.{onto_done}
