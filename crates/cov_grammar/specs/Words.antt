@@ -38,4 +38,4 @@ kind_among (x ∷ xs) text = if bytes_eq text x.0 then x.1 else kind_among xs te
 
 -- the kind of a word or of a sign
 unfoldable pub kind_of : (text : List ℕ) → Kind
-kind_of text = kind_among (keyword_kinds ++ sign_kinds) text
+kind_of text = kind_among (sign_kinds ++ keyword_kinds) text

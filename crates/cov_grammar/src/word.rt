@@ -3,8 +3,32 @@ ghost use Rattle.cov_grammar.specs.Words as spec;
 
 use crate::token::Kind;
 
-/// The keywords and the signs, each with its kind.
+/// The signs and the keywords, each with its kind. A text has more signs, which therefore come first.
 pub const WORDS: [(&[u8], Kind); 69] = [
+    (b":", Kind::Colon),
+    (b";", Kind::Semicolon),
+    (b",", Kind::Comma),
+    (b"{", Kind::OpenBrace),
+    (b"}", Kind::CloseBrace),
+    (b"(", Kind::OpenParen),
+    (b")", Kind::CloseParen),
+    (b"[", Kind::OpenBracket),
+    (b"]", Kind::CloseBracket),
+    (b"_", Kind::Hole),
+    (b":=", Kind::Assign),
+    (b"+", Kind::Plus),
+    (b"-", Kind::Minus),
+    (b"*", Kind::Star),
+    (b"&", Kind::Ampersand),
+    (b"|", Kind::Bar),
+    (b"^", Kind::Caret),
+    (b"==", Kind::Equal),
+    (b"!=", Kind::Differs),
+    (b"<", Kind::Less),
+    (b"<=", Kind::AtMost),
+    (b"&&", Kind::Both),
+    (b"||", Kind::Either),
+    (b"!", Kind::Bang),
     (b"var", Kind::Var),
     (b"low", Kind::Low),
     (b"high", Kind::High),
@@ -50,34 +74,10 @@ pub const WORDS: [(&[u8], Kind); 69] = [
     (b"output", Kind::Output),
     (b"level", Kind::Level),
     (b"seen", Kind::Seen),
-    (b":", Kind::Colon),
-    (b";", Kind::Semicolon),
-    (b",", Kind::Comma),
-    (b"{", Kind::OpenBrace),
-    (b"}", Kind::CloseBrace),
-    (b"(", Kind::OpenParen),
-    (b")", Kind::CloseParen),
-    (b"[", Kind::OpenBracket),
-    (b"]", Kind::CloseBracket),
-    (b"_", Kind::Hole),
-    (b":=", Kind::Assign),
-    (b"+", Kind::Plus),
-    (b"-", Kind::Minus),
-    (b"*", Kind::Star),
-    (b"&", Kind::Ampersand),
-    (b"|", Kind::Bar),
-    (b"^", Kind::Caret),
-    (b"==", Kind::Equal),
-    (b"!=", Kind::Differs),
-    (b"<", Kind::Less),
-    (b"<=", Kind::AtMost),
-    (b"&&", Kind::Both),
-    (b"||", Kind::Either),
-    (b"!", Kind::Bang),
 ];
 
 /// The kind of the bytes of a token that is no number: of a keyword or a sign. Every other word is a name.
-#[tactic(auto, unfolding(crate::specs::Words::kind_of, crate::specs::Words::keyword_kinds, crate::specs::Words::sign_kinds))]
+#[tactic(auto, unfolding(crate::specs::Words::kind_of, crate::specs::Words::sign_kinds, crate::specs::Words::keyword_kinds))]
 pub fn kind_of(text: &[u8]) -> Kind
     ensures { result ≡ spec.kind_of text.now }
 {
