@@ -9,3 +9,13 @@ pub mod CertLaws
 pub mod StateLaws
 pub mod StmtLaws
 pub mod DeclLaws
+pub mod UseLaws
+pub mod Summaries
+pub mod ShapeSummaries
+pub mod TermSummaries
+pub mod CertSummaries
+pub mod StmtSummaries
+pub mod DeclSummaries
+pub mod WordLaws
+pub mod NamesInOrder
+pub mod ReadyLaws

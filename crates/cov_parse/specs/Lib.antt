@@ -2,6 +2,7 @@ pub mod Words
 pub mod Text
 pub mod Replies
 pub mod Trees
+pub mod Named
 pub mod Uses
 pub mod Measures
 pub mod Limits

@@ -106,6 +106,7 @@ fn types_of(alloc: Global, pairs: &[Typed]) -> Result<List<(u32, Expr)>, NoMemor
     Ok(made)
 }
 
+/// A state without places.
 pub fn state_of(alloc: Global, state: &State) -> Result<cov_ast::State, NoMemory>
     ensures { IfOk result (λ made. ast.state made ≡ spec.state_of (states.state state.now)) }
 {

@@ -1,7 +1,8 @@
-ghost use Rattle.std.specs.Prelude.{◌≡◌, map, IfOk};
+ghost use Rattle.std.specs.Prelude.{◌≡◌, ◌<◌, length, map, All, IfOk};
 ghost use Rattle.cov_ast.specs.View as ast;
 ghost use Rattle.cov_ast.specs.Syntax as syntax;
 ghost use Rattle.cov_grammar.specs.Trees.{stms};
+ghost use Rattle.cov_parse.specs.Named.{AreNamed};
 ghost use Rattle.cov_parse.specs.Trees as spec;
 ghost use Rattle.cov_parse.specs.StmtViews as stmts;
 ghost use Rattle.cov_parse.specs.DeclViews as decls;
@@ -71,16 +72,13 @@ fn stmt_proofs(alloc: Global, kind: &StmtKind) -> Result<List<cov_ast::Proof>, N
     }
 }
 
-/// The name of a number. Numbers that have none don't come; for such a one there would be no name to answer.
+/// The name of a number.
 #[tactic(auto, using(crate::proofs::BlockLaws::stands_at))]
-fn name_of(names: &NameTable, id: u32) -> Result<Name, NoMemory>
-    ensures { IfOk result (λ name. name ≡ spec.name_of names.now id) }
+fn name_of(names: &NameTable, id: u32) -> Name
+    requires { id < length names.now }
+    ensures { result ≡ spec.name_of names.now id }
 {
-    if id < names.len() {
-        Ok(names.name(id))
-    } else {
-        Err(NoMemory)
-    }
+    names.name(id)
 }
 
 fn class_of(alloc: Global, class: &ClassDecl) -> Result<Class, NoMemory>
@@ -94,12 +92,13 @@ fn class_of(alloc: Global, class: &ClassDecl) -> Result<Class, NoMemory>
 }
 
 fn vars_of(alloc: Global, names: &NameTable, vars: &[Variable]) -> Result<List<VarDecl>, NoMemory>
+    requires { All (λ v. v.name.0 < length names.now) (map decls.var vars.now) }
     ensures { IfOk result (λ made. map ast.var made ≡ map (spec.var_of names.now) (map decls.var vars.now)) }
 {
     let mut made = List::new(alloc);
     for var in vars {
         made.push(VarDecl {
-            name: name_of(names, var.name)?,
+            name: name_of(names, var.name),
             at: var.at,
             class: class_of(alloc, &var.class)?,
         })?;
@@ -118,12 +117,13 @@ fn numbers_of(alloc: Global, numbers: &[u32]) -> Result<List<u32>, NoMemory>
 }
 
 fn locks_of(alloc: Global, names: &NameTable, locks: &[Lock]) -> Result<List<LockDecl>, NoMemory>
+    requires { All (λ l. l.name.0 < length names.now) (map decls.lock locks.now) }
     ensures { IfOk result (λ made. map ast.lock made ≡ map (spec.lock_of names.now) (map decls.lock locks.now)) }
 {
     let mut made = List::new(alloc);
     for lock in locks {
         made.push(LockDecl {
-            name: name_of(names, lock.name)?,
+            name: name_of(names, lock.name),
             at: lock.at,
             nowrite: numbers_of(alloc, lock.nowrite.as_slice())?,
             hide: numbers_of(alloc, lock.hide.as_slice())?,
@@ -149,12 +149,13 @@ fn threads_of(
     names: &NameTable,
     threads: &[Thread],
 ) -> Result<List<ThreadDecl>, NoMemory>
+    requires { All (λ h. h.name.0 < length names.now) (map decls.thread threads.now) }
     ensures { IfOk result (λ made. map ast.thread made ≡ map (spec.thread_of names.now) (map decls.thread threads.now)) }
 {
     let mut made = List::new(alloc);
     for thread in threads {
         made.push(ThreadDecl {
-            name: name_of(names, thread.name)?,
+            name: name_of(names, thread.name),
             at: thread.at,
             modes: modes_of(alloc, &thread.assumes, &thread.guarantees)?,
             body: stmts_of(alloc, thread.body.as_slice())?,
@@ -164,13 +165,14 @@ fn threads_of(
     Ok(made)
 }
 
-/// The tree that callers get, of a program within its limits.
+/// The tree that callers get, of a program within its limits whose declarations are named by numbers of names.
 pub fn parsed_of(
     alloc: Global,
     names: NameTable,
     uses: List<NameUse>,
     program: &PlacedProgram,
 ) -> Result<Parsed, NoMemory>
+    requires { AreNamed (length names) (decls.program program.now) }
     ensures { IfOk result (λ made. ast.parsed made ≡ spec.parsed_of names uses (decls.program program.now)) }
 {
     let vars = vars_of(alloc, &names, program.vars.as_slice())?;

@@ -1,9 +1,12 @@
-ghost use Rattle.std.specs.Prelude.{◌≡◌, ◌≤◌, length};
+ghost use Rattle.std.specs.Prelude.{◌≡◌, ◌≤◌, length, IfOk};
+ghost use Rattle.cov_ast.specs.Ready.{HasUsesInOrder, IsReady};
 ghost use Rattle.cov_ast.specs.View as ast;
 ghost use Rattle.cov_grammar.specs.Trees.{Program, Placed};
 ghost use Rattle.cov_grammar.specs.Grammar as grammar;
 ghost use Rattle.cov_grammar.specs.Answers as answers;
 ghost use Rattle.cov_expr.specs.Term.{Term};
+ghost use Rattle.cov_expr.specs.View.{term};
+ghost use Rattle.cov_expr.specs.Words.{HasVarsBelow};
 ghost use Rattle.cov_parse.specs.CertViews as certs;
 ghost use Rattle.cov_parse.specs.DeclViews as decls;
 ghost use Rattle.cov_parse.specs.Limits as limits;
@@ -42,6 +45,10 @@ pub fn parse(alloc: Global, bytes: &[u8]) -> Result<Parsed, ParseFault>
     requires { length bytes.now ≤ 1048576 }
     // What is answered is what the text spells, within the limits; else its first fault.
     ensures answer { Answers grammar.program limits.in_program bytes.now ast.parsed (program_of bytes.now) result }
+    // Ids of the tree are numbers of names, its declarations are within bounds, the places of a thread's statements differ,
+    // and the list of uses has each name that the declarations use, in the order of the text.
+    ensures ready { IfOk result (λ p. IsReady (ast.parsed p)) }
+    ensures in_order { IfOk result (λ p. HasUsesInOrder (ast.parsed p)) }
     // What the text spells within the limits is answered.
     ensures only { (tree : Program) → IsText grammar.program limits.in_program bytes.now tree → Only ast.parsed (program_of bytes.now tree) result }
 {
@@ -65,6 +72,8 @@ fn read_program_text(alloc: Global, bytes: &[u8]) -> Result<Parsed, ParseFault>
 pub fn parse_expr(alloc: Global, bytes: &[u8]) -> Result<ParsedExpr, ParseFault>
     requires { length bytes.now ≤ 1048576 }
     ensures answer { Answers grammar.whole limits.in_expr bytes.now parsed_expr (expression_of bytes.now) result }
+    // Each variable is the number of a name.
+    ensures below { IfOk result (λ p. HasVarsBelow (term p.expr) (length p.names)) }
     ensures only { (tree : Placed Term) → IsText grammar.whole limits.in_expr bytes.now tree → Only parsed_expr (expression_of bytes.now tree) result }
 {
     read_expr_text(alloc, bytes)

@@ -4,7 +4,11 @@ use Rattle.cov_parse.specs.Limits.{in_expr}
 use Rattle.cov_parse.specs.Text.{expression_of}
 use Rattle.cov_parse.specs.Replies.{parsed_expr}
 use Rattle.cov_parse.proofs.ParseLaws.{only_is}
+use Rattle.cov_parse.proofs.ReadyLaws.{parsed_below}
 use Rattle.cov_parse.proofs.text.parse_expr.Goals as goal
+
+pub returns-clause-below : goal.returns-clause-below
+returns-clause-below c = parsed_below c.args.bytes.now c.requires parsed_expr c.read_expr_text.result c.read_expr_text.ensures
 
 pub returns-clause-only : goal.returns-clause-only
 returns-clause-only c tree is =
