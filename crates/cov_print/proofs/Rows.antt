@@ -1,12 +1,11 @@
 -- Small programs whose canonical spelling is known, by computation.
-use Rattle.std.proofs.Common.{◌≡◌, ℕ, List, [], ◌∷◌, ◌++◌, Option, Some, None, refl, codes, lit<}
+use Rattle.std.proofs.Common.{◌≡◌, ℕ, List, [], ◌∷◌, Some, None, refl, codes, lit<}
 use Rattle.std.proofs.lemmas.Fmt.{decimal_digit}
 use Rattle.cov_expr.specs.Term.{Term, const, var, neg, bin}
 use Rattle.cov_expr.specs.declared.expr.TheConstants.{HOLE}
-use Rattle.cov_expr.specs.declared.expr.Op.{Op}
 use Rattle.cov_expr.specs.declared.expr.Op.TheVariants.{Add, Sub, Mul, And, Or, Xor, Eq, Ne, Lt, Le, Both, Either}
 use Rattle.cov_ast.specs.Syntax as s
-use Rattle.cov_print.specs.Spelling.{expr, whole, cert, state, state_of, stated_of, stm, block, var_line, lock_line, thread_lines, spelling}
+use Rattle.cov_print.specs.Spelling.{whole, cert, state, state_of, stated_of, stm, block, var_line, lock_line, thread_lines, spelling}
 
 abbrev names : List (List ℕ)
 names = codes "a" ∷ codes "s" ∷ codes "l" ∷ []

@@ -1,5 +1,5 @@
 -- What the statements with states and blocks are as plain data.
-use Rattle.std.proofs.Common.{◌≡◌, sym, ap, ◌∙◌, rules, List, refl}
+use Rattle.std.proofs.Common.{◌≡◌, sym, ap, ◌∙◌, List}
 use Rattle.cov_expr.specs.View.{term}
 use Rattle.cov_expr.specs.declared.expr.Expr.{Expr}
 use Rattle.cov_ast.specs.Syntax as s

@@ -1,6 +1,7 @@
 ghost use Rattle.std.specs.Prelude.{◌≡◌, ◌++◌, OnOk, IfOk, map, flat_map};
 ghost use Rattle.cov_ast.specs.View as view;
 ghost use Rattle.cov_print.specs.Spelling as spec;
+ghost use Rattle.cov_print.specs.ReadBack.{SpellsAgain};
 
 use crate::decl::{add_lock, add_thread, add_var};
 use cov_ast::{LockDecl, NameTable, Parsed, ThreadDecl, VarDecl};
@@ -43,7 +44,9 @@ fn add_threads(
 /// no name is spelled `_`, as the hole of a template. It takes memory in proportion to the text, and recurses as deep
 /// as blocks, certificates or expressions nest.
 pub fn print(alloc: Global, p: &Parsed) -> Result<List<u8>, NoMemory>
-    ensures { IfOk result (λ text. text ≡ spec.spelling (view.parsed p.now)) }
+    ensures spelled { IfOk result (λ text. text ≡ spec.spelling (view.parsed p.now)) }
+    // Where some text spells the program, places aside, what is printed does, unless it is longer than a text may be.
+    ensures read_back { IfOk result (λ text. SpellsAgain text (view.parsed p.now)) }
 {
     let mut out = List::new(alloc);
     add_vars(&p.names, p.vars.as_slice(), &mut out)?;

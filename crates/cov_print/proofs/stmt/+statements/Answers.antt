@@ -1,4 +1,4 @@
-use Rattle.cov_print.proofs.StatementKinds.{note_is, branch_is, loop_is}
+use Rattle.cov_print.proofs.StatementKinds.{note_is}
 use Rattle.cov_print.proofs.stmt.+statements.Goals as goal
 
 pub add_statement-returns-in-Note : goal.add_statement-returns-in-Note

@@ -1,0 +1,140 @@
+-- What is printed is read back to the same program, places aside.
+use Rattle.std.proofs.Common.{◌≡◌, ℕ, ◌≤◌, List, [], ◌∷◌, ◌++◌, length, map, flat_map, codes, refl, sym, ap, ap₂, subst, ◌∙◌}
+use Rattle.cov_grammar.specs.Trees.{Program}
+use Rattle.cov_grammar.specs.Grammar.{program}
+use Rattle.cov_ast.specs.Syntax as s
+use Rattle.cov_ast.specs.Ready as ready
+use Rattle.cov_ast.specs.Ready.{Use, uses_in_stm, uses_in_block, uses_in_class, uses_in_lock, uses_in_thread, uses_in_declarations}
+use Rattle.cov_ast.specs.declared.parsed.NameUse.{NameUse}
+use Rattle.cov_parse.specs.Limits.{in_program}
+use Rattle.cov_parse.specs.Text.{lexed_of, words_of, names_of, IsText, program_of}
+use Rattle.cov_parse.specs.Uses.{uses_of}
+use Rattle.cov_parse.specs.Trees.{var_of, lock_of, thread_of, parsed_of}
+use Rattle.cov_parse.proofs.NamesInOrder.{uses_in_order}
+use Rattle.cov_print.specs.Spelling as spec
+use Rattle.cov_print.specs.Unplaced.{unplaced, unplaced_stm, unplaced_block, unplaced_var, unplaced_lock, unplaced_thread, unplaced_use}
+use Rattle.cov_print.specs.ReadBack.{SpellsProgram, SpellsAgain}
+use Rattle.cov_print.proofs.Declarations.{seen_program}
+use Rattle.cov_print.proofs.ReadBack as back
+
+map_map : {A B C : Type 0} (f : A → B) (g : B → C) (xs : List A) → map g (map f xs) ≡ map (λ x. g (f x)) xs
+map_map f g [] = refl
+map_map f g (x ∷ xs) = ap (λ l. g (f x) ∷ l) (map_map f g xs)
+
+flat_map_same : {A B C : Type 0} (f : A → B) (g : B → List C) (h : A → List C) → ((x : A) → g (f x) ≡ h x) → (xs : List A) → flat_map g (map f xs) ≡ flat_map h xs
+flat_map_same f g h e [] = refl
+flat_map_same f g h e (x ∷ xs) = λ i. e x i ++ flat_map_same f g h e xs i
+
+-- Without places -----------------------------------------------------------------------------------------------
+
+-- the spelling doesn't depend on places
+mutual
+  stm_spelled : (names : List (List ℕ)) (x : s.Stm) (margin : List ℕ) (ps : List s.Proof) → spec.stm names margin (unplaced_stm x) ps ≡ spec.stm names margin x ps
+  stm_spelled names s.skip margin ps = refl
+  stm_spelled names (s.assign x e q rs) margin ps = refl
+  stm_spelled names (s.lock l) margin ps = refl
+  stm_spelled names (s.unlock l) margin ps = refl
+  stm_spelled names (s.branch e a b j) margin ps =
+      ap₂ (λ x y. codes "if " ++ spec.whole names e ++ codes " {\n" ++ x ++ margin ++ codes "} else {\n" ++ y ++ margin ++ codes "}" ++ spec.stated names (codes " join ") j ++ spec.by names ps)
+      (block_spelled names a (spec.deeper margin)) (block_spelled names b (spec.deeper margin))
+  stm_spelled names (s.loop e j b) margin ps =
+      ap (λ x. codes "while " ++ spec.whole names e ++ spec.stated names (codes " inv ") j ++ codes " {\n" ++ x ++ margin ++ codes "}" ++ spec.by names ps) (block_spelled names b (spec.deeper margin))
+  stm_spelled names (s.note j) margin ps = refl
+
+  block_spelled : (names : List (List ℕ)) (b : s.Block) (margin : List ℕ) → spec.block names margin (unplaced_block b) ≡ spec.block names margin b
+  block_spelled names s.done margin = refl
+  block_spelled names (s.more at x ps rest) margin = ap₂ (λ c d. margin ++ c ++ codes "\n" ++ d) (stm_spelled names x margin ps) (block_spelled names rest margin)
+
+thread_spelled : (names : List (List ℕ)) (t : s.Thread) → spec.thread_lines names (unplaced_thread t) ≡ spec.thread_lines names t
+thread_spelled names t = ap (λ b. codes "thread " ++ t.name ++ spec.modes names t.modes ++ codes " {\n" ++ b ++ codes "}\n") (block_spelled names t.body (spec.deeper []))
+
+spelling_unplaced : (p : s.Parsed) → spec.spelling (unplaced p) ≡ spec.spelling p
+spelling_unplaced p =
+    ap₂ (λ a b. a ++ b)
+    (ap₂ (λ a b. a ++ b) (flat_map_same unplaced_var (spec.var_line p.names) (spec.var_line p.names) (λ x. refl) p.vars) (flat_map_same unplaced_lock (spec.lock_line p.names) (spec.lock_line p.names) (λ x. refl) p.locks))
+    (flat_map_same unplaced_thread (spec.thread_lines p.names) (spec.thread_lines p.names) (thread_spelled p.names) p.threads)
+
+-- and neither do uses
+mutual
+  stm_uses : (x : s.Stm) (ps : List s.Proof) → uses_in_stm (unplaced_stm x) ps ≡ uses_in_stm x ps
+  stm_uses s.skip ps = refl
+  stm_uses (s.assign x e q rs) ps = refl
+  stm_uses (s.lock l) ps = refl
+  stm_uses (s.unlock l) ps = refl
+  stm_uses (s.branch e a b j) ps = ap₂ (λ x y. ready.uses_in e ++ x ++ y ++ ready.uses_in_state j ++ flat_map ready.uses_in_proof ps) (block_uses a) (block_uses b)
+  stm_uses (s.loop e j b) ps = ap (λ x. ready.uses_in e ++ ready.uses_in_state j ++ x ++ flat_map ready.uses_in_proof ps) (block_uses b)
+  stm_uses (s.note j) ps = refl
+
+  block_uses : (b : s.Block) → uses_in_block (unplaced_block b) ≡ uses_in_block b
+  block_uses s.done = refl
+  block_uses (s.more at x ps rest) = ap₂ (λ c d. c ++ d) (stm_uses x ps) (block_uses rest)
+
+uses_unplaced : (p : s.Parsed) → uses_in_declarations (unplaced p) ≡ uses_in_declarations p
+uses_unplaced p =
+    ap₂ (λ a b. a ++ b)
+    (ap₂ (λ a b. a ++ b) (flat_map_same unplaced_var (λ v. uses_in_class v.class) (λ v. uses_in_class v.class) (λ x. refl) p.vars) (flat_map_same unplaced_lock uses_in_lock uses_in_lock (λ x. refl) p.locks))
+    (flat_map_same unplaced_thread uses_in_thread uses_in_thread (λ x. ap (λ u. ready.uses_in_modes x.modes ++ u) (block_uses x.body)) p.threads)
+
+-- Declarations and uses ----------------------------------------------------------------------------------------
+
+abbrev Seen : Type 0
+Seen = List s.Var × (List s.Lock × List s.Thread)
+
+-- the program of declarations without places
+abbrev of_seen : List (List ℕ) → List NameUse → Seen → s.Parsed
+of_seen names uses x = record { names = names; uses = uses; vars = x.0; locks = x.1.0; threads = x.1.1 }
+
+seen_is : (names : List (List ℕ)) (uses : List NameUse) (p : Program) → unplaced (parsed_of names uses p) ≡ of_seen names (map unplaced_use uses) (seen_program names p)
+seen_is names uses p = λ i. record {
+  names = names;
+  uses = map unplaced_use uses;
+  vars = map_map (var_of names) unplaced_var p.vars i;
+  locks = map_map (lock_of names) unplaced_lock p.locks i;
+  threads = map_map (thread_of names) unplaced_thread p.threads i;
+}
+
+-- a use at no place
+abbrev at_none : Use → NameUse
+at_none u = record { name = u.name; lock = u.lock; at = 0 }
+
+uses_are : (us : List NameUse) (vs : List Use) → map ready.use_of us ≡ vs → map unplaced_use us ≡ map at_none vs
+uses_are us vs e = sym (map_map ready.use_of at_none us) ∙ ap (map at_none) e
+
+-- uses of declarations that look alike are alike
+uses_of_seen : (names : List (List ℕ)) (us vs : List NameUse) (p q : Program) → seen_program names p ≡ seen_program names q → uses_in_declarations (parsed_of names us p) ≡ uses_in_declarations (parsed_of names vs q)
+uses_of_seen names us vs p q e =
+    sym (uses_unplaced (parsed_of names us p)) ∙ ap uses_in_declarations (seen_is names us p) ∙ ap (λ x. uses_in_declarations (of_seen names [] x)) e
+    ∙ sym (ap uses_in_declarations (seen_is names vs q)) ∙ uses_unplaced (parsed_of names vs q)
+
+-- The law ------------------------------------------------------------------------------------------------------
+
+-- what is printed of the tree of a text
+of_text : (text : List ℕ) (tree : Program) → length text ≤ 1048576 → IsText program in_program text tree → length (spec.spelling (program_of text tree)) ≤ 1048576 → SpellsProgram (spec.spelling (program_of text tree)) (program_of text tree)
+unfolding names_of words_of
+of_text text tree small is short =
+    let raw = lexed_of text in
+    let b = back.reads_back text raw is.tokens.lexes tree is.spelled is.small (uses_of (words_of text)) short in
+    let out = spec.spelling (program_of text tree) in
+    let again = b.tree_again in
+    let first = uses_in_order text small tree is in
+    let second = uses_in_order out short again b.is_text in
+    let renamed : program_of out again ≡ parsed_of (names_of text) (uses_of (words_of out)) again = ap (λ ns. parsed_of ns (uses_of (words_of out)) again) b.names_again in
+    let alike : uses_in_declarations (program_of out again) ≡ uses_in_declarations (program_of text tree) =
+    ap uses_in_declarations renamed ∙ uses_of_seen (names_of text) (uses_of (words_of out)) (uses_of (words_of text)) again tree b.seen_again in
+    let uses : map unplaced_use (uses_of (words_of out)) ≡ map unplaced_use (uses_of (words_of text)) =
+    uses_are (uses_of (words_of out)) (uses_in_declarations (program_of text tree)) (second ∙ alike) ∙ sym (uses_are (uses_of (words_of text)) (uses_in_declarations (program_of text tree)) first) in
+    record {
+      tree = again;
+      is_text = b.is_text;
+      same =
+          ap unplaced renamed ∙ seen_is (names_of text) (uses_of (words_of out)) again
+          ∙ ap₂ (λ us x. of_seen (names_of text) us x) uses b.seen_again ∙ sym (seen_is (names_of text) (uses_of (words_of text)) tree);
+    }
+
+-- What is printed of a program that some text spells, spells it too.
+pub spells_again : (p : s.Parsed) (printed : List ℕ) → printed ≡ spec.spelling p → SpellsAgain printed p
+unfolding SpellsAgain
+spells_again p printed e text small h short =
+    let same : spec.spelling (program_of text h.tree) ≡ printed = sym (spelling_unplaced (program_of text h.tree)) ∙ ap spec.spelling h.same ∙ spelling_unplaced p ∙ sym e in
+    let r = of_text text h.tree small h.is_text (subst (λ t. length t ≤ 1048576) (sym same) short) in
+    subst (λ t. SpellsProgram t p) same (record { tree = r.tree; is_text = r.is_text; same = r.same ∙ h.same })

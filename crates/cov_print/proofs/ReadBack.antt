@@ -1,0 +1,124 @@
+-- What is written of a tree is read back to it, places aside.
+use Rattle.std.proofs.Common.{◌≡◌, ℕ, ◌≤◌, List, [], length, map, Bool, true, false, codes, Ok, refl, sym, ap, subst, ◌∙◌, arith, None}
+use Rattle.cov_expr.specs.Names.{IsName}
+use Rattle.cov_expr.specs.declared.expr.TheConstants.{HOLE}
+use Rattle.cov_lex.specs.declared.token.Token as lexed
+use Rattle.cov_lex.specs.Lexing.{tokens_of, tokens_from}
+use Rattle.cov_grammar.specs.declared.token.Token.{Token}
+use Rattle.cov_grammar.specs.Trees.{Program}
+use Rattle.cov_grammar.specs.Grammar.{program}
+use Rattle.cov_grammar.specs.Spelling.{Is}
+use Rattle.cov_grammar.proofs.Senses.{OfShape, gather}
+use Rattle.cov_ast.specs.declared.parsed.NameUse.{NameUse}
+use Rattle.cov_parse.specs.Depth.{deep}
+use Rattle.cov_parse.specs.Limits.{in_program}
+use Rattle.cov_parse.specs.Words as words
+use Rattle.cov_parse.specs.Text.{words_of, names_of, IsText}
+use Rattle.cov_parse.specs.Trees.{parsed_of}
+use Rattle.cov_parse.proofs.ParseLaws.{lexes_so, words_are, names_are}
+use Rattle.cov_print.specs.Spelling as spec
+use Rattle.cov_print.proofs.Written.{Word}
+use Rattle.cov_print.proofs.Keeps.{Are, AreGood, AllFit, Kept}
+use Rattle.cov_print.proofs.Readings.{known, Show}
+use Rattle.cov_print.proofs.Leaves.{AreNames}
+use Rattle.cov_print.proofs.Named.{Every, every_at, AreDistinct, added, added_distinct, added_every, added_length, IsIn, added_all}
+use Rattle.cov_print.proofs.Source.{IsSound, sound_tokens}
+use Rattle.cov_print.proofs.SameNames.{name_bytes, names_added, all_names, spelled, good_words, own_names, name_leaves, written_names, leaves_few, are_words, tokens_few}
+use Rattle.cov_print.proofs.Declarations.{seen_program, program_words, program_kept}
+use Rattle.cov_print.proofs.Sizes.{fine, fine_none, program_fine, limits_same}
+use Rattle.cov_print.proofs.Programs.{program_, program_calm}
+
+-- The tokens of a text that was read, and what is written of its tree.
+module _ (text : List ℕ) (raw : List lexed.Token) (lexes : tokens_of text ≡ Ok raw) where
+  abbrev pub all : List (List ℕ)
+  all = words.names_of text raw
+
+  names_is : all ≡ added [] (name_bytes text raw)
+  names_is = names_added text [] raw
+
+  sound : Every (IsSound text) raw
+  sound = sound_tokens text raw lexes
+
+  in_all : Every (IsIn all) (name_bytes text raw)
+  in_all = subst (λ ns. Every (IsIn ns) (name_bytes text raw)) (sym names_is) (added_all [] (name_bytes text raw))
+
+  valid : AreNames all
+  valid x e = every_at IsName all (codes "_") (subst (Every IsName) (sym names_is) (added_every IsName [] (name_bytes text raw) tt (all_names text raw sound))) x e
+
+  distinct : AreDistinct all
+  distinct = subst AreDistinct (sym names_is) (added_distinct [] (name_bytes text raw) tt)
+
+  good : AreGood (known all) (words.words_of text raw)
+  good = good_words all text raw sound in_all
+
+  module _ (tree : Program) (is : Is program tree (words.words_of text raw)) (small : in_program tree ≡ None) (uses : List NameUse) (short : length (spec.spelling (parsed_of all uses tree)) ≤ 1048576) where
+    abbrev pub out : List ℕ
+    out = spec.spelling (parsed_of all uses tree)
+
+    abbrev written : List Word
+    written = program_words (known all) tree
+
+    keeps : Kept (known all) program (seen_program all) (seen_program all tree) written (words.words_of text raw)
+    keeps = program_kept (known all) all tree (words.words_of text raw) is
+
+    fit : AllFit (known all) written
+    fit = keeps.fit good
+
+    read : (ts : List lexed.Token) × (tokens_from 0 0 out ≡ Ok ts) × Show all out written ts
+    read = (program_ all valid uses tree).reads fit []
+
+    -- What the text that is written is read as.
+    pub record Back : Type 0 where
+      pub tree_again : Program
+      pub is_text : IsText program in_program out tree_again
+      pub names_again : names_of out ≡ all
+      pub seen_again : seen_program all tree_again ≡ seen_program all tree
+
+    module _ (ts : List lexed.Token) (tokens : tokens_of out ≡ Ok ts) (show : Show all out written ts) where
+      few : length all ≤ 1048576
+      few =
+          omega (arith, ap length names_is, added_length [] (name_bytes text raw), name_leaves all text raw, ap length keeps.same, leaves_few all out written ts show, tokens_few out ts tokens, short)
+
+      no_hole : known all HOLE ≡ false
+      no_hole = by (known all HOLE) refl
+        where
+          by : (b : Bool) → known all HOLE ≡ b → b ≡ false
+          by false e = refl
+          by true e = absurd (grind (arith, e, few))
+
+      bytes_same : name_bytes out ts ≡ name_bytes text raw
+      bytes_same = sym (written_names all out written ts fit show) ∙ ap (spelled all) (sym keeps.same) ∙ own_names all text no_hole raw sound in_all
+
+      names_same : words.names_of out ts ≡ all
+      names_same = names_added out [] ts ∙ ap (added []) bytes_same ∙ sym names_is
+
+      abbrev tokens_again : List Token
+      tokens_again = map (words.word_of out all) ts
+
+      are : Are written tokens_again
+      are = are_words all out distinct written ts fit show
+
+      words_same : words_of out ≡ tokens_again
+      words_same = words_are out ts tokens ∙ ap (λ ns. map (words.word_of out ns) ts) names_same
+
+      again : (v : Program) × OfShape program v tokens_again × (seen_program all v ≡ seen_program all tree)
+      again = keeps.spelt good tokens_again are
+
+      back : Back
+      back = record {
+        tree_again = again.0;
+        is_text = record {
+          tokens = record {
+            lexes = lexes_so out ts tokens;
+            shallow = ap (deep 0 0) words_same ∙ (program_calm (known all) all tree (sym (limits_same all tree) ∙ ap fine small)).calm tokens_again are;
+          };
+          spelled = subst (Is program again.0) (sym words_same) (gather program again.0 tokens_again again.1);
+          small = fine_none (in_program again.0) (limits_same all again.0 ∙ ap program_fine again.2 ∙ sym (limits_same all tree) ∙ ap fine small);
+        };
+        names_again = names_are out ts tokens ∙ names_same;
+        seen_again = again.2;
+      }
+
+    pub reads_back : Back
+    unfolding tokens_of
+    reads_back = back read.0 read.1 read.2

@@ -1,0 +1,18 @@
+-- What it means that a printed program is read back.
+use Rattle.std.specs.Prelude.{◌≡◌, ℕ, ◌≤◌, List, length}
+use Rattle.cov_ast.specs.Syntax.{Parsed}
+use Rattle.cov_grammar.specs.Trees.{Program}
+use Rattle.cov_grammar.specs.Grammar.{program}
+use Rattle.cov_parse.specs.Limits.{in_program}
+use Rattle.cov_parse.specs.Text.{IsText, program_of}
+use Rattle.cov_print.specs.Unplaced.{unplaced}
+
+-- A text spells a program, places aside: within the limits, by the tokens and the grammar of the language.
+pub record SpellsProgram (text : List ℕ) (p : Parsed) : Type 0 where
+  pub tree : Program
+  pub is_text : IsText program in_program text tree
+  pub same : unplaced (program_of text tree) ≡ unplaced p
+
+-- A text spells a program where any text does, unless it is longer than a text may be.
+unfoldable pub SpellsAgain : (printed : List ℕ) → Parsed → Type 0
+SpellsAgain printed p = (text : List ℕ) → length text ≤ 1048576 → SpellsProgram text p → length printed ≤ 1048576 → SpellsProgram printed p
