@@ -1,1 +1,7 @@
 mod Rows
+pub mod Turns
+pub mod Compose
+pub mod Firsts
+pub mod Marking
+pub mod Apart
+pub mod Decided

@@ -1,15 +1,20 @@
 -- Small programs whose runs are known, by computation, and facts that a wrong definition would break.
-use Rattle.std.proofs.Common.{◌≡◌, ℕ, zero, suc, ◌+◌, ◌<◌, IsTrue, List, [], ◌∷◌, length, Option, Some, None, refl, inl, inr, arith, if◌then◌else◌}
+use Rattle.std.proofs.Common.{◌≡◌, ℕ, zero, suc, IsTrue, List, [], ◌∷◌, Option, Some, None, refl, inl, inr, arith, if◌then◌else◌, ◌↔◌, true, false, ◌^◌, ◌<◌}
 use Rattle.cov_expr.specs.Term.{Term, const, var, bin, value, is_set}
-use Rattle.cov_expr.specs.Words.{IsMemory, IsSchedule}
+use Rattle.cov_expr.specs.Entailment.{Holds}
+use Rattle.cov_expr.specs.Words.{IsSchedule}
 use Rattle.cov_expr.specs.declared.expr.Op.TheVariants.{Add, Eq, Le}
-use Rattle.cov_ast.specs.Syntax.{low, high, when, Class, Var, Lock}
-use Rattle.cov_ast.specs.Declarations.{no_modes, assumes_hide, controls, is_control, is_plain_low, under}
+use Rattle.cov_ast.specs.Syntax.{low, high, when, Class, Var}
+use Rattle.cov_ast.specs.Declarations.{no_modes, assumes_hide, controls, is_control, is_plain_low, under, invariant_of}
 use Rattle.cov_ast.specs.Plain.{skip, assign, lock, unlock, branch, loop, Cmds, none, next, Plain, PlainThread}
-use Rattle.flow_model.specs.Source.{Item, Run, run, put, test, after, stayed, begin, items_of, step, first_place, Holders, holder}
+use Rattle.flow_model.specs.Source.{Item, Run, test, after, stayed, begin, items_of, step, first_place, Holders, holder, local}
 use Rattle.flow_model.specs.Holdings.{IsHiddenNow, IsStableNow, IsWritableNow}
 use Rattle.flow_model.specs.Agreement.{StatesAgree, MemoriesAgree, AreFitStarts, AreAlike, SameAt, IsLow}
 use Rattle.flow_model.specs.Secure.{IsSecure}
+use Rattle.flow_model.specs.Game.{Move, own, outside, opening, MeetsAssumptions, IsLawful, IsSecureThread}
+use Rattle.flow_model.specs.FirstDifference.{first_bad_start, first_difference}
+use Rattle.flow_model.specs.declared.agreement.Differ.TheVariants as differ
+use Rattle.flow_model.specs.declared.start.BadStart.TheVariants as bad
 
 abbrev variable : ℕ → ℕ → Class → Var
 variable letter at class = record { name = letter ∷ []; at = at; class = class }
@@ -184,6 +189,25 @@ empty_is_secure m1 m2 first second fit schedule entries =
       items = λ t. refl;
     })
 
+-- A control that isn't low makes a program without threads insecure: var h: high; var b: low when h == 0;
+abbrev uncontrolled : Plain
+uncontrolled = record { vars = variable 104 4 high ∷ variable 98 17 (when (bin Eq (var 0) (const 0))) ∷ []; locks = []; threads = [] }
+
+uncontrolled_low : (m2 : List ℕ) (x : ℕ) → IsLow uncontrolled (1 ∷ 0 ∷ []) x → SameAt (1 ∷ 0 ∷ []) m2 x
+uncontrolled_low m2 zero is_low = absurd (is_low refl)
+uncontrolled_low m2 (suc zero) is_low = absurd (is_low refl)
+uncontrolled_low m2 (suc (suc x)) is_low = absurd (is_low refl)
+
+uncontrolled-fit : AreFitStarts uncontrolled (1 ∷ 0 ∷ []) (2 ∷ 0 ∷ [])
+uncontrolled-fit = record { low = uncontrolled_low (2 ∷ 0 ∷ []); left = λ l h. cc; right = λ l h. cc }
+
+uncontrolled_is_insecure : ¬ IsSecure uncontrolled
+uncontrolled_is_insecure secure =
+    let agree = secure (1 ∷ 0 ∷ []) (2 ∷ 0 ∷ []) (record { complete = refl; words = (omega arith, (omega arith, tt)) })
+    (record { complete = refl; words = (omega arith, (omega arith, tt)) }) uncontrolled-fit [] tt in
+    let e : ◌≡◌ {A = ℕ} 1 2 = agree.memories.controls 0 refl in
+    cc
+
 -- The word of a pending test counts.
 tests_differ : ¬ AreAlike (test 0 1 none none ∷ []) (test 0 2 none none ∷ [])
 tests_differ h = cc
@@ -305,4 +329,188 @@ invariant_counts fit = fit.left 0 refl
 low_counts : ¬ AreFitStarts buffer (0 ∷ 0 ∷ []) (0 ∷ 1 ∷ [])
 low_counts fit =
     let e : ◌≡◌ {A = ℕ} 0 1 = fit.low 1 (λ h. cc) in
+    cc
+
+-- The first difference: a lock before each variable, and a hidden variable where it is a control.
+lock_first : first_difference buffer (0 ∷ 0 ∷ []) free (1 ∷ 0 ∷ []) held ≡ Some (differ.Lock 0)
+lock_first = refl
+
+control_while_hidden : first_difference buffer (0 ∷ 0 ∷ []) held (1 ∷ 5 ∷ []) held ≡ Some (differ.Var 0)
+control_while_hidden = refl
+
+hidden_by_a_lock : first_difference buffer (0 ∷ 0 ∷ []) held (0 ∷ 5 ∷ []) held ≡ None
+hidden_by_a_lock = refl
+
+low_while_free : first_difference buffer (0 ∷ 0 ∷ []) free (0 ∷ 5 ∷ []) free ≡ Some (differ.Var 1)
+low_while_free = refl
+
+high_while_free : first_difference buffer (1 ∷ 0 ∷ []) free (1 ∷ 5 ∷ []) free ≡ None
+high_while_free = refl
+
+-- What makes starts unfit: a variable before each lock, and a hidden variable too.
+fit_start : first_bad_start buffer (1 ∷ 0 ∷ []) (1 ∷ 5 ∷ []) ≡ None
+fit_start = refl
+
+low_start : first_bad_start buffer (0 ∷ 0 ∷ []) (0 ∷ 5 ∷ []) ≡ Some (bad.Var 1)
+low_start = refl
+
+broken_start : first_bad_start buffer (2 ∷ 0 ∷ []) (2 ∷ 0 ∷ []) ≡ Some (bad.Lock 0)
+broken_start = refl
+
+var_before_lock : first_bad_start buffer (1 ∷ 0 ∷ []) (2 ∷ 0 ∷ []) ≡ Some (bad.Var 0)
+var_before_lock = refl
+
+-- What a thread assumes hidden isn't compared, but by starts: var x: low; thread t assume hide x { }
+abbrev hiding : Plain
+hiding = record {
+  vars = variable 120 4 low ∷ [];
+  locks = [];
+  threads =
+      record {
+        name = 116 ∷ [];
+        modes = record { assume_nowrite = []; assume_hide = 0 ∷ []; guarantee_nowrite = []; guarantee_hide = [] };
+        body = none;
+      } ∷ [];
+}
+
+hidden_by_assumption : first_difference hiding (0 ∷ []) [] (1 ∷ []) [] ≡ None
+hidden_by_assumption = refl
+
+hidden_at_start : first_bad_start hiding (0 ∷ []) (1 ∷ []) ≡ Some (bad.Var 0)
+hidden_at_start = refl
+
+-- The game of one thread: the leak loses it, ---------------------------------------------------------------------
+
+leak_loses : ¬ IsSecureThread leak 0
+leak_loses secure =
+    let lost = secure (0 ∷ 0 ∷ []) (0 ∷ 1 ∷ []) (record { complete = refl; words = (omega arith, (omega arith, tt)) }) (record { complete = refl; words = (omega arith, (omega arith, tt)) })
+    leak-fit (own ∷ []) (tt, tt) in
+    let e : ◌≡◌ {A = ℕ} 0 1 = lost.memories.visible 0 (λ h. cc) not_hidden in
+    cc
+
+-- and so does a thread that writes what it guarantees not to: var x: low; thread t guarantee nowrite x { x := 1; }
+abbrev unkept : Plain
+unkept = record {
+  vars = variable 120 4 low ∷ [];
+  locks = [];
+  threads =
+      record {
+        name = 116 ∷ [];
+        modes = record { assume_nowrite = []; assume_hide = []; guarantee_nowrite = 0 ∷ []; guarantee_hide = [] };
+        body = next 43 (assign 0 (const 1)) none;
+      } ∷ [];
+}
+
+unkept-fit : AreFitStarts unkept (0 ∷ []) (0 ∷ [])
+unkept-fit = record { low = λ x low. refl; left = λ l h. cc; right = λ l h. cc }
+
+unkept_loses : ¬ IsSecureThread unkept 0
+unkept_loses secure =
+    let lost = secure (0 ∷ []) (0 ∷ []) (record { complete = refl; words = (omega arith, tt) }) (record { complete = refl; words = (omega arith, tt) }) unkept-fit
+    (own ∷ []) (tt, tt) in
+    let e : ◌≡◌ {A = ℕ} 1 0 = lost.left.kept 0 (λ w. let no : true ≡ false = w.allowed in cc) in
+    cc
+
+-- What another thread may do while it holds a lock: var k: high; var a: low; lock l nowrite k inv k == 0;
+-- thread t { a := k; } thread u { } -------------------------------------------------------------------------------
+
+abbrev guarded : Plain
+guarded = record {
+  vars = variable 107 4 high ∷ variable 97 17 low ∷ [];
+  locks = record { name = 108 ∷ []; at = 30; nowrite = 0 ∷ []; hide = []; inv = Some (bin Eq (var 0) (const 0)) } ∷ [];
+  threads = thread_named 116 (next 66 (assign 1 (var 0)) none) ∷ thread_named 117 none ∷ [];
+}
+
+abbrev held_by_other : Holders
+held_by_other = Some 1 ∷ []
+
+guarded_low : (m1 m2 : List ℕ) → SameAt m1 m2 1 → (x : ℕ) → IsLow guarded m1 x → SameAt m1 m2 x
+guarded_low m1 m2 e zero is_low = absurd (is_low refl)
+guarded_low m1 m2 e (suc zero) is_low = e
+guarded_low m1 m2 e (suc (suc x)) is_low = absurd (is_low refl)
+
+guarded_invariants : (m : List ℕ) → Holds (invariant_of guarded 0) m → (l : ℕ) → Holds (invariant_of guarded l) m
+guarded_invariants m h zero = h
+guarded_invariants m h (suc l) = λ e. cc
+
+guarded-fit : AreFitStarts guarded (0 ∷ 0 ∷ []) (0 ∷ 0 ∷ [])
+guarded-fit = record {
+  low = λ x low. refl;
+  left = guarded_invariants (0 ∷ 0 ∷ []) (λ e. cc);
+  right = guarded_invariants (0 ∷ 0 ∷ []) (λ e. cc);
+}
+
+-- no lock is the thread's, before or after
+not_own : (l : ℕ) → (holder held_by_other l ≡ Some 0) ↔ (holder free l ≡ Some 0)
+not_own zero = (λ e. cc, λ e. cc)
+not_own (suc l) = (λ e. cc, λ e. cc)
+
+free_alone : (m : List ℕ) (l : ℕ) → holder held_by_other l ≡ None → Holds (invariant_of guarded l) m
+free_alone m zero e = cc
+free_alone m (suc l) e = λ z. cc
+
+nothing_stable : (x : ℕ) → IsStableNow guarded free 0 x → ⊥
+nothing_stable x (inl h) = cc
+nothing_stable x (inr (zero, e, h)) = cc
+nothing_stable x (inr (suc l, e, h)) = cc
+
+guarded_control : (c : ℕ) → IsTrue (is_control guarded c) → SameAt (5 ∷ 0 ∷ []) (6 ∷ 0 ∷ []) c
+guarded_control c h = cc
+
+guarded_shown : ¬ IsHiddenNow guarded held_by_other 1
+guarded_shown (inl (zero, held, h)) = cc
+guarded_shown (inl (suc l, held, h)) = cc
+guarded_shown (inr (zero, h)) = cc
+guarded_shown (inr (suc zero, h)) = cc
+guarded_shown (inr (suc (suc t), h)) = cc
+
+-- the other takes the lock and gives k a secret
+abbrev other_writes : Move
+other_writes = outside (5 ∷ 0 ∷ []) held_by_other (6 ∷ 0 ∷ []) held_by_other
+
+leaves : (items : List Item) (k : ℕ) → k < 2 ^ 32 → MeetsAssumptions guarded 0 (local (0 ∷ 0 ∷ []) free items) (k ∷ 0 ∷ []) held_by_other
+leaves items k word = record {
+  memory = record { complete = refl; words = (word, (omega arith, tt)) };
+  holders = refl;
+  held = not_own;
+  stable = λ x h. absurd (nothing_stable x h);
+}
+
+other_is_lawful : IsLawful guarded 0 (opening guarded 0 (0 ∷ 0 ∷ []) (0 ∷ 0 ∷ [])) other_writes
+other_is_lawful = record {
+  left = leaves _ 5 (omega arith);
+  right = leaves _ 6 (omega arith);
+  memories = record {
+    holders = refl;
+    controls = λ c h. guarded_control c h;
+    visible = λ x low shown. guarded_low (5 ∷ 0 ∷ []) (6 ∷ 0 ∷ []) refl x low;
+  };
+  free_left = free_alone (5 ∷ 0 ∷ []);
+  free_right = free_alone (6 ∷ 0 ∷ []);
+}
+
+-- The invariant doesn't help a thread that doesn't hold the lock: it evaluates k then, and stores.
+guarded_loses : ¬ IsSecureThread guarded 0
+guarded_loses secure =
+    let lost = secure (0 ∷ 0 ∷ []) (0 ∷ 0 ∷ []) (record { complete = refl; words = (omega arith, (omega arith, tt)) }) (record { complete = refl; words = (omega arith, (omega arith, tt)) })
+    guarded-fit (own ∷ other_writes ∷ []) ((tt, other_is_lawful), tt) in
+    let e : ◌≡◌ {A = ℕ} 5 6 = lost.memories.visible 1 (λ h. cc) guarded_shown in
+    cc
+
+-- A variable that the thread assumes is left alone: var x: low; thread t assume nowrite x { }
+abbrev assuming : Plain
+assuming = record {
+  vars = variable 120 4 low ∷ [];
+  locks = [];
+  threads =
+      record {
+        name = 116 ∷ [];
+        modes = record { assume_nowrite = 0 ∷ []; assume_hide = []; guarantee_nowrite = []; guarantee_hide = [] };
+        body = none;
+      } ∷ [];
+}
+
+no_write_to_assumed : ¬ IsLawful assuming 0 (opening assuming 0 (0 ∷ []) (0 ∷ [])) (outside (1 ∷ []) [] (1 ∷ []) [])
+no_write_to_assumed lawful =
+    let e : ◌≡◌ {A = ℕ} 1 0 = lawful.left.stable 0 (inl refl) in
     cc
