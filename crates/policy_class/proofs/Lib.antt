@@ -1,1 +1,11 @@
 mod PolicyLaws
+mod PlacedLaws
+mod PositionLaws
+mod NameLaws
+mod PlaceLaws
+mod UseLaws
+mod Each
+mod Formed
+mod Bodies
+mod ResolvedLaws
+mod Rows

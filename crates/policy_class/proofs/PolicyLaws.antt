@@ -1,6 +1,5 @@
 -- Which variables are declared low, in a table.
-use Rattle.std.proofs.Common.{◌≡◌, ℕ, List, [], ◌∷◌, ◌++◌, Bool, length, map, get_or, drop, refl, sym, ap, ◌∙◌, ◌≤◌}
-use Rattle.std.specs.List.{range_with_len}
+use Rattle.std.proofs.Common.{◌≡◌, ℕ, List, [], ◌∷◌, ◌++◌, Bool, length, map, drop, refl, sym, ap, ◌∙◌, ◌≤◌}
 use Rattle.std.proofs.lemmas.List.{length-map, append-nil, drop_all}
 use Rattle.cov_ast.specs.Plain.{plain}
 use Rattle.cov_ast.specs.Tables.{table}

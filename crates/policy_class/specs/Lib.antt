@@ -1,2 +1,4 @@
 pub mod Policy
 pub mod Resolved
+pub mod DeclaredNames
+pub mod Places

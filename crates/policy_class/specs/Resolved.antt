@@ -1,6 +1,6 @@
 -- What the names of a text mean: the rules of names (W1, W2), and the program in which each use of a name is the place of
 -- the declaration with that name.
-use Rattle.std.specs.Prelude.{ℕ, ◌==◌, List, [], ◌∷◌, ◌++◌, map, length, get_or, Bool, not, if◌then◌else◌, Option, Some, None, option_map}
+use Rattle.std.specs.Prelude.{ℕ, ◌==◌, List, [], ◌∷◌, ◌++◌, map, get_or, Bool, not, if◌then◌else◌, option_map, Result, Ok, Err}
 use Rattle.std.specs.List.{list_any, position_or_len}
 use Rattle.std.specs.Str.{bytes_eq}
 use Rattle.cov_expr.specs.Term.{Term, const, var, neg, bin}
@@ -11,6 +11,7 @@ use Rattle.cov_ast.specs.Obligations.{Entry, declared_entry}
 use Rattle.cov_ast.specs.declared.parsed.NameUse.{NameUse}
 use Rattle.cov_ast.specs.declared.refusal.Rule.TheVariants.{W1, W2}
 use Rattle.cov_ast.specs.declared.refusal.Detail.TheVariants.{One}
+use Rattle.cov_ast.specs.declared.refusal.CheckFault.{CheckFault}
 
 -- Names --------------------------------------------------------------------------------------------------------
 
@@ -19,20 +20,29 @@ pub record Named : Type 0 where
   pub name : List ℕ
   pub at : ℕ
 
+abbrev pub var_named : Var → Named
+var_named v = record { name = v.name; at = v.at }
+
+abbrev pub lock_named : Lock → Named
+lock_named l = record { name = l.name; at = l.at }
+
+abbrev pub thread_named : Thread → Named
+thread_named t = record { name = t.name; at = t.at }
+
 -- the declarations in the order of the text
 abbrev pub declared_names : Parsed → List Named
-declared_names p =
-    map (λ v. record { name = v.name; at = v.at }) p.vars
-    ++ map (λ l. record { name = l.name; at = l.at }) p.locks
-    ++ map (λ t. record { name = t.name; at = t.at }) p.threads
+declared_names p = map var_named p.vars ++ map lock_named p.locks ++ map thread_named p.threads
 
 abbrev pub is_among : List (List ℕ) → List ℕ → Bool
 is_among names name = list_any (bytes_eq name) names
 
 -- W1: no name was declared before
+abbrev pub w1_entry : (before : List (List ℕ)) → Named → Entry
+w1_entry before n = declared_entry W1 n.at (One n.name) (not (is_among before n.name))
+
 abbrev pub w1_from : (before : List (List ℕ)) → List Named → List Entry
 w1_from before [] = []
-w1_from before (n ∷ ns) = declared_entry W1 n.at (One n.name) (not (is_among before n.name)) ∷ w1_from (before ++ n.name ∷ []) ns
+w1_from before (n ∷ ns) = w1_entry before n ∷ w1_from (before ++ n.name ∷ []) ns
 
 -- the text of a name, by its number
 abbrev pub text_of : Parsed → ℕ → List ℕ
@@ -53,6 +63,11 @@ use_entry p u = declared_entry W2 u.at (One (text_of p u.name)) (is_declared p u
 
 abbrev pub name_obligations : Parsed → List Entry
 name_obligations p = w1_from [] (declared_names p) ++ map (use_entry p) p.uses
+
+-- what a call answers about obligations, without the value that it gives where all hold
+abbrev pub without_value : {X : Type 0} → Result X CheckFault → Result (Unit {0}) CheckFault
+without_value (Ok x) = Ok tt
+without_value (Err fault) = Err fault
 
 -- Trees by place -----------------------------------------------------------------------------------------------
 

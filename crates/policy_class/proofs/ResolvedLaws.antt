@@ -1,0 +1,95 @@
+-- What two rules of names say of the program that a text stands for.
+use Rattle.std.proofs.Common.{◌≡◌, ℕ, ◌<◌, ◌≤◌, List, [], ◌∷◌, ◌++◌, Bool, true, false, map, length, cond, refl, subst, sym, ap, ◌∙◌, arith, None, Result, Ok, Err, All}
+use Rattle.std.specs.Prelude.{IsErrAnd}
+use Rattle.std.specs.Str.{bytes_eq}
+use Rattle.std.proofs.lemmas.List.{length-map}
+use Rattle.std.proofs.lemmas.List.Elements.{All-cons, All-nil}
+use Rattle.cov_expr.specs.declared.expr.TheConstants.{HOLE}
+use Rattle.cov_ast.specs.declared.parsed.NameUse.{NameUse}
+use Rattle.cov_ast.specs.declared.refusal.CheckFault.{CheckFault}
+use Rattle.cov_ast.specs.Syntax.{Parsed}
+use Rattle.cov_ast.specs.Obligations.{Entry, first_false, Decides}
+use Rattle.cov_ast.specs.Ready.{IsReady, Use, use_of, uses_in_declarations}
+use Rattle.cov_ast.specs.WellFormed.{IsWellFormed, IsWithinLimits, are_distinct, names_of}
+use Rattle.cov_ast.proofs.ObligationLaws.{append_refused, append_decided}
+use Rattle.policy_class.specs.DeclaredNames.{IsTableOf}
+use Rattle.policy_class.specs.Resolved.{is_among, is_declared, use_entry, without_value, var_place, lock_place, var_names, lock_names, text_of, placed_variable, placed_lock, placed_thread, resolved}
+use Rattle.policy_class.proofs.NameLaws.{head_holds}
+use Rattle.policy_class.proofs.PositionLaws.{present}
+use Rattle.policy_class.proofs.Each.{Each, each_listed}
+use Rattle.policy_class.proofs.Formed.{ids_placed}
+use Rattle.policy_class.proofs.Bodies.{bodies_fine}
+
+-- Uses ---------------------------------------------------------------------------------------------------------
+
+module _ (p : Parsed) where
+  vars : ℕ
+  vars = length (map (placed_variable (var_place p) (lock_place p)) p.vars)
+
+  locks : ℕ
+  locks = length (map (placed_lock (var_place p) (lock_place p)) p.locks)
+
+  abbrev IsPlacedIn : ℕ → ℕ → Use → Type 0
+  IsPlacedIn m k u = cond u.lock (lock_place p u.name) (var_place p u.name) < cond u.lock k m
+
+  -- a use that is declared has its place among the declarations
+  declared_placed : (u : NameUse) → is_declared p u ≡ true → IsPlacedIn vars locks (use_of u)
+  unfolding vars locks
+  declared_placed u h = go u.lock h
+    where
+      go : (b : Bool) → is_among (cond b (lock_names p) (var_names p)) (text_of p u.name) ≡ true
+          → cond b (lock_place p u.name) (var_place p u.name)
+          < cond b (length (map (placed_lock (var_place p) (lock_place p)) p.locks)) (length (map (placed_variable (var_place p) (lock_place p)) p.vars))
+      go true k = omega (arith, present (bytes_eq (text_of p u.name)) (lock_names p) k, length-map p.locks (λ l. l.name), length-map p.locks (placed_lock (var_place p) (lock_place p)))
+      go false k = omega (arith, present (bytes_eq (text_of p u.name)) (var_names p) k, length-map p.vars (λ v. v.name), length-map p.vars (placed_variable (var_place p) (lock_place p)))
+
+  all_placed : (us : List NameUse) → first_false (map (use_entry p) us) ≡ None → Each (IsPlacedIn vars locks) (map use_of us)
+  all_placed [] h = tt
+  all_placed (u ∷ us) h =
+      let parts = head_holds (use_entry p u) (map (use_entry p) us) h in
+      (declared_placed u parts.0, all_placed us parts.1)
+
+  -- Names and limits -------------------------------------------------------------------------------------------
+
+  over : {X Y : Type 0} (f : Y → List ℕ) (h : X → List ℕ) (g : X → Y) → ((x : X) → f (g x) ≡ h x) → (xs : List X) → map f (map g xs) ≡ map h xs
+  over f h g same [] = refl
+  over f h g same (x ∷ xs) = λ i. same x i ∷ over f h g same xs i
+
+  names_same : names_of (resolved p).vars (resolved p).locks (resolved p).threads ≡ names_of p.vars p.locks p.threads
+  names_same = λ i.
+      over (λ v. v.name) (λ v. v.name) (placed_variable (var_place p) (lock_place p)) (λ v. refl) p.vars i
+      ++ over (λ l. l.name) (λ l. l.name) (placed_lock (var_place p) (lock_place p)) (λ l. refl) p.locks i
+      ++ over (λ t. t.name) (λ t. t.name) (placed_thread (var_place p) (lock_place p)) (λ t. refl) p.threads i
+
+  limits_same : IsWithinLimits p.vars p.locks p.threads → IsWithinLimits (resolved p).vars (resolved p).locks (resolved p).threads
+  limits_same h = record {
+    variables = subst (λ n. n ≤ 256) (sym (length-map p.vars (placed_variable (var_place p) (lock_place p)))) h.variables;
+    declared_locks = subst (λ n. n ≤ 64) (sym (length-map p.locks (placed_lock (var_place p) (lock_place p)))) h.declared_locks;
+    declared_threads = subst (λ n. n ≤ 16) (sym (length-map p.threads (placed_thread (var_place p) (lock_place p)))) h.declared_threads;
+  }
+
+  -- where the names are in order, the program is well formed
+  pub resolved_formed : (table : List (List ℕ)) → IsReady p → length p.names ≤ HOLE → IsTableOf p table → first_false (map (use_entry p) p.uses) ≡ None
+      → IsWellFormed (resolved p)
+  unfolding vars locks
+  resolved_formed table ready few t declared = record {
+    ids =
+        ids_placed (length p.names) few vars locks (var_place p) (lock_place p) p.vars p.locks p.threads ready.ids
+        (each_listed (IsPlacedIn vars locks) (uses_in_declarations p) (map use_of p.uses) ready.uses (all_placed p.uses declared));
+    names_differ = ap (are_distinct bytes_eq) (names_same ∙ sym t.names) ∙ t.differ;
+    limits = limits_same ready.limits;
+    bodies = bodies_fine (var_place p) (lock_place p) p.threads ready.bodies;
+  }
+
+-- Answers ------------------------------------------------------------------------------------------------------
+
+-- what a call passes on of the fault of another, of the first obligations and of the rest
+pub first_refused : {X : Type 0} (a b : List Entry) (fault : CheckFault) (r : Result X CheckFault) → IsErrAnd r (λ f. f ≡ fault) → Decides a (Err fault)
+    → Decides (a ++ b) (without_value r)
+first_refused a b fault (Ok x) e h = absurd e
+first_refused a b fault (Err f) e h = append_refused a b f (subst (λ g. Decides a (Err g)) (sym e) h)
+
+pub rest_refused : {X : Type 0} (a b : List Entry) (fault : CheckFault) (r : Result X CheckFault) → IsErrAnd r (λ f. f ≡ fault) → first_false a ≡ None
+    → Decides b (Err fault) → Decides (a ++ b) (without_value r)
+rest_refused a b fault (Ok x) e held h = absurd e
+rest_refused a b fault (Err f) e held h = append_decided a b (Err f) held (subst (λ g. Decides b (Err g)) (sym e) h)

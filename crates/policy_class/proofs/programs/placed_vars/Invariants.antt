@@ -1,0 +1,10 @@
+use Rattle.std.proofs.Common.{◌≡◌, ◌++◌, map, drop}
+use Rattle.cov_ast.specs.View as view
+use Rattle.policy_class.specs.Places.{var_in, lock_in}
+use Rattle.policy_class.specs.Resolved as spec
+use Rattle.policy_class.proofs.programs.placed_vars.Given as goal
+
+abbrev pub invariant-loop-var : goal.invariant-loop-var
+invariant-loop-var l =
+    map view.var l.made ++ map (spec.placed_variable (var_in l.places) (lock_in l.places)) (map view.var (drop l.var-index l.vars))
+    ≡ map (spec.placed_variable (var_in l.places) (lock_in l.places)) (map view.var l.vars)
