@@ -26,6 +26,9 @@ cert-Cases i c d = ap cert (sym (trees.rolls-Cases i c d)) ∙ fold-roll-Cert Ce
 pub cert-Split : (e c d : _) → cert (trees.Split e c d) ≡ by.split (term e) (cert c.value) (cert d.value)
 cert-Split e c d = ap cert (sym (trees.rolls-Split e c d)) ∙ fold-roll-Cert Cert cert_step _
 
+pub cert-Have : (e c d : _) → cert (trees.Have e c d) ≡ by.have (term e) (cert c.value) (cert d.value)
+cert-Have e c d = ap cert (sym (trees.rolls-Have e c d)) ∙ fold-roll-Cert Cert cert_step _
+
 in_child_free : (n : ℕ) (x : Option (List ℕ)) → in_child n x ≡ None → x ≡ None
 in_child_free n None h = refl
 in_child_free n (Some p) h = let c : ◌≡◌ {A = Option (List ℕ)} (Some (n ∷ p)) None = h in cc
@@ -91,6 +94,14 @@ module _ (given : List Expr) where
       → Finds before after (first_bad (hypotheses given before) goal (by.split e c d)) (Err s)
   split_first before after goal e c d s first =
       first_finds before after (first_bad (hypotheses given before ++ e ∷ []) goal c) (first_bad (hypotheses given before ++ neg e ∷ []) goal d) s first
+
+  pub have_finds : (before mid after : Walk) (goal e : Term) (c d : Cert) (u : Unit {0}) (r : Result (Unit {0}) Stop)
+      → Finds before mid (in_child 1 (first_bad (hypotheses given before) e c)) (Ok u)
+      → Finds mid after (in_child 2 (first_bad (hypotheses given mid ++ e ∷ []) goal d)) r
+      → Finds before after (first_bad (hypotheses given before) goal (by.have e c d)) r
+  have_finds before mid after goal e c d u r first second =
+      second_finds before mid after (first_bad (hypotheses given before) e c) (first_bad (hypotheses given mid ++ e ∷ []) goal d) (first_bad (hypotheses given before ++ e ∷ []) goal d) u r first
+      (ap (λ hyps. first_bad (hyps ++ e ∷ []) goal d) (hypotheses_kept before mid (in_child 1 (first_bad (hypotheses given before) e c)) u first)) second
 
 -- what is found is handed on
 pub handed_on : (before after : Walk) (bad : Option (List ℕ)) (s : Stop) (r : Result (Unit {0}) Stop)

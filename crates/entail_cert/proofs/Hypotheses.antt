@@ -1,7 +1,7 @@
 -- A hypothesis by its number, where hypotheses stand in two lists.
-use Rattle.std.proofs.Common.{◌≡◌, ℕ, zero, suc, ◌-◌, ◌<◌, ◌≤◌, List, [], ◌∷◌, true, false, ◌++◌, length, map, get_or, slice_get, Option, Some, None, option_map, IfSome, IsSome, MatchOption, refl, sym, ◌∙◌, ap, arith}
+use Rattle.std.proofs.Common.{◌≡◌, ℕ, zero, suc, ◌-◌, ◌<◌, ◌≤◌, List, [], ◌∷◌, true, false, ◌++◌, length, map, get_or, slice_get, Option, Some, None, option_map, IfSome, IsSome, refl, sym, ◌∙◌, ap, arith}
 use Rattle.std.proofs.lemmas.List.{length-map}
-use Rattle.std.proofs.lemmas.Option.{slice_get-map, slice_get_read, slice_get_past}
+use Rattle.std.proofs.lemmas.Option.{slice_get-map, slice_get_read}
 use Rattle.entail_cert.specs.Axioms.{numbered}
 
 module _ {A : Type 0} where
@@ -31,17 +31,12 @@ module _ {A B C : Type 0} (now : B → A) (v : A → C) (given : List A) where
       ∙ slice_get-map v given place
       ∙ ap (λ o. option_map v o) found)
 
-  pub hypothesis_added : (Q : B → Type 0) (before : List C) (number place at : ℕ) (o : Option B) → 1 ≤ number → place ≡ number - 1 → length before ≤ place → at ≡ place - length before
-      → IfSome o (λ x. now x ≡ get_or given at (now x)) → MatchOption o (length given ≤ at) (λ x. (at < length given) × Q x)
-      → option_map (λ x. v (now x)) o ≡ numbered (before ++ map v given) number
-  hypothesis_added Q before number place at None m e h k is past =
-      sym (numbered-place (before ++ map v given) number place m e
-      ∙ slice_get-back before (map v given) place at h k
-      ∙ slice_get-map v given at
-      ∙ ap (λ o. option_map v o) (slice_get_past given at past))
-  hypothesis_added Q before number place at (Some x) m e h k is within =
-      let found : slice_get given at ≡ Some (now x) = slice_get_read given (length given) at (now x) refl within.0 is in
-      sym (numbered-place (before ++ map v given) number place m e
-      ∙ slice_get-back before (map v given) place at h k
-      ∙ slice_get-map v given at
-      ∙ ap (λ o. option_map v o) found)
+module _ {C : Type 0} where
+  pub numbered_back : (before after : List C) (number place at : ℕ) → 1 ≤ number → place ≡ number - 1 → length before ≤ place → at ≡ place - length before
+      → numbered (before ++ after) number ≡ slice_get after at
+  numbered_back before after number place at m e h k = numbered-place (before ++ after) number place m e ∙ slice_get-back before after place at h k
+
+-- what stands in an option, where its view is known
+pub some_of : {A B : Type 0} (f : A → B) (o : Option A) (n : Option B) → option_map f o ≡ n → IfSome o (λ x. n ≡ Some (f x))
+some_of f None n h = tt
+some_of f (Some x) n h = sym h

@@ -7,16 +7,18 @@ use Rattle.cov_expr.specs.View.{term}
 use Rattle.cov_expr.specs.Words.{HasWords}
 use Rattle.cov_ast.specs.Syntax.{Cert}
 use Rattle.cov_ast.specs.Syntax as by
+use Rattle.entail_cert.specs.declared.fact.Fact.{Fact}
 use Rattle.entail_cert.specs.declared.walk.Walk.{Walk}
 use Rattle.entail_cert.specs.declared.walk.Stop.{Stop}
 use Rattle.entail_cert.specs.declared.walk.Stop.TheVariants as stop
 use Rattle.cov_expr.specs.Trees.{same}
 use Rattle.entail_cert.specs.Axioms.{axiom_for}
+use Rattle.entail_cert.specs.Facts.{fact}
 use Rattle.entail_cert.specs.Valid.{filled}
 
 -- the given hypotheses, and those that the walk has added
 abbrev pub hypotheses : List Expr → Walk → List Term
-hypotheses given walk = map term given ++ map term walk.added
+hypotheses given walk = map term given ++ map fact walk.added
 
 -- the operands that there are, or a condition that fails
 abbrev pub Parts : Option (Term × Term) → Result (Bor Expr × Bor Expr) Stop → Type 0
@@ -24,11 +26,11 @@ Parts parts (Ok found) = parts ≡ Some (term found.0.now, term found.1.now)
 Parts parts (Err stop.Bad) = parts ≡ None
 Parts parts (Err stop.NoMemory) = Unit {0}
 
--- the operands that there are, copied, or a condition that fails
-abbrev pub Copies : Option (Term × Term) → Result (Expr × Expr) Stop → Type 0
-Copies parts (Ok copies) = parts ≡ Some (term copies.0, term copies.1)
-Copies parts (Err stop.Bad) = parts ≡ None
-Copies parts (Err stop.NoMemory) = Unit {0}
+-- the operands that there are, as hypotheses, or a condition that fails
+abbrev pub Halves : Option (Term × Term) → Result (Fact × Fact) Stop → Type 0
+Halves parts (Ok halves) = parts ≡ Some (fact halves.0, fact halves.1)
+Halves parts (Err stop.Bad) = parts ≡ None
+Halves parts (Err stop.NoMemory) = Unit {0}
 
 -- what a goal becomes where it has a form, or a condition that fails
 abbrev pub Replaces : Bool → Term → Result Expr Stop → Type 0
@@ -47,7 +49,7 @@ Rewrites (Some sides) forward t goal result = RewritesSides forward t goal sides
 -- The walk has looked for the first node that fails below the place where it stood. Where there is none it stands
 -- there again, with the same hypotheses. Where there is one it stands at that node.
 abbrev pub Finds : Walk → Walk → Option (List ℕ) → Result (Unit {0}) Stop → Type 0
-Finds before after bad (Ok _) = (bad ≡ None) × ((map term after.added ≡ map term before.added) × (after.path ≡ before.path))
+Finds before after bad (Ok _) = (bad ≡ None) × ((map fact after.added ≡ map fact before.added) × (after.path ≡ before.path))
 Finds before after bad (Err stop.Bad) = option_map (λ path. before.path ++ path) bad ≡ Some after.path
 Finds before after bad (Err stop.NoMemory) = Unit {0}
 

@@ -7,6 +7,7 @@
 #![tactic(auto)]
 
 mod check;
+mod fact;
 mod instance;
 mod known;
 mod laws;

@@ -1,4 +1,4 @@
-ghost use Rattle.std.specs.Prelude.{◌≡◌, [], ◌∷◌, ◌++◌, ◌||◌, None, Some, Ok, Err, IfOk, MatchBool, OnOk, map, option_map};
+ghost use Rattle.std.specs.Prelude.{◌≡◌, ◌≤◌, ◌-◌, [], ◌∷◌, ◌++◌, ◌||◌, None, Some, Ok, Err, IfOk, IfSome, MatchBool, MatchOption, OnOk, map, option_map, slice_get};
 ghost use Rattle.cov_expr.specs.declared.expr.Op.TheVariants.{Eq};
 ghost use Rattle.cov_expr.specs.Term.{const, neg};
 ghost use Rattle.cov_expr.specs.Trees as tree;
@@ -7,12 +7,14 @@ ghost use Rattle.cov_ast.specs.Syntax as by;
 ghost use Rattle.cov_ast.specs.View as view;
 ghost use Rattle.entail_cert.specs.declared.walk.Stop.TheVariants as stops;
 ghost use Rattle.entail_cert.specs.Axioms.{numbered};
+ghost use Rattle.entail_cert.specs.Facts.{fact};
 ghost use Rattle.entail_cert.specs.Valid.{filled, first_bad, in_child, is_negation, is_plain, is_some_and, two};
 ghost use Rattle.entail_cert.specs.Valid as spec;
-ghost use Rattle.entail_cert.specs.Walks.{Copies, Finds, Parts, InstancesHaveWords, Replaces, Rewrites, hypotheses};
+ghost use Rattle.entail_cert.specs.Walks.{Halves, Finds, Parts, InstancesHaveWords, Replaces, Rewrites, hypotheses};
 
+use crate::fact::Fact;
 use crate::instance::axiom_for;
-use crate::known::{has_false, knows_each};
+use crate::known::{has_false, has_false_fact, knows_each};
 use crate::parts::{is_false, is_filled, is_negation_of, is_reflexive, is_true, negated, operands};
 use cov_ast::Cert;
 use cov_expr::{Expr, HOLE, List, NoMemory, Op, boxed, copy, same, subst};
@@ -21,9 +23,9 @@ use std::alloc::Global;
 /// Where a walk over a certificate stands: the hypotheses that it has added to the given ones, and the numbers of the children that
 /// lead from the root to its node.
 #[derive(Drop)]
-pub struct Walk {
+pub struct Walk<'a> {
     pub alloc: Global,
-    pub added: List<Expr>,
+    pub added: List<Fact<'a>>,
     pub path: List<u8>,
 }
 
@@ -47,10 +49,10 @@ impl From<NoMemory> for Stop {
 }
 
 /// The negation of a copy.
-fn negation_of(alloc: Global, e: &Expr) -> Result<Expr, NoMemory>
-    ensures { IfOk result (λ made. term made ≡ neg (term e.now)) }
+fn negation_of<'a>(alloc: Global, e: &Expr) -> Result<Fact<'a>, NoMemory>
+    ensures { IfOk result (λ made. fact made ≡ neg (term e.now)) }
 {
-    Ok(Expr::Not(boxed(alloc, copy(alloc, e)?)?))
+    Ok(Fact::Made(Expr::Not(boxed(alloc, copy(alloc, e)?)?)))
 }
 
 /// The operands, where the expression has this operator.
@@ -58,6 +60,13 @@ fn parts<'a>(op: Op, e: &'a Expr) -> Result<(&'a Expr, &'a Expr), Stop>
     ensures { Parts (spec.operands op (term e.now)) result }
 {
     operands(op, e).ok_or(Stop::Bad)
+}
+
+/// The place, counted from 0, of what has this number, counted from 1.
+fn place_of(number: u32) -> Option<usize>
+    ensures { MatchOption result (number ≡ 0) (λ place. (1 ≤ number) × (place ≡ number - 1)) }
+{
+    (number as usize).checked_sub(1)
 }
 
 /// Goes on where a condition holds.
@@ -83,16 +92,53 @@ fn replaced(
     Ok(subst(alloc, template, HOLE, to)?)
 }
 
-impl Walk {
+/// The operands of a lent expression that has this operator.
+fn lent_halves<'a>(op: Op, e: &'a Expr) -> Result<(Fact<'a>, Fact<'a>), Stop>
+    ensures { Halves (spec.operands op (term e.now)) result }
+{
+    let (a, b) = parts(op, e)?;
+    Ok((Fact::Lent(a), Fact::Lent(b)))
+}
+
+impl<'a> Walk<'a> {
+    /// The added hypothesis at a place, counted from 0.
+    fn added_at(&self, place: usize) -> Option<&Expr>
+        ensures { option_map (λ e. term e.now) result ≡ slice_get (map fact self.now.added) place }
+    {
+        Some(self.added.as_slice().get(place)?.expr())
+    }
+
     /// The hypothesis of a number, counted from 1.
-    fn hypothesis<'a>(&'a self, given: &'a [Expr], number: u32) -> Option<&'a Expr>
+    fn hypothesis<'h>(&'h self, given: &'h [Expr], number: u32) -> Option<&'h Expr>
         ensures { option_map (λ e. term e.now) result ≡ numbered (hypotheses given.now self.now) number }
     {
-        let place = (number as usize).checked_sub(1)?;
+        let place = place_of(number)?;
         if place < given.len() {
             given.get(place)
         } else {
-            self.added.as_slice().get(place - given.len())
+            self.added_at(place - given.len())
+        }
+    }
+
+    /// The added hypothesis at a place, where it was lent to the walk.
+    fn lent_at(&self, place: usize) -> Option<&'a Expr>
+        ensures { IfSome result (λ e. slice_get (map fact self.now.added) place ≡ Some (term e.now)) }
+    {
+        match self.added.as_slice().get(place)? {
+            Fact::Lent(e) => Some(e),
+            Fact::Made(_) => None,
+        }
+    }
+
+    /// The hypothesis of a number, where it was lent to the walk.
+    fn lent(&self, given: &'a [Expr], number: u32) -> Option<&'a Expr>
+        ensures { IfSome result (λ e. numbered (hypotheses given.now self.now) number ≡ Some (term e.now)) }
+    {
+        let place = place_of(number)?;
+        if place < given.len() {
+            given.get(place)
+        } else {
+            self.lent_at(place - given.len())
         }
     }
 
@@ -101,7 +147,7 @@ impl Walk {
         ensures { result ≡ is_plain (hypotheses given.now self.now) (term goal.now) }
     {
         has_false(given)
-            || has_false(self.added.as_slice())
+            || has_false_fact(self.added.as_slice())
             || knows_each(goal, given, self.added.as_slice())
     }
 
@@ -139,23 +185,36 @@ impl Walk {
     }
 
     /// The operands of a hypothesis that has this operator.
-    fn operands_of<'a>(
-        &'a self,
-        given: &'a [Expr],
+    fn operands_of<'h>(
+        &'h self,
+        given: &'h [Expr],
         number: u32,
         op: Op,
-    ) -> Option<(&'a Expr, &'a Expr)>
+    ) -> Option<(&'h Expr, &'h Expr)>
         ensures { option_map (λ p. (term p.0.now, term p.1.now)) result ≡ spec.operands_of op (numbered (hypotheses given.now self.now) number) }
     {
         operands(op, self.hypothesis(given, number)?)
     }
 
+    /// The operands of a hypothesis that has this operator. They are copied where the walk made the hypothesis.
+    fn halves(&self, given: &'a [Expr], number: u32, op: Op) -> Result<(Fact<'a>, Fact<'a>), Stop>
+        ensures { Halves (spec.operands_of op (numbered (hypotheses given.now self.now) number)) result }
+    {
+        match self.lent(given, number) {
+            Some(e) => lent_halves(op, e),
+            None => self.copies(given, number, op),
+        }
+    }
+
     /// Copies of the operands of a hypothesis that has this operator.
-    fn copies(&self, given: &[Expr], number: u32, op: Op) -> Result<(Expr, Expr), Stop>
-        ensures { Copies (spec.operands_of op (numbered (hypotheses given.now self.now) number)) result }
+    fn copies(&self, given: &[Expr], number: u32, op: Op) -> Result<(Fact<'a>, Fact<'a>), Stop>
+        ensures { Halves (spec.operands_of op (numbered (hypotheses given.now self.now) number)) result }
     {
         let (a, b) = self.operands_of(given, number, op).ok_or(Stop::Bad)?;
-        Ok((copy(self.alloc, a)?, copy(self.alloc, b)?))
+        Ok((
+            Fact::Made(copy(self.alloc, a)?),
+            Fact::Made(copy(self.alloc, b)?),
+        ))
     }
 
     /// The goal after a replacement of the sides of a hypothesis, from left to right or from right to left.
@@ -179,7 +238,7 @@ impl Walk {
 
     /// Looks for the first node that fails below a certificate, its own node first.
     #[cycle(check)]
-    pub fn node(&mut self, cert: &Cert, given: &[Expr], goal: &Expr) -> Result<(), Stop>
+    pub fn node(&mut self, cert: &'a Cert, given: &'a [Expr], goal: &Expr) -> Result<(), Stop>
         ensures finds { Finds self.old self.new (first_bad (hypotheses given.now self.old) (term goal.now) (view.cert cert.now)) result }
         ensures words { OnOk result (InstancesHaveWords (view.cert cert.now)) }
     {
@@ -197,17 +256,17 @@ impl Walk {
             Cert::Right(c) => self.right(c, given, goal),
             Cert::Unpack(i, c) => self.unpack(c, *i, given, goal),
             Cert::Cases(i, c, d) => {
-                let (a, b) = self.copies(given, *i, Op::Either)?;
+                let (a, b) = self.halves(given, *i, Op::Either)?;
                 self.under(c, 1, a, given, goal)?;
                 self.under(d, 2, b, given, goal)
             }
             Cert::Split(e, c, d) => {
-                self.under(c, 1, copy(self.alloc, e)?, given, goal)?;
+                self.under(c, 1, Fact::Lent(e), given, goal)?;
                 self.under(d, 2, negation_of(self.alloc, e)?, given, goal)
             }
             Cert::Have(e, c, d) => {
                 self.child(c, 1, given, e)?;
-                self.under(d, 2, copy(self.alloc, e)?, given, goal)
+                self.under(d, 2, Fact::Lent(e), given, goal)
             }
             Cert::Absurd(i, j) => accept(self.is_contradiction(given, *i, *j)),
             Cert::Not(c) => self.negation(c, given, goal),
@@ -221,7 +280,7 @@ impl Walk {
     }
 
     #[cycle(check)]
-    fn left(&mut self, c: &Cert, given: &[Expr], goal: &Expr) -> Result<(), Stop>
+    fn left(&mut self, c: &'a Cert, given: &'a [Expr], goal: &Expr) -> Result<(), Stop>
         ensures finds { Finds self.old self.new (first_bad (hypotheses given.now self.old) (term goal.now) (by.left (view.cert c.now))) result }
         ensures words { OnOk result (InstancesHaveWords (view.cert c.now)) }
     {
@@ -230,7 +289,7 @@ impl Walk {
     }
 
     #[cycle(check)]
-    fn right(&mut self, c: &Cert, given: &[Expr], goal: &Expr) -> Result<(), Stop>
+    fn right(&mut self, c: &'a Cert, given: &'a [Expr], goal: &Expr) -> Result<(), Stop>
         ensures finds { Finds self.old self.new (first_bad (hypotheses given.now self.old) (term goal.now) (by.right (view.cert c.now))) result }
         ensures words { OnOk result (InstancesHaveWords (view.cert c.now)) }
     {
@@ -239,11 +298,11 @@ impl Walk {
     }
 
     #[cycle(check)]
-    fn unpack(&mut self, c: &Cert, i: u32, given: &[Expr], goal: &Expr) -> Result<(), Stop>
+    fn unpack(&mut self, c: &'a Cert, i: u32, given: &'a [Expr], goal: &Expr) -> Result<(), Stop>
         ensures finds { Finds self.old self.new (first_bad (hypotheses given.now self.old) (term goal.now) (by.unpack i (view.cert c.now))) result }
         ensures words { OnOk result (InstancesHaveWords (view.cert c.now)) }
     {
-        let (a, b) = self.copies(given, i, Op::Both)?;
+        let (a, b) = self.halves(given, i, Op::Both)?;
         self.added.push(a)?;
         self.under(c, 1, b, given, goal)?;
         self.added.pop();
@@ -251,17 +310,17 @@ impl Walk {
     }
 
     #[cycle(check)]
-    fn negation(&mut self, c: &Cert, given: &[Expr], goal: &Expr) -> Result<(), Stop>
+    fn negation(&mut self, c: &'a Cert, given: &'a [Expr], goal: &Expr) -> Result<(), Stop>
         ensures finds { Finds self.old self.new (first_bad (hypotheses given.now self.old) (term goal.now) (by.negation (view.cert c.now))) result }
         ensures words { OnOk result (InstancesHaveWords (view.cert c.now)) }
     {
         let a = negated(goal).ok_or(Stop::Bad)?;
-        let fact = copy(self.alloc, a)?;
+        let fact = Fact::Made(copy(self.alloc, a)?);
         self.under(c, 1, fact, given, &Expr::Const(0))
     }
 
     #[cycle(check)]
-    fn contra(&mut self, c: &Cert, given: &[Expr], goal: &Expr) -> Result<(), Stop>
+    fn contra(&mut self, c: &'a Cert, given: &'a [Expr], goal: &Expr) -> Result<(), Stop>
         ensures finds { Finds self.old self.new (first_bad (hypotheses given.now self.old) (term goal.now) (by.contra (view.cert c.now))) result }
         ensures words { OnOk result (InstancesHaveWords (view.cert c.now)) }
     {
@@ -272,10 +331,10 @@ impl Walk {
     #[cycle(check)]
     fn forward(
         &mut self,
-        c: &Cert,
+        c: &'a Cert,
         i: u32,
         t: &Expr,
-        given: &[Expr],
+        given: &'a [Expr],
         goal: &Expr,
     ) -> Result<(), Stop>
         ensures finds { Finds self.old self.new (first_bad (hypotheses given.now self.old) (term goal.now) (by.fwd i (term t.now) (view.cert c.now))) result }
@@ -288,10 +347,10 @@ impl Walk {
     #[cycle(check)]
     fn backward(
         &mut self,
-        c: &Cert,
+        c: &'a Cert,
         i: u32,
         t: &Expr,
-        given: &[Expr],
+        given: &'a [Expr],
         goal: &Expr,
     ) -> Result<(), Stop>
         ensures finds { Finds self.old self.new (first_bad (hypotheses given.now self.old) (term goal.now) (by.rev i (term t.now) (view.cert c.now))) result }
@@ -304,10 +363,10 @@ impl Walk {
     #[cycle(check)]
     fn axiom(
         &mut self,
-        c: &Cert,
+        c: &'a Cert,
         k: u32,
         args: &List<Expr>,
-        given: &[Expr],
+        given: &'a [Expr],
         goal: &Expr,
     ) -> Result<(), Stop>
         ensures finds { Finds self.old self.new (first_bad (hypotheses given.now self.old) (term goal.now) (by.instance k (map term args.now) (view.cert c.now))) result }
@@ -315,7 +374,7 @@ impl Walk {
     {
         match axiom_for(self.alloc, k, args.as_slice())? {
             None => Err(Stop::Bad),
-            Some(e) => self.under(c, 1, e, given, goal),
+            Some(e) => self.under(c, 1, Fact::Made(e), given, goal),
         }
     }
 
@@ -323,13 +382,13 @@ impl Walk {
     #[cycle(check)]
     fn under(
         &mut self,
-        c: &Cert,
+        c: &'a Cert,
         step: u8,
-        hypothesis: Expr,
-        given: &[Expr],
+        hypothesis: Fact<'a>,
+        given: &'a [Expr],
         goal: &Expr,
     ) -> Result<(), Stop>
-        ensures finds { Finds self.old self.new (in_child step (first_bad (hypotheses given.now self.old ++ term hypothesis ∷ []) (term goal.now) (view.cert c.now))) result }
+        ensures finds { Finds self.old self.new (in_child step (first_bad (hypotheses given.now self.old ++ fact hypothesis.entry ∷ []) (term goal.now) (view.cert c.now))) result }
         ensures words { OnOk result (InstancesHaveWords (view.cert c.now)) }
     {
         self.added.push(hypothesis)?;
@@ -340,7 +399,7 @@ impl Walk {
 
     /// Looks below a child.
     #[cycle(check)]
-    fn child(&mut self, c: &Cert, step: u8, given: &[Expr], goal: &Expr) -> Result<(), Stop>
+    fn child(&mut self, c: &'a Cert, step: u8, given: &'a [Expr], goal: &Expr) -> Result<(), Stop>
         ensures finds { Finds self.old self.new (in_child step (first_bad (hypotheses given.now self.old) (term goal.now) (view.cert c.now))) result }
         ensures words { OnOk result (InstancesHaveWords (view.cert c.now)) }
     {
