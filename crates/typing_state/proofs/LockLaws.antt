@@ -1,0 +1,132 @@
+-- Laws of locks that are taken and given back.
+use Rattle.std.proofs.Common.{◌≡◌, ℕ, ◌<◌, ◌≤◌, ◌&&◌, ◌||◌, List, [], ◌∷◌, Bool, true, false, not, length, map, get_or, set, refl, sym, ap, ◌∙◌, arith, Option, Some, None, option_map, is_some, if◌then◌else◌, inl, inr, ◌⊎◌}
+use Rattle.std.specs.List.{list_any}
+use Rattle.std.proofs.lemmas.List.{length-set, get_or-map, get_or-set_same, get_or-set_other}
+use Rattle.std.proofs.lemmas.Bool.{cases_eq}
+use Rattle.cov_expr.specs.Term.{Term}
+use Rattle.cov_ast.specs.Syntax.{Lock}
+use Rattle.cov_ast.specs.Plain.{Plain}
+use Rattle.cov_ast.specs.Declarations.{class_of, is_control, lists, lock_at, no_lock, under, assumes}
+use Rattle.cov_ast.specs.Tables.{has, table}
+use Rattle.cov_ast.specs.View as view
+use Rattle.cov_ast.specs.declared.decl.LockDecl.{LockDecl}
+use Rattle.cov_ast.proofs.TableLaws.{table_at, or_true}
+use Rattle.mode_state.specs.Sets.{is_stable, locks_of}
+use Rattle.mode_state.proofs.HeldLaws.{any_from}
+use Rattle.typing_state.specs.Point.{Point, is_tracked, given_type}
+use Rattle.typing_state.specs.After.{updated, locked_type, after_lock, unlocked_type, kept_type, after_unlock}
+use Rattle.typing_state.specs.Kept.{IsPoint, controls_of, set_locked}
+use Rattle.typing_state.proofs.PointLaws.{updated_at, updated_same, length-updated, some_mapped}
+
+pub locked_same : (p : Plain) (l n : ℕ) (lock : Lock) (listed controls : List Bool) → n ≡ length p.vars → lock ≡ lock_at p l
+    → listed ≡ table n (lists lock) → controls ≡ controls_of p → (qs : List (Option Term)) → length qs ≤ n
+    → updated (set_locked p listed controls) qs ≡ updated (locked_type p l) qs
+locked_same p l n lock listed controls count lock_is listed_is controls_is qs small =
+    updated_same (set_locked p listed controls) (locked_type p l) qs qs refl
+    (λ k d lt. let inside : k < n = omega arith in
+    let there : k < length p.vars = omega (arith, count) in
+    let e = ap (λ s. has s k) listed_is ∙ table_at n (lists lock) k inside ∙ ap (λ m. lists m k) lock_is in
+    let h = ap (λ s. has s k) controls_is ∙ table_at (length p.vars) (is_control p) k there in
+    λ i. if e i && not (h i) then Some (class_of p k) else get_or qs k d)
+
+pub lock_of : (locks : List LockDecl) (l : ℕ) (lock : LockDecl) → l < length locks → lock ≡ get_or locks l lock → view.lock lock ≡ get_or (map view.lock locks) l no_lock
+lock_of locks l lock inside is = ap view.lock is ∙ sym (get_or-map view.lock locks l lock no_lock inside)
+
+-- Which variables are stable then ------------------------------------------------------------------------------
+
+any_same : (f g : ℕ → Bool) (xs : List ℕ) → ((k : ℕ) → f k ≡ g k) → list_any f xs ≡ list_any g xs
+any_same f g [] h = refl
+any_same f g (x ∷ xs) h = λ i. h x i || any_same f g xs h i
+
+module _ (p : Plain) (t l : ℕ) (held : List Bool) (count : length held ≡ length p.locks) (inside : l < length p.locks) where
+  -- a variable of the lock
+  stable_under : (x : ℕ) → under p l x ≡ true → is_stable p t (set held l true) x ≡ true
+  stable_under x h =
+      ap (λ b. assumes p t x || b)
+      (any_from (λ k. has (set held l true) k && under p k x) 0 (length p.locks) l (omega arith) (omega arith)
+      (ap (λ b. b && under p l x) (get_or-set_same held l true false (omega (arith, count))) ∙ h)) ∙ or_true (assumes p t x)
+
+  -- another one
+  stable_else : (x : ℕ) → under p l x ≡ false → is_stable p t (set held l true) x ≡ is_stable p t held x
+  stable_else x h =
+      ap (λ b. assumes p t x || b)
+      (any_same (λ k. has (set held l true) k && under p k x) (λ k. has held k && under p k x) (locks_of p)
+      (λ k. elim (cases_eq l k) [
+        | inl e ↦ none_at (has (set held l true) k) (under p k x) (ap (λ j. under p j x) (sym e) ∙ h) ∙ sym (none_at (has held k) (under p k x) (ap (λ j. under p j x) (sym e) ∙ h))
+        | inr ne ↦ ap (λ b. b && under p k x) (get_or-set_other held l k true false (λ e. ne (sym e)))
+      ]))
+    where
+      none_at : (a b : Bool) → b ≡ false → (a && b) ≡ false
+      none_at true b e = e
+      none_at false b e = refl
+
+  tracked_then : (x : ℕ) (u c : Bool) (q : Option Term) → under p l x ≡ u → is_control p x ≡ c → is_some q ≡ is_tracked p t held x
+      → is_some (if u && not c then Some (class_of p x) else q) ≡ (is_stable p t (set held l true) x && not c)
+  tracked_then x true true q h e k = k ∙ (λ i. is_stable p t held x && not (e i)) ∙ nothing (is_stable p t held x) ∙ sym (nothing (is_stable p t (set held l true) x))
+    where
+      nothing : (b : Bool) → (b && false) ≡ false
+      nothing true = refl
+      nothing false = refl
+  tracked_then x true false q h e k = sym (ap (λ b. b && true) (stable_under x h))
+  tracked_then x false c q h e k = k ∙ (λ i. sym (stable_else x h) i && not (e i))
+
+pub lock_point : (p : Plain) (t l : ℕ) (a : Point) → l < length p.locks → IsPoint p t a → IsPoint p t (after_lock p t a l)
+lock_point p t l a inside h = record {
+  complete = length-updated (locked_type p l) a.types ∙ h.complete;
+  locks = length-set a.held l true ∙ h.locks;
+  tracked = λ x lt.
+      let there : x < length a.types = omega (arith, h.complete) in
+      ap is_some (updated_at (locked_type p l) a.types x None there)
+      ∙ tracked_then p t l a.held h.locks inside x (under p l x) (is_control p x) (given_type a x) refl refl (h.tracked x lt);
+}
+
+-- Which variables are stable once it is given back -------------------------------------------------------------
+
+any_more : (f g : ℕ → Bool) (xs : List ℕ) → ((k : ℕ) → f k ≡ true → g k ≡ true) → list_any f xs ≡ true → list_any g xs ≡ true
+any_more f g [] h e = e
+any_more f g (x ∷ xs) h e = elim (either (f x) (list_any f xs) e) [
+  | inl first ↦ ap (λ b. b || list_any g xs) (h x first)
+  | inr rest ↦ ap (λ b. g x || b) (any_more f g xs h rest) ∙ or_true (g x)
+]
+  where
+    either : (a b : Bool) → (a || b) ≡ true → (a ≡ true) ⊎ (b ≡ true)
+    either true b e = inl refl
+    either false b e = inr e
+
+module _ (p : Plain) (t l : ℕ) (held : List Bool) (count : length held ≡ length p.locks) (inside : l < length p.locks) where
+  held_before : (k : ℕ) (u : Bool) → (has (set held l false) k && u) ≡ true → (has held k && u) ≡ true
+  held_before k u e = elim (cases_eq l k) [
+    | inl same ↦ never (has (set held l false) k) u (ap (λ j. has (set held l false) j) (sym same) ∙ get_or-set_same held l false false (omega (arith, count))) e
+    | inr ne ↦ ap (λ b. b && u) (sym (get_or-set_other held l k false false (λ e. ne (sym e)))) ∙ e
+  ]
+    where
+      never : (a b : Bool) → a ≡ false → (a && b) ≡ true → (has held k && u) ≡ true
+      never true b h e = cc
+      never false b h e = cc
+
+  still : (a b c d : Bool) → (b ≡ true → c ≡ true) → ((a || b) && d) ≡ true → ((a || c) && d) ≡ true
+  still true b c d h e = e
+  still false true c d h e = ap (λ s. s && d) (h refl) ∙ e
+  still false false c d h e = cc
+
+  tracked_before : (x : ℕ) → is_tracked p t (set held l false) x ≡ true → is_tracked p t held x ≡ true
+  tracked_before x e =
+      still (assumes p t x) (list_any (λ k. has (set held l false) k && under p k x) (locks_of p)) (list_any (λ k. has held k && under p k x) (locks_of p)) (not (is_control p x))
+      (any_more (λ k. has (set held l false) k && under p k x) (λ k. has held k && under p k x) (locks_of p) (λ k h. held_before k (under p k x) h)) e
+
+  tracked_after : (x : ℕ) (b : Bool) (f : Term → Term) (q : Option Term) → is_tracked p t (set held l false) x ≡ b → is_some q ≡ is_tracked p t held x
+      → is_some (if b then option_map f q else None) ≡ b
+  tracked_after x true f q e h = some_mapped f q ∙ h ∙ tracked_before x e
+  tracked_after x false f q e h = refl
+
+pub unlock_point : (p : Plain) (t l : ℕ) (a : Point) → l < length p.locks → IsPoint p t a → IsPoint p t (after_unlock p t a l)
+unlock_point p t l a inside h =
+    let held = set a.held l false in
+    record {
+      complete = length-updated (unlocked_type p t held) a.types ∙ h.complete;
+      locks = length-set a.held l false ∙ h.locks;
+      tracked = λ x lt.
+          let there : x < length a.types = omega (arith, h.complete) in
+          ap is_some (updated_at (unlocked_type p t held) a.types x None there)
+          ∙ tracked_after p t l a.held h.locks inside x (is_tracked p t held x) (kept_type p t held x) (given_type a x) refl (h.tracked x lt);
+    }
