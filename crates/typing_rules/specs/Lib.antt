@@ -1,0 +1,5 @@
+pub mod Blocks
+pub mod Entailments
+pub mod Obligations
+pub mod Counts
+pub mod WordThreads
