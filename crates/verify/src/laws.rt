@@ -1,0 +1,22 @@
+ghost use Rattle.cov_ast.specs.Syntax as syntax;
+ghost use Rattle.cov_ast.specs.Plain.{plain};
+ghost use Rattle.cov_ast.specs.WellFormed.{IsWellFormed};
+ghost use Rattle.flow_model.specs.Secure.{IsSecure};
+ghost use Rattle.typing_rules.specs.WordThreads.{HasWordThreads};
+ghost use Rattle.verify.specs.Accepted.{IsAccepted};
+
+use flow_model::threads_compose;
+use mode_compat::writable_and_stable_are_disjoint;
+use typing_rules::{true_declarations_are_declared, true_obligations_are_secure};
+
+/// An accepted program is secure: from any two starts that agree on all that is low and meet every lock's invariant, under
+/// every schedule, the two runs agree after each step. It rests on the security of each thread alone and on what keeps the
+/// threads apart, and opens no rule of a statement.
+pub fn accepted_is_secure()
+    ensures { (p : syntax.Program) → IsWellFormed p → HasWordThreads p → IsAccepted p → IsSecure (plain p) }
+{
+    threads_compose();
+    writable_and_stable_are_disjoint();
+    true_declarations_are_declared();
+    true_obligations_are_secure();
+}
