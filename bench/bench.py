@@ -1,27 +1,40 @@
 #!/usr/bin/env python3
-"""Times `covern check` on texts that it makes, and prints a table.
+"""Times `covern check` and `covern fmt` on texts that it makes, and checks of certificates and of modes, and prints a table of each.
 
-usage: bench/bench.py [PROGRAM]    (PROGRAM: the built program; without it, the one that the launcher built)
+usage: bench/bench.py [PROGRAM [PARTS]]    (the built programs; without them, the one that the launcher built, and what
+                                           `rt run` or `rt ci` left in crates/covern_parts/out)
 
 A time is the least processor time (user and system) of several runs, less that of a run on the empty text. The peak memory
 is what the system counts as the most that was resident. Where rustc is on the path, the same texts are given to
 bench/plain/main.rs, a program in plain Rust that does the same work. It wants Linux.
 
-The status is 1 where a criterion fails: twice the text takes at most 2.3 times the time, and memory stays under 100
-bytes per byte of text.
+A time of a check of a certificate is the difference of two runs of PARTS that differ in how often they check, over how often
+that is.
+
+The status is 1 where a criterion fails: twice the text takes at most 2.3 times the time, memory stays under 100 bytes per
+byte of text, and that of `fmt` under 300 bytes per token. Twice the nodes that a check of a certificate looks at take at most
+2.3 times the time, where the expressions fit into a processor's cache, and no check takes more than three times that of the
+plain program. The rules of modes take less than a millisecond for as many variables, locks and threads as there may be, and less
+than ten times the time of the plain program.
 """
 import os
+import re
 import shutil
 import subprocess
 import sys
 import tempfile
 import time
 
+import certificates
+
 TOP = os.path.dirname(os.path.dirname(os.path.abspath(__file__)))
 ROUNDS, RUNS = 6, 10
 LIMIT = 1_048_576
 MOST_GROWTH = 2.3
 MOST_MEMORY = 100
+MOST_PER_TOKEN = 300
+MOST_OF_PLAIN = 3
+MOST_FOR_MODES, MOST_OF_PLAIN_MODES = 0.001, 10
 
 
 def program_text(statements, variables, threads=16, name_length=22):
@@ -38,15 +51,71 @@ def program_text(statements, variables, threads=16, name_length=22):
     return ("\n".join(lines) + "\n").encode()
 
 
-def comment_text():
-    """A text of comments alone, as long as a text may be."""
+def whole_text(statements, variables, threads=16):
+    """A text of the whole language: every kind of statement, with expressions, states and certificates."""
+    names = [f"v{i:03}___" for i in range(variables)]
+    lines = [f"var {name}: low;" for name in names]
+    lines.append(f"lock l nowrite {names[0]} hide {names[1]} inv {names[0]} <= 3;")
+    made = 0
+
+    def name():
+        nonlocal made
+        made += 1
+        return names[made * 7 % variables]
+
+    forms = [
+        lambda: f"{name()} := ({name()} + 1) * {name()} as {name()} == 0;",
+        lambda: f"{name()} := {name()} & 255 retype {name()} as {name()} by {{ 1: hyp 1 }};",
+        lambda: f"if {name()} < {name()} && !{name()} {{ skip; }} else {{ }} join {{ {name()} <= 3 ; {name()}: 0 }}",
+        lambda: f"while {name()} inv {{ {name()} }} {{ lock l; unlock l; }}",
+        lambda: f"note {{ {name()} }} by {{ 1: have [{name()} == 0] (hyp 1) (and auto calc) }};",
+    ]
+    counts = [1, 1, 2, 3, 1]
+    total = 0
+    for t in range(threads):
+        lines.append(f"thread t{t} {{")
+        i = 0
+        while total < statements * (t + 1) // threads:
+            lines.append(forms[i % len(forms)]())
+            total += counts[i % len(forms)]
+            i += 1
+        lines.append("}")
+    return ("\n".join(lines) + "\n").encode()
+
+
+def modes_text(variables, locks, threads):
+    """A text of declarations with many modes: half the variables under locks, the others assumed by threads and guaranteed by all
+    other threads, each second variable with a control."""
+    half = variables // 2
+    per_lock, per_thread = half // locks, half // threads
+    lines = []
+    for x in range(variables):
+        first = x - x % (per_lock if x < half else per_thread)
+        lines.append(f"var x{x}: low{'' if x == first else f' when x{first} == 0'};")
+    for l in range(locks):
+        names = ", ".join(f"x{x}" for x in range(l * per_lock, (l + 1) * per_lock))
+        lines.append(f"lock l{l} nowrite {names};")
+    for t in range(threads):
+        own = [f"x{x}" for x in range(half + t * per_thread, half + (t + 1) * per_thread)]
+        others = [f"x{x}" for x in range(half, half + threads * per_thread) if f"x{x}" not in own]
+        lines.append(f"thread t{t} assume nowrite {', '.join(own)} guarantee nowrite {', '.join(others)} {{ }}")
+    return ("//// modes\n" + "\n".join(lines) + "\n").encode()
+
+
+def tokens_in(text):
+    """How many tokens a text has."""
+    return len(re.findall(rb"[a-z][a-z0-9_]*|[0-9]+|:=|==|!=|<=|&&|\|\||[^ \t\r\n]", re.sub(rb"//[^\n]*", b"", text)))
+
+
+def comment_text(end=b""):
+    """A text of comments alone in front of an end, as long as a text may be."""
     line = b"// " + b"x" * 76 + b"\n"
-    text = line * (LIMIT // len(line))
-    return text + b"/" * (LIMIT - len(text))
+    text = line * ((LIMIT - len(end)) // len(line))
+    return text + b"/" * (LIMIT - len(text) - len(end)) + end
 
 
-def started(program, path, output):
-    return os.posix_spawn(program, [program, "check", path], os.environ, file_actions=[(os.POSIX_SPAWN_DUP2, output, 1)])
+def started(words, output):
+    return os.posix_spawn(words[0], words, os.environ, file_actions=[(os.POSIX_SPAWN_DUP2, output, 1)])
 
 
 def ended(child):
@@ -57,17 +126,17 @@ def ended(child):
     return usage
 
 
-def time_of(program, path):
+def time_of(words, runs=RUNS):
     """The least processor seconds of several runs."""
     times = []
     with open(os.devnull, "wb") as nowhere:
-        for _ in range(RUNS):
-            usage = ended(started(program, path, nowhere.fileno()))
+        for _ in range(runs):
+            usage = ended(started(words, nowhere.fileno()))
             times.append(usage.ru_utime + usage.ru_stime)
     return min(times)
 
 
-def peak_of(program, path):
+def peak_of(program, command, path):
     """The peak resident bytes of a run. It is read while the program waits to write its report to a full pipe.
 
     (The peak that wait4 gives isn't less than what this script itself has.)
@@ -79,7 +148,7 @@ def peak_of(program, path):
             os.write(write_end, bytes(4096))
     except BlockingIOError:
         os.set_blocking(write_end, True)
-    child = started(program, path, write_end)
+    child = started([program, command, path], write_end)
     os.close(write_end)
     while True:
         with open(f"/proc/{child}/status") as status:
@@ -94,53 +163,136 @@ def peak_of(program, path):
 
 
 class Row:
-    """A text, and the least times of the program and of the plain one on it. `half` is the row of half the text."""
+    """A text, and the least times of a command of the program and of the plain one on it. `half` is the row of half the text."""
 
-    def __init__(self, folder, name, text, half=None):
-        self.name, self.size, self.half = name, len(text), half
+    def __init__(self, folder, command, name, text, half=None):
+        self.command, self.name, self.size, self.half = command, name, len(text), half
+        self.tokens = tokens_in(text) if command == "fmt" else None
         self.path = os.path.join(folder, name.split()[0] + str(id(self)))
         with open(self.path, "wb") as out:
             out.write(text)
         self.seconds = self.plain_seconds = float("inf")
 
     def run(self, program, plain):
-        self.seconds = min(self.seconds, time_of(program, self.path))
+        self.seconds = min(self.seconds, time_of([program, self.command, self.path]))
         if plain:
-            self.plain_seconds = min(self.plain_seconds, time_of(plain, self.path))
+            self.plain_seconds = min(self.plain_seconds, time_of([plain, self.command, self.path]))
 
 
-def rows_in(folder):
-    """The empty text, and the others."""
-    yield Row(folder, "empty", b"")
+class CertificateRow:
+    """A text with a certificate, and the least times of both programs for one check of it and for so many."""
+
+    def __init__(self, folder, measured, half):
+        self.name, self.nodes, self.times, self.is_small = measured.name, measured.nodes, measured.times, measured.is_small
+        self.half = half
+        self.path = os.path.join(folder, str(id(self)))
+        with open(self.path, "w") as out:
+            out.write(measured.text)
+        self.least = {}
+
+    def run(self, program):
+        """Measures a program, which is given by the words before the number of checks."""
+        for count in (1, 1 + self.times):
+            seconds = time_of([*program, str(count), self.path], RUNS // 2)
+            key = (program[0], count)
+            self.least[key] = min(self.least.get(key, seconds), seconds)
+
+    def seconds(self, program):
+        """The time of a check."""
+        return (self.least[program[0], 1 + self.times] - self.least[program[0], 1]) / self.times
+
+
+def modes_table(program, plain, folder):
+    """Prints how long the rules of modes take, and gives the criteria that fail. `program` and `plain` are the words before the
+    number of times."""
+    print("\n| rules of modes | us |" + (" of plain |" if plain else ""))
+    print("| --- | --- |" + (" --- |" if plain else ""))
+    for size in ((128, 32, 8), (256, 64, 16)):
+        path = os.path.join(folder, "modes")
+        with open(path, "wb") as out:
+            out.write(modes_text(*size))
+        seconds, plain_seconds = ((time_of([*words, "2001", path]) - time_of([*words, "1", path])) / 2000 if words else None for words in (program, plain))
+        of_plain = seconds / plain_seconds if plain else 0
+        name = "{} variables, {} locks, {} threads".format(*size)
+        print(f"| {name} | {seconds * 1e6:.1f} |" + (f" {of_plain:.2f} |" if plain else ""))
+        if seconds > MOST_FOR_MODES or of_plain > MOST_OF_PLAIN_MODES:
+            yield f"{name}: {seconds * 1e6:.1f} us, {of_plain:.2f} times the time of the plain program"
+
+
+def certificate_rows(folder):
+    before = None
+    for measured in certificates.measured():
+        before = CertificateRow(folder, measured, before if measured.is_double else None)
+        yield before
+
+
+def certificate_table(program, plain, rows):
+    """Prints the table of certificates, and gives the criteria that fail."""
+    head = ["certificate", "nodes", "us", "growth"] + (["of plain"] if plain else [])
+    print("\n| " + " | ".join(head) + " |")
+    print("|" + " --- |" * len(head))
+    for row in rows:
+        seconds = row.seconds(program)
+        growth = seconds / row.half.seconds(program) if row.half else None
+        cells = [row.name, f"{row.nodes:,}", f"{seconds * 1e6:.1f}", f"{growth:.2f}" if growth else ""]
+        of_plain = seconds / row.seconds(plain) if plain else 0
+        if plain:
+            cells.append(f"{of_plain:.2f}")
+        print("| " + " | ".join(cells) + " |")
+        if growth and growth > MOST_GROWTH and row.is_small:
+            yield f"{row.name}: {growth:.2f} times the time of half the nodes"
+        if of_plain > MOST_OF_PLAIN:
+            yield f"{row.name}: {of_plain:.2f} times the time of the plain program"
+
+
+def checked(folder):
+    """The rows of `check`: the empty text, and the others."""
+    yield Row(folder, "check", "empty", b"")
     half = None
     for statements in (2_500, 5_000, 10_000, 20_000):
-        half = Row(folder, f"{statements:,} statements, 256 variables", program_text(statements, 256), half)
+        half = Row(folder, "check", f"{statements:,} statements, 256 variables", program_text(statements, 256), half)
         yield half
     for variables in (16, 32, 64, 128):
-        yield Row(folder, f"20,000 statements, {variables} variables", program_text(20_000, variables))
-    yield Row(folder, "comments alone", comment_text())
-    yield Row(folder, "semicolons alone (malformed)", b";" * LIMIT)
+        yield Row(folder, "check", f"20,000 statements, {variables} variables", program_text(20_000, variables))
+    yield Row(folder, "check", "comments alone", comment_text())
+    yield Row(folder, "check", "semicolons alone (malformed)", b";" * LIMIT)
     most = (LIMIT - 20) // 5
-    yield Row(folder, "209,711 statements (malformed)", b"var a:low;thread t{" + b"a:=a;" * most + b"}")
+    yield Row(folder, "check", "209,711 statements (malformed)", b"var a:low;thread t{" + b"a:=a;" * most + b"}")
+
+
+def formatted(folder):
+    """The rows of `fmt`, each of a text that has a spelling: a short text, and the others."""
+    short = b"\nvar a:low;\n"
+    yield Row(folder, "fmt", "short", short)
+    half = None
+    for statements in (2_500, 5_000, 10_000, 20_000):
+        half = Row(folder, "fmt", f"{statements:,} statements, 256 variables", whole_text(statements, 256), half)
+        yield half
+    yield Row(folder, "fmt", "20,000 statements, 16 variables", whole_text(20_000, 16))
+    yield Row(folder, "fmt", "comments", comment_text(short))
 
 
 def table(program, plain, empty, rows):
     """Prints the table, and gives the criteria that fail."""
-    head = ["text", "bytes", "ms", "growth", "memory/byte"] + (["of plain"] if plain else [])
+    counted = empty.command == "fmt"
+    head = ["text", "bytes", "ms", "growth", "memory/token" if counted else "memory/byte"] + (["of plain"] if plain else [])
     print("| " + " | ".join(head) + " |")
     print("|" + " --- |" * len(head))
     for row in rows:
         seconds = row.seconds - empty.seconds
         growth = seconds / (row.half.seconds - empty.seconds) if row.half else None
-        memory = peak_of(program, row.path) / row.size
+        peak = peak_of(program, row.command, row.path)
+        memory = peak / (row.tokens if counted else row.size)
         cells = [row.name, f"{row.size:,}", f"{seconds * 1000:.1f}", f"{growth:.2f}" if growth else "", f"{memory:.0f}"]
         if plain:
             cells.append(f"{seconds / (row.plain_seconds - empty.plain_seconds):.2f}")
         print("| " + " | ".join(cells) + " |")
         if growth and growth > MOST_GROWTH:
             yield f"{row.name}: {growth:.2f} times the time of half the text"
-        if memory > MOST_MEMORY:
-            yield f"{row.name}: {memory:.0f} bytes of memory per byte of text"
+        if peak > MOST_MEMORY * row.size:
+            yield f"{row.name}: {peak / row.size:.0f} bytes of memory per byte of text"
+        if row.half and counted and memory > MOST_PER_TOKEN:
+            yield f"{row.name}: {memory:.0f} bytes of memory per token"
 
 
 def built_plain(folder):
@@ -154,18 +306,30 @@ def built_plain(folder):
 
 def main():
     program = os.path.abspath(sys.argv[1]) if len(sys.argv) > 1 else f"{TOP}/.build/covern"
-    if not os.path.exists(program):
-        sys.exit("no built program: run ./covern once, or name one")
+    parts = os.path.abspath(sys.argv[2]) if len(sys.argv) > 2 else f"{TOP}/crates/covern_parts/out/covern_parts"
+    for made in (program, parts):
+        if not os.path.exists(made):
+            sys.exit(f"no built program {made}: run ./covern once, and rt run in crates/covern_parts")
     with tempfile.TemporaryDirectory() as folder:
         plain = built_plain(folder)
-        rows = list(rows_in(folder))
+        tables = [list(checked(folder)), list(formatted(folder))]
+        certificate_texts = list(certificate_rows(folder))
         # (rounds, so that what else the machine does meets each text alike)
         for _ in range(ROUNDS):
-            for row in rows:
+            for row in (row for rows in tables for row in rows):
                 row.run(program, plain)
-        failures = list(table(program, plain, rows[0], rows[1:]))
-        least = peak_of(program, rows[0].path) / 2**20
-        print(f"\nan empty text: {rows[0].seconds * 1000:.1f} ms, {least:.1f} MiB")
+            for row in certificate_texts:
+                row.run([parts, "certificates"])
+                if plain:
+                    row.run([plain, "certs"])
+        failures = []
+        for rows in tables:
+            print(f"`{rows[0].command}`:\n")
+            failures += table(program, plain, rows[0], rows[1:])
+            least = peak_of(program, rows[0].command, rows[0].path) / 2**20
+            print(f"\n{rows[0].name} text: {rows[0].seconds * 1000:.1f} ms, {least:.1f} MiB\n")
+        failures += certificate_table([parts, "certificates"], [plain, "certs"] if plain else None, certificate_texts)
+        failures += modes_table([parts, "declarations"], [plain, "modes"] if plain else None, folder)
         for failure in failures:
             print(f"FAILED {failure}")
         return 1 if failures else 0

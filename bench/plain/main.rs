@@ -1,7 +1,10 @@
-//! `check P` as a plain program would do it, for a comparison of times: the same tokens, grammar, limits, rules and reports, with
-//! a map of std's own, and no proof.
+//! `check P` and `fmt P` as a plain program would do them, for a comparison of times: the same tokens, grammars, limits, rules and
+//! reports, with a map of std's own, and no proof. Faults of a text aren't told apart.
+mod certs;
+mod format;
+
 use std::collections::HashMap;
-use std::io::Read;
+use std::io::{Read, Write};
 use std::process::exit;
 
 const LIMIT: u64 = 1_048_576;
@@ -38,10 +41,11 @@ enum Role {
     Thread,
 }
 
-/// The tokens of a text, with names by number.
-fn lex(text: &[u8]) -> Option<Vec<Token<'_>>> {
+/// The tokens of a text, and its names by number.
+fn lex(text: &[u8]) -> Option<(Vec<Token<'_>>, Vec<&[u8]>)> {
     let mut names: HashMap<&[u8], u32> = HashMap::new();
     let mut tokens = Vec::new();
+    let mut listed = Vec::new();
     let mut rest = text;
     while let [first, ..] = rest {
         let run = |is: fn(u8) -> bool| rest.iter().position(|b| !is(*b)).unwrap_or(rest.len());
@@ -58,7 +62,10 @@ fn lex(text: &[u8]) -> Option<Vec<Token<'_>>> {
                     tokens.push(Token::Word(word));
                 } else {
                     let next = names.len() as u32;
-                    tokens.push(Token::Name(*names.entry(word).or_insert(next)));
+                    tokens.push(Token::Name(*names.entry(word).or_insert_with(|| {
+                        listed.push(word);
+                        next
+                    })));
                 }
                 len
             }
@@ -79,7 +86,7 @@ fn lex(text: &[u8]) -> Option<Vec<Token<'_>>> {
         };
         rest = &rest[len..];
     }
-    Some(tokens)
+    Some((tokens, listed))
 }
 
 struct Reader<'t> {
@@ -185,10 +192,26 @@ fn is_accepted((vars, threads): &Program) -> bool {
     })
 }
 
+/// Tries the rules of modes so many times on a text that keeps them.
+fn modes(repeats: u32, text: &[u8]) {
+    let (tokens, _) = lex(text).expect("tokens");
+    let modes = format::modes_of(&format::parse(&tokens).expect("a program"));
+    let held = (0..repeats).filter(|_| format::are_compatible(std::hint::black_box(&modes))).count();
+    println!("{held}");
+}
+
 fn main() {
     let words: Vec<String> = std::env::args().skip(1).collect();
+    if let [command, repeats, name] = words.as_slice() {
+        if command == "certs" {
+            return certs::run(repeats.parse().unwrap(), &std::fs::read_to_string(name).unwrap());
+        }
+        if command == "modes" {
+            return modes(repeats.parse().unwrap(), &std::fs::read(name).unwrap());
+        }
+    }
     let [command, name] = words.as_slice() else { exit(2) };
-    if command != "check" {
+    if command != "check" && command != "fmt" {
         exit(2);
     }
     let mut text = Vec::new();
@@ -199,11 +222,19 @@ fn main() {
     if text.len() as u64 > LIMIT {
         exit(7);
     }
-    let tokens = lex(&text);
-    let Some(program) = tokens.as_deref().and_then(parse) else {
+    let malformed = || -> ! {
         println!("malformed {name}");
-        exit(3);
+        exit(3)
     };
+    let Some((tokens, names)) = lex(&text) else { malformed() };
+    if command == "fmt" {
+        let Some(program) = format::parse(&tokens) else { malformed() };
+        if std::io::stdout().write_all(&format::print(&program, &names)).is_err() {
+            exit(5);
+        }
+        return;
+    }
+    let Some(program) = parse(&tokens) else { malformed() };
     if !is_accepted(&program) {
         println!("refused");
         exit(1);
