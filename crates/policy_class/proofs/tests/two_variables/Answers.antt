@@ -1,10 +1,11 @@
-use Rattle.std.proofs.Common.{ℕ, List, [], ◌∷◌, length, refl, arith}
+use Rattle.std.proofs.Common.{ℕ, ◌<◌, List, [], ◌∷◌, length, arith}
 use Rattle.std.proofs.lemmas.List.Elements.{All-cons, All-nil}
 use Rattle.cov_expr.specs.Words.{HasVarsBelow}
 use Rattle.cov_ast.specs.Plain.{class_term}
 use Rattle.cov_ast.specs.Syntax.{Var, low}
 use Rattle.cov_ast.specs.WellFormed.{IsLockInRange, IsThreadInRange, IsBodyFine}
 use Rattle.cov_ast.specs.Ready.{IsReady}
+use Rattle.cov_ast.specs.declared.parsed.NameUse.{NameUse}
 use Rattle.policy_class.proofs.tests.two_variables.Goals as goal
 
 -- two variables that are low, and nothing else
@@ -22,7 +23,8 @@ both_low names a b i j =
       };
       limits = record { variables = omega arith; declared_locks = omega arith; declared_threads = omega arith };
       bodies = All-nil (λ t. IsBodyFine t.body);
-      uses = refl;
+      used_ids = All-nil (λ (u : NameUse). u.name < length names);
+      uses = λ u inside. inside;
     }
 
 pub returns : goal.returns
