@@ -283,7 +283,7 @@ def table(program, plain, empty, rows):
         growth = seconds / (row.half.seconds - empty.seconds) if row.half else None
         peak = peak_of(program, row.command, row.path)
         memory = peak / (row.tokens if counted else row.size)
-        cells = [row.name, f"{row.size:,}", f"{seconds * 1000:.1f}", f"{growth:.2f}" if growth else "", f"{memory:.0f}"]
+        cells = [row.name, f"{row.size:,}", f"{seconds * 1000:.1f}", f"{growth:.2f}" if growth else "", f"{memory:.0f}" if row.half or not counted else ""]
         if plain:
             cells.append(f"{seconds / (row.plain_seconds - empty.plain_seconds):.2f}")
         print("| " + " | ".join(cells) + " |")
