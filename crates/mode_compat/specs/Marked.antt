@@ -1,20 +1,25 @@
 -- The obligations of modes, where sets say which variables are locked, kept and guaranteed.
 use Rattle.std.specs.Prelude.{ℕ, List, [], ◌∷◌, Bool, not, map}
-use Rattle.cov_expr.specs.Trees.{vars}
+use Rattle.cov_expr.specs.Trees.{has_number}
 use Rattle.cov_ast.specs.Syntax.{Lock, Thread, Program}
-use Rattle.cov_ast.specs.Plain.{plain}
-use Rattle.cov_ast.specs.Declarations.{class_of}
-use Rattle.cov_ast.specs.Tables.{has, with_all}
+use Rattle.cov_ast.specs.Declarations.{have_guaranteed}
+use Rattle.cov_ast.specs.Tables.{has, table, with_all}
 use Rattle.cov_ast.specs.Obligations.{Entry, declared_entry}
 use Rattle.cov_ast.specs.declared.refusal.Rule.{Rule}
 use Rattle.cov_ast.specs.declared.refusal.Rule.TheVariants.{W6}
 use Rattle.cov_ast.specs.declared.refusal.Detail.TheVariants.{One, Two}
+use Rattle.cov_ast.specs.declared.decl.ThreadDecl.{ThreadDecl}
+use Rattle.cov_ast.specs.View as view
 use Rattle.mode_compat.specs.Compatible.{shown, controls_of, w9_entry}
 
 -- with the variables of locks
 abbrev pub with_locks : (marks : List Bool) → List Lock → List Bool
 with_locks marks [] = marks
 with_locks marks (l ∷ ls) = with_locks (with_all (with_all marks l.nowrite) l.hide) ls
+
+-- the sets of what a thread guarantees not to write and to leave alone, of the variables below a bound
+abbrev pub guaranteed_by : (bound : ℕ) → ThreadDecl → List Bool × List Bool
+guaranteed_by bound u = (table bound (have_guaranteed (view.modes u.modes)), table bound (has_number (view.modes u.modes).guarantee_hide))
 
 module _ (p : Program) where
   -- none of the set is assumed

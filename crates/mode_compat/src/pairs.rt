@@ -1,4 +1,4 @@
-ghost use Rattle.std.specs.Prelude.{◌≡◌, ◌<◌, ℕ, map, length, All};
+ghost use Rattle.std.specs.Prelude.{◌≡◌, ◌<◌, ℕ, map, length, All, IfOk};
 ghost use Rattle.std.specs.List.{flat_map};
 ghost use Rattle.cov_ast.specs.View as view;
 ghost use Rattle.cov_ast.specs.Obligations.{Decides};
@@ -7,15 +7,53 @@ ghost use Rattle.mode_compat.specs.Compatible as spec;
 ghost use Rattle.mode_compat.specs.Marked as marked;
 
 use cov_ast::{CheckFault, Detail, NumberSet, Program, Rule, ThreadDecl, refused};
+use cov_expr::{List, NoMemory};
 use std::alloc::Global;
+
+/// What a thread guarantees not to write, and what it guarantees to leave alone.
+type Guaranteed = (NumberSet, NumberSet);
 
 /// What one thread assumes every other guarantees.
 pub fn check_guarantees(alloc: Global, p: &Program) -> Result<(), CheckFault>
     requires { IsWellFormed (view.program p.now) }
     ensures { Decides (flat_map (spec.w9_entries (view.program p.now)) (spec.threads_of (view.program p.now))) result }
 {
+    let sets = guaranteed_sets(alloc, p)?;
+    check_threads(p, sets.as_slice())
+}
+
+/// For each thread what it guarantees.
+fn guaranteed_sets(alloc: Global, p: &Program) -> Result<List<Guaranteed>, NoMemory>
+    ensures { IfOk result (λ made. made ≡ map (marked.guaranteed_by (length p.now.vars)) p.now.threads) }
+{
+    let mut sets = List::new(alloc);
+    for thread in p.threads.as_slice() {
+        sets.push(guaranteed_set(alloc, p.vars.len(), thread)?)?;
+    }
+    Ok(sets)
+}
+
+/// What a thread guarantees.
+fn guaranteed_set(alloc: Global, count: usize, thread: &ThreadDecl) -> Result<Guaranteed, NoMemory>
+    ensures { IfOk result (λ made. made ≡ marked.guaranteed_by count thread.now) }
+{
+    let (nowrite, hide) = (
+        thread.modes.guarantee_nowrite.as_slice(),
+        thread.modes.guarantee_hide.as_slice(),
+    );
+    let unwritten = NumberSet::of_both(alloc, count, nowrite, hide)?;
+    let left_alone = NumberSet::of(alloc, count, hide)?;
+    Ok((unwritten, left_alone))
+}
+
+/// What one thread assumes every other guarantees, where it is known what each guarantees.
+fn check_threads(p: &Program, sets: &[Guaranteed]) -> Result<(), CheckFault>
+    requires formed { IsWellFormed (view.program p.now) }
+    requires sets { sets.now ≡ map (marked.guaranteed_by (length p.now.vars)) p.now.threads }
+    ensures { Decides (flat_map (spec.w9_entries (view.program p.now)) (spec.threads_of (view.program p.now))) result }
+{
     for (t, thread) in p.threads.as_slice().iter().enumerate() {
-        if let Err(fault) = check_others(alloc, p, t, thread) {
+        if let Err(fault) = check_others(p, sets, t, thread) {
             return Err(fault);
         }
     }
@@ -23,14 +61,20 @@ pub fn check_guarantees(alloc: Global, p: &Program) -> Result<(), CheckFault>
 }
 
 /// What the thread of a number assumes every other guarantees.
-fn check_others(alloc: Global, p: &Program, t: usize, thread: &ThreadDecl) -> Result<(), CheckFault>
+fn check_others(
+    p: &Program,
+    sets: &[Guaranteed],
+    t: usize,
+    thread: &ThreadDecl,
+) -> Result<(), CheckFault>
     requires formed { IsWellFormed (view.program p.now) }
+    requires sets { sets.now ≡ map (marked.guaranteed_by (length p.now.vars)) p.now.threads }
     requires range { IsThreadInRange (length p.now.vars) (length p.now.locks) (view.thread thread.now) }
     requires number { view.thread thread.now ≡ spec.numbered (view.program p.now) t }
     ensures { Decides (spec.w9_entries (view.program p.now) t) result }
 {
     for (u, other) in p.threads.as_slice().iter().enumerate() {
-        if let Err(fault) = check_other(alloc, p, t, thread, u, other) {
+        if let Err(fault) = check_other(p, t, thread, u, other, &sets[u]) {
             return Err(fault);
         }
     }
@@ -39,51 +83,44 @@ fn check_others(alloc: Global, p: &Program, t: usize, thread: &ThreadDecl) -> Re
 
 /// What a thread assumes another guarantees, if it is another.
 fn check_other(
-    alloc: Global,
     p: &Program,
     t: usize,
     thread: &ThreadDecl,
     u: usize,
     other: &ThreadDecl,
+    met: &Guaranteed,
 ) -> Result<(), CheckFault>
     requires range { IsThreadInRange (length p.now.vars) (length p.now.locks) (view.thread thread.now) }
     requires number { view.thread thread.now ≡ spec.numbered (view.program p.now) t }
     requires other { view.thread other.now ≡ spec.numbered (view.program p.now) u }
+    requires met { met.now ≡ marked.guaranteed_by (length p.now.vars) other.now }
     ensures { Decides (spec.w9_other (view.program p.now) t u) result }
 {
     if t == u {
         return Ok(());
     }
-    check_pair(alloc, p, thread, other)
+    check_pair(p, thread, other, met)
 }
 
 /// What a thread assumes another guarantees.
 fn check_pair(
-    alloc: Global,
     p: &Program,
     thread: &ThreadDecl,
     other: &ThreadDecl,
+    met: &Guaranteed,
 ) -> Result<(), CheckFault>
-    requires { IsThreadInRange (length p.now.vars) (length p.now.locks) (view.thread thread.now) }
+    requires range { IsThreadInRange (length p.now.vars) (length p.now.locks) (view.thread thread.now) }
+    requires met { met.now ≡ marked.guaranteed_by (length p.now.vars) other.now }
     ensures { Decides (spec.w9_pair (view.program p.now) (view.thread thread.now) (view.thread other.now)) result }
 {
-    let (unwritten, left_alone) = (&other.modes.guarantee_nowrite, &other.modes.guarantee_hide);
-    let count = p.vars.len();
-    let guaranteed = NumberSet::of_both(alloc, count, unwritten.as_slice(), left_alone.as_slice())?;
-    let hidden = NumberSet::of(alloc, count, left_alone.as_slice())?;
-    match check_met(
-        p,
-        thread,
-        other,
-        thread.modes.assume_nowrite.as_slice(),
-        &guaranteed,
-    ) {
+    let nowrite = thread.modes.assume_nowrite.as_slice();
+    match check_met(p, thread, other, nowrite, &met.0) {
         Ok(()) => check_met(
             p,
             thread,
             other,
             thread.modes.assume_hide.as_slice(),
-            &hidden,
+            &met.1,
         ),
         Err(fault) => Err(fault),
     }

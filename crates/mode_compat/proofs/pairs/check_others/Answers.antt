@@ -3,7 +3,6 @@ use Rattle.std.specs.List.{flat_map}
 use Rattle.cov_ast.specs.View as view
 use Rattle.cov_ast.specs.Obligations.{Entry}
 use Rattle.cov_ast.proofs.ObligationLaws.{loop_refused, loop_more}
-use Rattle.cov_ast.proofs.WellFormedLaws.{thread_in_range}
 use Rattle.mode_compat.specs.Compatible.{w9_other, threads_of}
 use Rattle.mode_compat.proofs.ModeLaws.{number_inside, number_is, none_left}
 use Rattle.mode_compat.proofs.pairs.check_others.Goals as goal

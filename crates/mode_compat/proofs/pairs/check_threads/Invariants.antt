@@ -3,7 +3,7 @@ use Rattle.std.specs.List.{flat_map}
 use Rattle.cov_ast.specs.View as view
 use Rattle.cov_ast.specs.Obligations.{first_false}
 use Rattle.mode_compat.specs.Compatible.{w9_entries, threads_of}
-use Rattle.mode_compat.proofs.pairs.check_guarantees.Given as goal
+use Rattle.mode_compat.proofs.pairs.check_threads.Given as goal
 
 abbrev pub invariant-loop-t : goal.invariant-loop-t
 invariant-loop-t l =

@@ -6,11 +6,11 @@ use Rattle.cov_ast.proofs.ObligationLaws.{loop_refused, loop_more}
 use Rattle.cov_ast.proofs.WellFormedLaws.{thread_in_range}
 use Rattle.mode_compat.specs.Compatible.{w9_entries, threads_of}
 use Rattle.mode_compat.proofs.ModeLaws.{number_inside, number_is, none_left}
-use Rattle.mode_compat.proofs.pairs.check_guarantees.Goals as goal
+use Rattle.mode_compat.proofs.pairs.check_threads.Goals as goal
 
 pub check_others-requires-clause-range : goal.check_others-requires-clause-range
 check_others-requires-clause-range c =
-    thread_in_range c.args.p.now c.requires c.loop-t.t c.thread-item.result
+    thread_in_range c.args.p.now c.requires.formed c.loop-t.t c.thread-item.result
     (rw c.as_slice-thread-items.ensures at c.loop-t-test.true) (rw c.as_slice-thread-items.ensures at c.thread-item.is)
 
 pub returns-in-Err : goal.returns-in-Err
