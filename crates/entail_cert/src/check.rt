@@ -1,13 +1,15 @@
-ghost use Rattle.std.specs.Prelude.{OnOk, map};
+ghost use Rattle.std.specs.Prelude.{◌≡◌, [], ◌∷◌, ◌++◌, OnOk, map};
 ghost use Rattle.cov_expr.specs.Entailment.{Entails};
 ghost use Rattle.cov_expr.specs.View.{term};
 ghost use Rattle.cov_ast.specs.View as view;
 ghost use Rattle.entail_cert.specs.Answers.{Answers};
+ghost use Rattle.entail_cert.specs.Facts.{fact};
 ghost use Rattle.entail_cert.specs.Valid.{first_bad};
 
+use crate::fact::Fact;
 use crate::walk::{Stop, Walk};
 use cov_ast::Cert;
-use cov_expr::{Expr, List};
+use cov_expr::{Expr, List, NoMemory};
 use std::alloc::Global;
 
 /// Why a certificate isn't accepted.
@@ -18,6 +20,16 @@ pub enum CertFault {
     Invalid(List<u8>),
     /// Memory ran out, which says nothing of the certificate.
     NoMemory,
+}
+
+impl From<NoMemory> for CertFault {
+    ghost use Rattle.entail_cert.specs.declared.check.CertFault.TheVariants as faults;
+
+    ghost from_gives = { λ _ fault. fault ≡ faults.NoMemory };
+
+    fn from(_error: NoMemory) -> Self {
+        CertFault::NoMemory
+    }
 }
 
 /// Checks a certificate for the claim that a goal holds in every memory in which all hypotheses hold.
@@ -34,12 +46,42 @@ pub fn check_cert(
     ensures answers { Answers (first_bad (map term hyps.now) (term goal.now) (view.cert cert.now)) result }
     ensures entails { OnOk result (Entails (map term hyps.now) (term goal.now)) }
 {
+    walked(alloc, List::new(alloc), hyps.as_slice(), goal, cert)
+}
+
+/// The same with one more hypothesis behind the others, none of which is copied.
+pub fn check_cert_with(
+    alloc: Global,
+    hyps: &List<Expr>,
+    more: &Expr,
+    goal: &Expr,
+    cert: &Cert,
+) -> Result<(), CertFault>
+    ensures answers { Answers (first_bad (map term hyps.now ++ term more.now ∷ []) (term goal.now) (view.cert cert.now)) result }
+    ensures entails { OnOk result (Entails (map term hyps.now ++ term more.now ∷ []) (term goal.now)) }
+{
+    let mut added = List::new(alloc);
+    added.push(Fact::Lent(more))?;
+    walked(alloc, added, hyps.as_slice(), goal, cert)
+}
+
+/// What a walk from the root of a certificate answers, with hypotheses that are added to the given ones.
+fn walked<'a>(
+    alloc: Global,
+    added: List<Fact<'a>>,
+    given: &'a [Expr],
+    goal: &Expr,
+    cert: &'a Cert,
+) -> Result<(), CertFault>
+    ensures answers { Answers (first_bad (map term given.now ++ map fact added.entry) (term goal.now) (view.cert cert.now)) result }
+    ensures entails { OnOk result (Entails (map term given.now ++ map fact added.entry) (term goal.now)) }
+{
     let mut walk = Walk {
         alloc,
-        added: List::new(alloc),
+        added,
         path: List::new(alloc),
     };
-    match walk.node(cert, hyps.as_slice(), goal) {
+    match walk.node(cert, given, goal) {
         Ok(()) => Ok(()),
         Err(Stop::Bad) => Err(CertFault::Invalid(walk.path)),
         Err(Stop::NoMemory) => Err(CertFault::NoMemory),

@@ -1,6 +1,7 @@
 //! Certificates of entailments: a check of the claim that a goal holds in every memory in which all hypotheses hold.
 //!
 //! - [`check_cert`] says whether a certificate is valid, and names the first node that fails. Nothing is searched for.
+//!   [`check_cert_with`] takes one more hypothesis.
 //! - [`axioms_hold`] and [`valid_gives_entailment`] have no body: their contracts are the laws on which its answer rests.
 //!
 //! `specs/Valid.antt` says which certificates are valid, and `specs/Axioms.antt` has the axioms.
@@ -17,5 +18,5 @@ mod shapes;
 mod tests;
 mod walk;
 
-pub use check::{CertFault, check_cert};
+pub use check::{CertFault, check_cert, check_cert_with};
 pub use laws::{axioms_hold, valid_gives_entailment};
