@@ -1,5 +1,5 @@
 -- Lists of expressions without repeats, their conjunction, and tests of variables.
-use Rattle.std.specs.Prelude.{ℕ, ◌==◌, ◌&&◌, List, [], ◌∷◌, ◌++◌, Bool, true, false, not, filter, if◌then◌else◌, Option, Some, None}
+use Rattle.std.specs.Prelude.{◌≡◌, ℕ, ◌<◌, ◌≤◌, ◌==◌, ◌&&◌, List, [], ◌∷◌, ◌++◌, Bool, true, false, not, filter, length, if◌then◌else◌, Option, Some, None}
 use Rattle.std.specs.Option.{option_or}
 use Rattle.cov_expr.specs.declared.expr.Op.TheVariants.{Both}
 use Rattle.cov_expr.specs.Term.{Term, const, var, neg, bin}
@@ -20,6 +20,12 @@ with_term es e = if has_term es e then es else es ++ e ∷ []
 abbrev pub with_terms : List Term → List Term → List Term
 with_terms es [] = es
 with_terms es (f ∷ fs) = with_terms (with_term es f) fs
+
+-- Expressions are added, each unless an equal one is there, as long as there are at most so many: either all are there then,
+-- and no more than before or than so many, or they would be more.
+abbrev pub AddsWithin : (most : ℕ) → (es new fs : List Term) → (all : Bool) → Type 0
+AddsWithin most es new fs true = (new ≡ with_terms es fs) × (length es ≤ most → length new ≤ most)
+AddsWithin most es new fs false = most < length (with_terms es fs)
 
 -- with an expression where there is one
 abbrev pub with_option : List Term → Option Term → List Term

@@ -11,7 +11,7 @@ ghost use Rattle.typing_state.specs.Point as point;
 
 use crate::retain::is_kept;
 use crate::start::{class_of, is_tracked, var_count};
-use crate::types::{assign_type, put_retypes, set_type};
+use crate::types::{assign_type, has_type, put_retypes, set_type};
 use cov_ast::{NumberSet, Program, Retype};
 use cov_expr::{Expr, List, NoMemory, mentions};
 use mode_state::ModeState;
@@ -133,6 +133,42 @@ fn is_free_of(types: &[Option<Expr>], z: u32, x: u32) -> bool
         Some(Some(q)) => !mentions(q, x),
         Some(None) | None => true,
     }
+}
+
+/// Gives each variable that has a type what is known of it without more.
+pub fn reset_types(
+    alloc: Global,
+    p: &Program,
+    modes: &ModeState,
+    types: &mut List<Option<Expr>>,
+) -> Result<(), NoMemory>
+    requires { IsWellFormed (view.program p.now) }
+    ensures { OnOk result (AtModes (plain (view.program p.now)) modes.now (λ t held. length types.old ≤ length p.now.vars
+        → map (option_map term) types.new ≡ after.retyped (λ z g. point.default_type (plain (view.program p.now)) t held z) (map (option_map term) types.old))) }
+{
+    for z in 0..var_count(p) {
+        reset_type(alloc, p, modes, types, z)?;
+    }
+    Ok(())
+}
+
+fn reset_type(
+    alloc: Global,
+    p: &Program,
+    modes: &ModeState,
+    types: &mut List<Option<Expr>>,
+    z: u32,
+) -> Result<(), NoMemory>
+    requires { z < length p.now.vars }
+    ensures { OnOk result (AtModes (plain (view.program p.now)) modes.now (λ t held.
+        map (option_map term) types.new ≡ set (map (option_map term) types.old) z
+        (option_map (λ g. point.default_type (plain (view.program p.now)) t held z) (get_or (map (option_map term) types.old) z None)))) }
+{
+    if has_type(types.as_slice(), z) {
+        let known = default_type(alloc, p, modes, z)?;
+        set_type(types, z, Some(known));
+    }
+    Ok(())
 }
 
 /// The types after a variable has a value of a type.

@@ -11,6 +11,8 @@ mod point;
 mod preds;
 mod retain;
 mod start;
+#[cfg(test)]
+mod tests;
 mod ty;
 mod types;
 

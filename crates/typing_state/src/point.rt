@@ -1,18 +1,21 @@
-ghost use Rattle.std.specs.Prelude.{◌≡◌, ◌<◌, length, map, option_map, option_copied, is_some, All, IfOk, OnOk};
+ghost use Rattle.std.specs.Prelude.{◌≡◌, ◌<◌, ◌≤◌, ◌&&◌, length, map, option_map, option_copied, is_some, All, IfOk, MatchOption};
 ghost use Rattle.cov_expr.specs.Trees.{conjuncts};
+ghost use Rattle.cov_expr.specs.Trees as tree;
 ghost use Rattle.cov_expr.specs.View.{term};
 ghost use Rattle.cov_expr.specs.Words.{HasVarsBelow};
+ghost use Rattle.cov_ast.specs.Declarations.{is_control};
 ghost use Rattle.cov_ast.specs.Plain.{Plain, plain};
 ghost use Rattle.cov_ast.specs.View as view;
 ghost use Rattle.cov_ast.specs.WellFormed.{IsWellFormed};
 ghost use Rattle.typing_state.specs.After as after;
-ghost use Rattle.mode_state.specs.Sets.{modes_at};
+ghost use Rattle.mode_state.specs.Sets.{is_stable, modes_at};
 ghost use Rattle.typing_state.specs.Kept.{Keeps, OfEach};
+ghost use Rattle.typing_state.specs.Point as spec;
 ghost use Rattle.typing_state.specs.Point.{conjuncts_of_types, given_type, is_tracked, ty, ty_var};
-ghost use Rattle.typing_state.specs.Terms.{with_terms, without_ones};
+ghost use Rattle.typing_state.specs.Terms.{AddsWithin, without_ones};
 
 use crate::copies::{copy_preds, copy_types};
-use crate::forget::{assign_types, unlock_types};
+use crate::forget::{assign_types, reset_types, unlock_types};
 use crate::locks::lock_types;
 use crate::preds::{add_any, add_pred, add_value, distinct_preds, is_over_stable};
 use crate::retain::{drop_mentions, keep_stable};
@@ -88,6 +91,45 @@ impl Point {
         }
     }
 
+    /// Of each variable its type, if it is tracked.
+    pub fn types(&self) -> &[Option<Expr>]
+        ensures { (p : Plain) → OfEach p self.now (λ t a. map (option_map term) result.now ≡ a.types) }
+    {
+        self.types.as_slice()
+    }
+
+    /// Whether the class of some variable mentions this one.
+    pub fn is_control(&self, x: u32) -> bool
+        ensures { (p : Plain) → OfEach p self.now (λ t a. x < length p.vars → result ≡ is_control p x) }
+    {
+        self.controls.has(x)
+    }
+
+    /// Whether each variable of an expression is stable.
+    pub fn is_over_stable(&self, e: &Expr) -> bool
+        ensures { (p : Plain) → HasVarsBelow (term e.now) (length p.vars) → OfEach p self.now (λ t a. result ≡ spec.is_over_stable p t a.held (term e.now)) }
+    {
+        is_over_stable(&self.modes, e)
+    }
+
+    /// Whether each variable of an expression is stable and a control.
+    pub fn is_over_controls(&self, e: &Expr) -> bool
+        ensures { (p : Plain) → HasVarsBelow (term e.now) (length p.vars) → OfEach p self.now (λ t a. result ≡ spec.is_over_controls p t a.held (term e.now)) }
+    {
+        match e {
+            Expr::Const(_) => true,
+            Expr::Var(y) => self.is_stable_control(*y),
+            Expr::Not(a) => self.is_over_controls(a),
+            Expr::Bin(_, a, b) => self.is_over_controls(a) && self.is_over_controls(b),
+        }
+    }
+
+    fn is_stable_control(&self, x: u32) -> bool
+        ensures { (p : Plain) → OfEach p self.now (λ t a. x < length p.vars → result ≡ (is_stable p t a.held x && is_control p x)) }
+    {
+        self.modes.stable(x) && self.is_control(x)
+    }
+
     /// The point where an expression holds besides, as long as it stays so: where all its variables are stable.
     pub fn with(mut self, alloc: Global, e: &Expr) -> Result<Self, NoMemory>
         ensures { IfOk result (λ made. (p : Plain) → HasVarsBelow (term e.now) (length p.vars)
@@ -105,6 +147,16 @@ impl Point {
         self.preds = distinct_preds(alloc, s.preds.as_slice())?;
         put_types(alloc, &mut self.types, s.types.as_slice())?;
         Ok(self)
+    }
+    /// The point of a join or a loop: what a state says, and of each tracked variable that it doesn't list what is known
+    /// without more: its class, or nothing where no other thread may read it.
+    pub fn meet(mut self, alloc: Global, p: &Program, s: &State) -> Result<Self, NoMemory>
+        requires formed { IsWellFormed (view.program p.now) }
+        ensures { IfOk result (λ made. OfEach (plain (view.program p.now)) self (λ t a.
+            Keeps (plain (view.program p.now)) t (after.meet (plain (view.program p.now)) t a (view.state s.now)) made)) }
+    {
+        reset_types(alloc, p, &self.modes, &mut self.types)?;
+        Ok(self.noted(alloc, s)?)
     }
     /// The point after a lock is taken: each variable of the lock that isn't a control has its class for a type, and the
     /// invariant of the lock holds.
@@ -167,42 +219,73 @@ impl Point {
         requires { HasVarsBelow (term e.now) (length p.now.vars) }
         ensures { IfOk result (λ made. OfEach (plain (view.program p.now)) self.now (λ t a. term made ≡ ty (plain (view.program p.now)) t a (term e.now))) }
     {
-        let read = vars(alloc, e)?;
-        let parts = self.conjuncts_of(alloc, p, read.as_slice())?;
-        Ok(joined(alloc, parts)?)
+        // No memory has a list that is longer than the largest number.
+        self.ty_within(alloc, p, e, usize::MAX)?.ok_or(NoMemory)
     }
 
-    /// The conjuncts of the types of variables.
-    fn conjuncts_of(&self, alloc: Global, p: &Program, read: &[u32]) -> Result<List<Expr>, NoMemory>
+    /// The type of the value of an expression, as [`Point::ty`], where it has at most so many conjuncts, and `None` where
+    /// it has more. It stops at the first that is too many, and compares a conjunct with at most so many.
+    pub fn ty_within(
+        &self,
+        alloc: Global,
+        p: &Program,
+        e: &Expr,
+        most: usize,
+    ) -> Result<Option<Expr>, NoMemory>
+        requires { HasVarsBelow (term e.now) (length p.now.vars) }
+        ensures { IfOk result (λ made. OfEach (plain (view.program p.now)) self.now (λ t a.
+            MatchOption made (most < length (conjuncts_of_types (plain (view.program p.now)) t a (tree.vars (term e.now))))
+            (λ q. (term q ≡ ty (plain (view.program p.now)) t a (term e.now))
+            × (length (conjuncts_of_types (plain (view.program p.now)) t a (tree.vars (term e.now))) ≤ most)))) }
+    {
+        let read = vars(alloc, e)?;
+        match self.conjuncts_within(alloc, p, read.as_slice(), most)? {
+            Some(parts) => Ok(Some(joined(alloc, parts)?)),
+            None => Ok(None),
+        }
+    }
+
+    /// The conjuncts of the types of variables, where there are at most so many.
+    fn conjuncts_within(
+        &self,
+        alloc: Global,
+        p: &Program,
+        read: &[u32],
+        most: usize,
+    ) -> Result<Option<List<Expr>>, NoMemory>
         requires { All (λ x. x < length p.now.vars) read.now }
         ensures { IfOk result (λ made. OfEach (plain (view.program p.now)) self.now (λ t a.
-            map term made ≡ conjuncts_of_types (plain (view.program p.now)) t a read.now)) }
+            MatchOption made (most < length (conjuncts_of_types (plain (view.program p.now)) t a read.now))
+            (λ parts. (map term parts ≡ conjuncts_of_types (plain (view.program p.now)) t a read.now) × (length (map term parts) ≤ most)))) }
     {
         let mut parts = List::new(alloc);
         for x in read {
-            self.add_type(alloc, p, *x, &mut parts)?;
+            if !self.add_type(alloc, p, *x, &mut parts, most)? {
+                return Ok(None);
+            }
         }
-        Ok(parts)
+        Ok(Some(parts))
     }
 
-    /// Adds the conjuncts of the type of a variable.
+    /// Adds the conjuncts of the type of a variable, as long as there are at most so many. Whether all are there.
     fn add_type(
         &self,
         alloc: Global,
         p: &Program,
         x: u32,
         parts: &mut List<Expr>,
-    ) -> Result<(), NoMemory>
+        most: usize,
+    ) -> Result<bool, NoMemory>
         requires { x < length p.now.vars }
-        ensures { OnOk result (OfEach (plain (view.program p.now)) self.now (λ t a.
-            map term parts.new ≡ with_terms (map term parts.old) (without_ones (conjuncts (ty_var (plain (view.program p.now)) t a x))))) }
+        ensures { IfOk result (λ all. OfEach (plain (view.program p.now)) self.now (λ t a.
+            AddsWithin most (map term parts.old) (map term parts.new) (without_ones (conjuncts (ty_var (plain (view.program p.now)) t a x))) all)) }
     {
         if self.controls.has(x) {
-            return Ok(());
+            return Ok(true);
         }
         match self.type_of(x) {
-            Some(q) => Ok(add_conjuncts(alloc, parts, q)?),
-            None => Ok(add_class(alloc, p, parts, x)?),
+            Some(q) => Ok(add_conjuncts(alloc, parts, q, most)?),
+            None => Ok(add_class(alloc, p, parts, x, most)?),
         }
     }
 }

@@ -1,0 +1,28 @@
+use Rattle.std.proofs.Common.{◌≤◌, ◌∙◌, ℕ, sym, map, option_map, get_or, set, length, None, arith}
+use Rattle.std.proofs.lemmas.List.{length-map}
+use Rattle.cov_expr.specs.Term.{Term}
+use Rattle.cov_expr.specs.View.{term}
+use Rattle.cov_ast.specs.Plain.{plain}
+use Rattle.cov_ast.specs.View as view
+use Rattle.typing_state.specs.Point.{default_type}
+use Rattle.typing_state.proofs.Steps.{upto_none, upto_more, upto_all}
+use Rattle.typing_state.proofs.forget.reset_types.Goals as goal
+
+pub loop-z-init : goal.loop-z-init
+loop-z-init c t held modes =
+    sym (upto_none (λ z q. option_map (λ g. default_type (plain (view.program c.args.p.now)) t held z) q) (map (option_map term) c.args.types.now))
+
+pub loop-z-preserved : goal.loop-z-preserved
+loop-z-preserved c t held modes =
+    let f : ℕ → Term → Term = λ z g. default_type (plain (view.program c.args.p.now)) t held z in
+    let z = c.loop-z.z in
+    let kept = c.loop-z.invariant t held modes in
+    c.in_ok-reset_type.ensures t held modes ∙ (λ i. set (kept i) z (option_map (f z) (get_or (kept i) z None)))
+    ∙ upto_more (λ y q. option_map (f y) q) (map (option_map term) c.args.types.now) z
+
+pub returns : goal.returns
+returns c t held modes small =
+    let types = c.args.types.now in
+    let f : ℕ → Term → Term = λ z g. default_type (plain (view.program c.args.p.now)) t held z in
+    let past : length (map (option_map term) types) ≤ c.loop-z.z = omega (arith, length-map types (option_map term)) in
+    c.loop-z.invariant t held modes ∙ upto_all (λ y q. option_map (f y) q) (map (option_map term) types) c.loop-z.z past

@@ -1,0 +1,14 @@
+use Rattle.std.proofs.Common.{◌≡◌, map, option_map}
+use Rattle.cov_expr.specs.View.{term}
+use Rattle.cov_ast.specs.Plain.{plain}
+use Rattle.cov_ast.specs.View as view
+use Rattle.typing_state.specs.Kept.{AtModes}
+use Rattle.typing_state.specs.Point.{default_type}
+use Rattle.typing_state.proofs.Steps.{upto}
+use Rattle.typing_state.proofs.forget.reset_types.Given as goal
+
+abbrev pub invariant-loop-z : goal.invariant-loop-z
+invariant-loop-z l =
+    AtModes (plain (view.program l.p)) l.modes (λ t held.
+    map (option_map term) l.types
+    ≡ upto (λ z q. option_map (λ g. default_type (plain (view.program l.p)) t held z) q) (map (option_map term) l.fn.types) l.z)
