@@ -10,6 +10,20 @@ mod Assign
 mod Others
 mod Sound
 mod FromEntries
+mod GuardLaws
+mod StateLaws
+mod TryLaws
 pub mod FromDeclarations
 pub mod Whole
 pub mod Words
+mod Threads
+mod ClaimLaws
+mod LargeTypes
+mod ReadTypes
+pub mod Statements
+pub mod Counting
+pub mod Bounds
+mod Parts
+mod Ranges
+mod Walks
+mod Splits

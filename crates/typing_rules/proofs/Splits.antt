@@ -1,0 +1,97 @@
+-- Branches and loops: what stands before their blocks, the blocks, and what stands behind.
+use Rattle.std.proofs.Common.{◌≡◌, ℕ, List, [], ◌∷◌, ◌++◌, length, sym, ap, ◌∙◌, subst, None, Result, Ok, Err}
+use Rattle.std.specs.Result.{IsErrAnd}
+use Rattle.cov_expr.specs.Term.{Term, neg}
+use Rattle.cov_ast.specs.Obligations.{Decides, Entry, first_false}
+use Rattle.cov_ast.specs.Plain.{Plain}
+use Rattle.cov_ast.specs.Syntax.{State, Proof, Block, branch, loop}
+use Rattle.cov_ast.specs.declared.refusal.CheckFault.{CheckFault}
+use Rattle.cov_ast.proofs.ObligationLaws.{append_held}
+use Rattle.typing_state.specs.After.{with_guard, meet}
+use Rattle.typing_state.specs.Point.{Point}
+use Rattle.typing_rules.specs.Answers.{Walks, entailment_count}
+use Rattle.typing_rules.specs.Blocks.{after_block, after_stm}
+use Rattle.typing_rules.specs.Entailments.{guard_follows, state_follows}
+use Rattle.typing_rules.specs.Obligations.{block_entries, flat, stm_parts}
+use Rattle.typing_rules.specs.Walking.{fork_parts, head_parts, join_parts, turn_parts}
+use Rattle.typing_rules.specs.declared.walk.Walked.{Walked}
+use Rattle.typing_rules.proofs.Parts.{flat-append, part_held, part_refused, parts_decided, parts_refused}
+
+-- behind parts that hold
+parts_walk : (p : Plain) (t : ℕ) (ess fss : List (List Entry)) (after : Point) (counted : ℕ) (r : Result Walked CheckFault) → first_false (flat ess) ≡ None
+    → Walks p t (flat fss) after counted r → Walks p t (flat (ess ++ fss)) after counted r
+parts_walk p t ess fss after counted (Ok walked) e w = (ap first_false (flat-append ess fss) ∙ append_held (flat ess) (flat fss) e ∙ w.0, w.1, w.2)
+parts_walk p t ess fss after counted (Err fault) e w = parts_decided ess fss (Err fault) e w
+
+-- a fault that is handed on
+pub handed_on : (p : Plain) (t : ℕ) (entries : List Entry) (after : Point) (counted : ℕ) (fault : CheckFault) (r : Result Walked CheckFault)
+    → IsErrAnd r (λ f. f ≡ fault) → Decides entries (Err fault) → Walks p t entries after counted r
+handed_on p t entries after counted fault (Ok walked) h k = absurd h
+handed_on p t entries after counted fault (Err f) h k = subst (λ f. Decides entries (Err f)) (sym h) k
+
+module _ (p : Plain) (t at : ℕ) (proofs : List Proof) (a : Point) (e : Term) (yes_block no_block : Block) (j : State) where
+  abbrev forked : List (List Entry)
+  forked = fork_parts p t at proofs a e (with_guard p t a e ∷ with_guard p t a (neg e) ∷ [])
+
+  abbrev first : List Entry
+  first = block_entries p t yes_block (with_guard p t a e)
+
+  abbrev second : List Entry
+  second = block_entries p t no_block (with_guard p t a (neg e))
+
+  abbrev joined : List (List Entry)
+  joined = join_parts p t at proofs 1 j (after_block p t yes_block (with_guard p t a e)) (after_block p t no_block (with_guard p t a (neg e)))
+
+  abbrev branch_entries : List Entry
+  branch_entries = flat (stm_parts p t (branch e yes_block no_block j) at proofs a)
+
+  pub fork_refused : (fault : CheckFault) → Decides (flat forked) (Err fault) → Decides branch_entries (Err fault)
+  fork_refused fault h = parts_refused forked (first ∷ second ∷ joined) fault h
+
+  module _ (held : first_false (flat forked) ≡ None) where
+    pub first_refused : (fault : CheckFault) → Decides first (Err fault) → Decides branch_entries (Err fault)
+    first_refused fault h = part_refused forked first (second ∷ joined) fault held h
+
+    module _ (first_held : first_false first ≡ None) where
+      pub second_refused : (fault : CheckFault) → Decides second (Err fault) → Decides branch_entries (Err fault)
+      second_refused fault h = part_refused (forked ++ first ∷ []) second joined fault (part_held forked first held first_held) h
+
+      pub branch_walks : first_false second ≡ None → (r : Result Walked CheckFault) (counted : ℕ) → counted ≡ entailment_count branch_entries
+          → Walks p t (flat joined) (after_stm p t (branch e yes_block no_block j) a) counted r
+          → Walks p t branch_entries (after_stm p t (branch e yes_block no_block j) a) (entailment_count branch_entries) r
+      branch_walks second_held r counted is w =
+          subst (λ n. Walks p t branch_entries (after_stm p t (branch e yes_block no_block j) a) n r) is
+          (parts_walk p t (forked ++ first ∷ second ∷ []) joined (after_stm p t (branch e yes_block no_block j) a) counted r
+          (part_held (forked ++ first ∷ []) second (part_held forked first held first_held) second_held) w)
+
+module _ (p : Plain) (t at : ℕ) (proofs : List Proof) (a : Point) (e : Term) (j : State) (b : Block) where
+  abbrev top : Point
+  top = meet p t a j
+
+  abbrev headed : List (List Entry)
+  headed = head_parts p t at proofs a j e (with_guard p t (meet p t a j) e ∷ with_guard p t (meet p t a j) (neg e) ∷ [])
+
+  abbrev turn : List Entry
+  turn = block_entries p t b (with_guard p t (meet p t a j) e)
+
+  abbrev turned : List (List Entry)
+  turned =
+      turn_parts p t at proofs (length (state_follows a j ++ guard_follows p t (meet p t a j) e ∷ [])) j
+      (after_block p t b (with_guard p t (meet p t a j) e)) (with_guard p t (meet p t a j) (neg e))
+
+  abbrev loop_entries : List Entry
+  loop_entries = flat (stm_parts p t (loop e j b) at proofs a)
+
+  pub head_refused : (fault : CheckFault) → Decides (flat headed) (Err fault) → Decides loop_entries (Err fault)
+  head_refused fault h = parts_refused headed (turn ∷ turned) fault h
+
+  module _ (held : first_false (flat headed) ≡ None) where
+    pub turn_refused : (fault : CheckFault) → Decides turn (Err fault) → Decides loop_entries (Err fault)
+    turn_refused fault h = part_refused headed turn turned fault held h
+
+    pub loop_walks : first_false turn ≡ None → (r : Result Walked CheckFault) (counted : ℕ) → counted ≡ entailment_count loop_entries
+        → Walks p t (flat turned) (after_stm p t (loop e j b) a) counted r
+        → Walks p t loop_entries (after_stm p t (loop e j b) a) (entailment_count loop_entries) r
+    loop_walks turn_held r counted is w =
+        subst (λ n. Walks p t loop_entries (after_stm p t (loop e j b) a) n r) is
+        (parts_walk p t (headed ++ turn ∷ []) turned (after_stm p t (loop e j b) a) counted r (part_held headed turn held turn_held) w)

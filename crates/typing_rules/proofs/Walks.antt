@@ -1,0 +1,85 @@
+-- Statements one after another, and the views of statements.
+use Rattle.std.proofs.Common.{◌≡◌, ℕ, ◌+◌, ◌≤◌, List, map, option_map, refl, sym, ap, ◌∙◌, subst, arith, Option, Ok, Err}
+use Rattle.cov_expr.specs.View.{term}
+use Rattle.cov_expr.specs.declared.expr.Expr.{Expr}
+use Rattle.cov_ast.specs.Obligations.{Decides, first_false}
+use Rattle.cov_ast.specs.Plain.{Plain}
+use Rattle.cov_ast.specs.Syntax.{Proof, Stm, skip, assign, lock, unlock, loop, note, Block, done, more}
+use Rattle.cov_ast.specs.View as view
+use Rattle.cov_ast.specs.declared.refusal.CheckFault.{CheckFault}
+use Rattle.cov_ast.specs.declared.state.State.{State}
+use Rattle.cov_ast.specs.declared.stmt.Retype.{Retype}
+use Rattle.cov_ast.specs.declared.stmt.Stmt.{Stmt}
+use Rattle.cov_ast.specs.declared.stmt.StmtKind.{StmtKind-F, fold-roll-StmtKind}
+use Rattle.cov_ast.specs.declared.stmt.StmtKind.TheVariants as kinds
+use Rattle.cov_ast.proofs.ObligationLaws.{append_held, append_refused, same_decided}
+use Rattle.typing_state.specs.Kept.{Keeps}
+use Rattle.typing_state.specs.Point.{Point}
+use Rattle.typing_state.specs.declared.point.Point as declared
+use Rattle.typing_rules.specs.Answers.{Walks, entailment_count}
+use Rattle.typing_rules.specs.Blocks.{after_block, after_stm}
+use Rattle.typing_rules.specs.Obligations.{block_entries, flat, stm_parts}
+use Rattle.typing_rules.specs.declared.walk.Walked.{Walked}
+use Rattle.typing_rules.proofs.Counting.{count_more}
+
+-- what is kept is kept of one point
+pub one_point : (p : Plain) (t : ℕ) (a b : Point) (kept : declared.Point) → Keeps p t a kept → Keeps p t b kept → a ≡ b
+one_point p t a b kept h k =
+    let held = ap (λ m. m.held) (sym h.modes ∙ k.modes) in
+    let types = sym h.types ∙ k.types in
+    let preds = sym h.preds ∙ k.preds in
+    λ i. record { held = held i; types = types i; preds = preds i }
+
+-- What is left of a block, at the point that was reached, decides like the whole and leads to the same end; so many
+-- entailments were counted.
+pub record Reaches (p : Plain) (t : ℕ) (whole : Block) (a : Point) (rest : Block) (b : Point) (counted : ℕ) : Type 0 where
+  pub verdict : first_false (block_entries p t rest b) ≡ first_false (block_entries p t whole a)
+  pub after : after_block p t rest b ≡ after_block p t whole a
+  pub count : counted + entailment_count (block_entries p t rest b) ≡ entailment_count (block_entries p t whole a)
+
+module _ (p : Plain) (t : ℕ) (whole : Block) (a : Point) where
+  pub reaches_start : Reaches p t whole a whole a 0
+  reaches_start = record { verdict = refl; after = refl; count = omega arith }
+
+  module _ (at : ℕ) (s : Stm) (proofs : List Proof) (rest : Block) (b : Point) (counted : ℕ) (h : Reaches p t whole a (more at s proofs rest) b counted) where
+    -- the statement has no more entailments than are left
+    pub reaches_few : counted + entailment_count (flat (stm_parts p t s at proofs b)) ≤ entailment_count (block_entries p t whole a)
+    reaches_few = omega (arith, h.count, count_more p t at s proofs rest b)
+
+    pub reaches_more : (next : Walked) → Walks p t (flat (stm_parts p t s at proofs b)) (after_stm p t s b) (entailment_count (flat (stm_parts p t s at proofs b))) (Ok next)
+        → Reaches p t whole a rest (after_stm p t s b) (counted + next.entailments)
+    reaches_more next w = record {
+      verdict = sym (append_held (flat (stm_parts p t s at proofs b)) (block_entries p t rest (after_stm p t s b)) w.0) ∙ h.verdict;
+      after = h.after;
+      count = omega (arith, h.count, w.2, count_more p t at s proofs rest b);
+    }
+
+    pub reaches_refused : (fault : CheckFault) → Decides (flat (stm_parts p t s at proofs b)) (Err fault) → Decides (block_entries p t whole a) (Err fault)
+    reaches_refused fault d =
+        same_decided (block_entries p t (more at s proofs rest) b) (block_entries p t whole a) (Err fault) h.verdict
+        (append_refused (flat (stm_parts p t s at proofs b)) (block_entries p t rest (after_stm p t s b)) fault d)
+
+  pub reaches_end : (b : Point) (walked : Walked) → Reaches p t whole a done b walked.entailments → Keeps p t b walked.point
+      → Walks p t (block_entries p t whole a) (after_block p t whole a) (entailment_count (block_entries p t whole a)) (Ok walked)
+  reaches_end b walked h k = (sym h.verdict, subst (λ q. Keeps p t q walked.point) h.after k, (let e : walked.entailments ≡ entailment_count (block_entries p t whole a) = omega (arith, h.count) in e))
+
+-- Views of statements ---------------------------------------------------------------------------------------------
+
+pub skip_is : view.kind kinds.Skip ≡ skip
+skip_is = ap view.kind (sym kinds.rolls-Skip) ∙ fold-roll-StmtKind _ _ view.kind_step view.stmt_step StmtKind-F.Skip
+
+pub assign_is : (x : ℕ) (e : Expr) (q : Option Expr) (rs : List Retype)
+    → view.kind (kinds.Assign x e q rs) ≡ assign x (term e) (option_map term q) (map view.retype rs)
+assign_is x e q rs = ap view.kind (sym (kinds.rolls-Assign x e q rs)) ∙ fold-roll-StmtKind _ _ view.kind_step view.stmt_step (StmtKind-F.Assign x e q rs)
+
+pub lock_is : (l : ℕ) → view.kind (kinds.Lock l) ≡ lock l
+lock_is l = ap view.kind (sym (kinds.rolls-Lock l)) ∙ fold-roll-StmtKind _ _ view.kind_step view.stmt_step (StmtKind-F.Lock l)
+
+pub unlock_is : (l : ℕ) → view.kind (kinds.Unlock l) ≡ unlock l
+unlock_is l = ap view.kind (sym (kinds.rolls-Unlock l)) ∙ fold-roll-StmtKind _ _ view.kind_step view.stmt_step (StmtKind-F.Unlock l)
+
+pub loop_is : (e : Expr) (j : State) (b : List Stmt) → view.kind (kinds.While e j b) ≡ loop (term e) (view.state j) (view.block b)
+loop_is e j b = ap view.kind (sym (kinds.rolls-While e j b)) ∙ fold-roll-StmtKind _ _ view.kind_step view.stmt_step (StmtKind-F.While e j b)
+
+pub note_is : (j : State) → view.kind (kinds.Note j) ≡ note (view.state j)
+note_is j = ap view.kind (sym (kinds.rolls-Note j)) ∙ fold-roll-StmtKind _ _ view.kind_step view.stmt_step (StmtKind-F.Note j)

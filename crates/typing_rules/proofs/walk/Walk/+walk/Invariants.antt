@@ -1,0 +1,25 @@
+use Rattle.std.proofs.Common.{◌+◌, ◌*◌, ◌≤◌, drop, length}
+use Rattle.cov_ast.specs.View as view
+use Rattle.cov_ast.specs.WellFormed.{IsBlockInRange, block_size, stm_size}
+use Rattle.typing_state.specs.Kept.{Keeps}
+use Rattle.typing_state.specs.Point.{Point}
+use Rattle.typing_rules.specs.Walking.{HasTypesBelow, plain_of}
+use Rattle.typing_rules.proofs.Walks.{Reaches}
+use Rattle.typing_rules.proofs.walk.Walk.+walk.Given as goal
+
+-- what is left is in range and small, and from the point that was reached it decides like the whole
+abbrev pub invariant-block-loop-stmt : goal.invariant-block-loop-stmt
+invariant-block-loop-stmt l =
+    let rest = view.block (drop l.stmt-index l.body) in
+    IsBlockInRange (length l.self.program.now.vars) (length l.self.program.now.locks) rest
+    × (block_size rest ≤ block_size (view.block l.body))
+    × ((a : Point) → Keeps (plain_of l.self) l.self.thread a l.fn.point → HasTypesBelow a (length l.self.program.now.vars)
+    → (b : Point) × (Keeps (plain_of l.self) l.self.thread b l.here × HasTypesBelow b (length l.self.program.now.vars)
+    × Reaches (plain_of l.self) l.self.thread (view.block l.body) a rest b l.entailments))
+
+-- a statement is smaller than the block that it stands in, and so is a block than its statement
+abbrev pub decreases-block : goal.decreases-block
+decreases-block l = 2 * block_size (view.block l.body.now)
+
+abbrev pub decreases-statement : goal.decreases-statement
+decreases-statement l = 2 * stm_size (view.kind l.kind.now) + 1

@@ -1,0 +1,34 @@
+use Rattle.std.proofs.Common.{◌≡◌, [], ◌∷◌, ◌++◌, ◌+◌, suc, map, length, refl, sym, ◌∙◌, arith, subst}
+use Rattle.cov_ast.specs.View as view
+use Rattle.typing_state.specs.After.{meet}
+use Rattle.typing_rules.specs.Entailments.{state_follows}
+use Rattle.typing_rules.specs.Obligations.{flat, has_small_types, same_locks, state_entries}
+use Rattle.typing_rules.specs.Walking.{TriesAt, last_parts, plain_of}
+use Rattle.typing_rules.proofs.Parts.{all_counted, and_true}
+use Rattle.typing_rules.proofs.walk.Walk.join.Goals as goal
+
+pub returns : goal.returns
+returns c a k b kb =
+    let w = c.args.self.now in
+    let p = plain_of w in
+    let t = w.thread in
+    let at = c.args.at in
+    let before = c.args.before in
+    let j = view.state c.args.join.now in
+    let proofs = map view.proof c.args.proofs.now in
+    let gs = state_follows a j ++ state_follows b j in
+    let count = before + length gs in
+    let n : 1 + before ≡ suc before = omega arith in
+    let tries = subst (λ n. TriesAt w at proofs n gs c.in_ok-tried.tried) n (c.in_ok-tried.ensures a k b kb) in
+    let after = meet p t a j in
+    let keeps = c.in_ok-after.ensures t a k in
+    let same = same_locks p t at a.held b.held in
+    let stated = state_entries p t at a.held j in
+    let same_ok = (rw c.site-site.ensures at c.check_same_locks-same.ensures) a.held (c.modes.ensures p t a k) b.held (c.modes-2.ensures p t b kb) in
+    let stated_ok = (rw c.site-site.ensures at c.check_state-stated.ensures) a k in
+    let rest = flat (last_parts p t at proofs (suc before) count gs (after ∷ [])) in
+    let last = c.check_last-last.ensures gs (after ∷ []) count tries (c.are_small_types.ensures p t after keeps ∙ sym (and_true (has_small_types after))) refl in
+    c.finish.ensures p t (same ++ (stated ++ rest)) after (before + c.args.yes.entailments + c.args.no.entailments + length gs) keeps
+    (c.both-2.ensures same (stated ++ rest) same_ok (λ _. c.both.ensures stated rest stated_ok (λ _. last)))
+    (λ held. let counted = all_counted p t at proofs (suc before) count gs (after ∷ []) c.in_ok-tried.tried (same ++ stated) tries held in
+    omega (arith, counted, c.from.ensures, c.from-2.ensures))

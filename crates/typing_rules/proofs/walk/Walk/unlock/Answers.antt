@@ -1,0 +1,38 @@
+use Rattle.std.proofs.Common.{◌≡◌, [], ◌∷◌, ◌++◌, length, map, sym, ap, ◌∙◌, subst, zero-add}
+use Rattle.cov_ast.specs.Obligations.{Decides}
+use Rattle.cov_ast.specs.Tables.{has}
+use Rattle.cov_ast.specs.View as view
+use Rattle.cov_ast.specs.declared.refusal.Rule.TheVariants.{V7}
+use Rattle.cov_ast.specs.declared.refusal.Detail.TheVariants.{One}
+use Rattle.typing_state.specs.After.{after_unlock}
+use Rattle.typing_rules.specs.Answers.{entailment_count}
+use Rattle.typing_rules.specs.Entailments.{unlock_entailments}
+use Rattle.typing_rules.specs.Obligations.{flat, has_small_types, of_lock, thread_entry}
+use Rattle.typing_rules.specs.Walking.{plain_of, last_parts}
+use Rattle.typing_rules.proofs.Counting.{count_unlock}
+use Rattle.typing_rules.proofs.Parts.{all_counted, and_true}
+use Rattle.typing_rules.proofs.walk.Walk.unlock.Goals as goal
+
+pub returns : goal.returns
+returns c a k =
+    let w = c.args.self.now in
+    let p = plain_of w in
+    let t = w.thread in
+    let at = c.args.at in
+    let l = c.args.l in
+    let proofs = map view.proof c.args.proofs.now in
+    let gs = unlock_entailments p t a l in
+    let after = after_unlock p t a l in
+    let keeps = c.in_ok-after.ensures t a k in
+    let tries = c.in_ok-tried.ensures a k in
+    let held : c.holds-held.result ≡ has a.held l = c.holds-held.ensures ∙ ap (λ m. has m.held l) (c.modes.ensures p t a k) in
+    let first = of_lock p t at V7 l (has a.held l) ∷ [] in
+    let taken : Decides first c.require_at-taken.result =
+    subst (λ n. Decides (thread_entry t at V7 (One n) (has a.held l) ∷ []) c.require_at-taken.result) c.lock_name.ensures
+    (subst (λ b. Decides (thread_entry t at V7 (One c.lock_name.result) b ∷ []) c.require_at-taken.result) held
+    (rw c.site.ensures at c.require_at-taken.ensures)) in
+    let rest = flat (last_parts p t at proofs 1 (length gs) gs (after ∷ [])) in
+    let last = c.check_last-last.ensures gs (after ∷ []) (length gs) tries (c.are_small_types.ensures p t after keeps ∙ sym (and_true (has_small_types after))) (zero-add (length gs)) in
+    c.finish.ensures p t (first ++ rest) after (entailment_count (first ++ rest)) keeps (c.both.ensures first rest taken (λ _. last))
+    (λ held. c.from-entailments.ensures ∙ all_counted p t at proofs 1 (length gs) gs (after ∷ []) c.in_ok-tried.tried first tries held
+    ∙ sym (count_unlock p t at proofs a l))

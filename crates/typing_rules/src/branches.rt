@@ -1,0 +1,235 @@
+//! What is checked of a branch and of a loop before and after their blocks.
+
+ghost use Rattle.std.specs.Prelude.{◌≡◌, ◌<◌, ◌+◌, ◌*◌, ◌^◌, ◌++◌, [], ◌∷◌, ℕ, List, length, map, IfOk};
+ghost use Rattle.cov_expr.specs.Term.{neg};
+ghost use Rattle.cov_expr.specs.View.{term};
+ghost use Rattle.cov_expr.specs.Words.{HasVarsBelow};
+ghost use Rattle.cov_ast.specs.Obligations.{Decides, Entry};
+ghost use Rattle.cov_ast.specs.Syntax as syntax;
+ghost use Rattle.cov_ast.specs.View as view;
+ghost use Rattle.cov_ast.specs.WellFormed.{IsStateInRange, state_size};
+ghost use Rattle.typing_state.specs.After.{meet, with_guard};
+ghost use Rattle.typing_state.specs.Kept.{Keeps};
+ghost use Rattle.typing_rules.specs.Answers.{Walks};
+ghost use Rattle.typing_rules.specs.Entailments.{Entailment, guard_follows, state_follows};
+ghost use Rattle.typing_rules.specs.Obligations.{flat};
+ghost use Rattle.typing_rules.specs.Walking.{Guards, GuardsAt, IsWalk, Stands, TriesAt, Wherever, first_parts, fork_parts, head_parts, join_parts, plain_of, starts_of, turn_parts};
+
+use crate::guards::check_guard;
+use crate::states::{
+    are_small_types, check_both_few_preds, check_same_locks, check_state, require_small,
+};
+use crate::tried::Tried;
+use crate::walk::{Guarded, Walk, Walked, both, finish};
+use cov_ast::{CheckFault, Proof, State};
+use cov_expr::{Expr, NoMemory, boxed, copy};
+use std::alloc::Global;
+use typing_state::Point;
+
+impl Walk<'_> {
+    /// Checks what is asked before the blocks of a branch.
+    pub fn fork(
+        &self,
+        at: u32,
+        e: &Expr,
+        proofs: &[Proof],
+        point: Point,
+    ) -> Result<Guarded, CheckFault>
+        requires guard { HasVarsBelow (term e.now) (length self.now.program.now.vars) }
+        requires point { Stands self.now point }
+        ensures { Wherever self.now point (λ a. GuardsAt self.now
+            (flat (fork_parts (plain_of self.now) self.now.thread at (map view.proof proofs.now) a (term e.now) (starts_of self.now a (term e.now)))) a (term e.now) 1 result) }
+    {
+        let evaluated = check_guard(self.program, self.site(at), point.modes(), e);
+        self.guard(at, e, proofs, point, evaluated, Tried::none())
+    }
+
+    /// Checks what is asked before the block of a loop.
+    pub fn head(
+        &self,
+        at: u32,
+        inv: &State,
+        e: &Expr,
+        proofs: &[Proof],
+        point: Point,
+    ) -> Result<Guarded, CheckFault>
+        requires walk { IsWalk self.now }
+        requires guard { HasVarsBelow (term e.now) (length self.now.program.now.vars) }
+        requires range { IsStateInRange (length self.now.program.now.vars) (length self.now.program.now.locks) (view.state inv.now) }
+        requires small { state_size (view.state inv.now) < 2097152 }
+        requires point { Stands self.now point }
+        ensures { Wherever self.now point (λ a. GuardsAt self.now
+            (flat (head_parts (plain_of self.now) self.now.thread at (map view.proof proofs.now) a (view.state inv.now) (term e.now)
+            (starts_of self.now (meet (plain_of self.now) self.now.thread a (view.state inv.now)) (term e.now))))
+            (meet (plain_of self.now) self.now.thread a (view.state inv.now)) (term e.now)
+            (length (state_follows a (view.state inv.now) ++ guard_follows (plain_of self.now) self.now.thread (meet (plain_of self.now) self.now.thread a (view.state inv.now)) (term e.now) ∷ []))
+            result) }
+    {
+        let (p, site) = (self.program, self.site(at));
+        let stated = check_state(p, site, &point, inv);
+        let evaluated = check_guard(p, site, point.modes(), e);
+        let entered = self.try_state(at, &point, inv, proofs, 1)?;
+        let top = point.meet(self.alloc, p, inv)?;
+        self.guard(at, e, proofs, top, both(stated, evaluated), entered)
+    }
+
+    /// Checks what is asked of a guard, behind what is asked before it.
+    fn guard(
+        &self,
+        at: u32,
+        e: &Expr,
+        proofs: &[Proof],
+        point: Point,
+        before: Result<(), CheckFault>,
+        entered: Tried,
+    ) -> Result<Guarded, CheckFault>
+        requires guard { HasVarsBelow (term e.now) (length self.now.program.now.vars) }
+        requires point { Stands self.now point }
+        requires few { entered.count < 4294967294 }
+        ensures { Wherever self.now point (λ a. (front : List Entry) → (gs : List Entailment)
+            → Decides front before → TriesAt self.now at (map view.proof proofs.now) 1 gs entered
+            → GuardsAt self.now
+            (front ++ flat (first_parts (plain_of self.now) self.now.thread at (map view.proof proofs.now)
+            (gs ++ guard_follows (plain_of self.now) self.now.thread a (term e.now) ∷ []) (starts_of self.now a (term e.now))))
+            a (term e.now) (length (gs ++ guard_follows (plain_of self.now) self.now.thread a (term e.now) ∷ [])) result) }
+    {
+        let tried = self.try_guard(at, &point, e, proofs, 1 + entered.count)?;
+        let all = entered.and(tried);
+        let holds = self.holding(e, &point)?;
+        let fails = self.failing(e, point)?;
+        self.guarded(at, before, all, holds, fails)
+    }
+
+    /// The point where a guard holds.
+    fn holding(&self, e: &Expr, point: &Point) -> Result<Point, NoMemory>
+        requires { HasVarsBelow (term e.now) (length self.now.program.now.vars) }
+        ensures { IfOk result (λ made. Wherever self.now point.now (λ a.
+            Keeps (plain_of self.now) self.now.thread (with_guard (plain_of self.now) self.now.thread a (term e.now)) made)) }
+    {
+        let copied = point.copy(self.alloc)?;
+        copied.with(self.alloc, e)
+    }
+
+    /// The point where a guard doesn't hold.
+    fn failing(&self, e: &Expr, point: Point) -> Result<Point, NoMemory>
+        requires { HasVarsBelow (term e.now) (length self.now.program.now.vars) }
+        ensures { IfOk result (λ made. Wherever self.now point (λ a.
+            Keeps (plain_of self.now) self.now.thread (with_guard (plain_of self.now) self.now.thread a (neg (term e.now))) made)) }
+    {
+        let negation = negated(self.alloc, e)?;
+        point.with(self.alloc, &negation)
+    }
+
+    /// The points after a guard, if each obligation before it holds.
+    fn guarded(
+        &self,
+        at: u32,
+        before: Result<(), CheckFault>,
+        tried: Tried,
+        holds: Point,
+        fails: Point,
+    ) -> Result<Guarded, CheckFault>
+        ensures { Wherever self.now holds (λ a. Wherever self.now fails (λ b. (front : List Entry) → (proofs : List syntax.Proof) → (gs : List Entailment)
+            → Decides front before → TriesAt self.now at proofs 1 gs tried
+            → Guards (plain_of self.now) self.now.thread (front ++ flat (first_parts (plain_of self.now) self.now.thread at proofs gs (a ∷ b ∷ []))) a b (length gs) result)) }
+    {
+        let few = check_both_few_preds(self.program, self.site(at), &holds, &fails);
+        let small = require_small(self.program, self.site(at), tried.small);
+        let count = tried.count;
+        match both(before, both(few, both(small, tried.proved))) {
+            Ok(()) => Ok(Guarded {
+                holds,
+                fails,
+                count,
+            }),
+            Err(fault) => Err(fault),
+        }
+    }
+
+    /// Checks what is asked after the blocks of a branch.
+    pub fn join(
+        &self,
+        at: u32,
+        join: &State,
+        proofs: &[Proof],
+        before: u32,
+        yes: Walked,
+        no: Walked,
+    ) -> Result<Walked, CheckFault>
+        requires walk { IsWalk self.now }
+        requires range { IsStateInRange (length self.now.program.now.vars) (length self.now.program.now.locks) (view.state join.now) }
+        requires yes { Stands self.now yes.point }
+        requires no { Stands self.now no.point }
+        requires few { before + yes.entailments + no.entailments + 2 * state_size (view.state join.now) < 4294967295 }
+        ensures { Wherever self.now yes.point (λ a. Wherever self.now no.point (λ b.
+            Walks (plain_of self.now) self.now.thread
+            (flat (join_parts (plain_of self.now) self.now.thread at (map view.proof proofs.now) before (view.state join.now) a b))
+            (meet (plain_of self.now) self.now.thread a (view.state join.now))
+            (before + yes.entailments + no.entailments + length (state_follows a (view.state join.now) ++ state_follows b (view.state join.now))) result)) }
+    {
+        let (p, site) = (self.program, self.site(at));
+        let inside = yes.entailments + no.entailments;
+        let (yes, no) = (yes.point, no.point);
+        let same = check_same_locks(p, site, yes.modes(), no.modes());
+        let stated = check_state(p, site, &yes, join);
+        let tried = self.try_both(at, &yes, &no, join, proofs, 1 + before)?;
+        let entailments = u64::from(before) + inside + u64::from(tried.count);
+        let after = yes.meet(self.alloc, p, join)?;
+        let last = self.check_last(at, proofs, before, tried, are_small_types(&after));
+        finish(after, entailments, both(same, both(stated, last)))
+    }
+
+    /// Tries what is asked where a state is to be met at two points.
+    fn try_both(
+        &self,
+        at: u32,
+        yes: &Point,
+        no: &Point,
+        join: &State,
+        proofs: &[Proof],
+        from: u32,
+    ) -> Result<Tried, NoMemory>
+        requires yes { Stands self.now yes.now }
+        requires no { Stands self.now no.now }
+        requires few { from + 2 * state_size (view.state join.now) < 2 ^ 32 }
+        ensures { IfOk result (λ tried. Wherever self.now yes.now (λ a. Wherever self.now no.now (λ b.
+            TriesAt self.now at (map view.proof proofs.now) from (state_follows a (view.state join.now) ++ state_follows b (view.state join.now)) tried))) }
+    {
+        let first = self.try_state(at, yes, join, proofs, from)?;
+        let second = self.try_state(at, no, join, proofs, from + first.count)?;
+        Ok(first.and(second))
+    }
+
+    /// Checks what is asked after the block of a loop.
+    pub fn turn(
+        &self,
+        at: u32,
+        inv: &State,
+        proofs: &[Proof],
+        before: u32,
+        end: Walked,
+        after: Point,
+    ) -> Result<Walked, CheckFault>
+        requires walk { IsWalk self.now }
+        requires end { Stands self.now end.point }
+        requires few { before + end.entailments + state_size (view.state inv.now) < 4294967295 }
+        ensures { Wherever self.now end.point (λ a. Wherever self.now after (λ b.
+            Walks (plain_of self.now) self.now.thread
+            (flat (turn_parts (plain_of self.now) self.now.thread at (map view.proof proofs.now) before (view.state inv.now) a b))
+            b (before + end.entailments + length (state_follows a (view.state inv.now))) result)) }
+    {
+        let Walked { point, entailments } = end;
+        let same = check_same_locks(self.program, self.site(at), point.modes(), after.modes());
+        let tried = self.try_state(at, &point, inv, proofs, 1 + before)?;
+        let entailments = u64::from(before) + entailments + u64::from(tried.count);
+        let last = self.check_last(at, proofs, before, tried, are_small_types(&after));
+        finish(after, entailments, both(same, last))
+    }
+}
+
+/// The negation of an expression.
+fn negated(alloc: Global, e: &Expr) -> Result<Expr, NoMemory>
+    ensures { IfOk result (λ made. term made ≡ neg (term e.now)) }
+{
+    Ok(Expr::Not(boxed(alloc, copy(alloc, e)?)?))
+}

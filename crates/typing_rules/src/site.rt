@@ -1,0 +1,35 @@
+ghost use Rattle.std.specs.Prelude.{◌≡◌, [], ◌∷◌, false};
+ghost use Rattle.cov_ast.specs.Obligations.{Decides};
+ghost use Rattle.cov_ast.specs.declared.refusal.CheckFault.TheVariants as faults;
+ghost use Rattle.typing_rules.specs.Obligations.{thread_entry};
+
+use cov_ast::{CheckFault, Detail, Refusal, Rule};
+
+/// Where an obligation of a thread stands: which thread it is, and the byte offset of the statement.
+#[derive(Clone, Copy, Debug, PartialEq, Eq)]
+pub struct Site {
+    pub thread: u32,
+    pub place: u32,
+}
+
+/// Refuses for a rule, unless what it asks holds.
+pub fn require_at(site: Site, holds: bool, rule: Rule, detail: Detail) -> Result<(), CheckFault>
+    ensures { Decides (thread_entry site.thread site.place rule detail holds ∷ []) result }
+{
+    if holds {
+        return Ok(());
+    }
+    Err(refused_at(site, rule, detail))
+}
+
+/// The refusal for a rule.
+pub fn refused_at(site: Site, rule: Rule, detail: Detail) -> CheckFault
+    ensures { result ≡ faults.Refused (thread_entry site.thread site.place rule detail false).refusal }
+{
+    CheckFault::Refused(Refusal {
+        rule,
+        thread: Some(site.thread),
+        place: site.place,
+        detail,
+    })
+}

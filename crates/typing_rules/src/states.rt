@@ -1,0 +1,268 @@
+//! Obligations of types and predicates that are written, of held locks, and of the size of points.
+
+ghost use Rattle.std.specs.Prelude.{◌≡◌, ◌<◌, ◌&&◌, ◌==◌, ℕ, [], ◌∷◌, length, map, not, option_map, All};
+ghost use Rattle.std.specs.List.{list_all, list_any};
+ghost use Rattle.cov_expr.specs.View.{term};
+ghost use Rattle.cov_expr.specs.Words.{HasVarsBelow};
+ghost use Rattle.cov_ast.specs.Declarations.{is_control, name_of};
+ghost use Rattle.cov_ast.specs.Obligations.{Decides};
+ghost use Rattle.cov_ast.specs.Plain.{Plain, plain};
+ghost use Rattle.cov_ast.specs.View as view;
+ghost use Rattle.cov_ast.specs.declared.refusal.Detail.TheVariants.{Nothing, One};
+ghost use Rattle.cov_ast.specs.declared.refusal.Rule.TheVariants.{V14, V16};
+ghost use Rattle.cov_ast.specs.WellFormed.{AreTypesInRange, IsStateInRange, IsWellFormed};
+ghost use Rattle.typing_state.specs.Point.{is_tracked};
+ghost use Rattle.typing_rules.specs.Answers.{AtHeld, AtPoint};
+ghost use Rattle.typing_rules.specs.Obligations as spec;
+
+use crate::site::{Site, refused_at, require_at};
+use cov_ast::{CheckFault, Detail, Program, Retype, Rule, State};
+use cov_expr::{Expr, nodes_at_most};
+use mode_state::ModeState;
+use typing_state::Point;
+
+/// A type is over stable controls (V4).
+pub fn check_over_controls(
+    p: &Program,
+    site: Site,
+    point: &Point,
+    q: &Expr,
+) -> Result<(), CheckFault>
+    requires { HasVarsBelow (term q.now) (length p.now.vars) }
+    ensures { AtPoint (plain (view.program p.now)) site.thread point.now (λ a.
+        Decides (spec.over_controls (plain (view.program p.now)) site.thread site.place a.held (term q.now) ∷ []) result) }
+{
+    require_at(site, point.is_over_controls(q), Rule::V4, Detail::Nothing)
+}
+
+/// Each listed variable is tracked and isn't listed before, where a control is assigned, and its type is over stable
+/// controls (V14, V4).
+pub fn check_retypes(
+    p: &Program,
+    site: Site,
+    point: &Point,
+    x: u32,
+    retypes: &[Retype],
+) -> Result<(), CheckFault>
+    requires variable { x < length p.now.vars }
+    requires range { AreTypesInRange (length p.now.vars) (length p.now.locks) (map view.retype retypes.now) }
+    ensures { AtPoint (plain (view.program p.now)) site.thread point.now (λ a. Decides
+        (spec.type_entries (plain (view.program p.now)) site.thread site.place
+        (λ z. is_control (plain (view.program p.now)) x && is_tracked (plain (view.program p.now)) site.thread a.held z) a.held [] (map view.retype retypes.now))
+        result) }
+{
+    let control = point.is_control(x);
+    for (i, r) in retypes.iter().enumerate() {
+        let named = has_retype(&retypes[..i], r.var);
+        if let Err(fault) = check_type(p, site, point, control, named, r.var, &r.class) {
+            return Err(fault);
+        }
+    }
+    Ok(())
+}
+
+/// Whether a variable is listed.
+fn has_retype(retypes: &[Retype], z: u32) -> bool
+    ensures { result ≡ list_any (λ r. r.var == z) retypes.now }
+{
+    retypes.iter().any(|r| r.var == z)
+}
+
+/// A type may be listed for the variable, which is tracked and isn't named before, and it is over stable controls (V14, V4).
+fn check_type(
+    p: &Program,
+    site: Site,
+    point: &Point,
+    may_list: bool,
+    named: bool,
+    z: u32,
+    q: &Expr,
+) -> Result<(), CheckFault>
+    requires variable { z < length p.now.vars }
+    requires range { HasVarsBelow (term q.now) (length p.now.vars) }
+    ensures { AtPoint (plain (view.program p.now)) site.thread point.now (λ a. Decides
+        (spec.entry (plain (view.program p.now)) site.thread site.place V14 (One (name_of (plain (view.program p.now)) z))
+        ((may_list && is_tracked (plain (view.program p.now)) site.thread a.held z) && not named)
+        ∷ spec.over_controls (plain (view.program p.now)) site.thread site.place a.held (term q.now) ∷ [])
+        result) }
+{
+    let fit = is_fit(point, may_list, named, z);
+    match require_at(site, fit, Rule::V14, Detail::One(p.var_name(z))) {
+        Ok(()) => check_over_controls(p, site, point, q),
+        Err(fault) => Err(fault),
+    }
+}
+
+/// Whether a type may be listed for the variable.
+fn is_fit(point: &Point, may_list: bool, named: bool, z: u32) -> bool
+    ensures { (p : Plain) → (t : ℕ) → AtPoint p t point.now (λ a. z < length p.vars
+        → result ≡ ((may_list && is_tracked p t a.held z) && not named)) }
+{
+    may_list && point.type_of(z).is_some() && !named
+}
+
+/// The predicates of a state are over stable variables, each variable that it lists is tracked and isn't listed before, and
+/// its type is over stable controls (V12, V14, V4).
+pub fn check_state(p: &Program, site: Site, point: &Point, s: &State) -> Result<(), CheckFault>
+    requires { IsStateInRange (length p.now.vars) (length p.now.locks) (view.state s.now) }
+    ensures { AtPoint (plain (view.program p.now)) site.thread point.now (λ a. Decides
+        (spec.state_entries (plain (view.program p.now)) site.thread site.place a.held (view.state s.now)) result) }
+{
+    if let Err(fault) = check_preds(p, site, point, s.preds.as_slice()) {
+        return Err(fault);
+    }
+    check_types(p, site, point, s.types.as_slice())
+}
+
+/// Predicates are over stable variables (V12).
+fn check_preds(p: &Program, site: Site, point: &Point, preds: &[Expr]) -> Result<(), CheckFault>
+    requires { All (λ e. HasVarsBelow e (length p.now.vars)) (map term preds.now) }
+    ensures { AtPoint (plain (view.program p.now)) site.thread point.now (λ a. Decides
+        (map (spec.over_stable (plain (view.program p.now)) site.thread site.place a.held) (map term preds.now)) result) }
+{
+    for e in preds {
+        if !point.is_over_stable(e) {
+            return Err(refused_at(site, Rule::V12, Detail::Nothing));
+        }
+    }
+    Ok(())
+}
+
+/// Each listed variable is tracked and isn't listed before, and its type is over stable controls (V14, V4).
+fn check_types(
+    p: &Program,
+    site: Site,
+    point: &Point,
+    types: &[(u32, Expr)],
+) -> Result<(), CheckFault>
+    requires { AreTypesInRange (length p.now.vars) (length p.now.locks) (map view.typed types.now) }
+    ensures { AtPoint (plain (view.program p.now)) site.thread point.now (λ a. Decides
+        (spec.type_entries (plain (view.program p.now)) site.thread site.place (is_tracked (plain (view.program p.now)) site.thread a.held) a.held [] (map view.typed types.now))
+        result) }
+{
+    for (i, t) in types.iter().enumerate() {
+        let named = has_type(&types[..i], t.0);
+        if let Err(fault) = check_type(p, site, point, true, named, t.0, &t.1) {
+            return Err(fault);
+        }
+    }
+    Ok(())
+}
+
+/// Whether a variable is listed.
+fn has_type(types: &[(u32, Expr)], z: u32) -> bool
+    ensures { result ≡ list_any (λ t. t.0 == z) types.now }
+{
+    types.iter().any(|t| t.0 == z)
+}
+
+/// The same locks are held (V8).
+pub fn check_same_locks(
+    p: &Program,
+    site: Site,
+    modes: &ModeState,
+    other: &ModeState,
+) -> Result<(), CheckFault>
+    requires { IsWellFormed (view.program p.now) }
+    ensures { AtHeld (plain (view.program p.now)) site.thread modes.now (λ held. AtHeld (plain (view.program p.now)) site.thread other.now (λ another.
+        Decides (spec.same_locks (plain (view.program p.now)) site.thread site.place held another) result)) }
+{
+    let same = hold_same(p, modes, other);
+    require_at(site, same, Rule::V8, Detail::Nothing)
+}
+
+/// Whether of each lock both say whether it is held.
+fn hold_same(p: &Program, modes: &ModeState, other: &ModeState) -> bool
+    requires { IsWellFormed (view.program p.now) }
+    ensures { result ≡ spec.same_held (plain (view.program p.now)) (modes.now).held (other.now).held }
+{
+    for l in 0..lock_count(p) {
+        if modes.holds(l) != other.holds(l) {
+            return false;
+        }
+    }
+    true
+}
+
+/// How many locks there are.
+fn lock_count(p: &Program) -> u32
+    requires { IsWellFormed (view.program p.now) }
+    ensures { result ≡ length p.now.locks }
+{
+    p.locks.len() as u32
+}
+
+/// A point has few predicates (V15).
+pub fn check_few_preds(p: &Program, site: Site, point: &Point) -> Result<(), CheckFault>
+    ensures { AtPoint (plain (view.program p.now)) site.thread point.now (λ a.
+        Decides (spec.few_preds (plain (view.program p.now)) site.thread site.place (a ∷ [])) result) }
+{
+    require_at(site, has_few_preds(point), Rule::V15, Detail::Nothing)
+}
+
+/// Whether there are few predicates.
+fn has_few_preds(point: &Point) -> bool
+    ensures { (p : Plain) → (t : ℕ) → AtPoint p t point.now (λ a. result ≡ spec.has_few_preds a) }
+{
+    point.preds().len() <= 64
+}
+
+/// Both of two points have few predicates (V15).
+pub fn check_both_few_preds(
+    p: &Program,
+    site: Site,
+    point: &Point,
+    other: &Point,
+) -> Result<(), CheckFault>
+    ensures { AtPoint (plain (view.program p.now)) site.thread point.now (λ a. AtPoint (plain (view.program p.now)) site.thread other.now (λ b.
+        Decides (spec.few_preds (plain (view.program p.now)) site.thread site.place (a ∷ b ∷ [])) result)) }
+{
+    let few = has_few_preds(point) && has_few_preds(other);
+    require_at(site, few, Rule::V15, Detail::Nothing)
+}
+
+/// At the end of a thread no lock is held (V11).
+pub fn check_end(p: &Program, site: Site, modes: &ModeState) -> Result<(), CheckFault>
+    requires { IsWellFormed (view.program p.now) }
+    ensures { AtHeld (plain (view.program p.now)) site.thread modes.now (λ held.
+        Decides (spec.end_entry (plain (view.program p.now)) site.thread site.place held ∷ []) result) }
+{
+    for l in 0..lock_count(p) {
+        if modes.holds(l) {
+            let name = p.locks.as_slice()[l as usize].name;
+            return Err(refused_at(site, Rule::V11, Detail::One(name)));
+        }
+    }
+    Ok(())
+}
+
+/// Whether the types of a point are small.
+pub fn are_small_types(point: &Point) -> bool
+    ensures { (p : Plain) → (t : ℕ) → AtPoint p t point.now (λ a. result ≡ spec.has_small_types a) }
+{
+    have_small_types(point.types())
+}
+
+/// Whether each type, where there is one, has at most 1,000 nodes.
+fn have_small_types(types: &[Option<Expr>]) -> bool
+    ensures { result ≡ list_all (λ q. spec.is_small_type (option_map term q)) types.now }
+{
+    types.iter().all(is_small_type)
+}
+
+/// Whether a type, if there is one, has at most 1,000 nodes.
+fn is_small_type(q: &Option<Expr>) -> bool
+    ensures { result ≡ spec.is_small_type (option_map term q.now) }
+{
+    match q {
+        Some(q) => nodes_at_most(q, 1000),
+        None => true,
+    }
+}
+
+/// What a statement asks, and the types of the point after it, are small (V16).
+pub fn require_small(p: &Program, site: Site, small: bool) -> Result<(), CheckFault>
+    ensures { Decides (spec.entry (plain (view.program p.now)) site.thread site.place V16 Nothing small ∷ []) result }
+{
+    require_at(site, small, Rule::V16, Detail::Nothing)
+}

@@ -1,0 +1,78 @@
+ghost use Rattle.std.specs.Prelude.{◌≡◌, ◌<◌, ◌^◌, length, Err, IfOk, IsTrue, MatchResult, None};
+ghost use Rattle.cov_ast.specs.Obligations.{Decides, all_hold, first_false};
+ghost use Rattle.cov_ast.specs.Plain.{plain};
+ghost use Rattle.cov_ast.specs.View as view;
+ghost use Rattle.cov_ast.specs.WellFormed.{IsWellFormed};
+ghost use Rattle.flow_model.specs.Game.{IsSecureThread};
+ghost use Rattle.mode_compat.specs.Declared.{declaration_obligations};
+ghost use Rattle.typing_rules.specs.Answers.{DecidesWith};
+ghost use Rattle.typing_rules.specs.Counts.{counts};
+ghost use Rattle.typing_rules.specs.Obligations.{thread_obligations};
+
+use crate::count::{Count, statements};
+use crate::laws::true_obligations_are_secure;
+use crate::site::Site;
+use crate::states::check_end;
+use crate::walk::Walk;
+use crate::word_threads::threads_are_of_words;
+use cov_ast::{CheckFault, Program};
+use std::alloc::Global;
+use typing_state::Point;
+
+/// Checks the statements of a thread of a program whose declarations keep the rules.
+///
+/// `Ok` comes exactly where every obligation of the thread holds, with how much was checked, and then the thread is secure,
+/// whatever the others do within what it assumes of them. The first obligation that doesn't hold is refused.
+pub fn check_thread(alloc: Global, p: &Program, t: u32) -> Result<Count, CheckFault>
+    requires formed { IsWellFormed (view.program p.now) }
+    requires declared { IsTrue (all_hold (declaration_obligations (view.program p.now))) }
+    requires thread { t < length p.now.threads }
+    ensures answer { DecidesWith (thread_obligations (view.program p.now) t) (counts (view.program p.now) t) result }
+    ensures bounded { IfOk result (λ count. (count.statements < 2 ^ 21) × (count.entailments < 2 ^ 31)) }
+    ensures secure { IfOk result (λ _. IsSecureThread (plain (view.program p.now)) t) }
+{
+    match check_statements(alloc, p, t) {
+        Ok(entailments) => {
+            threads_are_of_words(p);
+            true_obligations_are_secure();
+            let statements = statements(p.threads.as_slice()[t as usize].body.as_slice());
+            Ok(Count {
+                statements,
+                entailments,
+            })
+        }
+        Err(fault) => Err(fault),
+    }
+}
+
+/// Checks the statements of a thread in their order, and then its end. How many entailments there were.
+fn check_statements(alloc: Global, p: &Program, t: u32) -> Result<u64, CheckFault>
+    requires formed { IsWellFormed (view.program p.now) }
+    requires declared { IsTrue (all_hold (declaration_obligations (view.program p.now))) }
+    requires thread { t < length p.now.threads }
+    ensures { MatchResult result
+        (λ entailments. (first_false (thread_obligations (view.program p.now) t) ≡ None)
+        × (entailments ≡ (counts (view.program p.now) t).entailments))
+        (λ fault. Decides (thread_obligations (view.program p.now) t) (Err fault)) }
+{
+    let walk = Walk {
+        alloc,
+        program: p,
+        thread: t,
+    };
+    let thread = &p.threads.as_slice()[t as usize];
+    let start = Point::start(alloc, p, t)?;
+    match walk.block(thread.body.as_slice(), start) {
+        Ok(end) => {
+            let site = Site {
+                thread: t,
+                place: thread.end,
+            };
+            match check_end(p, site, end.point.modes()) {
+                Ok(()) => Ok(end.entailments),
+                Err(fault) => Err(fault),
+            }
+        }
+        Err(fault) => Err(fault),
+    }
+}

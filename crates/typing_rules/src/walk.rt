@@ -1,0 +1,145 @@
+ghost use Rattle.std.specs.Prelude.{◌≡◌, ◌<◌, ◌++◌, ℕ, List, map, length, None};
+ghost use Rattle.cov_ast.specs.Obligations.{Decides, Entry, first_false};
+ghost use Rattle.cov_ast.specs.Plain.{Plain};
+ghost use Rattle.cov_ast.specs.View as view;
+ghost use Rattle.cov_ast.specs.WellFormed.{IsBlockInRange, IsStmInRange, block_size, stm_size};
+ghost use Rattle.typing_state.specs.Kept.{Keeps};
+ghost use Rattle.typing_state.specs.Point as typing;
+ghost use Rattle.typing_rules.specs.Answers.{Walks};
+ghost use Rattle.typing_rules.specs.Walking.{IsWalk, Stands, WalksBlock, WalksStm};
+
+use crate::site::Site;
+use cov_ast::{CheckFault, Program, Proof, Stmt, StmtKind};
+use std::alloc::Global;
+use typing_state::Point;
+
+/// A walk over the statements of a thread of a program.
+#[derive(Clone, Copy)]
+pub struct Walk<'p> {
+    pub alloc: Global,
+    pub program: &'p Program,
+    pub thread: u32,
+}
+
+/// Where a walk has come: the point after what it has checked, and how many entailments that had.
+#[derive(Debug, Drop)]
+pub struct Walked {
+    pub point: Point,
+    pub entailments: u64,
+}
+
+/// The points after a guard, where it holds and where it doesn't, and how many entailments were tried so far.
+#[derive(Debug, Drop)]
+pub struct Guarded {
+    pub holds: Point,
+    pub fails: Point,
+    pub count: u32,
+}
+
+/// The verdict on obligations and then on others.
+pub fn both(first: Result<(), CheckFault>, second: Result<(), CheckFault>) -> Result<(), CheckFault>
+    ensures { (a b : List Entry) → Decides a first → (first_false a ≡ None → Decides b second) → Decides (a ++ b) result }
+{
+    match first {
+        Ok(()) => second,
+        Err(fault) => Err(fault),
+    }
+}
+
+/// The point after a statement, if each of its obligations holds.
+pub fn finish(
+    point: Point,
+    entailments: u64,
+    verdict: Result<(), CheckFault>,
+) -> Result<Walked, CheckFault>
+    ensures { (p : Plain) → (t : ℕ) → (entries : List Entry) → (a : typing.Point) → (counted : ℕ) → Keeps p t a point → Decides entries verdict
+        → (first_false entries ≡ None → entailments ≡ counted) → Walks p t entries a counted result }
+{
+    match verdict {
+        Ok(()) => Ok(Walked { point, entailments }),
+        Err(fault) => Err(fault),
+    }
+}
+
+impl Walk<'_> {
+    /// Where a statement of the thread stands.
+    pub fn site(&self, at: u32) -> Site
+        ensures { result ≡ record { thread = self.now.thread; place = at } }
+    {
+        Site {
+            thread: self.thread,
+            place: at,
+        }
+    }
+
+    /// Checks the statements of a block, from a point on.
+    #[cycle(walk)]
+    pub fn block(&self, body: &[Stmt], point: Point) -> Result<Walked, CheckFault>
+        requires walk { IsWalk self.now }
+        requires range { IsBlockInRange (length self.now.program.now.vars) (length self.now.program.now.locks) (view.block body.now) }
+        requires small { block_size (view.block body.now) < 2097152 }
+        requires point { Stands self.now point }
+        ensures { WalksBlock self.now (view.block body.now) point result }
+    {
+        let mut here = point;
+        let mut entailments = 0;
+        for stmt in body {
+            match self.statement(stmt.at, &stmt.kind, stmt.proofs.as_slice(), here) {
+                Ok(next) => {
+                    here = next.point;
+                    entailments += next.entailments;
+                }
+                Err(fault) => return Err(fault),
+            }
+        }
+        Ok(Walked {
+            point: here,
+            entailments,
+        })
+    }
+
+    /// Checks a statement, from a point on.
+    #[cycle(walk)]
+    fn statement(
+        &self,
+        at: u32,
+        kind: &StmtKind,
+        proofs: &[Proof],
+        point: Point,
+    ) -> Result<Walked, CheckFault>
+        requires walk { IsWalk self.now }
+        requires range { IsStmInRange (length self.now.program.now.vars) (length self.now.program.now.locks) (view.kind kind.now) }
+        requires small { stm_size (view.kind kind.now) < 2097152 }
+        requires point { Stands self.now point }
+        ensures { WalksStm self.now at (view.kind kind.now) (map view.proof proofs.now) point result }
+    {
+        match kind {
+            StmtKind::Skip => self.skip(at, proofs, point),
+            StmtKind::Assign(x, e, written, retypes) => {
+                self.assign(at, *x, e, written, retypes, proofs, point)
+            }
+            StmtKind::Lock(l) => self.lock(at, *l, point),
+            StmtKind::Unlock(l) => self.unlock(at, *l, proofs, point),
+            StmtKind::Note(j) => self.note(at, j, proofs, point),
+            StmtKind::If(e, yes, no, join) => {
+                let Guarded {
+                    holds,
+                    fails,
+                    count,
+                } = self.fork(at, e, proofs, point)?;
+                let first = self.block(yes.as_slice(), holds)?;
+                let second = self.block(no.as_slice(), fails)?;
+                self.join(at, join, proofs, count, first, second)
+            }
+            StmtKind::While(e, inv, body) => {
+                let Guarded {
+                    holds,
+                    fails,
+                    count,
+                } = self.head(at, inv, e, proofs, point)?;
+                let end = self.block(body.as_slice(), holds)?;
+                self.turn(at, inv, proofs, count, end, fails)
+            }
+        }
+    }
+}
