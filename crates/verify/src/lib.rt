@@ -1,8 +1,19 @@
-//! Whole programs: which are accepted, and that an accepted program is secure.
+//! Whole programs: which are accepted, and that an accepted program is secure and disciplined.
 //!
-//! `specs/Accepted.antt` has the obligations of a program. [`accepted_is_secure`] has no code: its contract is the law.
+//! The definitions stand in `specs/`: `Accepted` has the obligations of a program (W3 to W9, and V1 to V16 of each thread),
+//! `Verdicts` how many statements and entailments it has, and `Disciplined` what every run of an accepted program keeps, from
+//! any memory. `proofs/Rows.antt` computes worked rows.
+//!
+//! - [`check_program`]: the first obligation that fails, or a [`Verdict`]. [`check_declared`] looks at declarations alone.
+//! - [`accepted_is_secure`], [`accepted_is_disciplined`]: laws, without code of their own.
 #![tactic(auto)]
 
+mod check;
 mod laws;
+#[cfg(test)]
+mod tests;
+mod verdict;
 
-pub use laws::accepted_is_secure;
+pub use check::{check_declared, check_program};
+pub use laws::{accepted_is_disciplined, accepted_is_secure};
+pub use verdict::Verdict;

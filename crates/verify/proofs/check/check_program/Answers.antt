@@ -1,0 +1,46 @@
+use Rattle.std.proofs.Common.{◌≡◌, ◌∙◌, Err, None}
+use Rattle.std.specs.List.{flat_map}
+use Rattle.cov_ast.specs.View as view
+use Rattle.cov_ast.specs.Obligations.{first_false}
+use Rattle.cov_ast.proofs.ObligationLaws.{append_decided, append_refused, append_held}
+use Rattle.mode_compat.specs.Compatible.{threads_of}
+use Rattle.mode_compat.specs.Declared.{declaration_obligations}
+use Rattle.typing_rules.specs.Obligations.{thread_obligations}
+use Rattle.verify.specs.Accepted.{IsAccepted, program_obligations}
+use Rattle.verify.proofs.Parts.{none_refused}
+use Rattle.verify.proofs.check.check_program.Goals as goal
+
+pub returns-in-Err-clause-answer : goal.returns-in-Err-clause-answer
+returns-in-Err-clause-answer c =
+    let p = view.program c.args.p.now in
+    append_refused (declaration_obligations p) (flat_map (thread_obligations p) (threads_of p)) c.in-Err.fault c.in-Err.ensures
+
+pub returns-in-Err-check_threads-clause-answer : goal.returns-in-Err-check_threads-clause-answer
+returns-in-Err-check_threads-clause-answer c =
+    let p = view.program c.args.p.now in
+    let fault = c.in-Err-check_threads.fault in
+    append_decided (declaration_obligations p) (flat_map (thread_obligations p) (threads_of p)) (Err fault) c.in_default.ensures c.in-Err-check_threads.ensures
+
+pub check_threads-requires-clause-declared : goal.check_threads-requires-clause-declared
+check_threads-requires-clause-declared c = none_refused (declaration_obligations (view.program c.args.p.now)) c.in_default.ensures
+
+pub invariant_of-result : goal.invariant_of-result
+invariant_of-result c =
+    let p = view.program c.args.p.now in
+    let none : first_false (program_obligations p) ≡ None =
+    append_held (declaration_obligations p) (flat_map (thread_obligations p) (threads_of p)) c.in_default.ensures ∙ c.in-Ok.ensures.0 in
+    let accepted : IsAccepted p = none_refused (program_obligations p) none in
+    record {
+      formed = ∣ c.requires ∣₁;
+      accepted = accepted;
+      secure = ∣ c.accepted_is_secure.ensures p c.requires c.threads_are_of_words.ensures accepted ∣₁;
+      disciplined = c.accepted_is_disciplined.ensures p c.requires accepted;
+      counted = c.in-Ok.ensures.1;
+    }
+
+pub returns-in-Ok-clause-secure : goal.returns-in-Ok-clause-secure
+returns-in-Ok-clause-secure c =
+    let p = view.program c.args.p.now in
+    let none : first_false (program_obligations p) ≡ None =
+    append_held (declaration_obligations p) (flat_map (thread_obligations p) (threads_of p)) c.in_default.ensures ∙ c.in-Ok.ensures.0 in
+    c.accepted_is_secure.ensures p c.requires c.threads_are_of_words.ensures (none_refused (program_obligations p) none)

@@ -1,0 +1,50 @@
+ghost use Rattle.std.specs.Prelude.{◌≡◌, length};
+ghost use Rattle.cov_ast.specs.Plain.{plain};
+ghost use Rattle.cov_ast.specs.View as view;
+ghost use Rattle.cov_ast.specs.WellFormed.{IsWellFormed};
+ghost use Rattle.flow_model.specs.Secure.{IsSecure};
+ghost use Rattle.verify.specs.Accepted.{IsAccepted};
+ghost use Rattle.verify.specs.Disciplined.{IsDisciplined};
+ghost use Rattle.verify.specs.Verdicts.{counts};
+
+use cov_ast::Program;
+use typing_rules::Count;
+
+/// That a program is accepted, and what follows: it is secure and disciplined. It keeps how much was checked.
+#[derive(Debug, Drop)]
+pub struct Verdict<'p> {
+    pub(crate) program: &'p Program,
+    pub(crate) count: Count,
+    ghost formed: { ∥ IsWellFormed (view.program program.now) ∥₁ },
+    ghost accepted: { IsAccepted (view.program program.now) },
+    ghost secure: { ∥ IsSecure (plain (view.program program.now)) ∥₁ },
+    ghost disciplined: { IsDisciplined (view.program program.now) },
+    ghost counted: { count ≡ counts (view.program program.now) },
+}
+
+impl<'p> Verdict<'p> {
+    /// The program that is accepted.
+    pub fn program(&self) -> &'p Program
+        ensures same { result ≡ self.now.program }
+        ensures formed { ∥ IsWellFormed (view.program result.now) ∥₁ }
+        ensures accepted { IsAccepted (view.program result.now) }
+        ensures secure { ∥ IsSecure (plain (view.program result.now)) ∥₁ }
+        ensures disciplined { IsDisciplined (view.program result.now) }
+    {
+        self.program
+    }
+
+    /// How many threads the program has.
+    pub fn threads(&self) -> u32
+        ensures { result ≡ length self.now.program.now.threads }
+    {
+        self.program.threads.len() as u32
+    }
+
+    /// How many statements and entailments the program has.
+    pub fn count(&self) -> Count
+        ensures { result ≡ counts (view.program self.now.program.now) }
+    {
+        self.count
+    }
+}
