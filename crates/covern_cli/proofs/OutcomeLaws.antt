@@ -7,8 +7,13 @@ use Rattle.cov_io.specs.declared.shelf.Fetched.TheVariants.{Whole}
 use Rattle.cov_io.specs.Counts.{Rose}
 use Rattle.cov_io.specs.Sinks.{Sunk, Writes}
 use Rattle.cov_io.specs.declared.sink.Failed.{Failed}
-use Rattle.covern_cli.specs.Answers.{Reply, usage, read_fault, too_long, malformed, not_built, refused, accepted, spelled, status_of, report_of}
-use Rattle.covern_cli.specs.Outcome.{program_limit, Reads, GivenBy, Outcome, Command, check, fmt, nothing, Does, Gets, Ends, Judges, Formats, HoldsSecure}
+use Rattle.cov_ast.specs.Syntax.{Parsed}
+use Rattle.cov_grammar.specs.Trees as trees
+use Rattle.cov_parse.specs.Text.{program_of}
+use Rattle.covern_cli.proofs.JudgeLaws.{names_hold}
+use Rattle.covern_cli.specs.Answers.{Reply, usage, read_fault, too_long, malformed, refused, accepted, spelled, status_of, report_of}
+use Rattle.covern_cli.specs.Judging.{JudgesTree, Refuses, Accepts}
+use Rattle.covern_cli.specs.Outcome.{SpellsTree, program_limit, Reads, GivenBy, Outcome, Command, check, fmt, nothing, Does, Gets, Ends, Judges, Formats, HoldsSecure}
 use Rattle.covern_cli.specs.declared.answer.Answer.{Answer}
 use Rattle.covern_cli.specs.declared.answer.Stop.{Stop}
 use Rattle.covern_cli.specs.declared.answer.Stop.TheVariants as stops
@@ -20,6 +25,20 @@ pub gets_onward : (does does' : Reply → Type 0) (r : Result Answer Stop) → (
 gets_onward does does' (Ok answer) each h = each _ h
 gets_onward does does' (Err (stops.Answer answer)) each h = each _ h
 gets_onward does does' (Err stops.NoMemory) each h = tt
+
+-- what bytes spell, and what is replied to it
+pub tree_judged : (name bytes : List ℕ) (tree : trees.Program) (p : Parsed) (r : Result Answer Stop) → SpellsTree bytes tree → p ≡ program_of bytes tree
+    → Gets (JudgesTree p) r → Gets (Judges name bytes) r
+tree_judged name bytes tree p r is_spelled same h = gets_onward (JudgesTree p) (Judges name bytes) r each h
+  where
+    each : (reply : Reply) → JudgesTree p reply → Judges name bytes reply
+    each usage judged = judged
+    each (read_fault file) judged = judged
+    each (too_long file) judged = judged
+    each (malformed file fault) judged = absurd judged
+    each (refused refusal thread) judged = (tree, is_spelled, subst (λ q. Refuses q refusal thread) same judged)
+    each (accepted threads statements entailments) judged = (tree, is_spelled, subst (λ q. Accepts q threads statements entailments) same judged)
+    each (spelled text) judged = judged
 
 -- the bytes of a file, and what is replied to them
 pub check_reads : (before after : Shelved) (name bytes seen_bytes : List ℕ) (r : Result Answer Stop) → Gives before after name program_limit (Ok (Whole bytes))
@@ -44,10 +63,9 @@ done_is_secure before after (check name) reply (inl (bytes, fetched, judged)) do
     by (Some files) (read_fault file) at judged done = cc
     by (Some files) (too_long file) at judged done = cc
     by (Some files) (malformed file fault) at judged done = cc
-    by (Some files) not_built at judged done = cc
-    by (Some files) refused at judged done = cc
+    by (Some files) (refused refusal thread) at judged done = cc
     by (Some files) (accepted threads statements entailments) at judged done =
-        (bytes, at, judged.0, judged.1, judged.6)
+        (bytes, at, judged.0, judged.1, names_hold (program_of bytes judged.0) judged.2.hold, judged.2.secure)
     by (Some files) (spelled text) at judged done = absurd judged
 done_is_secure before after (check name) reply (inr (inl h)) done = let e : s.TooLong ≡ s.Done = sym (ap status_of h.1) ∙ done in cc
 done_is_secure before after (check name) reply (inr (inr h)) done = let e : s.ReadFault ≡ s.Done = sym (ap status_of h.1) ∙ done in cc
@@ -111,8 +129,7 @@ ends_done does before after usage h w = (usage, h, refl, w)
 ends_done does before after (read_fault name) h w = (read_fault name, h, refl, w)
 ends_done does before after (too_long name) h w = (too_long name, h, refl, w)
 ends_done does before after (malformed name fault) h w = (malformed name fault, h, refl, w)
-ends_done does before after not_built h w = (not_built, h, refl, w)
-ends_done does before after refused h w = (refused, h, refl, w)
+ends_done does before after (refused refusal thread) h w = (refused refusal thread, h, refl, w)
 ends_done does before after (accepted threads statements entailments) h w = (accepted threads statements entailments, h, refl, w)
 ends_done does before after (spelled text) h w = (spelled text, h, refl, w)
 

@@ -1,8 +1,3 @@
-pub mod Small
-pub mod SmallGrammar
-pub mod SmallText
-pub mod Reader
 pub mod Judging
-pub mod Confined
 pub mod Answers
 pub mod Outcome

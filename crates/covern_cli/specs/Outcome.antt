@@ -1,5 +1,5 @@
 -- What a call of the program does: what it asks, what it replies, how it ends.
-use Rattle.std.specs.Prelude.{◌≡◌, ◌⊎◌, ℕ, List, [], ◌∷◌, length, nat_lt, true, false, Option, None, Some, Result, Ok, Err, MatchBool, codes, if◌then◌else◌}
+use Rattle.std.specs.Prelude.{◌≡◌, ◌⊎◌, ℕ, List, [], ◌∷◌, length, nat_lt, Option, None, Some, Result, Ok, Err, MatchBool, codes, if◌then◌else◌}
 use Rattle.std.specs.Str.{bytes_eq}
 use Rattle.cov_io.specs.Shelves.{File, Shelved, Gives, held}
 use Rattle.cov_io.specs.Sinks.{Sunk, Writes}
@@ -12,10 +12,8 @@ use Rattle.cov_grammar.specs.Grammar as grammar
 use Rattle.cov_parse.specs.Limits.{in_program}
 use Rattle.cov_parse.specs.Text.{IsText, IsFault, program_of}
 use Rattle.cov_print.specs.Spelling.{spelling}
-use Rattle.covern_cli.specs.Answers.{seen, Reply, usage, read_fault, too_long, malformed, not_built, refused, accepted, spelled, status_of, report_of}
-use Rattle.covern_cli.specs.Small.{Program}
-use Rattle.covern_cli.specs.SmallText.{Spells, meaning}
-use Rattle.covern_cli.specs.Judging.{is_accepted, statement_count, assignment_count}
+use Rattle.covern_cli.specs.Answers.{seen, Reply, usage, read_fault, too_long, malformed, refused, accepted, spelled, status_of, report_of}
+use Rattle.covern_cli.specs.Judging.{AreNamesInOrder, meaning, Refuses, Accepts}
 use Rattle.covern_cli.specs.declared.answer.Answer.{Answer}
 use Rattle.covern_cli.specs.declared.answer.Stop.{Stop}
 use Rattle.covern_cli.specs.declared.answer.Stop.TheVariants as stops
@@ -37,25 +35,21 @@ command_of words = nothing
 
 -- Programs -----------------------------------------------------------------------------------------------------
 
--- The bytes spell a program of the whole language, within its limits.
+-- The bytes spell a program of the language, within its limits.
 abbrev pub SpellsTree : List ℕ → trees.Program → Type 0
 SpellsTree bytes tree = IsText grammar.program in_program bytes tree
 
--- The reply to a check of a file with these bytes:
--- malformed, with the first fault, where they spell no program; not built where they spell one, but none of the first
--- grammar, a part of the language, which is all that is judged so far; refused where that one isn't accepted; else accepted,
--- with the numbers of threads, of statements, and of entailments, one an assignment, and then the program is secure.
+-- The reply to a check of a file with these bytes: malformed, with the first fault, where they spell no program; refused,
+-- for the first obligation that doesn't hold of what they spell; else accepted, with the numbers of threads, of statements
+-- and of entailments, and then the program is secure.
 abbrev pub Judges : (name bytes : List ℕ) → Reply → Type 0
 Judges name bytes usage = ⊥
 Judges name bytes (read_fault file) = ⊥
 Judges name bytes (too_long file) = ⊥
 Judges name bytes (malformed file fault) = (file ≡ name) × IsFault grammar.program in_program bytes fault
-Judges name bytes not_built = (tree : trees.Program) × SpellsTree bytes tree × ((q : Program) → Spells bytes q → ⊥)
-Judges name bytes refused = (q : Program) × Spells bytes q × (is_accepted q ≡ false)
+Judges name bytes (refused refusal thread) = (tree : trees.Program) × SpellsTree bytes tree × Refuses (program_of bytes tree) refusal thread
 Judges name bytes (accepted threads statements entailments) =
-    (q : Program) × Spells bytes q × (is_accepted q ≡ true)
-    × (threads ≡ length q.threads) × (statements ≡ statement_count q) × (entailments ≡ assignment_count q)
-    × IsSecure (meaning bytes q)
+    (tree : trees.Program) × SpellsTree bytes tree × Accepts (program_of bytes tree) threads statements entailments
 Judges name bytes (spelled text) = ⊥
 
 -- The reply that formats a file with these bytes: malformed, with the first fault, where they spell no program; else the
@@ -65,8 +59,7 @@ Formats name bytes usage = ⊥
 Formats name bytes (read_fault file) = ⊥
 Formats name bytes (too_long file) = ⊥
 Formats name bytes (malformed file fault) = (file ≡ name) × IsFault grammar.program in_program bytes fault
-Formats name bytes not_built = ⊥
-Formats name bytes refused = ⊥
+Formats name bytes (refused refusal thread) = ⊥
 Formats name bytes (accepted threads statements entailments) = ⊥
 Formats name bytes (spelled text) = (tree : trees.Program) × SpellsTree bytes tree × (text ≡ spelling (program_of bytes tree))
 
@@ -131,6 +124,7 @@ Outcome files nothing reply = reply ≡ usage
 -- after each step.
 abbrev pub HoldsSecure : List File → Command → Type 0
 HoldsSecure files (check name) =
-    (bytes : List ℕ) × (held files name ≡ Some bytes) × (q : Program) × Spells bytes q × IsSecure (meaning bytes q)
+    (bytes : List ℕ) × (held files name ≡ Some bytes) × (tree : trees.Program) × SpellsTree bytes tree
+    × AreNamesInOrder (program_of bytes tree) × IsSecure (meaning (program_of bytes tree))
 HoldsSecure files (fmt name) = Unit {0}
 HoldsSecure files nothing = ⊥

@@ -3,7 +3,9 @@ ghost use Rattle.covern_cli.specs.Answers as spec;
 ghost use Rattle.covern_cli.specs.Answers.{IsLine, Reply, seen, report_of, status_of};
 ghost use Rattle.covern_cli.specs.declared.answer.Stop.TheVariants as stops;
 
-use cov_expr::{Blob, List, NoMemory};
+use crate::refusal::refusal_line;
+use cov_ast::Refusal;
+use cov_expr::{Blob, List, Name, NoMemory};
 use cov_parse::ParseFault;
 use std::alloc::{AllocError, Global};
 
@@ -47,9 +49,8 @@ pub enum Answer<'w> {
     ReadFault(&'w str),
     TooLong(&'w str),
     Malformed(&'w str, ParseFault),
-    /// The program has a part that isn't judged yet.
-    NotBuilt,
-    Refused,
+    /// The first rule that is broken, and the name of the thread, for a rule of statements.
+    Refused(Refusal, Option<Name>),
     Accepted(Counts),
     /// The canonical spelling of a program.
     Spelled(Blob),
@@ -81,7 +82,7 @@ pub fn status_for(answer: &Answer<'_>) -> Status
         Answer::ReadFault(_) => Status::ReadFault,
         Answer::TooLong(_) => Status::TooLong,
         Answer::Malformed(_, _) => Status::Malformed,
-        Answer::NotBuilt | Answer::Refused => Status::Refused,
+        Answer::Refused(_, _) => Status::Refused,
         Answer::Accepted(_) | Answer::Spelled(_) => Status::Done,
     }
 }
@@ -92,6 +93,7 @@ pub fn report(alloc: Global, answer: Answer<'_>) -> Result<Blob, NoMemory>
 {
     match answer {
         Answer::Spelled(text) => Ok(text),
+        Answer::Refused(refusal, thread) => refusal_line(alloc, &refusal, thread),
         other => Ok(bytes_of(alloc, line(alloc, &other)?.as_str())?),
     }
 }
@@ -104,7 +106,7 @@ fn bytes_of(alloc: Global, text: &str) -> Result<Blob, NoMemory>
     Ok(bytes)
 }
 
-/// The report of an answer that is one line.
+/// The report of an answer that is formatted as one line.
 fn line(alloc: Global, answer: &Answer<'_>) -> Result<String, AllocError>
     ensures { IfOk result (λ text. IsLine (seen answer.now) (string_bytes text)) }
 {
@@ -113,10 +115,8 @@ fn line(alloc: Global, answer: &Answer<'_>) -> Result<String, AllocError>
         Answer::ReadFault(name) => format!(in alloc; "read fault: {name}\n"),
         Answer::TooLong(name) => format!(in alloc; "too long: {name}\n"),
         Answer::Malformed(name, fault) => malformed_line(alloc, name, *fault),
-        Answer::NotBuilt => String::from_str(alloc, "refused: not built\n"),
-        Answer::Refused => String::from_str(alloc, "refused\n"),
         Answer::Accepted(counts) => accepted_line(alloc, counts),
-        Answer::Spelled(_) => Ok(String::new(alloc)),
+        Answer::Refused(_, _) | Answer::Spelled(_) => Ok(String::new(alloc)),
     }
 }
 

@@ -3,13 +3,10 @@ ghost use Rattle.cov_io.specs.Shelves.{Gives, Passes};
 ghost use Rattle.cov_io.specs.Counts.{Rose};
 ghost use Rattle.cov_io.specs.declared.shelf.Fetched.TheVariants as fetched;
 ghost use Rattle.covern_cli.specs.Answers.{seen};
-ghost use Rattle.covern_cli.specs.Small.{Program};
-ghost use Rattle.covern_cli.specs.SmallText.{Spells};
 ghost use Rattle.covern_cli.specs.Outcome.{Command, Does, Ends, Formats, Gets, HoldsSecure, Judges, Misses, Outcome, Stops, command_of};
 
-use crate::answer::{Answer, Counts, Status, Stop, report, status_for};
-use crate::judge::{assignment_count, is_accepted, statement_count};
-use crate::reader::{ReadFault, read};
+use crate::answer::{Answer, Status, Stop, report, status_for};
+use crate::judge::judge;
 use cov_expr::Blob;
 use cov_io::{Fetched, Shelf, ShelfFault, Sink, write_whole};
 use cov_parse::{ParseFault, parse};
@@ -117,29 +114,8 @@ fn check_text<'w>(alloc: Global, name: &'w str, bytes: &[u8]) -> Result<Answer<'
     requires { length bytes.now ≤ 1048576 }
     ensures { Gets (Judges name.now bytes.now) result }
 {
-    let program = match read(alloc, bytes) {
-        Ok(program) => program,
-        Err(ReadFault::Malformed) => return not_judged(alloc, name, bytes),
-        Err(ReadFault::NoMemory) => return Err(Stop::NoMemory),
-    };
-    if !is_accepted(alloc, &program)? {
-        return Ok(Answer::Refused);
-    }
-    Ok(Answer::Accepted(Counts {
-        threads: program.threads.len() as u64,
-        statements: statement_count(&program),
-        entailments: assignment_count(&program),
-    }))
-}
-
-/// Why a text that spells no program of the first grammar isn't judged.
-fn not_judged<'w>(alloc: Global, name: &'w str, bytes: &[u8]) -> Result<Answer<'w>, Stop<'w>>
-    requires short { length bytes.now ≤ 1048576 }
-    requires other { (q : Program) → Spells bytes.now q → ⊥ }
-    ensures { Gets (Judges name.now bytes.now) result }
-{
     match parse(alloc, bytes) {
-        Ok(_) => Ok(Answer::NotBuilt),
+        Ok(parsed) => judge(alloc, &parsed),
         Err(ParseFault::NoMemory) => Err(Stop::NoMemory),
         Err(fault) => Ok(Answer::Malformed(name, fault)),
     }

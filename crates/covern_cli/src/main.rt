@@ -8,9 +8,7 @@
 mod answer;
 mod covern;
 mod judge;
-mod reader;
-mod small;
-mod small_reader;
+mod refusal;
 #[cfg(test)]
 mod tests;
 

@@ -72,6 +72,18 @@ fn shows_on_file(
 
 const ONE: &[u8] = b"accepted: 1 threads, 1 statements, 1 entailments\n";
 
+/// The same for each case.
+fn shows_each(
+    rt: &(impl Abort + AllocGlobal),
+    command: &str,
+    cases: &[Case<'_>],
+) -> Result<(), Fail> {
+    for case in cases {
+        shows_on_file(rt, command, case)?;
+    }
+    Ok(())
+}
+
 /// A case: a text, the status, and what is put.
 const fn row<'a>(text: &'a [u8], status: Status, put: &'a [u8]) -> Case<'a> {
     Case { text, status, put }
@@ -86,20 +98,174 @@ fn ample(rt: HostRuntime) -> Result<(), Fail> {
             ONE,
         ),
         row(
-            b"var a: low; var s: high; thread t { a := s; }",
-            Status::Refused,
-            b"refused\n",
-        ),
-        row(
             b"",
             Status::Done,
             b"accepted: 0 threads, 0 statements, 0 entailments\n",
+        ),
+        row(
+            b"var mode: low; var buf: low when mode == 0; var key: high; lock l hide mode, buf; thread w { lock l; buf := key; mode := 1; unlock l by { 1: have [1 == 0] (rev 1 [_ == 0] (hyp 2)) (clash 3) }; }",
+            Status::Done,
+            b"accepted: 1 threads, 4 statements, 2 entailments\n",
+        ),
+        row(
+            b"var mode: low; var buf: low when mode == 0; var tmp: high; var net: low; lock l hide mode, buf; thread r assume hide tmp { lock l; if mode == 0 { tmp := buf as 1; } else { tmp := 0; } join { ; buf: mode == 0, tmp: 1 } unlock l; net := tmp; }",
+            Status::Done,
+            b"accepted: 1 threads, 6 statements, 8 entailments\n",
+        ),
+        row(
+            b"var x: low; thread a assume nowrite x { } thread b guarantee hide x { }",
+            Status::Done,
+            b"accepted: 2 threads, 0 statements, 0 entailments\n",
+        ),
+        row(
+            b"var n: low; lock l nowrite n; thread a { lock l; n := 1; unlock l; } thread b { lock l; n := 2; unlock l; }",
+            Status::Done,
+            b"accepted: 2 threads, 6 statements, 2 entailments\n",
+        ),
+        row(
+            b"var mode: low; var buf: low when mode == 0; var key: high; var tmp: high; var net: low; lock l hide mode, buf; thread w guarantee hide tmp { lock l; buf := key; mode := 1; unlock l by { 1: have [1 == 0] (rev 1 [_ == 0] (hyp 2)) (clash 3) }; } thread r assume hide tmp { lock l; if mode == 0 { tmp := buf as 1; } else { tmp := 0; } join { ; buf: mode == 0, tmp: 1 } unlock l; net := tmp; }",
+            Status::Done,
+            b"accepted: 2 threads, 10 statements, 10 entailments\n",
         ),
         row(
             b"var a: low; thread t { a := 4294967295; }",
             Status::Done,
             ONE,
         ),
+        row(
+            b"var x: low; thread t { x := 1 + (1 + (1 + (1 + (1 + (1 + 1))))); }",
+            Status::Done,
+            ONE,
+        ),
+        row(
+            b"var n: low; thread t assume nowrite n { n := 0; while 1 { n := n + 1; } }",
+            Status::Done,
+            b"accepted: 1 threads, 3 statements, 3 entailments\n",
+        ),
+        row(
+            b"var a: low; // a comment\nvar s: high;\r\n\tthread t { skip; a := a; s := s; }\nthread u { }//",
+            Status::Done,
+            b"accepted: 2 threads, 3 statements, 2 entailments\n",
+        ),
+    ];
+    shows_each(&rt, "check", &cases)
+}
+
+#[test]
+fn refusals(rt: HostRuntime) -> Result<(), Fail> {
+    let cases = [
+        row(
+            b"var a: low; var s: high; thread t { a := s; }",
+            Status::Refused,
+            b"refused V9 in t at 36 entailment 1\n",
+        ),
+        row(
+            b"var mode: low; var buf: low when mode == 0; var key: high; lock l hide mode, buf; thread w { lock l; buf := key; mode := 1; unlock l; }",
+            Status::Refused,
+            b"refused V9 in w at 124 entailment 1\n",
+        ),
+        row(
+            b"var mode: low; var buf: low when mode == 0; var key: high; lock l nowrite mode, buf; thread w { lock l; mode := 1; buf := key by { 1: have [1 == 0] (rev 1 [_ == 0] (hyp 2)) (clash 3) }; mode := 0; unlock l; }",
+            Status::Refused,
+            b"refused V9 in w at 186 entailment 2\n",
+        ),
+        row(
+            b"var key: high; thread t { if key { skip; } else { skip; } }",
+            Status::Refused,
+            b"refused V9 in t at 26 entailment 1\n",
+        ),
+        row(
+            b"var a: high; var buf: high; lock l hide buf; thread t { a := buf; }",
+            Status::Refused,
+            b"refused V1 in t at 56: buf\n",
+        ),
+        row(
+            b"var buf: high; lock l hide buf; thread t { buf := 0; }",
+            Status::Refused,
+            b"refused V2 in t at 43: buf\n",
+        ),
+        row(
+            b"var x: low; var y: low; var z: low; thread t { x := y + z; }",
+            Status::Refused,
+            b"refused V3 in t at 47\n",
+        ),
+        row(
+            b"var x: low; var y: low; var z: low; thread t { x := y + y; }",
+            Status::Refused,
+            b"refused V3 in t at 47\n",
+        ),
+        row(
+            b"var x: low; thread a assume nowrite x { } thread b { }",
+            Status::Refused,
+            b"refused W9 at 19: a b x\n",
+        ),
+        row(
+            b"var n: low; lock l nowrite n inv n <= 3; thread t { lock l; n := n + 1; unlock l; }",
+            Status::Refused,
+            b"refused V9 in t at 72 entailment 1\n",
+        ),
+        row(
+            b"var x: low; thread t { x := 1 + (1 + (1 + (1 + (1 + (1 + (1 + 1)))))); }",
+            Status::Refused,
+            b"refused V10 in t at 23\n",
+        ),
+        row(
+            b"var a: low; var a: low;",
+            Status::Refused,
+            b"refused W1 at 16: a\n",
+        ),
+        row(
+            b"thread t { a := 1; }",
+            Status::Refused,
+            b"refused W2 at 11: a\n",
+        ),
+        row(
+            b"var h: high; var b: low when h == 0;",
+            Status::Refused,
+            b"refused W3 at 17: h\n",
+        ),
+        row(
+            b"var m: low; var b: low when m == 0; lock l hide b; thread t { }",
+            Status::Refused,
+            b"refused W7 at 41: b m\n",
+        ),
+        row(
+            b"lock l; thread t { lock l; }",
+            Status::Refused,
+            b"refused V11 in t at 27: l\n",
+        ),
+        row(
+            b"var a: low; var s: high; thread t { } thread u { a := s; }",
+            Status::Refused,
+            b"refused V9 in u at 49 entailment 1\n",
+        ),
+        row(
+            b"lock l; thread t { if 1 { lock l; } else { } }",
+            Status::Refused,
+            b"refused V8 in t at 19\n",
+        ),
+        row(
+            b"thread t { } thread t { }",
+            Status::Refused,
+            b"refused W1 at 20: t\n",
+        ),
+        row(
+            b"var a: low; thread t { a := t; }",
+            Status::Refused,
+            b"refused W2 at 28: t\n",
+        ),
+        row(
+            b"thread t { note {} by { 1: auto }; }",
+            Status::Refused,
+            b"refused V13 in t at 11 entailment 1\n",
+        ),
+    ];
+    shows_each(&rt, "check", &cases)
+}
+
+#[test]
+fn malformed_texts(rt: HostRuntime) -> Result<(), Fail> {
+    let cases = [
         row(
             b"var a: low; thread t { a := 4294967296; }",
             Status::Malformed,
@@ -115,24 +281,6 @@ fn ample(rt: HostRuntime) -> Result<(), Fail> {
             Status::Malformed,
             b"malformed p: token at 12\n",
         ),
-        row(b"var a: low; var a: low;", Status::Refused, b"refused\n"),
-        row(b"thread t { } thread t { }", Status::Refused, b"refused\n"),
-        row(b"thread t { a := 1; }", Status::Refused, b"refused\n"),
-        row(
-            b"var a: low; thread t { a := t; }",
-            Status::Refused,
-            b"refused\n",
-        ),
-        row(
-            b"var a: high; thread t { a := b; }",
-            Status::Refused,
-            b"refused\n",
-        ),
-        row(
-            b"var a: low; // a comment\nvar s: high;\r\n\tthread t { skip; a := a; s := s; }\nthread u { }//",
-            Status::Done,
-            b"accepted: 2 threads, 3 statements, 2 entailments\n",
-        ),
         row(
             b"var a : low; thread t { a : = 1; }",
             Status::Malformed,
@@ -143,21 +291,8 @@ fn ample(rt: HostRuntime) -> Result<(), Fail> {
             Status::Malformed,
             b"malformed p: byte at 0\n",
         ),
-        row(
-            b"lock l; thread t { }",
-            Status::Refused,
-            b"refused: not built\n",
-        ),
-        row(
-            b"var a: low; thread t { a := a + 1; }",
-            Status::Refused,
-            b"refused: not built\n",
-        ),
     ];
-    for case in &cases {
-        shows_on_file(&rt, "check", case)?;
-    }
-    Ok(())
+    shows_each(&rt, "check", &cases)
 }
 
 #[test]
@@ -185,10 +320,7 @@ fn formats(rt: HostRuntime) -> Result<(), Fail> {
             b"malformed p: token at 23\n",
         ),
     ];
-    for case in &cases {
-        shows_on_file(&rt, "fmt", case)?;
-    }
-    Ok(())
+    shows_each(&rt, "fmt", &cases)
 }
 
 #[test]
@@ -279,6 +411,27 @@ fn declared(alloc: Global, count: u32, before: &str, after: &str) -> Result<Blob
         bytes.extend_from_slice(line.as_bytes())?;
     }
     Ok(bytes)
+}
+
+/// A note of the numbers from 1 up to, but without, an end as predicates, and then a branch.
+fn noted(alloc: Global, end: u32) -> Result<Blob, Fail> {
+    let mut bytes = bytes_of(alloc, b"var x: low; thread t assume nowrite x { note { 1")?;
+    for i in 2..end {
+        let predicate = format!(in alloc; ", {i}")?;
+        bytes.extend_from_slice(predicate.as_bytes())?;
+    }
+    bytes.extend_from_slice(b" }; if x { } else { } }")?;
+    Ok(bytes)
+}
+
+#[test]
+fn predicates(rt: HostRuntime) -> Result<(), Fail> {
+    let few = noted(rt.alloc(), 64)?;
+    let put = b"accepted: 1 threads, 2 statements, 64 entailments\n";
+    shows_on_file(&rt, "check", &row(few.as_slice(), Status::Done, put))?;
+    let many = noted(rt.alloc(), 65)?;
+    let put = b"refused V15 in t at 296\n";
+    shows_on_file(&rt, "check", &row(many.as_slice(), Status::Refused, put))
 }
 
 #[test]
