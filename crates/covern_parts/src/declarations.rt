@@ -2,10 +2,11 @@ ghost use Rattle.cov_ast.specs.View as view;
 ghost use Rattle.cov_ast.specs.Ready.{IsReady};
 
 use crate::failure::Failure;
+use crate::refusals::add_refusal;
 use crate::rows::Row;
 use crate::texts::TEXT_LIMIT;
-use cov_ast::{CheckFault, Detail, Parsed, Refusal};
-use cov_expr::{Blob, Name, NoMemory};
+use cov_ast::{CheckFault, Parsed};
+use cov_expr::Blob;
 use cov_parse::{ParseFault, parse};
 use lock_spec::check_locks;
 use mode_compat::check_modes;
@@ -35,7 +36,7 @@ fn add_judgement(
 {
     match judge(alloc, repeats, parsed) {
         Ok(()) => Ok(out.extend_from_slice(b": declared\n")?),
-        Err(CheckFault::Refused(refusal)) => Ok(add_refusal(alloc, &refusal, out)?),
+        Err(CheckFault::Refused(refusal)) => Ok(add_refusal(alloc, parsed, &refusal, out)?),
         Err(CheckFault::NoMemory) => Err(Failure::NoMemory),
     }
 }
@@ -50,38 +51,4 @@ fn judge(alloc: Global, repeats: u32, parsed: &Parsed) -> Result<(), CheckFault>
         check_modes(alloc, &program)?;
     }
     check_modes(alloc, &program)
-}
-
-fn add_refusal(alloc: Global, refusal: &Refusal, out: &mut Blob) -> Result<(), NoMemory> {
-    let Refusal {
-        rule,
-        place,
-        detail,
-        ..
-    } = refusal;
-    let head = format!(in alloc; ": refused {rule:?} at {place}:")?;
-    out.extend_from_slice(head.as_bytes())?;
-    add_detail(detail, out)?;
-    out.extend_from_slice(b"\n")
-}
-
-fn add_detail(detail: &Detail, out: &mut Blob) -> Result<(), NoMemory> {
-    match detail {
-        Detail::Nothing | Detail::Number(_) => Ok(()),
-        Detail::One(a) => add_name(a, out),
-        Detail::Two(a, b) => {
-            add_name(a, out)?;
-            add_name(b, out)
-        }
-        Detail::Three(a, b, c) => {
-            add_name(a, out)?;
-            add_name(b, out)?;
-            add_name(c, out)
-        }
-    }
-}
-
-fn add_name(name: &Name, out: &mut Blob) -> Result<(), NoMemory> {
-    out.extend_from_slice(b" ")?;
-    out.extend_from_slice(name.text())
 }

@@ -8,6 +8,8 @@
 //!
 //! - `texts`: its canonical spelling, of a long one its length, or its first fault.
 //! - `declarations`: that the rules of declarations hold, or the first that doesn't. The rules of modes are tried REPEATS times.
+//! - `programs`: how many statements and entailments the program has, where it is accepted, or the first obligation that doesn't hold. It
+//!   is judged REPEATS times.
 //! - `certificates`: of each note with a proof whether the certificate is valid, or the path of the first node that fails, `top` for
 //!   the root. Each is checked REPEATS times.
 #![tactic(auto)]
@@ -16,12 +18,15 @@ mod certificates;
 mod claim;
 mod declarations;
 mod failure;
+mod programs;
+mod refusals;
 mod rows;
 mod texts;
 
 use crate::certificates::add_claims;
 use crate::declarations::add_verdict;
 use crate::failure::Failure;
+use crate::programs::add_judgement;
 use crate::rows::{Row, rows_of};
 use crate::texts::add_reading;
 use cov_expr::{Blob, List};
@@ -76,6 +81,7 @@ fn add_lines(
     match part {
         "texts" => add_reading(alloc, row, lines),
         "declarations" => add_verdict(alloc, repeats, row, lines),
+        "programs" => add_judgement(alloc, repeats, row, lines),
         "certificates" => add_claims(alloc, repeats, row, lines),
         _ => Err(Failure::Usage),
     }
