@@ -5,8 +5,8 @@ usage: bench/bench.py [PROGRAM [PARTS]]    (the built programs; without them, th
                                            `rt run` or `rt ci` left in crates/covern_parts/out)
 
 A time is the least processor time (user and system) of several runs, less that of a run on the empty text. The peak memory
-is what the system counts as the most that was resident. Where rustc is on the path, the same texts are given to
-bench/plain/main.rs, a program in plain Rust that does the same work. It wants Linux.
+is what the system counts as the most that was resident. Where rustc is on the path, the same texts are given to programs in plain
+Rust that do the same work: bench/plain/check.rs for `check`, bench/plain/main.rs for the rest. It wants Linux.
 
 A time of a check of a certificate is the difference of two runs of PARTS that differ in how often they check, over how often
 that is.
@@ -295,12 +295,12 @@ def table(program, plain, empty, rows):
             yield f"{row.name}: {memory:.0f} bytes of memory per token"
 
 
-def built_plain(folder):
-    """The plain program, where there is a rustc to build it."""
+def built_plain(folder, name):
+    """A plain program, where there is a rustc to build it."""
     if not shutil.which("rustc"):
         return None
-    made = os.path.join(folder, "plain")
-    subprocess.run(["rustc", "-O", "--edition", "2021", "-o", made, f"{TOP}/bench/plain/main.rs"], check=True)
+    made = os.path.join(folder, name)
+    subprocess.run(["rustc", "-O", "--edition", "2021", "-o", made, f"{TOP}/bench/plain/{name}.rs"], check=True)
     return made
 
 
@@ -311,13 +311,13 @@ def main():
         if not os.path.exists(made):
             sys.exit(f"no built program {made}: run ./covern once, and rt run in crates/covern_parts")
     with tempfile.TemporaryDirectory() as folder:
-        plain = built_plain(folder)
+        plain, checker = built_plain(folder, "main"), built_plain(folder, "check")
         tables = [list(checked(folder)), list(formatted(folder))]
         certificate_texts = list(certificate_rows(folder))
         # (rounds, so that what else the machine does meets each text alike)
         for _ in range(ROUNDS):
             for row in (row for rows in tables for row in rows):
-                row.run(program, plain)
+                row.run(program, checker if row.command == "check" else plain)
             for row in certificate_texts:
                 row.run([parts, "certificates"])
                 if plain:

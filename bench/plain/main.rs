@@ -1,5 +1,5 @@
-//! `check P` and `fmt P` as a plain program would do them, for a comparison of times: the same tokens, grammars, limits, rules and
-//! reports, with a map of std's own, and no proof. Faults of a text aren't told apart.
+//! `fmt P`, the rules of modes and checks of certificates as a plain program would do them, for a comparison of times: the same tokens,
+//! grammar, limits and rules, with a map of std's own, and no proof. Faults of a text aren't told apart.
 mod certs;
 mod format;
 
@@ -22,23 +22,6 @@ enum Token<'t> {
     Name(u32),
     Number(u32),
     Sign(&'t [u8]),
-}
-
-enum Value {
-    Var(u32),
-    Number,
-}
-
-enum Stmt {
-    Skip,
-    Assign(u32, Value),
-}
-
-#[derive(Clone, Copy, PartialEq)]
-enum Role {
-    Low,
-    High,
-    Thread,
 }
 
 /// The tokens of a text, and its names by number.
@@ -108,88 +91,12 @@ impl<'t> Reader<'t> {
         is_next
     }
 
-    fn expect(&mut self, token: Token<'_>) -> Option<()> {
-        self.take(token).then_some(())
-    }
-
     fn name(&mut self) -> Option<u32> {
         match self.next()? {
             Token::Name(n) => Some(n),
             _ => None,
         }
     }
-
-    fn variable(&mut self) -> Option<(u32, Role)> {
-        let name = self.name()?;
-        self.expect(Token::Sign(b":"))?;
-        let role = match self.next()? {
-            Token::Word(b"low") => Role::Low,
-            Token::Word(b"high") => Role::High,
-            _ => return None,
-        };
-        self.expect(Token::Sign(b";"))?;
-        Some((name, role))
-    }
-
-    fn statement(&mut self) -> Option<Stmt> {
-        let stmt = if self.take(Token::Word(b"skip")) {
-            Stmt::Skip
-        } else {
-            let name = self.name()?;
-            self.expect(Token::Sign(b":="))?;
-            match self.next()? {
-                Token::Name(n) => Stmt::Assign(name, Value::Var(n)),
-                Token::Number(_) => Stmt::Assign(name, Value::Number),
-                _ => return None,
-            }
-        };
-        self.expect(Token::Sign(b";"))?;
-        Some(stmt)
-    }
-
-    fn thread(&mut self) -> Option<(u32, Vec<Stmt>)> {
-        let name = self.name()?;
-        self.expect(Token::Sign(b"{"))?;
-        let mut body = Vec::new();
-        while !self.take(Token::Sign(b"}")) {
-            body.push(self.statement()?);
-        }
-        Some((name, body))
-    }
-}
-
-type Program = (Vec<(u32, Role)>, Vec<(u32, Vec<Stmt>)>);
-
-fn parse(tokens: &[Token]) -> Option<Program> {
-    let mut reader = Reader { left: tokens };
-    let (mut vars, mut threads) = (Vec::new(), Vec::new());
-    while reader.take(Token::Word(b"var")) {
-        vars.push(reader.variable()?);
-    }
-    while reader.take(Token::Word(b"thread")) {
-        threads.push(reader.thread()?);
-    }
-    let statements: usize = threads.iter().map(|(_, body)| body.len()).sum();
-    (reader.left.is_empty() && vars.len() <= 256 && threads.len() <= 16 && statements <= 20_000).then_some((vars, threads))
-}
-
-fn is_accepted((vars, threads): &Program) -> bool {
-    let mut roles = HashMap::new();
-    let declared = vars.iter().copied().chain(threads.iter().map(|(name, _)| (*name, Role::Thread)));
-    for (name, role) in declared {
-        if roles.insert(name, role).is_some() {
-            return false;
-        }
-    }
-    threads.iter().flat_map(|(_, body)| body).all(|stmt| match stmt {
-        Stmt::Skip => true,
-        Stmt::Assign(x, Value::Number) => matches!(roles.get(x), Some(Role::Low | Role::High)),
-        Stmt::Assign(x, Value::Var(y)) => match (roles.get(x), roles.get(y)) {
-            (Some(Role::High), Some(Role::Low | Role::High)) => true,
-            (Some(Role::Low), Some(Role::Low)) => true,
-            _ => false,
-        },
-    })
 }
 
 /// Tries the rules of modes so many times on a text that keeps them.
@@ -198,6 +105,11 @@ fn modes(repeats: u32, text: &[u8]) {
     let modes = format::modes_of(&format::parse(&tokens).expect("a program"));
     let held = (0..repeats).filter(|_| format::are_compatible(std::hint::black_box(&modes))).count();
     println!("{held}");
+}
+
+fn malformed(name: &str) -> ! {
+    println!("malformed {name}");
+    exit(3)
 }
 
 fn main() {
@@ -211,7 +123,7 @@ fn main() {
         }
     }
     let [command, name] = words.as_slice() else { exit(2) };
-    if command != "check" && command != "fmt" {
+    if command != "fmt" {
         exit(2);
     }
     let mut text = Vec::new();
@@ -222,24 +134,9 @@ fn main() {
     if text.len() as u64 > LIMIT {
         exit(7);
     }
-    let malformed = || -> ! {
-        println!("malformed {name}");
-        exit(3)
-    };
-    let Some((tokens, names)) = lex(&text) else { malformed() };
-    if command == "fmt" {
-        let Some(program) = format::parse(&tokens) else { malformed() };
-        if std::io::stdout().write_all(&format::print(&program, &names)).is_err() {
-            exit(5);
-        }
-        return;
+    let Some((tokens, names)) = lex(&text) else { malformed(name) };
+    let Some(program) = format::parse(&tokens) else { malformed(name) };
+    if std::io::stdout().write_all(&format::print(&program, &names)).is_err() {
+        exit(5);
     }
-    let Some(program) = parse(&tokens) else { malformed() };
-    if !is_accepted(&program) {
-        println!("refused");
-        exit(1);
-    }
-    let statements: usize = program.1.iter().map(|(_, body)| body.len()).sum();
-    let assignments = program.1.iter().flat_map(|(_, body)| body).filter(|s| matches!(s, Stmt::Assign(..))).count();
-    println!("accepted: {} threads, {statements} statements, {assignments} entailments", program.1.len());
 }
