@@ -1,15 +1,15 @@
 -- Sets of locks that are held, against the definitions over a program.
-use Rattle.std.proofs.Common.{◌≡◌, ℕ, zero, suc, ◌+◌, ◌<◌, ◌≤◌, ◌&&◌, ◌||◌, not, List, [], ◌∷◌, Bool, true, false, length, map, get_or, refl, sym, ap, ◌∙◌, arith, inl, inr}
+use Rattle.std.proofs.Common.{◌≡◌, ℕ, zero, suc, ◌+◌, ◌<◌, ◌≤◌, ◌&&◌, ◌||◌, not, List, [], Bool, true, false, length, map, get_or, refl, sym, ap, ◌∙◌, arith, inl, inr}
 use Rattle.std.specs.List.{list_any, list_all, range_with_len}
 use Rattle.std.proofs.lemmas.List.{get_or_default}
 use Rattle.std.proofs.lemmas.List.FromFn.{get_or-map-range_with_len, length-map-range_with_len}
 use Rattle.cov_ast.specs.Tables.{table, has}
-use Rattle.cov_ast.specs.Plain.{Plain, plain}
-use Rattle.cov_ast.specs.Declarations.{under, hides, lists, assumes, assumes_hide, guarantees, guarantees_hide, no_lock}
+use Rattle.cov_ast.specs.Plain.{Plain}
+use Rattle.cov_ast.specs.Declarations.{under, hides, assumes, assumes_hide, guarantees, guarantees_hide}
 use Rattle.std.proofs.lemmas.Bool.{cases_eq, and_right}
 use Rattle.cov_ast.proofs.TableLaws.{table_at, or_true}
 use Rattle.mode_state.specs.Held.{set_at, any_held, each_held}
-use Rattle.mode_state.specs.Sets.{Sets, modes_at, locks_of, is_stable, is_hidden, may_read, may_write}
+use Rattle.mode_state.specs.Sets.{Sets, modes_at, is_stable, is_hidden, may_read, may_write}
 
 -- Tests of all numbers below a bound ---------------------------------------------------------------------------
 

@@ -39,17 +39,6 @@ pub fn hidden_sets(
     Ok(made)
 }
 
-/// Equal sets.
-pub fn copy_sets(alloc: Global, sets: &[NumberSet]) -> Result<List<NumberSet>, NoMemory>
-    ensures { IfOk result (λ made. made ≡ sets.now) }
-{
-    let mut made = List::new(alloc);
-    for set in sets {
-        made.push(set.copy(alloc)?)?;
-    }
-    Ok(made)
-}
-
 /// Whether a truth value stands at a place and is true.
 pub fn is_marked(marks: &[bool], place: usize) -> bool
     ensures { result ≡ has marks.now place }

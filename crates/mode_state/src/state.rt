@@ -1,4 +1,4 @@
-ghost use Rattle.std.specs.Prelude.{◌≡◌, ◌<◌, length, replicate, set, true, false, IfOk};
+ghost use Rattle.std.specs.Prelude.{◌≡◌, ◌<◌, [], length, get_or, replicate, set, true, false, IfOk};
 ghost use Rattle.cov_ast.specs.Tables.{has};
 ghost use Rattle.cov_ast.specs.Plain.{plain};
 ghost use Rattle.cov_ast.specs.View as view;
@@ -6,22 +6,30 @@ ghost use Rattle.cov_ast.specs.WellFormed.{IsWellFormed};
 ghost use Rattle.mode_state.specs.Sets as spec;
 ghost use Rattle.mode_state.specs.Answers.{Tells};
 
-use crate::sets::{copy_sets, hidden_sets, is_any_held, is_each_held, is_marked, listed_sets};
+use crate::sets::{hidden_sets, is_any_held, is_each_held, is_marked, listed_sets};
 use cov_ast::{NumberSet, Program};
 use cov_expr::{List, NoMemory};
 use std::alloc::Global;
 use std::marker::Model;
+use std::rc::Rc;
 
-/// The modes of one thread, and the locks that it holds (after the modes of Mantel, Sands and Sudbrock, and the locks of
-/// COVERN). Each set is kept as a truth value for each variable or lock.
+/// What stays as it is while a thread takes and gives locks: its modes, and the lists of the locks. Each set is kept as a
+/// truth value for each variable.
 #[derive(Debug, Drop)]
-pub struct ModeState {
+pub struct Fixed {
     assumed: NumberSet,
     assumed_hidden: NumberSet,
     guaranteed: NumberSet,
     guaranteed_hidden: NumberSet,
     listed: List<NumberSet>,
     hidden: List<NumberSet>,
+}
+
+/// The modes of one thread, and the locks that it holds (after the modes of Mantel, Sands and Sudbrock, and the locks of
+/// COVERN). Copies share what doesn't change.
+#[derive(Debug, Drop)]
+pub struct ModeState {
+    fixed: Rc<Fixed, Global>,
     held: List<bool>,
 }
 
@@ -31,12 +39,12 @@ impl Model for ModeState {
     ghost Value = { Sets };
 
     ghost view = { λ s. record {
-      assumed = s.assumed;
-      assumed_hidden = s.assumed_hidden;
-      guaranteed = s.guaranteed;
-      guaranteed_hidden = s.guaranteed_hidden;
-      listed = s.listed;
-      hidden = s.hidden;
+      assumed = s.fixed.value.assumed;
+      assumed_hidden = s.fixed.value.assumed_hidden;
+      guaranteed = s.fixed.value.guaranteed;
+      guaranteed_hidden = s.fixed.value.guaranteed_hidden;
+      listed = s.fixed.value.listed;
+      hidden = s.fixed.value.hidden;
       held = s.held;
     } };
 }
@@ -59,30 +67,28 @@ impl ModeState {
             modes.guarantee_nowrite.as_slice(),
             modes.guarantee_hide.as_slice(),
         );
-        Ok(ModeState {
+        let fixed = Fixed {
             assumed: NumberSet::of_both(alloc, count, nowrite, hide)?,
             assumed_hidden: NumberSet::of(alloc, count, hide)?,
             guaranteed: NumberSet::of_both(alloc, count, unwritten, left_alone)?,
             guaranteed_hidden: NumberSet::of(alloc, count, left_alone)?,
             listed: listed_sets(alloc, count, locks)?,
             hidden: hidden_sets(alloc, count, locks)?,
+        };
+        Ok(ModeState {
+            fixed: Rc::new(alloc, fixed)?,
             held: none_held(alloc, p.locks.len())?,
         })
     }
 
-    /// An equal state.
+    /// An equal state, which takes memory for the held locks alone.
     pub fn copy(&self, alloc: Global) -> Result<Self, NoMemory>
         ensures { IfOk result (λ made. made ≡ self.now) }
     {
         let mut held = List::new(alloc);
         held.extend_from_slice(self.held.as_slice())?;
         Ok(ModeState {
-            assumed: self.assumed.copy(alloc)?,
-            assumed_hidden: self.assumed_hidden.copy(alloc)?,
-            guaranteed: self.guaranteed.copy(alloc)?,
-            guaranteed_hidden: self.guaranteed_hidden.copy(alloc)?,
-            listed: copy_sets(alloc, self.listed.as_slice())?,
-            hidden: copy_sets(alloc, self.hidden.as_slice())?,
+            fixed: self.fixed.clone()?,
             held,
         })
     }
@@ -98,29 +104,42 @@ impl ModeState {
     pub fn stable(&self, x: u32) -> bool
         ensures { Tells spec.is_stable self.now x result }
     {
-        self.assumed.has(x) || is_any_held(self.held.as_slice(), self.listed.as_slice(), x)
+        self.fixed.assumed.has(x)
+            || is_any_held(self.held.as_slice(), self.fixed.listed.as_slice(), x)
     }
 
     /// Whether no other thread reads or writes the variable: the thread assumes so, or holds a lock that hides it.
     pub fn hidden(&self, x: u32) -> bool
         ensures { Tells spec.is_hidden self.now x result }
     {
-        self.assumed_hidden.has(x) || is_any_held(self.held.as_slice(), self.hidden.as_slice(), x)
+        self.fixed.assumed_hidden.has(x)
+            || is_any_held(self.held.as_slice(), self.fixed.hidden.as_slice(), x)
     }
 
     /// Whether the thread may read the variable: it gave no guarantee to leave it alone, and holds each lock that hides it.
     pub fn may_read(&self, x: u32) -> bool
         ensures { Tells spec.may_read self.now x result }
     {
-        !self.guaranteed_hidden.has(x)
-            && is_each_held(self.held.as_slice(), self.hidden.as_slice(), x)
+        !self.fixed.guaranteed_hidden.has(x)
+            && is_each_held(self.held.as_slice(), self.fixed.hidden.as_slice(), x)
     }
 
     /// Whether the thread may write the variable: it gave no guarantee not to, and holds each lock that lists it.
     pub fn may_write(&self, x: u32) -> bool
         ensures { Tells spec.may_write self.now x result }
     {
-        !self.guaranteed.has(x) && is_each_held(self.held.as_slice(), self.listed.as_slice(), x)
+        !self.fixed.guaranteed.has(x)
+            && is_each_held(self.held.as_slice(), self.fixed.listed.as_slice(), x)
+    }
+
+    /// Whether a lock lists the variable, be it held or not.
+    pub fn lists(&self, l: u32, x: u32) -> bool
+        ensures { result ≡ has (get_or (self.now).listed l []) x }
+    {
+        match self.fixed.listed.as_slice().get(l as usize) {
+            Some(listed) => listed.has(x),
+            None => false,
+        }
     }
 
     /// The thread holds the lock from now on.

@@ -1,6 +1,4 @@
-use Rattle.std.proofs.Common.{◌∙◌, sym, ap}
-use Rattle.cov_ast.specs.Tables.{has}
-use Rattle.mode_state.specs.Held.{set_at}
+use Rattle.std.proofs.Common.{◌∙◌, sym}
 use Rattle.mode_state.proofs.HeldLaws.{some_holds, none_holds, set_read}
 use Rattle.mode_state.proofs.sets.is_any_held.Goals as goal
 

@@ -8,14 +8,14 @@ use Rattle.mode_state.proofs.state.ModeState.may_write.Goals as goal
 pub returns-else-not-has : goal.returns-else-not-has
 returns-else-not-has c p t held is inside =
     let s = c.self.inside in
-    ap not c.has.ensures
-    ∙ else_and (has s.guaranteed c.args.x) (each_held s.held s.listed c.args.x) c.if-not-has.ensures
+    ap not (c.has.ensures ∙ ap (λ u. has u.guaranteed c.args.x) c.deref.ensures)
+    ∙ else_and (has s.fixed.value.guaranteed c.args.x) (each_held s.held s.fixed.value.listed c.args.x) (c.if-not-has.ensures ∙ ap (λ u. has u.guaranteed c.args.x) c.deref.ensures)
     ∙ may_write_is (the_view s) p t held (c.self.view_is ∙ is) c.args.x inside
 
 pub returns-then-not-has : goal.returns-then-not-has
 returns-then-not-has c p t held is inside =
     let s = c.self.inside in
     c.is_each_held.ensures
-    ∙ (λ i. each_held (c.as_slice.ensures i) (c.as_slice-then-not-has.ensures i) c.args.x)
-    ∙ then_and (has s.guaranteed c.args.x) (each_held s.held s.listed c.args.x) c.if-not-has.ensures
+    ∙ (λ i. each_held (c.as_slice.ensures i) ((c.as_slice-then-not-has.ensures ∙ ap (λ u. u.listed) c.deref-then-not-has.ensures) i) c.args.x)
+    ∙ then_and (has s.fixed.value.guaranteed c.args.x) (each_held s.held s.fixed.value.listed c.args.x) (c.if-not-has.ensures ∙ ap (λ u. has u.guaranteed c.args.x) c.deref.ensures)
     ∙ may_write_is (the_view s) p t held (c.self.view_is ∙ is) c.args.x inside

@@ -8,14 +8,14 @@ use Rattle.mode_state.proofs.state.ModeState.stable.Goals as goal
 pub returns-then-has : goal.returns-then-has
 returns-then-has c p t held is inside =
     let s = c.self.inside in
-    c.has.ensures
-    ∙ then_or (has s.assumed c.args.x) (any_held s.held s.listed c.args.x) c.if-has.ensures
+    c.has.ensures ∙ ap (λ u. has u.assumed c.args.x) c.deref.ensures
+    ∙ then_or (has s.fixed.value.assumed c.args.x) (any_held s.held s.fixed.value.listed c.args.x) (c.if-has.ensures ∙ ap (λ u. has u.assumed c.args.x) c.deref.ensures)
     ∙ stable_is (the_view s) p t held (c.self.view_is ∙ is) c.args.x inside
 
 pub returns-else-has : goal.returns-else-has
 returns-else-has c p t held is inside =
     let s = c.self.inside in
     c.is_any_held.ensures
-    ∙ (λ i. any_held (c.as_slice.ensures i) (c.as_slice-else-has.ensures i) c.args.x)
-    ∙ else_or (has s.assumed c.args.x) (any_held s.held s.listed c.args.x) c.if-has.ensures
+    ∙ (λ i. any_held (c.as_slice.ensures i) ((c.as_slice-else-has.ensures ∙ ap (λ u. u.listed) c.deref-else-has.ensures) i) c.args.x)
+    ∙ else_or (has s.fixed.value.assumed c.args.x) (any_held s.held s.fixed.value.listed c.args.x) (c.if-has.ensures ∙ ap (λ u. has u.assumed c.args.x) c.deref.ensures)
     ∙ stable_is (the_view s) p t held (c.self.view_is ∙ is) c.args.x inside

@@ -24,4 +24,6 @@ returns c =
     let e5 = c.in_ok-listed_sets.ensures ∙ (λ i. map (λ l. table (n i) (lists (view.lock l))) (locks i)) ∙ listed_is p in
     let e6 = c.in_ok-hidden_sets.ensures ∙ (λ i. map (λ l. table (n i) (has_number l.hide)) (locks i)) ∙ hidden_is p in
     let e7 = c.in_ok-none_held.ensures ∙ ap (λ k. replicate k false) c.len.ensures in
-    λ i. record { assumed = e1 i; assumed_hidden = e2 i; guaranteed = e3 i; guaranteed_hidden = e4 i; listed = e5 i; hidden = e6 i; held = e7 i }
+    (λ i. let fixed = c.in_ok-new.ensures.ok i in
+    record { assumed = fixed.assumed; assumed_hidden = fixed.assumed_hidden; guaranteed = fixed.guaranteed; guaranteed_hidden = fixed.guaranteed_hidden; listed = fixed.listed; hidden = fixed.hidden; held = c.in_ok-none_held.field-0 })
+    ∙ (λ i. record { assumed = e1 i; assumed_hidden = e2 i; guaranteed = e3 i; guaranteed_hidden = e4 i; listed = e5 i; hidden = e6 i; held = e7 i })
