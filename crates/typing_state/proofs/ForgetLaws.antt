@@ -1,5 +1,5 @@
 -- Laws of types that are kept or replaced by what is known without more.
-use Rattle.std.proofs.Common.{◌≡◌, Bool, true, false, refl, sym, ap, Option, Some, None, option_map, if◌then◌else◌}
+use Rattle.std.proofs.Common.{◌≡◌, Bool, true, false, not, is_some, refl, sym, ap, Option, Some, None, option_map, if◌then◌else◌}
 use Rattle.cov_expr.specs.Term.{Term}
 use Rattle.typing_state.specs.Kept.{passes}
 
@@ -11,3 +11,27 @@ passed test known (Some g) e = ap (λ b. Some (if b then g else known)) (sym e)
 pub failed : (test : Term → Bool) (known : Term) (q : Option Term) → passes test q ≡ false → Some known ≡ option_map (λ g. if test g then g else known) q
 failed test known None e = cc
 failed test known (Some g) e = ap (λ b. Some (if b then g else known)) (sym e)
+
+-- a type that doesn't pass a test is replaced, where the test is said the other way round
+pub failed_not : (test : Term → Bool) (known : Term) (q : Option Term) → passes (λ g. not (test g)) q ≡ false
+    → Some known ≡ option_map (λ g. if test g then known else g) q
+failed_not test known None e = cc
+failed_not test known (Some g) e = at (test g) e
+  where
+    at : (b : Bool) → not b ≡ false → Some known ≡ Some (if b then known else g)
+    at true e = refl
+    at false e = cc
+
+pub passed_not : (test : Term → Bool) (known : Term) (q : Option Term) → passes (λ g. not (test g)) q ≡ true
+    → q ≡ option_map (λ g. if test g then known else g) q
+passed_not test known None e = refl
+passed_not test known (Some g) e = at (test g) e
+  where
+    at : (b : Bool) → not b ≡ true → Some g ≡ Some (if b then known else g)
+    at true e = cc
+    at false e = refl
+
+-- a type in the place of another
+pub replaced : (known : Term) (q : Option Term) → is_some q ≡ true → Some known ≡ option_map (λ g. known) q
+replaced known None e = cc
+replaced known (Some g) e = refl

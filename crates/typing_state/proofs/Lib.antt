@@ -2,6 +2,8 @@ mod ForgetLaws
 mod LockLaws
 mod PointLaws
 mod RetainLaws
+mod SharedLaws
 mod Steps
 mod TyLaws
 mod TypeLaws
+mod VariableLaws

@@ -15,19 +15,8 @@ use Rattle.mode_state.specs.Sets.{is_stable, locks_of}
 use Rattle.mode_state.proofs.HeldLaws.{any_from}
 use Rattle.typing_state.specs.Point.{Point, is_tracked, given_type}
 use Rattle.typing_state.specs.After.{updated, locked_type, after_lock, unlocked_type, kept_type, after_unlock}
-use Rattle.typing_state.specs.Kept.{IsPoint, controls_of, set_locked}
+use Rattle.typing_state.specs.Kept.{IsPoint}
 use Rattle.typing_state.proofs.PointLaws.{updated_at, updated_same, length-updated, some_mapped}
-
-pub locked_same : (p : Plain) (l n : ℕ) (lock : Lock) (listed controls : List Bool) → n ≡ length p.vars → lock ≡ lock_at p l
-    → listed ≡ table n (lists lock) → controls ≡ controls_of p → (qs : List (Option Term)) → length qs ≤ n
-    → updated (set_locked p listed controls) qs ≡ updated (locked_type p l) qs
-locked_same p l n lock listed controls count lock_is listed_is controls_is qs small =
-    updated_same (set_locked p listed controls) (locked_type p l) qs qs refl
-    (λ k d lt. let inside : k < n = omega arith in
-    let there : k < length p.vars = omega (arith, count) in
-    let e = ap (λ s. has s k) listed_is ∙ table_at n (lists lock) k inside ∙ ap (λ m. lists m k) lock_is in
-    let h = ap (λ s. has s k) controls_is ∙ table_at (length p.vars) (is_control p) k there in
-    λ i. if e i && not (h i) then Some (class_of p k) else get_or qs k d)
 
 pub lock_of : (locks : List LockDecl) (l : ℕ) (lock : LockDecl) → l < length locks → lock ≡ get_or locks l lock → view.lock lock ≡ get_or (map view.lock locks) l no_lock
 lock_of locks l lock inside is = ap view.lock is ∙ sym (get_or-map view.lock locks l lock no_lock inside)

@@ -1,9 +1,9 @@
 -- Lists of expressions without repeats, their conjunction, and tests of variables.
-use Rattle.std.specs.Prelude.{◌≡◌, ℕ, ◌<◌, ◌≤◌, ◌==◌, ◌&&◌, List, [], ◌∷◌, ◌++◌, Bool, true, false, not, filter, length, if◌then◌else◌, Option, Some, None}
+use Rattle.std.specs.Prelude.{◌≡◌, ℕ, ◌<◌, ◌≤◌, ◌==◌, ◌&&◌, nat_le, List, [], ◌∷◌, ◌++◌, Bool, true, false, not, filter, length, if◌then◌else◌, Option, Some, None}
 use Rattle.std.specs.Option.{option_or}
 use Rattle.cov_expr.specs.declared.expr.Op.TheVariants.{Both}
 use Rattle.cov_expr.specs.Term.{Term, const, var, neg, bin}
-use Rattle.cov_expr.specs.Trees.{has_term}
+use Rattle.cov_expr.specs.Trees.{has_term, nodes}
 
 -- whether each variable of an expression passes a test
 abbrev pub each_variable : (ℕ → Bool) → Term → Bool
@@ -59,3 +59,12 @@ joined (e ∷ es) = joined_from e es
 abbrev pub listed : List (ℕ × Term) → ℕ → Option Term
 listed [] z = None
 listed (t ∷ ts) z = option_or (listed ts z) (if t.0 == z then Some t.1 else None)
+
+-- at most 1,000 nodes
+abbrev pub is_small : Term → Bool
+is_small e = nat_le (nodes e) 1000
+
+-- the same of a type, if there is one
+abbrev pub is_small_type : Option Term → Bool
+is_small_type None = true
+is_small_type (Some q) = is_small q

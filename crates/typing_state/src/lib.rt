@@ -15,5 +15,6 @@ mod start;
 mod tests;
 mod ty;
 mod types;
+mod variables;
 
 pub use point::Point;

@@ -14,25 +14,27 @@ ghost use Rattle.typing_state.specs.Point as spec;
 ghost use Rattle.typing_state.specs.Point.{conjuncts_of_types, given_type, is_tracked, ty, ty_var};
 ghost use Rattle.typing_state.specs.Terms.{AddsWithin, without_ones};
 
-use crate::copies::{copy_preds, copy_types};
+use crate::copies::copy_preds;
 use crate::forget::{assign_types, reset_types, unlock_types};
 use crate::locks::lock_types;
 use crate::preds::{add_any, add_pred, add_value, distinct_preds, is_over_stable};
 use crate::retain::{drop_mentions, keep_stable};
-use crate::start::{control_set, start_types};
+use crate::start::start_types;
 use crate::ty::{add_class, add_conjuncts, joined};
-use crate::types::put_types;
-use cov_ast::{NumberSet, Program, Retype, State};
+use crate::types::{Types, put_types};
+use crate::variables::Variables;
+use cov_ast::{Program, Retype, State};
 use cov_expr::{Expr, List, NoMemory, vars};
 use mode_state::ModeState;
 use std::alloc::Global;
+use std::rc::Rc;
 
 /// What is known of a thread between two statements (after the typing contexts of COVERN).
 #[derive(Debug, Drop)]
 pub struct Point {
     modes: ModeState,
-    controls: NumberSet,
-    types: List<Option<Expr>>,
+    variables: Rc<Variables, Global>,
+    types: Types,
     preds: List<Expr>,
 }
 
@@ -45,23 +47,25 @@ impl Point {
         ensures { IfOk result (λ made. Keeps (plain (view.program p.now)) t (after.start (plain (view.program p.now)) t) made) }
     {
         let modes = ModeState::start(alloc, p, t)?;
-        let controls = control_set(alloc, p)?;
-        let types = start_types(alloc, p, &modes, &controls)?;
+        let variables = Variables::of(alloc, p)?;
+        let types = start_types(alloc, p, &modes, &variables)?;
+        let variables = Rc::new(alloc, variables)?;
         Ok(Point {
             modes,
-            controls,
+            variables,
             types,
             preds: List::new(alloc),
         })
     }
-    /// A point of which the same is known.
+
+    /// A point of which the same is known. It shares the types, and copies the predicates.
     pub fn copy(&self, alloc: Global) -> Result<Self, NoMemory>
         ensures { IfOk result (λ made. (p : Plain) → OfEach p self.now (λ t a. Keeps p t a made)) }
     {
         Ok(Point {
             modes: self.modes.copy(alloc)?,
-            controls: self.controls.copy(alloc)?,
-            types: copy_types(alloc, self.types.as_slice())?,
+            variables: self.variables.clone()?,
+            types: self.types.copy(alloc)?,
             preds: copy_preds(alloc, self.preds.as_slice())?,
         })
     }
@@ -85,24 +89,21 @@ impl Point {
         ensures given { (p : Plain) → OfEach p self.now (λ t a. option_map term (option_copied result) ≡ given_type a x) }
         ensures tracked { (p : Plain) → OfEach p self.now (λ t a. x < length p.vars → is_some result ≡ is_tracked p t a.held x) }
     {
-        match self.types.as_slice().get(x as usize) {
-            Some(q) => q.as_ref(),
-            None => None,
-        }
+        self.types.get(x)
     }
 
-    /// Of each variable its type, if it is tracked.
-    pub fn types(&self) -> &[Option<Expr>]
-        ensures { (p : Plain) → OfEach p self.now (λ t a. map (option_map term) result.now ≡ a.types) }
+    /// Whether each type has at most 1,000 nodes. The point knows it, so that no type is looked at.
+    pub fn has_small_types(&self) -> bool
+        ensures { (p : Plain) → OfEach p self.now (λ t a. result ≡ spec.has_small_types a) }
     {
-        self.types.as_slice()
+        self.types.are_small()
     }
 
     /// Whether the class of some variable mentions this one.
     pub fn is_control(&self, x: u32) -> bool
         ensures { (p : Plain) → OfEach p self.now (λ t a. x < length p.vars → result ≡ is_control p x) }
     {
-        self.controls.has(x)
+        self.variables.is_control(x)
     }
 
     /// Whether each variable of an expression is stable.
@@ -140,6 +141,7 @@ impl Point {
         }
         Ok(self)
     }
+
     /// The point of a note: its predicates, and the types that it lists in the places of those that the variables have.
     pub fn noted(mut self, alloc: Global, s: &State) -> Result<Self, NoMemory>
         ensures { IfOk result (λ made. (p : Plain) → OfEach p self (λ t a. Keeps p t (after.noted a (view.state s.now)) made)) }
@@ -148,6 +150,7 @@ impl Point {
         put_types(alloc, &mut self.types, s.types.as_slice())?;
         Ok(self)
     }
+
     /// The point of a join or a loop: what a state says, and of each tracked variable that it doesn't list what is known
     /// without more: its class, or nothing where no other thread may read it.
     pub fn meet(mut self, alloc: Global, p: &Program, s: &State) -> Result<Self, NoMemory>
@@ -155,9 +158,10 @@ impl Point {
         ensures { IfOk result (λ made. OfEach (plain (view.program p.now)) self (λ t a.
             Keeps (plain (view.program p.now)) t (after.meet (plain (view.program p.now)) t a (view.state s.now)) made)) }
     {
-        reset_types(alloc, p, &self.modes, &mut self.types)?;
+        reset_types(p, &self.modes, self.variables.as_ref(), &mut self.types)?;
         Ok(self.noted(alloc, s)?)
     }
+
     /// The point after a lock is taken: each variable of the lock that isn't a control has its class for a type, and the
     /// invariant of the lock holds.
     pub fn after_lock(mut self, alloc: Global, p: &Program, l: u32) -> Result<Self, NoMemory>
@@ -167,10 +171,11 @@ impl Point {
             Keeps (plain (view.program p.now)) t (after.after_lock (plain (view.program p.now)) t a l) made)) }
     {
         self.modes.take(l);
-        lock_types(alloc, p, l, &self.controls, &mut self.types)?;
+        lock_types(p, &self.modes, self.variables.as_ref(), l, &mut self.types)?;
         add_any(alloc, &mut self.preds, &p.locks.as_slice()[l as usize].inv)?;
         Ok(self)
     }
+
     /// The point after a lock is given back: what isn't stable any longer is forgotten.
     pub fn after_unlock(mut self, alloc: Global, p: &Program, l: u32) -> Result<Self, NoMemory>
         requires formed { IsWellFormed (view.program p.now) }
@@ -180,7 +185,7 @@ impl Point {
     {
         self.modes.give(l);
         keep_stable(alloc, p, &self.modes, &mut self.preds)?;
-        unlock_types(alloc, p, &self.modes, &self.controls, &mut self.types)?;
+        unlock_types(p, &self.modes, self.variables.as_ref(), &mut self.types)?;
         Ok(self)
     }
 
@@ -205,7 +210,7 @@ impl Point {
             alloc,
             p,
             &self.modes,
-            &self.controls,
+            self.variables.as_ref(),
             x,
             q,
             retypes.as_slice(),
@@ -213,6 +218,7 @@ impl Point {
         )?;
         Ok(self)
     }
+
     /// The type of the value of an expression: the conjuncts of the types of its variables. It takes time in proportion to
     /// the conjuncts and, for each of them, to those that stand before it.
     pub fn ty(&self, alloc: Global, p: &Program, e: &Expr) -> Result<Expr, NoMemory>
@@ -280,7 +286,7 @@ impl Point {
         ensures { IfOk result (λ all. OfEach (plain (view.program p.now)) self.now (λ t a.
             AddsWithin most (map term parts.old) (map term parts.new) (without_ones (conjuncts (ty_var (plain (view.program p.now)) t a x))) all)) }
     {
-        if self.controls.has(x) {
+        if self.variables.is_control(x) {
             return Ok(true);
         }
         match self.type_of(x) {

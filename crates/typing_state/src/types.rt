@@ -1,60 +1,229 @@
-ghost use Rattle.std.specs.Prelude.{◌≡◌, ◌<◌, length, map, option_map, get_or, set, is_some, IsTrue, OnOk};
-ghost use Rattle.std.specs.Prelude.{None};
+ghost use Rattle.std.specs.Prelude.{◌≡◌, [], ◌∷◌, ◌++◌, map, option_copied, option_map, get_or, set, is_some, IfOk, OnOk, None, if◌then◌else◌};
+ghost use Rattle.std.specs.List.{list_all};
 ghost use Rattle.cov_expr.specs.View.{term};
 ghost use Rattle.cov_ast.specs.View as view;
 ghost use Rattle.typing_state.specs.After.{listed_or, retyped};
+ghost use Rattle.typing_state.specs.Terms.{is_small, is_small_type};
 
 use cov_ast::Retype;
-use cov_expr::{Expr, List, NoMemory, copy};
+use cov_expr::{Expr, List, NoMemory, copy, nodes_at_most};
 use std::alloc::Global;
+use std::marker::Model;
+use std::rc::Rc;
 
-/// Gives a variable a type, or takes its type.
-pub fn set_type(types: &mut List<Option<Expr>>, x: u32, q: Option<Expr>)
-    ensures { map (option_map term) types.new ≡ set (map (option_map term) types.old) x (option_map term q) }
-{
-    if (x as usize) < types.len() {
-        types.set(x as usize, q);
+/// The most nodes of a small type.
+const MOST_NODES: u32 = 1000;
+
+/// A type of a variable, and whether it is small. Contracts see it as its expression.
+#[derive(Debug, Drop)]
+pub struct Type {
+    expr: Expr,
+    small: bool,
+}
+
+impl Model for Type {
+    ghost use Rattle.std.specs.Prelude.{◌≡◌};
+    ghost use Rattle.std.specs.Coded.{codes};
+    ghost use Rattle.cov_expr.specs.contracts.expr.Expr as e;
+    ghost use Rattle.cov_expr.specs.declared.expr.Expr.{Expr};
+    ghost use Rattle.cov_expr.specs.View.{term};
+    ghost use Rattle.typing_state.specs.Terms.{is_small};
+
+    ghost Value = { Expr };
+
+    ghost coded = { Prim.hlevel (codes, e.the_row.coded) };
+
+    ghost view = { λ q. q.expr };
+
+    ghost invariant = { λ q. q.small ≡ is_small (term q.expr) };
+}
+
+impl Type {
+    /// A type that points may share.
+    pub fn shared(alloc: Global, expr: Expr) -> Result<Rc<Type, Global>, NoMemory>
+        ensures { IfOk result (λ made. made.value ≡ expr) }
+    {
+        let small = nodes_at_most(&expr, MOST_NODES);
+        Ok(Rc::new(alloc, Type { expr, small })?)
+    }
+
+    fn expr(&self) -> &Expr
+        ensures { result.now ≡ self.now }
+    {
+        &self.expr
+    }
+
+    fn is_small(&self) -> bool
+        ensures { result ≡ is_small (term self.now) }
+    {
+        self.small
     }
 }
 
-/// Whether a variable has a type.
-pub fn has_type(types: &[Option<Expr>], x: u32) -> bool
-    ensures { result ≡ is_some (get_or (map (option_map term) types.now) x None) }
-{
-    match types.get(x as usize) {
-        Some(q) => q.is_some(),
-        None => false,
+/// Of each variable its type, if it has one, and how many of them are large. Copies share the types. Contracts see the list of
+/// the types.
+#[derive(Debug, Drop)]
+pub struct Types {
+    known: List<Option<Rc<Type, Global>>>,
+    large: usize,
+}
+
+impl Model for Types {
+    ghost use Rattle.std.specs.Prelude.{◌≡◌, List, Option, map, not, option_map, count_by};
+    ghost use Rattle.std.specs.Coded.{codes};
+    ghost use Rattle.cov_expr.specs.contracts.expr.Expr as e;
+    ghost use Rattle.cov_expr.specs.declared.expr.Expr.{Expr};
+    ghost use Rattle.cov_expr.specs.View.{term};
+    ghost use Rattle.typing_state.specs.Terms.{is_small_type};
+
+    ghost Value = { List (Option Expr) };
+
+    ghost coded = { Prim.hlevel (codes, e.the_row.coded) };
+
+    ghost view = { λ s. map (option_map (λ q. q.value)) s.known };
+
+    ghost invariant = { λ s. s.large ≡ count_by (λ q. not (is_small_type (option_map (λ q. term q.value) q))) s.known };
+}
+
+impl Types {
+    /// No variables.
+    pub fn new(alloc: Global) -> Self
+        ensures { result ≡ [] }
+    {
+        Types {
+            known: List::new(alloc),
+            large: 0,
+        }
+    }
+
+    /// The same types.
+    pub fn copy(&self, alloc: Global) -> Result<Self, NoMemory>
+        ensures { IfOk result (λ made. made ≡ self.now) }
+    {
+        Ok(Types {
+            known: share_all(alloc, self.known.as_slice())?,
+            large: self.large,
+        })
+    }
+
+    /// Adds a variable with its type, if it has one.
+    pub fn push(&mut self, q: Option<Rc<Type, Global>>) -> Result<(), NoMemory>
+        ensures { OnOk result (map (option_map term) self.new ≡ map (option_map term) self.old ++ option_map (λ q. term q.value) q ∷ []) }
+    {
+        let large = count_large(&q);
+        self.known.push(q)?;
+        // (there are no more large ones than variables)
+        let _count = self.known.len();
+        self.large += large;
+        Ok(())
+    }
+
+    /// The type of a variable, if it has one.
+    pub fn get(&self, x: u32) -> Option<&Expr>
+        ensures { option_map term (option_copied result) ≡ get_or (map (option_map term) self.now) x None }
+    {
+        match self.known.as_slice().get(x as usize) {
+            Some(q) => expr_of(q),
+            None => None,
+        }
+    }
+
+    /// Whether a variable has a type.
+    pub fn has(&self, x: u32) -> bool
+        ensures { result ≡ is_some (get_or (map (option_map term) self.now) x None) }
+    {
+        self.get(x).is_some()
+    }
+
+    /// Gives a variable a type, or takes its type.
+    pub fn set(&mut self, x: u32, q: Option<Rc<Type, Global>>)
+        ensures { map (option_map term) self.new ≡ set (map (option_map term) self.old) x (option_map (λ q. term q.value) q) }
+    {
+        let place = x as usize;
+        if place < self.known.len() {
+            let before = count_large(&self.known.as_slice()[place]);
+            let after = count_large(&q);
+            self.known.set(place, q);
+            self.large = self.large - before + after;
+        }
+    }
+
+    /// Whether each type is small.
+    pub fn are_small(&self) -> bool
+        ensures { result ≡ list_all is_small_type (map (option_map term) self.now) }
+    {
+        self.large == 0
     }
 }
 
-/// Puts a type in the place of that of a variable, if it has one.
-fn put_type(alloc: Global, types: &mut List<Option<Expr>>, x: u32, r: &Expr) -> Result<(), NoMemory>
+fn expr_of(q: &Option<Rc<Type, Global>>) -> Option<&Expr>
+    ensures { option_map term (option_copied result) ≡ option_map (λ q. term q.value) q.now }
+{
+    match q {
+        Some(q) => Some(q.expr()),
+        None => None,
+    }
+}
+
+/// One for a large type.
+fn count_large(q: &Option<Rc<Type, Global>>) -> usize
+    ensures { result ≡ (if is_small_type (option_map (λ q. term q.value) q.now) then 0 else 1) }
+{
+    match q {
+        Some(q) if !q.is_small() => 1,
+        Some(_) | None => 0,
+    }
+}
+
+fn share_all(
+    alloc: Global,
+    types: &[Option<Rc<Type, Global>>],
+) -> Result<List<Option<Rc<Type, Global>>>, NoMemory>
+    ensures { IfOk result (λ made. map (option_map (λ q. q.value)) made ≡ map (option_map (λ q. q.value)) types.now) }
+{
+    let mut made = List::new(alloc);
+    for q in types {
+        made.push(share(q)?)?;
+    }
+    Ok(made)
+}
+
+fn share(q: &Option<Rc<Type, Global>>) -> Result<Option<Rc<Type, Global>>, NoMemory>
+    ensures { IfOk result (λ made. option_map (λ q. q.value) made ≡ option_map (λ q. q.value) q.now) }
+{
+    match q {
+        Some(q) => Ok(Some(q.clone()?)),
+        None => Ok(None),
+    }
+}
+
+/// Puts an expression in the place of the type of a variable, if it has one.
+pub fn assign_type(alloc: Global, types: &mut Types, x: u32, q: Expr) -> Result<(), NoMemory>
     ensures { OnOk result (map (option_map term) types.new
-        ≡ set (map (option_map term) types.old) x (option_map (λ q. term r.now) (get_or (map (option_map term) types.old) x None))) }
+        ≡ set (map (option_map term) types.old) x (option_map (λ g. term q) (get_or (map (option_map term) types.old) x None))) }
 {
-    if has_type(types.as_slice(), x) {
-        let copied = copy(alloc, r)?;
-        set_type(types, x, Some(copied));
+    if types.has(x) {
+        let shared = Type::shared(alloc, q)?;
+        types.set(x, Some(shared));
     }
     Ok(())
 }
 
-/// Puts a type in the place of that of a variable, if it has one.
-pub fn assign_type(types: &mut List<Option<Expr>>, x: u32, q: Expr)
-    ensures { map (option_map term) types.new
-        ≡ set (map (option_map term) types.old) x (option_map (λ g. term q) (get_or (map (option_map term) types.old) x None)) }
+/// Puts an equal expression in the place of the type of a variable, if it has one.
+fn put_type(alloc: Global, types: &mut Types, x: u32, r: &Expr) -> Result<(), NoMemory>
+    ensures { OnOk result (map (option_map term) types.new
+        ≡ set (map (option_map term) types.old) x (option_map (λ g. term r.now) (get_or (map (option_map term) types.old) x None))) }
 {
-    if has_type(types.as_slice(), x) {
-        set_type(types, x, Some(q));
+    if types.has(x) {
+        let copied = copy(alloc, r)?;
+        let shared = Type::shared(alloc, copied)?;
+        types.set(x, Some(shared));
     }
+    Ok(())
 }
 
 /// Puts listed types in the places of those that the variables have.
-pub fn put_types(
-    alloc: Global,
-    types: &mut List<Option<Expr>>,
-    listed: &[(u32, Expr)],
-) -> Result<(), NoMemory>
+pub fn put_types(alloc: Global, types: &mut Types, listed: &[(u32, Expr)]) -> Result<(), NoMemory>
     ensures { OnOk result (map (option_map term) types.new ≡ retyped (listed_or (map view.typed listed.now)) (map (option_map term) types.old)) }
 {
     for t in listed {
@@ -64,11 +233,7 @@ pub fn put_types(
 }
 
 /// Puts the types of `retype`s in the places of those that the variables have.
-pub fn put_retypes(
-    alloc: Global,
-    types: &mut List<Option<Expr>>,
-    retypes: &[Retype],
-) -> Result<(), NoMemory>
+pub fn put_retypes(alloc: Global, types: &mut Types, retypes: &[Retype]) -> Result<(), NoMemory>
     ensures { OnOk result (map (option_map term) types.new ≡ retyped (listed_or (map view.retype retypes.now)) (map (option_map term) types.old)) }
 {
     for r in retypes {

@@ -3,12 +3,12 @@ use Rattle.cov_expr.specs.View.{term}
 use Rattle.cov_ast.specs.Plain.{plain}
 use Rattle.cov_ast.specs.View as view
 use Rattle.typing_state.specs.After.{forgotten_type}
-use Rattle.typing_state.specs.Kept.{AtModes}
+use Rattle.typing_state.specs.Kept.{AtEach}
 use Rattle.typing_state.proofs.Steps.{upto}
 use Rattle.typing_state.proofs.forget.forget_types.Given as goal
 
 abbrev pub invariant-loop-z : goal.invariant-loop-z
 invariant-loop-z l =
-    AtModes (plain (view.program l.p)) l.modes (λ t held.
+    AtEach (plain (view.program l.p)) l.modes l.variables (λ t held.
     map (option_map term) l.types
     ≡ upto (λ z q. option_map (forgotten_type (plain (view.program l.p)) t held l.x z) q) (map (option_map term) l.fn.types) l.z)

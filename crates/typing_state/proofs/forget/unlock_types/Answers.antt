@@ -8,20 +8,20 @@ use Rattle.typing_state.proofs.Steps.{upto_none, upto_more, upto_all}
 use Rattle.typing_state.proofs.forget.unlock_types.Goals as goal
 
 pub loop-z-init : goal.loop-z-init
-loop-z-init c t held modes controls =
+loop-z-init c t held modes variables =
     sym (upto_none (unlocked_type (plain (view.program c.args.p.now)) t held) (map (option_map term) c.args.types.now))
 
 pub loop-z-preserved : goal.loop-z-preserved
-loop-z-preserved c t held modes controls =
+loop-z-preserved c t held modes variables =
     let f = unlocked_type (plain (view.program c.args.p.now)) t held in
     let z = c.loop-z.z in
-    let kept = c.loop-z.invariant t held modes controls in
-    c.in_ok-unlock_type.ensures t held modes controls ∙ (λ i. set (kept i) z (f z (get_or (kept i) z None)))
+    let kept = c.loop-z.invariant t held modes variables in
+    c.in_ok-unlock_type.ensures t held modes variables ∙ (λ i. set (kept i) z (f z (get_or (kept i) z None)))
     ∙ upto_more f (map (option_map term) c.args.types.now) z
 
 pub returns : goal.returns
-returns c t held modes controls small =
+returns c t held modes variables small =
     let types = c.args.types.now in
     let past : length (map (option_map term) types) ≤ c.loop-z.z = omega (arith, length-map types (option_map term)) in
-    c.loop-z.invariant t held modes controls
+    c.loop-z.invariant t held modes variables
     ∙ upto_all (unlocked_type (plain (view.program c.args.p.now)) t held) (map (option_map term) types) c.loop-z.z past

@@ -9,5 +9,5 @@ use Rattle.typing_state.proofs.forget.unlock_types.Given as goal
 
 abbrev pub invariant-loop-z : goal.invariant-loop-z
 invariant-loop-z l =
-    AtEach (plain (view.program l.p)) l.modes l.controls (λ t held.
+    AtEach (plain (view.program l.p)) l.modes l.variables (λ t held.
     map (option_map term) l.types ≡ upto (unlocked_type (plain (view.program l.p)) t held) (map (option_map term) l.fn.types) l.z)

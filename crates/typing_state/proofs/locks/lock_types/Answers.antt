@@ -1,18 +1,25 @@
-use Rattle.std.proofs.Common.{◌≤◌, ◌∙◌, sym, map, option_map, length, arith}
+use Rattle.std.proofs.Common.{◌≤◌, ◌∙◌, sym, map, option_map, get_or, set, length, None, arith}
 use Rattle.std.proofs.lemmas.List.{length-map}
 use Rattle.cov_expr.specs.View.{term}
 use Rattle.cov_ast.specs.Plain.{plain}
 use Rattle.cov_ast.specs.View as view
-use Rattle.typing_state.proofs.LockLaws.{locked_same, lock_of}
+use Rattle.typing_state.specs.After.{locked_type}
+use Rattle.typing_state.proofs.Steps.{upto_none, upto_more, upto_all}
 use Rattle.typing_state.proofs.locks.lock_types.Goals as goal
 
+pub loop-z-init : goal.loop-z-init
+loop-z-init c t held modes variables = sym (upto_none (locked_type (plain (view.program c.args.p.now)) c.args.l) (map (option_map term) c.args.types.now))
+
+pub loop-z-preserved : goal.loop-z-preserved
+loop-z-preserved c t held modes variables =
+    let f = locked_type (plain (view.program c.args.p.now)) c.args.l in
+    let z = c.loop-z.z in
+    let kept = c.loop-z.invariant t held modes variables in
+    c.in_ok-lock_type.ensures t held modes variables ∙ (λ i. set (kept i) z (f z (get_or (kept i) z None)))
+    ∙ upto_more f (map (option_map term) c.args.types.now) z
+
 pub returns : goal.returns
-returns c controls small =
-    let p = c.args.p.now in
-    let qs = map (option_map term) c.args.types.now in
-    let lock = c.index-as_slice-l.result in
-    let is = rw c.as_slice.ensures at c.index-as_slice-l.is in
-    let few : length qs ≤ c.len.result = omega (arith, length-map c.args.types.now (option_map term), c.len.ensures) in
-    c.in_ok-lock_listed.ensures small
-    ∙ locked_same (plain (view.program p)) c.args.l c.len.result (view.lock lock) c.in_ok-listed.listed c.args.controls.now
-    (c.len.ensures ∙ sym (length-map p.vars view.var)) (lock_of p.locks c.args.l lock c.requires.lock is) c.in_ok-listed.ensures controls qs few
+returns c t held modes variables small =
+    let types = c.args.types.now in
+    let past : length (map (option_map term) types) ≤ c.loop-z.z = omega (arith, length-map types (option_map term)) in
+    c.loop-z.invariant t held modes variables ∙ upto_all (locked_type (plain (view.program c.args.p.now)) c.args.l) (map (option_map term) types) c.loop-z.z past

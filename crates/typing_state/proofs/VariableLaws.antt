@@ -1,0 +1,29 @@
+-- What is declared of variables, by number.
+use Rattle.std.proofs.Common.{◌≡◌, ℕ, ◌<◌, List, [], Bool, length, map, get_or, sym, ap, ◌∙◌, arith}
+use Rattle.std.proofs.lemmas.List.{get_or-map, length-map}
+use Rattle.std.proofs.lemmas.List.FromFn.{get_or-map-range_with_len, length-map-range_with_len}
+use Rattle.cov_expr.specs.Term.{Term, const}
+use Rattle.cov_ast.specs.Declarations.{class_of, under}
+use Rattle.cov_ast.specs.Plain.{Plain}
+use Rattle.cov_ast.specs.Tables.{has, table}
+use Rattle.cov_ast.proofs.TableLaws.{table_at}
+use Rattle.mode_state.specs.Sets.{Sets, modes_at}
+use Rattle.typing_state.specs.Point.{vars_of}
+
+-- the classes of a program
+module _ {X : Type 0} (g : X → Term) (classes : List X) (p : Plain) (is : map g classes ≡ map (class_of p) (vars_of p)) where
+  pub as_many_classes : length classes ≡ length p.vars
+  as_many_classes = sym (length-map classes g) ∙ ap length is ∙ length-map-range_with_len (class_of p) 0 (length p.vars)
+
+  pub class_is : (x : ℕ) (q : X) → x < length p.vars → g (get_or classes x q) ≡ class_of p x
+  class_is x q inside =
+      sym (get_or-map g classes x q (const 0) (omega (arith, as_many_classes))) ∙ ap (λ es. get_or es x (const 0)) is
+      ∙ get_or-map-range_with_len (class_of p) 0 (length p.vars) x x (const 0) inside (omega arith)
+
+-- the variables that a lock lists
+pub lists_is : (p : Plain) (t : ℕ) (held : List Bool) (s : Sets) (l x : ℕ) → s ≡ modes_at p t held → l < length p.locks → x < length p.vars
+    → has (get_or s.listed l []) x ≡ under p l x
+lists_is p t held s l x is lock inside =
+    ap (λ u. has (get_or u.listed l []) x) is
+    ∙ ap (λ m. has m x) (get_or-map-range_with_len (λ k. table (length p.vars) (under p k)) 0 (length p.locks) l l [] lock (omega arith))
+    ∙ table_at (length p.vars) (under p l) x inside

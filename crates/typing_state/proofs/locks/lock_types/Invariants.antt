@@ -1,0 +1,13 @@
+use Rattle.std.proofs.Common.{◌≡◌, map, option_map}
+use Rattle.cov_expr.specs.View.{term}
+use Rattle.cov_ast.specs.Plain.{plain}
+use Rattle.cov_ast.specs.View as view
+use Rattle.typing_state.specs.After.{locked_type}
+use Rattle.typing_state.specs.Kept.{AtEach}
+use Rattle.typing_state.proofs.Steps.{upto}
+use Rattle.typing_state.proofs.locks.lock_types.Given as goal
+
+abbrev pub invariant-loop-z : goal.invariant-loop-z
+invariant-loop-z l =
+    AtEach (plain (view.program l.p)) l.modes l.variables (λ t held.
+    map (option_map term) l.types ≡ upto (locked_type (plain (view.program l.p)) l.l) (map (option_map term) l.fn.types) l.z)
