@@ -13,7 +13,8 @@ use Rattle.cov_ast.specs.Plain.{Plain}
 use Rattle.mode_state.specs.Sets.{is_hidden}
 use Rattle.typing_state.specs.Point.{Point}
 use Rattle.typing_rules.specs.Claims.{entailment, entailments, is_shown_controlled}
-use Rattle.typing_rules.specs.Entailments.{Entailment, is_small, is_small_entailment, from_one_more}
+use Rattle.typing_rules.specs.Entailments.{Entailment, is_small_entailment, from_one_more}
+use Rattle.typing_state.specs.Terms.{is_small}
 use Rattle.typing_rules.specs.declared.claims.Claim.{Claim}
 
 -- One claim more ------------------------------------------------------------------------------------------------

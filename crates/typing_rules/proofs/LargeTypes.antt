@@ -13,12 +13,11 @@ use Rattle.cov_ast.specs.Tables.{has}
 use Rattle.mode_state.specs.Sets.{is_stable, is_hidden, locks_of}
 use Rattle.typing_state.specs.After.{updated_from, assigned_type, after_assign, forgotten_type, listed_or}
 use Rattle.typing_state.specs.Kept.{IsPoint}
-use Rattle.typing_state.specs.Point.{Point, is_over_controls, given_type, ty_var, conjuncts_of_types, ty}
-use Rattle.typing_state.specs.Terms.{each_variable, with_term, with_terms, distinct_terms, is_one, without_ones, joined_from, joined}
+use Rattle.typing_state.specs.Point.{Point, is_over_controls, given_type, ty_var, conjuncts_of_types, ty, has_small_types}
+use Rattle.typing_state.specs.Terms.{each_variable, with_term, with_terms, distinct_terms, is_one, without_ones, joined_from, joined, is_small, is_small_type}
 use Rattle.typing_rules.specs.Blocks.{value_type}
-use Rattle.typing_rules.specs.Entailments.{is_small, is_small_entailment, from_one_more, shown_value, controlled_values, retype_follows, assign_entailments}
+use Rattle.typing_rules.specs.Entailments.{is_small_entailment, from_one_more, shown_value, controlled_values, retype_follows, assign_entailments}
 use Rattle.typing_rules.proofs.ClaimLaws.{large, large_goal, large_alone, large_before, large_if}
-use Rattle.typing_rules.specs.Obligations.{is_small_type, has_small_types}
 
 -- How many nodes a conjunction has ------------------------------------------------------------------------------
 

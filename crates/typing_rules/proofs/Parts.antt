@@ -12,8 +12,8 @@ use Rattle.cov_ast.specs.declared.refusal.Rule.TheVariants.{V16}
 use Rattle.cov_ast.specs.declared.refusal.Detail.TheVariants.{Nothing}
 use Rattle.cov_ast.proofs.ObligationLaws.{append_decided, append_held, append_refused}
 use Rattle.typing_rules.specs.Entailments.{Entailment, is_small_entailment}
-use Rattle.typing_state.specs.Point.{Point}
-use Rattle.typing_rules.specs.Obligations.{entry, flat, has_small_types, numbers, proved, small_terms}
+use Rattle.typing_state.specs.Point.{Point, has_small_types}
+use Rattle.typing_rules.specs.Obligations.{entry, flat, numbers, proved, small_terms}
 use Rattle.typing_rules.specs.Walking.{Tries, last_parts}
 use Rattle.typing_rules.specs.declared.tried.Tried.{Tried}
 

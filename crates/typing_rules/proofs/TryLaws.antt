@@ -6,7 +6,8 @@ use Rattle.cov_expr.specs.Term.{Term}
 use Rattle.typing_rules.specs.declared.claims.Claim.{Claim}
 use Rattle.typing_rules.specs.declared.claims.Held.{Held}
 use Rattle.typing_rules.specs.Claims.{entailment, entailment_from, entailments, held_term}
-use Rattle.typing_rules.specs.Entailments.{is_small, is_small_entailment}
+use Rattle.typing_rules.specs.Entailments.{is_small_entailment}
+use Rattle.typing_state.specs.Terms.{is_small}
 
 regroup : (a b c : Bool) → ((a && (b && true)) && c) ≡ (a && ((b && true) && c))
 regroup true b c = refl

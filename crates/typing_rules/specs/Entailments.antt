@@ -1,14 +1,15 @@
 -- Entailments of a statement, and which certificate each has.
-use Rattle.std.specs.Prelude.{ℕ, ◌==◌, ◌&&◌, ◌||◌, nat_le, List, [], ◌∷◌, ◌++◌, Bool, not, map, filter, if◌then◌else◌, Option, Some, None, option_to_list}
+use Rattle.std.specs.Prelude.{ℕ, ◌==◌, ◌&&◌, ◌||◌, List, [], ◌∷◌, ◌++◌, Bool, not, map, filter, if◌then◌else◌, Option, Some, None, option_to_list}
 use Rattle.std.specs.List.{list_all}
 use Rattle.cov_expr.specs.Term.{Term}
-use Rattle.cov_expr.specs.Trees.{nodes, mentions, subst}
+use Rattle.cov_expr.specs.Trees.{mentions, subst}
 use Rattle.cov_ast.specs.Syntax.{State, Cert, auto, Proof}
 use Rattle.cov_ast.specs.Plain.{Plain}
 use Rattle.cov_ast.specs.Declarations.{class_of, is_control, lock_at}
 use Rattle.mode_state.specs.Sets.{is_hidden}
 use Rattle.entail_cert.specs.Valid.{is_valid}
 use Rattle.typing_state.specs.Point.{Point, vars_of, type_at, ty, ty_var}
+use Rattle.typing_state.specs.Terms.{is_small}
 use Rattle.typing_rules.specs.Blocks.{value_type}
 
 -- what has to follow from hypotheses
@@ -31,10 +32,6 @@ cert_for (q ∷ qs) n = if q.number == n then q.cert else cert_for qs n
 
 abbrev pub is_proved : List Proof → ℕ → Entailment → Bool
 is_proved proofs n entailment = is_valid entailment.hyps entailment.goal (cert_for proofs n)
-
--- at most 1,000 nodes
-abbrev pub is_small : Term → Bool
-is_small e = nat_le (nodes e) 1000
 
 abbrev pub is_small_entailment : Entailment → Bool
 is_small_entailment entailment = list_all is_small entailment.hyps && is_small entailment.goal

@@ -17,10 +17,10 @@ use Rattle.cov_ast.specs.declared.refusal.Detail.{Detail}
 use Rattle.cov_ast.specs.declared.refusal.Detail.TheVariants.{Nothing, One, Number}
 use Rattle.mode_state.specs.Sets.{locks_of, is_stable, may_read, may_write}
 use Rattle.mode_compat.specs.Compatible.{numbered}
-use Rattle.typing_state.specs.Point.{Point, is_tracked, is_over_stable, is_over_controls}
+use Rattle.typing_state.specs.Point.{Point, has_small_types, is_tracked, is_over_stable, is_over_controls}
 use Rattle.typing_state.specs.After.{start, after_assign, after_lock, after_unlock, with_guard, meet, noted}
 use Rattle.typing_rules.specs.Blocks.{value_type, after_stm, after_block}
-use Rattle.typing_rules.specs.Entailments.{Entailment, is_proved, is_small, is_small_entailment, state_follows, guard_follows, assign_entailments, unlock_entailments}
+use Rattle.typing_rules.specs.Entailments.{Entailment, is_proved, is_small_entailment, state_follows, guard_follows, assign_entailments, unlock_entailments}
 
 -- an obligation of a thread, at the place of a statement
 abbrev pub thread_entry : (t place : ℕ) → Rule → Detail → Bool → Entry
@@ -40,13 +40,6 @@ agree false b = not b
 -- whether the same locks are held
 abbrev pub same_held : Plain → (held other : List Bool) → Bool
 same_held p held other = list_all (λ l. agree (has held l) (has other l)) (locks_of p)
-
-abbrev pub is_small_type : Option Term → Bool
-is_small_type None = true
-is_small_type (Some q) = is_small q
-
-abbrev pub has_small_types : Point → Bool
-has_small_types a = list_all is_small_type a.types
 
 -- at most 64 predicates
 abbrev pub has_few_preds : Point → Bool

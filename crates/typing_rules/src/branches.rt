@@ -16,9 +16,7 @@ ghost use Rattle.typing_rules.specs.Obligations.{flat};
 ghost use Rattle.typing_rules.specs.Walking.{Guards, GuardsAt, IsWalk, Stands, TriesAt, Wherever, first_parts, fork_parts, head_parts, join_parts, plain_of, starts_of, turn_parts};
 
 use crate::guards::check_guard;
-use crate::states::{
-    are_small_types, check_both_few_preds, check_same_locks, check_state, require_small,
-};
+use crate::states::{check_both_few_preds, check_same_locks, check_state, require_small};
 use crate::tried::Tried;
 use crate::walk::{Guarded, Walk, Walked, both, finish};
 use cov_ast::{CheckFault, Proof, State};
@@ -175,7 +173,7 @@ impl Walk<'_> {
         let tried = self.try_both(at, &yes, &no, join, proofs, 1 + before)?;
         let entailments = u64::from(before) + inside + u64::from(tried.count);
         let after = yes.meet(self.alloc, p, join)?;
-        let last = self.check_last(at, proofs, before, tried, are_small_types(&after));
+        let last = self.check_last(at, proofs, before, tried, after.has_small_types());
         finish(after, entailments, both(same, both(stated, last)))
     }
 
@@ -222,7 +220,7 @@ impl Walk<'_> {
         let same = check_same_locks(self.program, self.site(at), point.modes(), after.modes());
         let tried = self.try_state(at, &point, inv, proofs, 1 + before)?;
         let entailments = u64::from(before) + entailments + u64::from(tried.count);
-        let last = self.check_last(at, proofs, before, tried, are_small_types(&after));
+        let last = self.check_last(at, proofs, before, tried, after.has_small_types());
         finish(after, entailments, both(same, last))
     }
 }

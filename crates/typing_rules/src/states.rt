@@ -236,30 +236,6 @@ pub fn check_end(p: &Program, site: Site, modes: &ModeState) -> Result<(), Check
     Ok(())
 }
 
-/// Whether the types of a point are small.
-pub fn are_small_types(point: &Point) -> bool
-    ensures { (p : Plain) → (t : ℕ) → AtPoint p t point.now (λ a. result ≡ spec.has_small_types a) }
-{
-    have_small_types(point.types())
-}
-
-/// Whether each type, where there is one, has at most 1,000 nodes.
-fn have_small_types(types: &[Option<Expr>]) -> bool
-    ensures { result ≡ list_all (λ q. spec.is_small_type (option_map term q)) types.now }
-{
-    types.iter().all(is_small_type)
-}
-
-/// Whether a type, if there is one, has at most 1,000 nodes.
-fn is_small_type(q: &Option<Expr>) -> bool
-    ensures { result ≡ spec.is_small_type (option_map term q.now) }
-{
-    match q {
-        Some(q) => nodes_at_most(q, 1000),
-        None => true,
-    }
-}
-
 /// What a statement asks, and the types of the point after it, are small (V16).
 pub fn require_small(p: &Program, site: Site, small: bool) -> Result<(), CheckFault>
     ensures { Decides (spec.entry (plain (view.program p.now)) site.thread site.place V16 Nothing small ∷ []) result }

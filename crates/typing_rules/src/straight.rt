@@ -13,7 +13,7 @@ ghost use Rattle.typing_rules.specs.Obligations.{flat};
 ghost use Rattle.typing_rules.specs.Walking.{IsWalk, Stands, WalksStm, Wherever, plain_of, value_parts};
 
 use crate::site::require_at;
-use crate::states::{are_small_types, check_few_preds, check_state, require_small};
+use crate::states::{check_few_preds, check_state, require_small};
 use crate::tries::check_numbers;
 use crate::walk::{Walk, Walked, both, finish};
 use cov_ast::{CheckFault, Detail, Program, Proof, Retype, Rule, State};
@@ -43,7 +43,7 @@ impl Walk<'_> {
         let free = require_at(site, !held, Rule::V6, Detail::One(lock_name(p, l)));
         let after = point.after_lock(self.alloc, p, l)?;
         let few = check_few_preds(p, site, &after);
-        let small = require_small(p, site, are_small_types(&after));
+        let small = require_small(p, site, after.has_small_types());
         finish(after, 0, both(free, both(few, small)))
     }
 
@@ -66,7 +66,7 @@ impl Walk<'_> {
         let tried = self.try_unlock(at, &point, l, proofs)?;
         let entailments = u64::from(tried.count);
         let after = point.after_unlock(self.alloc, p, l)?;
-        let last = self.check_last(at, proofs, 0, tried, are_small_types(&after));
+        let last = self.check_last(at, proofs, 0, tried, after.has_small_types());
         finish(after, entailments, both(taken, last))
     }
 
@@ -87,7 +87,7 @@ impl Walk<'_> {
         let tried = self.try_state(at, &point, j, proofs, 1)?;
         let entailments = u64::from(tried.count);
         let after = point.noted(self.alloc, j)?;
-        let last = self.check_last(at, proofs, 0, tried, are_small_types(&after));
+        let last = self.check_last(at, proofs, 0, tried, after.has_small_types());
         finish(after, entailments, both(stated, last))
     }
 
@@ -118,7 +118,7 @@ impl Walk<'_> {
         let entailments = u64::from(tried.count);
         let after = point.after_assign(self.alloc, self.program, x, e, q, retypes)?;
         let few = check_few_preds(self.program, self.site(at), &after);
-        let last = self.check_last(at, proofs, 0, tried, are_small_types(&after));
+        let last = self.check_last(at, proofs, 0, tried, after.has_small_types());
         finish(after, entailments, both(before, both(few, last)))
     }
 

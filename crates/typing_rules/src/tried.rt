@@ -14,7 +14,8 @@ ghost use Rattle.typing_rules.specs.Blocks.{value_type};
 ghost use Rattle.typing_rules.specs.Claims.{Claimed, entailments};
 ghost use Rattle.typing_rules.specs.Entailments as spec;
 ghost use Rattle.typing_rules.specs.Entailments.{Entailment};
-ghost use Rattle.typing_rules.specs.Obligations.{flat, has_small_types};
+ghost use Rattle.typing_rules.specs.Obligations.{flat};
+ghost use Rattle.typing_state.specs.Point.{has_small_types};
 ghost use Rattle.typing_rules.specs.Walking.{IsWalk, Stands, Tries, TriesAt, Wherever, last_parts, plain_of};
 
 use crate::claims::{Claim, assign_claims, guard_claims, state_claims, unlock_claims};

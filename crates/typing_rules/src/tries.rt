@@ -11,6 +11,7 @@ ghost use Rattle.cov_ast.specs.declared.refusal.Detail.TheVariants.{Number};
 ghost use Rattle.cov_ast.specs.declared.refusal.Rule.TheVariants.{V9};
 ghost use Rattle.entail_cert.specs.Answers.{Answers};
 ghost use Rattle.entail_cert.specs.Valid.{first_bad};
+ghost use Rattle.typing_state.specs.Terms.{is_small};
 ghost use Rattle.typing_rules.specs.Answers.{AtPoint};
 ghost use Rattle.typing_rules.specs.Claims.{entailment, entailments, held_term};
 ghost use Rattle.typing_rules.specs.Entailments as spec;
@@ -36,7 +37,7 @@ pub fn are_small(point: &Point, claims: &[Claim<'_>]) -> bool
 
 /// Whether each expression has at most 1,000 nodes.
 fn are_small_exprs(es: &[Expr]) -> bool
-    ensures { result ≡ list_all (λ e. spec.is_small (term e)) es.now }
+    ensures { result ≡ list_all (λ e. is_small (term e)) es.now }
 {
     es.iter().all(|e| nodes_at_most(e, 1000))
 }

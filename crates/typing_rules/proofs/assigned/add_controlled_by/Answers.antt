@@ -7,7 +7,8 @@ use Rattle.cov_ast.specs.Plain.{plain, class_term}
 use Rattle.cov_ast.specs.View as view
 use Rattle.typing_state.specs.Point.{ty_var}
 use Rattle.typing_rules.specs.Claims.{entailments, is_shown_controlled}
-use Rattle.typing_rules.specs.Entailments.{from_one_more, controlled_follows, is_small}
+use Rattle.typing_rules.specs.Entailments.{from_one_more, controlled_follows}
+use Rattle.typing_state.specs.Terms.{is_small}
 use Rattle.typing_rules.proofs.ClaimLaws.{added_none, added_if, added_one, decided, unseen, large, large_more, large_alone, large_if}
 use Rattle.typing_rules.proofs.assigned.add_controlled_by.Goals as goal
 

@@ -2,7 +2,7 @@ use Rattle.std.proofs.Common.{◌∙◌, ap, map, sym}
 use Rattle.std.specs.List.{list_all}
 use Rattle.std.proofs.lemmas.List.Folds.{list_all-map}
 use Rattle.cov_expr.specs.View.{term}
-use Rattle.typing_rules.specs.Entailments.{is_small}
+use Rattle.typing_state.specs.Terms.{is_small}
 use Rattle.typing_rules.proofs.TryLaws.{small_rest, large_preds}
 use Rattle.typing_rules.proofs.tries.are_small.Goals as goal
 

@@ -9,7 +9,8 @@ use Rattle.typing_state.specs.Kept.{Keeps}
 use Rattle.typing_rules.specs.Answers.{entailment_count}
 use Rattle.typing_rules.specs.Blocks.{value_type}
 use Rattle.typing_rules.specs.Entailments.{assign_entailments}
-use Rattle.typing_rules.specs.Obligations.{few_preds, flat, has_small_types, stm_parts}
+use Rattle.typing_rules.specs.Obligations.{few_preds, flat, stm_parts}
+use Rattle.typing_state.specs.Point.{has_small_types}
 use Rattle.typing_rules.specs.Walking.{last_parts, plain_of, value_parts}
 use Rattle.typing_rules.proofs.Counting.{count_assign}
 use Rattle.typing_rules.proofs.Parts.{all_counted, and_true, append_none, flat-append}
@@ -57,7 +58,7 @@ returns c a k =
     let few_ok = (rw c.site.ensures at c.check_few_preds-few.ensures) after keeps in
     let lasts = last_parts p t at proofs 1 (length gs) gs (after ∷ []) in
     let rest = flat lasts in
-    let last = c.check_last-last.ensures gs (after ∷ []) (length gs) tries (c.are_small_types.ensures p t after keeps ∙ sym (and_true (has_small_types after))) (zero-add (length gs)) in
+    let last = c.check_last-last.ensures gs (after ∷ []) (length gs) tries (c.has_small_types.ensures p t after keeps ∙ sym (and_true (has_small_types after))) (zero-add (length gs)) in
     let whole = flat (first ++ few ∷ lasts) in
     let split = flat-append first (few ∷ lasts) in
     c.finish.ensures p t whole after (entailment_count whole) keeps

@@ -6,7 +6,8 @@ use Rattle.cov_ast.specs.View as view
 use Rattle.cov_ast.specs.declared.refusal.Rule.TheVariants.{V16}
 use Rattle.cov_ast.specs.declared.refusal.Detail.TheVariants.{Nothing}
 use Rattle.typing_rules.specs.Entailments.{is_small_entailment}
-use Rattle.typing_rules.specs.Obligations.{entry, has_small_types, numbers, proved, small_terms}
+use Rattle.typing_rules.specs.Obligations.{entry, numbers, proved, small_terms}
+use Rattle.typing_state.specs.Point.{has_small_types}
 use Rattle.typing_rules.specs.Walking.{plain_of}
 use Rattle.typing_rules.proofs.Parts.{held_is, padded}
 use Rattle.typing_rules.proofs.walk.Walk.check_last.Goals as goal

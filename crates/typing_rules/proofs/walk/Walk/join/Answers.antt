@@ -2,7 +2,8 @@ use Rattle.std.proofs.Common.{◌≡◌, [], ◌∷◌, ◌++◌, ◌+◌, suc, 
 use Rattle.cov_ast.specs.View as view
 use Rattle.typing_state.specs.After.{meet}
 use Rattle.typing_rules.specs.Entailments.{state_follows}
-use Rattle.typing_rules.specs.Obligations.{flat, has_small_types, same_locks, state_entries}
+use Rattle.typing_rules.specs.Obligations.{flat, same_locks, state_entries}
+use Rattle.typing_state.specs.Point.{has_small_types}
 use Rattle.typing_rules.specs.Walking.{TriesAt, last_parts, plain_of}
 use Rattle.typing_rules.proofs.Parts.{all_counted, and_true}
 use Rattle.typing_rules.proofs.walk.Walk.join.Goals as goal
@@ -27,7 +28,7 @@ returns c a k b kb =
     let same_ok = (rw c.site-site.ensures at c.check_same_locks-same.ensures) a.held (c.modes.ensures p t a k) b.held (c.modes-2.ensures p t b kb) in
     let stated_ok = (rw c.site-site.ensures at c.check_state-stated.ensures) a k in
     let rest = flat (last_parts p t at proofs (suc before) count gs (after ∷ [])) in
-    let last = c.check_last-last.ensures gs (after ∷ []) count tries (c.are_small_types.ensures p t after keeps ∙ sym (and_true (has_small_types after))) refl in
+    let last = c.check_last-last.ensures gs (after ∷ []) count tries (c.has_small_types.ensures p t after keeps ∙ sym (and_true (has_small_types after))) refl in
     c.finish.ensures p t (same ++ (stated ++ rest)) after (before + c.args.yes.entailments + c.args.no.entailments + length gs) keeps
     (c.both-2.ensures same (stated ++ rest) same_ok (λ _. c.both.ensures stated rest stated_ok (λ _. last)))
     (λ held. let counted = all_counted p t at proofs (suc before) count gs (after ∷ []) c.in_ok-tried.tried (same ++ stated) tries held in

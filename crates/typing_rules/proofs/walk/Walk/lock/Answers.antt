@@ -4,7 +4,8 @@ use Rattle.cov_ast.specs.Tables.{has}
 use Rattle.cov_ast.specs.declared.refusal.Rule.TheVariants.{V6, V16}
 use Rattle.cov_ast.specs.declared.refusal.Detail.TheVariants.{One, Nothing}
 use Rattle.typing_state.specs.After.{after_lock}
-use Rattle.typing_rules.specs.Obligations.{entry, few_preds, has_small_types, of_lock, small_terms, thread_entry}
+use Rattle.typing_rules.specs.Obligations.{entry, few_preds, of_lock, small_terms, thread_entry}
+use Rattle.typing_state.specs.Point.{has_small_types}
 use Rattle.typing_rules.specs.Walking.{plain_of}
 use Rattle.typing_rules.proofs.Parts.{and_true}
 use Rattle.typing_rules.proofs.walk.Walk.lock.Goals as goal
@@ -25,7 +26,7 @@ returns c proofs a k =
     (rw c.site-site.ensures at c.require_at-free.ensures)) in
     let few : Decides (few_preds p t at (after ∷ [])) c.check_few_preds-few.result = (rw c.site-site.ensures at c.check_few_preds-few.ensures) after keeps in
     let small : Decides (small_terms p t at [] (after ∷ [])) c.require_small-small.result =
-    subst (λ b. Decides (entry p t at V16 Nothing b ∷ []) c.require_small-small.result) (c.are_small_types.ensures p t after keeps ∙ sym (and_true (has_small_types after)))
+    subst (λ b. Decides (entry p t at V16 Nothing b ∷ []) c.require_small-small.result) (c.has_small_types.ensures p t after keeps ∙ sym (and_true (has_small_types after)))
     (rw c.site-site.ensures at c.require_small-small.ensures) in
     let first = of_lock p t at V6 l (not (has a.held l)) ∷ [] in
     let second = few_preds p t at (after ∷ []) in

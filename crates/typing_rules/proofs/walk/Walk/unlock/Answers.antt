@@ -7,7 +7,8 @@ use Rattle.cov_ast.specs.declared.refusal.Detail.TheVariants.{One}
 use Rattle.typing_state.specs.After.{after_unlock}
 use Rattle.typing_rules.specs.Answers.{entailment_count}
 use Rattle.typing_rules.specs.Entailments.{unlock_entailments}
-use Rattle.typing_rules.specs.Obligations.{flat, has_small_types, of_lock, thread_entry}
+use Rattle.typing_rules.specs.Obligations.{flat, of_lock, thread_entry}
+use Rattle.typing_state.specs.Point.{has_small_types}
 use Rattle.typing_rules.specs.Walking.{plain_of, last_parts}
 use Rattle.typing_rules.proofs.Counting.{count_unlock}
 use Rattle.typing_rules.proofs.Parts.{all_counted, and_true}
@@ -32,7 +33,7 @@ returns c a k =
     (subst (λ b. Decides (thread_entry t at V7 (One c.lock_name.result) b ∷ []) c.require_at-taken.result) held
     (rw c.site.ensures at c.require_at-taken.ensures)) in
     let rest = flat (last_parts p t at proofs 1 (length gs) gs (after ∷ [])) in
-    let last = c.check_last-last.ensures gs (after ∷ []) (length gs) tries (c.are_small_types.ensures p t after keeps ∙ sym (and_true (has_small_types after))) (zero-add (length gs)) in
+    let last = c.check_last-last.ensures gs (after ∷ []) (length gs) tries (c.has_small_types.ensures p t after keeps ∙ sym (and_true (has_small_types after))) (zero-add (length gs)) in
     c.finish.ensures p t (first ++ rest) after (entailment_count (first ++ rest)) keeps (c.both.ensures first rest taken (λ _. last))
     (λ held. c.from-entailments.ensures ∙ all_counted p t at proofs 1 (length gs) gs (after ∷ []) c.in_ok-tried.tried first tries held
     ∙ sym (count_unlock p t at proofs a l))
