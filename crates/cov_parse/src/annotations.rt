@@ -117,8 +117,8 @@ pub fn state_of(alloc: Global, state: &State) -> Result<cov_ast::State, NoMemory
 }
 
 /// A state, or one that says nothing.
-pub fn state_or_none(alloc: Global, state: &Option<State>) -> Result<cov_ast::State, NoMemory>
-    ensures { IfOk result (λ made. ast.state made ≡ spec.state_or_none (option_map states.state state.now)) }
+pub fn state_or_none(alloc: Global, state: &Option<Box<State>>) -> Result<cov_ast::State, NoMemory>
+    ensures { IfOk result (λ made. ast.state made ≡ spec.state_or_none (option_map (λ j. states.state j.value) state.now)) }
 {
     match state {
         Some(state) => state_of(alloc, state),

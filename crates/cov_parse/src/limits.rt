@@ -158,8 +158,8 @@ fn in_state(state: &State) -> Option<Excess>
     sooner(preds, inside)
 }
 
-fn in_state_option(state: &Option<State>) -> Option<Excess>
-    ensures { result ≡ spec.in_state_option (option_map states.state state.now) }
+fn in_state_option(state: &Option<Box<State>>) -> Option<Excess>
+    ensures { result ≡ spec.in_state_option (option_map (λ j. states.state j.value) state.now) }
 {
     match state {
         Some(state) => in_state(state),

@@ -1,4 +1,4 @@
-ghost use Rattle.std.specs.Prelude.{◌≡◌, ◌≤◌, length, map, List, [], option_map};
+ghost use Rattle.std.specs.Prelude.{◌≡◌, ◌≤◌, length, map, List, [], option_map, IfOk};
 ghost use Rattle.cov_grammar.specs.declared.token.Kind.TheVariants as kinds;
 ghost use Rattle.cov_grammar.specs.Shapes.{seq, opt};
 ghost use Rattle.cov_grammar.specs.Grammar as grammar;
@@ -9,7 +9,7 @@ ghost use Rattle.cov_parse.specs.StateViews as states;
 
 use crate::cert::{Cert, Whole};
 use crate::certs::{read_cert, read_number, read_whole, read_wholes};
-use cov_expr::List;
+use cov_expr::{List, NoMemory};
 use cov_grammar::{Kind, Stop, TokenReader};
 use std::alloc::Global;
 
@@ -107,17 +107,25 @@ pub fn read_state(reader: &mut TokenReader<'_>, alloc: Global) -> Result<State, 
     })
 }
 
+/// A state in memory of its own.
+fn boxed(alloc: Global, state: State) -> Result<Box<State>, NoMemory>
+    ensures { IfOk result (λ made. made.value ≡ state) }
+{
+    Ok(Box::new(alloc, state)?)
+}
+
 /// A state behind a word, if the word is next.
 pub fn read_state_behind(
     reader: &mut TokenReader<'_>,
     alloc: Global,
     word: Kind,
-) -> Result<Option<State>, Stop>
-    ensures reads { Gives (option_map states.state) reader.new result (reading (opt (grammar.◌▸◌ word grammar.state)) reader.old) }
+) -> Result<Option<Box<State>>, Stop>
+    ensures reads { Gives (option_map (λ j. states.state j.value)) reader.new result (reading (opt (grammar.◌▸◌ word grammar.state)) reader.old) }
     ensures shorter { length reader.new ≤ length reader.old }
 {
     if let Some(_) = reader.take(word) {
-        Ok(Some(read_state(reader, alloc)?))
+        let state = read_state(reader, alloc)?;
+        Ok(Some(boxed(alloc, state)?))
     } else {
         Ok(None)
     }

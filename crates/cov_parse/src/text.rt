@@ -65,6 +65,8 @@ fn read_program_text(alloc: Global, bytes: &[u8]) -> Result<Parsed, ParseFault>
         return Err(ParseFault::from(excess));
     }
     let uses = uses(alloc, tokens.as_slice())?;
+    // (the tree takes their memory)
+    drop(tokens);
     Ok(parsed_of(alloc, names, uses, &program)?)
 }
 
