@@ -168,7 +168,21 @@ def measured(folder):
     yield from doubled(folder, "{} statements, a control of 250 variables", sizes[:2], lambda n: controlling(n, 250))
     yield from doubled(folder, "{} reads with 64 hypotheses", sizes[2:], lambda n: hypotheses(n, 64))
     yield from doubled(folder, "{} notes of 64 predicates", (500, 1_000), lambda n: notes(n, 64))
+    yield from doubled(folder, "{} assignments, a large class for each 50", sizes[:3], lambda n: classes(n, False))
+    yield from doubled(folder, "{} statements, branches, a large class for each 50", sizes[:3], lambda n: classes(n, True))
     yield from doubled(folder, "{} right sides of 60 leaves", (1_250, 2_500), lambda n: expressions(n, 60))
+
+
+def classes(statements, branches):
+    """Statements beside a variable with a class of 959 nodes for each 50 of them, so that declarations grow with the text."""
+    own = names("v", statements // 50)
+    large = "low when " + " || ".join(["(" + " && ".join(["c == 0"] * 40) + ")"] * 6)
+    lines = declared(["c", "out"]) + declared(own, large) + [f"thread t{listed('assume nowrite', ['c', 'out'] + own)} {{"]
+    if branches:
+        lines += ["if out { out := 1; } else { out := 2; } join { ; out: 1 }"] * (statements // 3)
+    else:
+        lines += [f"out := {i};" for i in range(statements)]
+    return text_of(lines + ["}"])
 
 
 def line_of(program, row):

@@ -152,7 +152,49 @@ fn ample(rt: HostRuntime) -> Result<(), Fail> {
 }
 
 #[test]
-fn refusals(rt: HostRuntime) -> Result<(), Fail> {
+fn refused_declarations(rt: HostRuntime) -> Result<(), Fail> {
+    let cases = [
+        row(
+            b"var x: low; thread a assume nowrite x { } thread b { }",
+            Status::Refused,
+            b"refused W9 at 19: a b x\n",
+        ),
+        row(
+            b"var a: low; var a: low;",
+            Status::Refused,
+            b"refused W1 at 16: a\n",
+        ),
+        row(
+            b"thread t { a := 1; }",
+            Status::Refused,
+            b"refused W2 at 11: a\n",
+        ),
+        row(
+            b"var h: high; var b: low when h == 0;",
+            Status::Refused,
+            b"refused W3 at 17: h\n",
+        ),
+        row(
+            b"var m: low; var b: low when m == 0; lock l hide b; thread t { }",
+            Status::Refused,
+            b"refused W7 at 41: b m\n",
+        ),
+        row(
+            b"thread t { } thread t { }",
+            Status::Refused,
+            b"refused W1 at 20: t\n",
+        ),
+        row(
+            b"var a: low; thread t { a := t; }",
+            Status::Refused,
+            b"refused W2 at 28: t\n",
+        ),
+    ];
+    shows_each(&rt, "check", &cases)
+}
+
+#[test]
+fn refused_statements(rt: HostRuntime) -> Result<(), Fail> {
     let cases = [
         row(
             b"var a: low; var s: high; thread t { a := s; }",
@@ -195,11 +237,6 @@ fn refusals(rt: HostRuntime) -> Result<(), Fail> {
             b"refused V3 in t at 47\n",
         ),
         row(
-            b"var x: low; thread a assume nowrite x { } thread b { }",
-            Status::Refused,
-            b"refused W9 at 19: a b x\n",
-        ),
-        row(
             b"var n: low; lock l nowrite n inv n <= 3; thread t { lock l; n := n + 1; unlock l; }",
             Status::Refused,
             b"refused V9 in t at 72 entailment 1\n",
@@ -208,26 +245,6 @@ fn refusals(rt: HostRuntime) -> Result<(), Fail> {
             b"var x: low; thread t { x := 1 + (1 + (1 + (1 + (1 + (1 + (1 + 1)))))); }",
             Status::Refused,
             b"refused V10 in t at 23\n",
-        ),
-        row(
-            b"var a: low; var a: low;",
-            Status::Refused,
-            b"refused W1 at 16: a\n",
-        ),
-        row(
-            b"thread t { a := 1; }",
-            Status::Refused,
-            b"refused W2 at 11: a\n",
-        ),
-        row(
-            b"var h: high; var b: low when h == 0;",
-            Status::Refused,
-            b"refused W3 at 17: h\n",
-        ),
-        row(
-            b"var m: low; var b: low when m == 0; lock l hide b; thread t { }",
-            Status::Refused,
-            b"refused W7 at 41: b m\n",
         ),
         row(
             b"lock l; thread t { lock l; }",
@@ -243,16 +260,6 @@ fn refusals(rt: HostRuntime) -> Result<(), Fail> {
             b"lock l; thread t { if 1 { lock l; } else { } }",
             Status::Refused,
             b"refused V8 in t at 19\n",
-        ),
-        row(
-            b"thread t { } thread t { }",
-            Status::Refused,
-            b"refused W1 at 20: t\n",
-        ),
-        row(
-            b"var a: low; thread t { a := t; }",
-            Status::Refused,
-            b"refused W2 at 28: t\n",
         ),
         row(
             b"thread t { note {} by { 1: auto }; }",
