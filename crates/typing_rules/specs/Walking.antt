@@ -82,6 +82,14 @@ TriesAt w at proofs n gs tried = Tries (plain_of w) w.thread at proofs n gs trie
 -- Parts of branches and loops ------------------------------------------------------------------------------------
 
 module _ (p : Plain) (t at : ℕ) where
+  -- of an assignment of a value of a type, what is asked of the type and of those that are retyped
+  abbrev pub type_parts : spec.Point → (x : ℕ) → (e q : Term) → (retypes : List (ℕ × Term)) → List (List Entry)
+  type_parts a x e q retypes =
+      (over_controls p t at a.held q ∷ [])
+      ∷ (if is_control p x then map (of_var p t at V5 (is_stable p t a.held)) (vars e) else [])
+      ∷ type_entries p t at (λ z. is_control p x && is_tracked p t a.held z) a.held [] retypes
+      ∷ []
+
   -- of an assignment of a value of a type, what is asked before it
   abbrev pub value_parts : spec.Point → (x : ℕ) → (e q : Term) → (retypes : List (ℕ × Term)) → List (List Entry)
   value_parts a x e q retypes =
@@ -89,10 +97,7 @@ module _ (p : Plain) (t at : ℕ) where
       ∷ (of_var p t at V2 (may_write p t a.held) x ∷ [])
       ∷ one_unstable p t at a.held e
       ∷ narrow p t at e
-      ∷ (over_controls p t at a.held q ∷ [])
-      ∷ (if is_control p x then map (of_var p t at V5 (is_stable p t a.held)) (vars e) else [])
-      ∷ type_entries p t at (λ z. is_control p x && is_tracked p t a.held z) a.held [] retypes
-      ∷ []
+      ∷ type_parts a x e q retypes
 
   -- V16, V9 and V13 of entailments that are numbered from a number on, and of the points after them, where a statement has
   -- so many

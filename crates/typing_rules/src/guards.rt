@@ -7,7 +7,7 @@ ghost use Rattle.cov_expr.specs.Words.{HasVarsBelow};
 ghost use Rattle.cov_ast.specs.Obligations.{Decides};
 ghost use Rattle.cov_ast.specs.Plain.{Plain, plain};
 ghost use Rattle.cov_ast.specs.View as view;
-ghost use Rattle.cov_ast.specs.declared.refusal.Rule.TheVariants.{V1, V5};
+ghost use Rattle.cov_ast.specs.declared.refusal.Rule.TheVariants.{V1, V2, V5};
 ghost use Rattle.mode_state.specs.Sets as sets;
 ghost use Rattle.typing_rules.specs.Answers.{AtHeld};
 ghost use Rattle.typing_rules.specs.Obligations as spec;
@@ -87,6 +87,56 @@ pub fn check_narrow(p: &Program, site: Site, e: &Expr) -> Result<(), CheckFault>
     ensures { Decides (spec.narrow (plain (view.program p.now)) site.thread site.place (term e.now)) result }
 {
     require_at(site, width_at_most(e, 7), Rule::V10, Detail::Nothing)
+}
+
+/// Each variable of an expression may be read, and another one may be written (V1, V2).
+pub fn check_access(
+    p: &Program,
+    site: Site,
+    modes: &ModeState,
+    x: u32,
+    e: &Expr,
+) -> Result<(), CheckFault>
+    requires variable { x < length p.now.vars }
+    requires value { HasVarsBelow (term e.now) (length p.now.vars) }
+    ensures { AtHeld (plain (view.program p.now)) site.thread modes.now (λ held. Decides
+        (spec.flat (spec.reads (plain (view.program p.now)) site.thread site.place held (term e.now)
+        ∷ (spec.of_var (plain (view.program p.now)) site.thread site.place V2 (sets.may_write (plain (view.program p.now)) site.thread held) x ∷ []) ∷ []))
+        result) }
+{
+    match check_reads(p, site, modes, e) {
+        Ok(()) => check_write(p, site, modes, x),
+        Err(fault) => Err(fault),
+    }
+}
+
+/// A variable may be written (V2).
+fn check_write(p: &Program, site: Site, modes: &ModeState, x: u32) -> Result<(), CheckFault>
+    requires { x < length p.now.vars }
+    ensures { AtHeld (plain (view.program p.now)) site.thread modes.now (λ held. Decides
+        (spec.of_var (plain (view.program p.now)) site.thread site.place V2 (sets.may_write (plain (view.program p.now)) site.thread held) x ∷ []) result) }
+{
+    let name = p.var_name(x);
+    require_at(site, modes.may_write(x), Rule::V2, Detail::One(name))
+}
+
+/// The evaluation reads at most one variable that another thread may write, and takes few registers (V3, V10).
+pub fn check_evaluation(
+    p: &Program,
+    site: Site,
+    modes: &ModeState,
+    e: &Expr,
+) -> Result<(), CheckFault>
+    requires { HasVarsBelow (term e.now) (length p.now.vars) }
+    ensures { AtHeld (plain (view.program p.now)) site.thread modes.now (λ held. Decides
+        (spec.flat (spec.one_unstable (plain (view.program p.now)) site.thread site.place held (term e.now)
+        ∷ spec.narrow (plain (view.program p.now)) site.thread site.place (term e.now) ∷ []))
+        result) }
+{
+    match check_one_unstable(p, site, modes, e) {
+        Ok(()) => check_narrow(p, site, e),
+        Err(fault) => Err(fault),
+    }
 }
 
 /// The obligations of a guard.

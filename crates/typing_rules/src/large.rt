@@ -13,10 +13,10 @@ ghost use Rattle.typing_state.specs.After.{after_assign};
 ghost use Rattle.typing_state.specs.Point.{conjuncts_of_types, is_over_controls, ty, ty_var};
 ghost use Rattle.typing_rules.specs.Blocks as blocks;
 ghost use Rattle.typing_rules.specs.Obligations.{few_preds, flat, stm_parts};
-ghost use Rattle.typing_rules.specs.Walking.{IsWalk, Stands, Wherever, plain_of, value_parts};
+ghost use Rattle.typing_rules.specs.Walking.{IsWalk, Stands, Wherever, plain_of, type_parts, value_parts};
 
 use crate::claims::Held;
-use crate::guards::{check_narrow, check_one_unstable, check_reads, check_stable_if};
+use crate::guards::{check_access, check_evaluation, check_stable_if};
 use crate::held::read_held;
 use crate::site::{refused_at, require_at};
 use crate::sizes::MOST_PARTS;
@@ -114,20 +114,40 @@ impl Walk<'_> {
             → Decides (flat (value_parts (plain_of self.now) self.now.thread at a x (term e.now) q (map view.retype retypes.now))) result) }
     {
         let (p, site, modes) = (self.program, self.site(at), point.modes());
-        let read = check_reads(p, site, modes, e);
-        let write = require_at(
-            site,
-            modes.may_write(x),
-            Rule::V2,
-            Detail::One(p.var_name(x)),
-        );
-        let settled = check_one_unstable(p, site, modes, e);
-        let narrow = check_narrow(p, site, e);
-        let typed = require_at(site, over, Rule::V4, Detail::Nothing);
-        let stable = check_stable_if(p, site, modes, point.is_control(x), e);
-        let retyped = check_retypes(p, site, point, x, retypes);
-        let types = both(typed, both(stable, retyped));
-        both(read, both(write, both(settled, both(narrow, types))))
+        match check_access(p, site, modes, x, e) {
+            Ok(()) => match check_evaluation(p, site, modes, e) {
+                Ok(()) => self.check_typing(at, x, e, over, retypes, point),
+                Err(fault) => Err(fault),
+            },
+            Err(fault) => Err(fault),
+        }
+    }
+
+    /// Checks what is asked of the type of an assigned value, where it is known whether it is over stable controls, and of
+    /// the `retype`s.
+    fn check_typing(
+        &self,
+        at: u32,
+        x: u32,
+        e: &Expr,
+        over: bool,
+        retypes: &[Retype],
+        point: &Point,
+    ) -> Result<(), CheckFault>
+        requires variable { x < length self.now.program.now.vars }
+        requires value { HasVarsBelow (term e.now) (length self.now.program.now.vars) }
+        requires range { AreTypesInRange (length self.now.program.now.vars) (length self.now.program.now.locks) (map view.retype retypes.now) }
+        ensures { (q : Term) → Wherever self.now point.now (λ a. over ≡ is_over_controls (plain_of self.now) self.now.thread a.held q
+            → Decides (flat (type_parts (plain_of self.now) self.now.thread at a x (term e.now) q (map view.retype retypes.now))) result) }
+    {
+        let (p, site, modes) = (self.program, self.site(at), point.modes());
+        match require_at(site, over, Rule::V4, Detail::Nothing) {
+            Ok(()) => match check_stable_if(p, site, modes, point.is_control(x), e) {
+                Ok(()) => check_retypes(p, site, point, x, retypes),
+                Err(fault) => Err(fault),
+            },
+            Err(fault) => Err(fault),
+        }
     }
 
     /// Whether the type of the value of an expression is over stable controls: that of each of its variables is.

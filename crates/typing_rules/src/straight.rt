@@ -113,13 +113,15 @@ impl Walk<'_> {
             return Err(self.refuse_large(at, x, e, retypes, point));
         };
         let items = retypes.as_slice();
-        let before = self.check_value(at, x, e, &q, items, &point);
+        if let Err(fault) = self.check_value(at, x, e, &q, items, &point) {
+            return Err(fault);
+        }
         let tried = self.try_assign(at, &point, x, e, written, &q, items, proofs)?;
         let entailments = u64::from(tried.count);
         let after = point.after_assign(self.alloc, self.program, x, e, q, retypes)?;
         let few = check_few_preds(self.program, self.site(at), &after);
         let last = self.check_last(at, proofs, 0, tried, after.has_small_types());
-        finish(after, entailments, both(before, both(few, last)))
+        finish(after, entailments, both(few, last))
     }
 
     /// Checks what is asked before a value of a type is assigned.

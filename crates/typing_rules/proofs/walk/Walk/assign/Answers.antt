@@ -1,4 +1,4 @@
-use Rattle.std.proofs.Common.{[], ◌∷◌, ◌++◌, length, map, option_map, sym, ap, ◌∙◌, subst, zero-add, Err}
+use Rattle.std.proofs.Common.{◌≡◌, None, [], ◌∷◌, ◌++◌, length, map, option_map, sym, ap, ◌∙◌, subst, zero-add, Err}
 use Rattle.cov_expr.specs.View.{term}
 use Rattle.cov_expr.specs.Words.{HasVarsBelow}
 use Rattle.cov_ast.specs.Obligations.{Decides, first_false}
@@ -13,12 +13,12 @@ use Rattle.typing_rules.specs.Obligations.{few_preds, flat, stm_parts}
 use Rattle.typing_state.specs.Point.{has_small_types}
 use Rattle.typing_rules.specs.Walking.{last_parts, plain_of, value_parts}
 use Rattle.typing_rules.proofs.Counting.{count_assign}
-use Rattle.typing_rules.proofs.Parts.{all_counted, and_true, append_none, flat-append}
+use Rattle.typing_rules.proofs.Parts.{all_counted, and_true, append_none, flat-append, parts_decided, parts_refused}
 use Rattle.typing_rules.proofs.Ranges.{classes_below, value_below}
 use Rattle.typing_rules.proofs.walk.Walk.assign.Goals as goal
 
-pub check_value-before-requires-clause-typed : goal.check_value-before-requires-clause-typed
-check_value-before-requires-clause-typed c =
+pub check_value-requires-clause-typed : goal.check_value-requires-clause-typed
+check_value-requires-clause-typed c =
     let w = c.args.self.now in
     let program = w.program.now in
     let a = c.requires.point.at in
@@ -34,6 +34,25 @@ returns-in_default c a k =
     let large = (rw c.in_default.is at c.in_ok-q.ensures) a k in
     subst (λ o. Decides (flat (stm_parts (plain_of w) w.thread (syntax.assign c.args.x (term c.args.e.now) (option_map term o) (map view.retype c.args.retypes.now)) c.args.at proofs a)) (Err c.refuse_large.result))
     (sym large.0) (c.refuse_large.ensures proofs a k large.1)
+
+pub returns-in-Err : goal.returns-in-Err
+returns-in-Err c a k =
+    let w = c.args.self.now in
+    let p = plain_of w in
+    let t = w.thread in
+    let at = c.args.at in
+    let x = c.args.x in
+    let e = term c.args.e.now in
+    let written = option_map term c.args.written.now in
+    let rs = map view.retype c.args.retypes.now in
+    let q = value_type p t a written e in
+    let is = (rw c.in-Some.is at c.in_ok-q.ensures) a k in
+    let gs = assign_entailments p t a x e written rs in
+    let after = after_assign p t a x e q rs in
+    let fault = c.in-Err.fault in
+    parts_refused (value_parts p t at a x e q rs) (few_preds p t at (after ∷ []) ∷ last_parts p t at (map view.proof c.args.proofs.now) 1 (length gs) gs (after ∷ [])) fault
+    (subst (λ r. Decides (flat (value_parts p t at a x e q rs)) r) c.in-Err.is
+    (subst (λ q. Decides (flat (value_parts p t at a x e q rs)) c.check_value.result) is ((rw c.as_slice-items.ensures at c.check_value.ensures) a k)))
 
 pub returns : goal.returns
 returns c a k =
@@ -53,7 +72,8 @@ returns c a k =
     let keeps = subst (λ q. Keeps p t (after_assign p t a x e q rs) c.in_ok-after.after) is (c.in_ok-after.ensures t a k) in
     let tries = (rw c.as_slice-items.ensures at c.in_ok-tried.ensures) a k in
     let first = value_parts p t at a x e q rs in
-    let first_ok = subst (λ q. Decides (flat (value_parts p t at a x e q rs)) c.check_value-before.result) is ((rw c.as_slice-items.ensures at c.check_value-before.ensures) a k) in
+    let first_held : first_false (flat first) ≡ None =
+    subst (λ q. first_false (flat (value_parts p t at a x e q rs)) ≡ None) is ((rw c.as_slice-items.ensures at c.in_default-check_value.ensures) a k) in
     let few = few_preds p t at (after ∷ []) in
     let few_ok = (rw c.site.ensures at c.check_few_preds-few.ensures) after keeps in
     let lasts = last_parts p t at proofs 1 (length gs) gs (after ∷ []) in
@@ -62,8 +82,7 @@ returns c a k =
     let whole = flat (first ++ few ∷ lasts) in
     let split = flat-append first (few ∷ lasts) in
     c.finish.ensures p t whole after (entailment_count whole) keeps
-    (subst (λ es. Decides es c.both-2.result) (sym split)
-    (c.both-2.ensures (flat first) (few ++ rest) first_ok (λ _. c.both.ensures few rest few_ok (λ _. last))))
+    (parts_decided first (few ∷ lasts) c.both.result first_held (c.both.ensures few rest few_ok (λ _. last)))
     (λ held. c.from-entailments.ensures
     ∙ all_counted p t at proofs 1 (length gs) gs (after ∷ []) c.in_ok-tried.tried few tries
     (append_none (flat first) (few ++ rest) (ap first_false (sym split) ∙ held)).1
