@@ -1,22 +1,21 @@
 -- Laws of locks that are taken and given back.
-use Rattle.std.proofs.Common.{◌≡◌, ℕ, ◌<◌, ◌≤◌, ◌&&◌, ◌||◌, List, [], ◌∷◌, Bool, true, false, not, length, map, get_or, set, refl, sym, ap, ◌∙◌, arith, Option, Some, None, option_map, is_some, if◌then◌else◌, inl, inr, ◌⊎◌}
+use Rattle.std.proofs.Common.{◌≡◌, ℕ, ◌<◌, ◌&&◌, ◌||◌, List, [], ◌∷◌, Bool, true, false, not, length, map, get_or, set, refl, sym, ap, ◌∙◌, arith, Option, Some, None, option_map, is_some, if◌then◌else◌, inl, inr, ◌⊎◌}
 use Rattle.std.specs.List.{list_any}
 use Rattle.std.proofs.lemmas.List.{length-set, get_or-map, get_or-set_same, get_or-set_other}
 use Rattle.std.proofs.lemmas.Bool.{cases_eq}
 use Rattle.cov_expr.specs.Term.{Term}
-use Rattle.cov_ast.specs.Syntax.{Lock}
 use Rattle.cov_ast.specs.Plain.{Plain}
-use Rattle.cov_ast.specs.Declarations.{class_of, is_control, lists, lock_at, no_lock, under, assumes}
-use Rattle.cov_ast.specs.Tables.{has, table}
+use Rattle.cov_ast.specs.Declarations.{class_of, is_control, no_lock, under, assumes}
+use Rattle.cov_ast.specs.Tables.{has}
 use Rattle.cov_ast.specs.View as view
 use Rattle.cov_ast.specs.declared.decl.LockDecl.{LockDecl}
-use Rattle.cov_ast.proofs.TableLaws.{table_at, or_true}
+use Rattle.cov_ast.proofs.TableLaws.{or_true}
 use Rattle.mode_state.specs.Sets.{is_stable, locks_of}
 use Rattle.mode_state.proofs.HeldLaws.{any_from}
 use Rattle.typing_state.specs.Point.{Point, is_tracked, given_type}
-use Rattle.typing_state.specs.After.{updated, locked_type, after_lock, unlocked_type, kept_type, after_unlock}
+use Rattle.typing_state.specs.After.{locked_type, after_lock, unlocked_type, kept_type, after_unlock}
 use Rattle.typing_state.specs.Kept.{IsPoint}
-use Rattle.typing_state.proofs.PointLaws.{updated_at, updated_same, length-updated, some_mapped}
+use Rattle.typing_state.proofs.PointLaws.{updated_at, length-updated, some_mapped}
 
 pub lock_of : (locks : List LockDecl) (l : ℕ) (lock : LockDecl) → l < length locks → lock ≡ get_or locks l lock → view.lock lock ≡ get_or (map view.lock locks) l no_lock
 lock_of locks l lock inside is = ap view.lock is ∙ sym (get_or-map view.lock locks l lock no_lock inside)

@@ -1,11 +1,11 @@
 -- Of which point the code keeps what it keeps.
-use Rattle.std.specs.Prelude.{◌≡◌, ℕ, ◌<◌, List, Bool, length, map, not, ◌&&◌, if◌then◌else◌, Option, Some, None, true, option_map, is_some}
+use Rattle.std.specs.Prelude.{◌≡◌, ℕ, ◌<◌, List, Bool, length, map, Option, Some, None, true, option_map, is_some}
 use Rattle.cov_expr.specs.Term.{Term, const}
 use Rattle.cov_expr.specs.View.{term}
 use Rattle.cov_expr.specs.Words.{HasVarsBelow}
 use Rattle.cov_ast.specs.Plain.{Plain}
 use Rattle.cov_ast.specs.Declarations.{class_of, is_control}
-use Rattle.cov_ast.specs.Tables.{has, table}
+use Rattle.cov_ast.specs.Tables.{table}
 use Rattle.mode_state.specs.Sets.{Sets, modes_at}
 use Rattle.typing_state.specs.Point.{given_type, is_tracked, vars_of}
 use Rattle.typing_state.specs.Point as spec
