@@ -9,13 +9,14 @@ use Rattle.cov_io.specs.declared.shelf.ShelfFault.TheVariants.{Failed, NoMemory}
 
 -- no call
 pub passes_none : (a : Shelved) → Passes a a
-passes_none a = record { told = refl; sure = refl; faults = omega arith; taken = omega arith }
+passes_none a = record { told = refl; sure = refl; calls = omega arith; faults = omega arith; taken = omega arith }
 
 -- some calls and then others
 pub passes_both : (a b c : Shelved) → Passes a b → Passes b c → Passes a c
 passes_both a b c p q = record {
   told = q.told ∙ p.told;
   sure = q.sure ∙ p.sure;
+  calls = omega (arith, p.calls, q.calls);
   faults = omega (arith, p.faults, q.faults);
   taken = omega (arith, p.taken, q.taken);
 }

@@ -26,7 +26,7 @@ is_empty (x ∷ xs) = false
 
 -- It tells its files, and is sure exactly where no call is to fail.
 abbrev pub shelved_of : Files → Shelved
-shelved_of s = record { told = Some s.files; sure = is_empty s.fails; faults = s.faults; taken = s.taken }
+shelved_of s = record { told = Some s.files; sure = is_empty s.fails; calls = s.calls; faults = s.faults; taken = s.taken }
 
 -- whether a call of this number is to fail
 abbrev pub is_listed : List ℕ → ℕ → Bool

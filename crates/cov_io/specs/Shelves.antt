@@ -22,21 +22,23 @@ IsDistinctByName [] = Unit {0}
 IsDistinctByName (f ∷ fs) = IsNone (held fs f.0) × IsDistinctByName fs
 
 -- What a shelf means: its files, where it tells them; whether its calls fail only where the name isn't told; how
--- often a call failed; how many bytes were taken from files.
+-- many calls there were; how often a call failed; how many bytes were taken from files.
 pub record Shelved : Type 0 where
   pub told : Option (List File)
   pub sure : Bool
+  pub calls : ℕ
   pub faults : ℕ
   pub taken : ℕ
 
 -- a shelf that tells nothing
-abbrev pub untold : ℕ → ℕ → Shelved
-untold faults taken = record { told = None; sure = false; faults = faults; taken = taken }
+abbrev pub untold : (calls faults taken : ℕ) → Shelved
+untold calls faults taken = record { told = None; sure = false; calls = calls; faults = faults; taken = taken }
 
 -- Calls change neither what is told nor the sureness, and no count falls.
 pub record Passes (before after : Shelved) : Type 0 where
   pub told : after.told ≡ before.told
   pub sure : after.sure ≡ before.sure
+  pub calls : before.calls ≤ after.calls
   pub faults : before.faults ≤ after.faults
   pub taken : before.taken ≤ after.taken
 
@@ -44,6 +46,7 @@ pub record Passes (before after : Shelved) : Type 0 where
 pub record IsSound (shelf : Shelved) : Type 0 where
   pub tells : IsTrue shelf.sure → IsSome shelf.told
   pub distinct : IfSome shelf.told IsDistinctByName
+  pub calls : shelf.calls ≤ last_count
   pub faults : shelf.faults ≤ last_count
   pub taken : shelf.taken ≤ last_count
 

@@ -12,10 +12,11 @@ use std::marker::Model;
 use std::rt::Files;
 use std::{fs, io};
 
-/// The files of the system, whose names are paths. It tells nothing, and contracts see it as its two counts.
+/// The files of the system, whose names are paths. It tells nothing, and contracts see it as its three counts.
 #[derive(Drop)]
 pub struct FileShelf<'r, R> {
     rt: &'r R,
+    calls: u64,
     faults: u64,
     taken: u64,
 }
@@ -27,18 +28,19 @@ impl<'r, R> Model for FileShelf<'r, R> {
 
     ghost Value = { Shelved };
 
-    ghost view = { λ s. untold s.faults s.taken };
+    ghost view = { λ s. untold s.calls s.faults s.taken };
 
-    ghost invariant = { λ s. (s.faults ≤ last_count) × (s.taken ≤ last_count) };
+    ghost invariant = { λ s. (s.calls ≤ last_count) × (s.faults ≤ last_count) × (s.taken ≤ last_count) };
 }
 
 impl<'r, R: Files> FileShelf<'r, R> {
     /// The files of a runtime, before the first call.
     pub fn new(rt: &'r R) -> FileShelf<'r, R>
-        ensures { result ≡ untold 0 0 }
+        ensures { result ≡ untold 0 0 0 }
     {
         FileShelf {
             rt,
+            calls: 0,
             faults: 0,
             taken: 0,
         }
@@ -53,6 +55,7 @@ impl<'r, R: Files> FileShelf<'r, R> {
     ) -> Result<Fetched, ShelfFault>
         ensures answer { Gives self.old self.new [] limit result }
         ensures passes { Passes self.old self.new }
+        ensures calls { self.new.calls ≡ self.old.calls }
         ensures faults { self.new.faults ≡ raised_count self.old.faults (faults_of result) }
         ensures taken { IfOk result (λ fetched. self.new.taken ≡ raised_count self.old.taken (bytes_taken limit fetched)) }
         ensures most { self.new.taken ≤ self.old.taken + (limit + 1) }
@@ -85,10 +88,12 @@ impl<R: Files> Shelf for FileShelf<'_, R> {
         ensures answer { Gives self.old self.new name.now limit result }
         ensures passes { Passes self.old self.new }
         ensures sound { IsSound self.old }
+        ensures counted { self.new.calls ≡ raised_count self.old.calls 1 }
         ensures faults { self.new.faults ≡ raised_count self.old.faults (faults_of result) }
         ensures taken { IfOk result (λ fetched. self.new.taken ≡ raised_count self.old.taken (bytes_taken limit fetched)) }
         ensures most { self.new.taken ≤ self.old.taken + (limit + 1) }
     {
+        self.calls = raised(self.calls, 1);
         match fs::open(self.rt, name) {
             Ok(mut file) => self.read_up_to(alloc, &mut file, limit),
             Err(_) => {

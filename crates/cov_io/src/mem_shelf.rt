@@ -1,4 +1,5 @@
 ghost use Rattle.std.specs.Prelude.{◌≡◌, option_copied};
+ghost use Rattle.cov_io.specs.Counts.{raised as raised_count};
 ghost use Rattle.cov_io.specs.Shelves.{Gives, Passes, IsSound, IsDistinctByName, held};
 ghost use Rattle.cov_io.specs.MemShelves.{Answers, after_fetch, next_fetch, shelved_of, started};
 
@@ -21,6 +22,7 @@ pub struct MemShelf {
 }
 
 impl Model for MemShelf {
+    ghost use Rattle.cov_io.specs.Counts.{raised as raised_count};
     ghost use Rattle.cov_io.specs.Shelves.{IsDistinctByName};
     ghost use Rattle.cov_io.specs.MemShelves.{Files};
 
@@ -56,6 +58,7 @@ impl Shelf for MemShelf {
         ensures answer { Gives (shelved_of self.old) (shelved_of self.new) name.now limit result }
         ensures passes { Passes (shelved_of self.old) (shelved_of self.new) }
         ensures sound { IsSound (shelved_of self.old) }
+        ensures counted { self.new.calls ≡ raised_count self.old.calls 1 }
         ensures exact { Answers (next_fetch self.old name.now limit) result }
         ensures after { self.new ≡ after_fetch self.old limit result }
     {

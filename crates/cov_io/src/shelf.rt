@@ -1,4 +1,5 @@
 ghost use Rattle.std.specs.Prelude.{◌≡◌};
+ghost use Rattle.cov_io.specs.Counts.{raised};
 ghost use Rattle.cov_io.specs.Shelves.{Shelved, Gives, Passes, IsSound};
 ghost use Rattle.cov_io.specs.declared.shelf.ShelfFault.TheVariants as faults;
 
@@ -8,8 +9,8 @@ use std::alloc::Global;
 /// Where files are read from, by name.
 ///
 /// A shelf may *tell* its files, as one in memory does: then contracts know what stands under each name. It is *sure*
-/// if its calls fail only where a name isn't there. It counts how often a call failed and how many bytes were taken,
-/// each up to 18446744073709551615, where the count stands still.
+/// if its calls fail only where a name isn't there. It counts its calls, how often one failed and how many bytes were
+/// taken, each up to 18446744073709551615, where the count stands still.
 pub trait Shelf {
     /// What it holds, and how its calls went.
     ghost shelved: { Self → Shelved };
@@ -19,7 +20,8 @@ pub trait Shelf {
     fn fetch(&mut self, alloc: Global, name: &str, limit: usize) -> Result<Fetched, ShelfFault>
         ensures answer { Gives (shelved self.old) (shelved self.new) name.now limit result }
         ensures passes { Passes (shelved self.old) (shelved self.new) }
-        ensures sound { IsSound (shelved self.old) };
+        ensures sound { IsSound (shelved self.old) }
+        ensures counted { (shelved self.new).calls ≡ raised (shelved self.old).calls 1 };
 }
 
 /// What was fetched.
