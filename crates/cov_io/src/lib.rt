@@ -17,18 +17,23 @@
 #![tactic(auto)]
 
 mod counts;
-mod file_shelf;
+mod disk;
+mod disk_shelf;
 mod mem_shelf;
 mod mem_sink;
+mod output;
+mod output_sink;
 mod shelf;
 mod sink;
-mod std_sink;
-#[cfg(test)]
-mod tests;
+mod system;
+mod trouble;
 
-pub use file_shelf::FileShelf;
+pub use disk::Disk;
+pub use disk_shelf::{DiskShelf, FileShelf};
 pub use mem_shelf::MemShelf;
 pub use mem_sink::MemSink;
+pub use output::Output;
+pub use output_sink::{OutputSink, StdSink};
 pub use shelf::{Fetched, Shelf, ShelfFault};
 pub use sink::{Failed, Sink, write_whole};
-pub use std_sink::StdSink;
+pub use trouble::CallError;
