@@ -1,14 +1,18 @@
-//! The calls of the real system: an open, a read and a write. That each of the three functions makes its one call, and
-//! hands it its arguments, is shown by no proof; what becomes of the answer is.
-ghost use Rattle.std.specs.Prelude.{◌≡◌, ◌≤◌, None, IfSome};
-ghost use Rattle.cov_io.specs.Calls.{no_troubles};
+//! The calls of the real system: an open, a read and a write.
+//!
+//! Three lines of this file are shown by no proof: that `open` asks for the name that it is given, and once; that `read`
+//! reads once; and that `write` writes once, to the output that it is given. What is made of the answers is proved, of
+//! any file and any writer whose bytes are known.
+ghost use Rattle.std.specs.Prelude.{◌≡◌, ◌≤◌, ◌<◌, None, IfOk, length};
+ghost use Rattle.std.specs.Io.KnownBytes.{WriteAppends};
+ghost use Rattle.cov_io.specs.Calls.{IsLater, after_call, no_troubles};
 
 use crate::disk::Disk;
 use crate::output::Output;
 use crate::trouble::{CallError, Trouble};
-use std::fs;
-use std::io::Read;
+use std::io::{Read, Write};
 use std::rt::Files;
+use std::{fs, io};
 
 /// The files of the system, whose names are paths. It tells nothing.
 #[derive(Drop)]
@@ -82,15 +86,29 @@ impl<R: Print> Output for SystemOutput<'_, R> {
 
     ghost troubles = { λ s. s.trouble };
 
-    /// One write. That nothing is taken of a piece that isn't empty is an error.
+    /// One write.
     fn write(&mut self, piece: &[u8]) -> Result<usize, CallError> {
-        match self.rt.write_some(piece) {
-            Ok(0) if !piece.is_empty() => {
-                self.trouble.fail();
-                Err(CallError::Other)
-            }
-            Ok(count) => Ok(count),
-            Err(error) => Err(self.trouble.count(&error)),
+        write_once(&mut io::writer(self.rt), &mut self.trouble, piece)
+    }
+}
+
+/// One write. That nothing is taken of a piece that isn't empty is an error.
+fn write_once<W: Write>(
+    writer: &mut W,
+    trouble: &mut Trouble,
+    piece: &[u8],
+) -> Result<usize, CallError>
+    ensures count { IfOk result (λ count. (count ≤ length piece.now) × (0 < length piece.now → 0 < count)) }
+    ensures bytes { WriteAppends (W.contents writer.old) (W.contents writer.new) result piece.now }
+    ensures counted { trouble.new ≡ after_call trouble.old result }
+    ensures later { IsLater trouble.old trouble.new }
+{
+    match writer.write(piece) {
+        Ok(0) if !piece.is_empty() => {
+            trouble.fail();
+            Err(CallError::Other)
         }
+        Ok(count) => Ok(count),
+        Err(error) => Err(trouble.count(&error)),
     }
 }
