@@ -15,8 +15,6 @@ mod list;
 mod measures;
 mod name;
 mod parts;
-#[cfg(test)]
-mod tests;
 
 pub use build::{boxed, copy, subst};
 pub use expr::{Expr, HOLE, Op, apply, eval, same};

@@ -29,8 +29,6 @@ mod fault;
 mod laws;
 mod reader;
 mod stop;
-#[cfg(test)]
-mod tests;
 mod token;
 mod word;
 

@@ -14,6 +14,3 @@ mod token;
 pub use fault::LexFault;
 pub use lexer::lex;
 pub use token::{Token, TokenKind};
-
-#[cfg(test)]
-mod tests;
