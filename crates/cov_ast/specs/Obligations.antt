@@ -25,11 +25,7 @@ abbrev pub first_false : List Entry → Option Refusal
 first_false [] = None
 first_false (e ∷ es) = if e.holds then first_false es else Some e.refusal
 
--- nothing where all hold, else what the first one that doesn't refuses
-abbrev pub verdict : List Entry → Result (Unit {0}) Refusal
-verdict entries = elim (first_false entries) [ None ↦ Ok tt | Some refusal ↦ Err refusal ]
-
--- The answer is the verdict on the obligations, unless memory ran out.
+-- The answer is that all hold, or else the refusal of the first obligation that doesn't, unless memory ran out.
 abbrev pub Decides : List Entry → Result (Unit {0}) CheckFault → Type 0
 Decides entries (Ok done) = first_false entries ≡ None
 Decides entries (Err (Refused refusal)) = first_false entries ≡ Some refusal

@@ -4,6 +4,7 @@ ghost use Rattle.cov_ast.specs.Plain as spec;
 ghost use Rattle.cov_ast.specs.Syntax as syntax;
 ghost use Rattle.cov_ast.specs.View as view;
 ghost use Rattle.cov_ast.specs.View.{onto};
+ghost use Rattle.cov_ast.specs.WellFormed.{IsWellFormed};
 
 use crate::decl::{Class, LockDecl, Modes, Program, ThreadDecl, VarDecl};
 use crate::state::State;
@@ -12,9 +13,10 @@ use cov_expr::{Expr, List, NoMemory, copy};
 use std::alloc::Global;
 
 /// The plain program: the same declarations and statements, at the same places, without types, states, proofs and
-/// notes. It is what a program does; the rest says why it may.
+/// notes. It is what a program does; the rest says why it may. It is well formed where the program is.
 pub fn plain(alloc: Global, program: &Program) -> Result<Program, NoMemory>
-    ensures { IfOk result (λ bare. view.program bare ≡ spec.bare (view.program program.now)) }
+    ensures bare { IfOk result (λ made. view.program made ≡ spec.bare (view.program program.now)) }
+    ensures formed { IsWellFormed (view.program program.now) → IfOk result (λ made. IsWellFormed (view.program made)) }
 {
     let vars = copy_vars(alloc, program.vars.as_slice())?;
     let locks = copy_locks(alloc, program.locks.as_slice())?;

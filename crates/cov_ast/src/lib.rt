@@ -19,15 +19,13 @@ mod refusal;
 mod sets;
 mod state;
 mod stmt;
-#[cfg(test)]
-mod tests;
 
 pub use bare::{annotations_do_nothing, plain};
 pub use cert::{Cert, Proof};
 pub use decl::{Class, LockDecl, Modes, Program, ThreadDecl, VarDecl};
 pub use names::NameTable;
 pub use parsed::{NameUse, Parsed};
-pub use refusal::{CheckFault, Detail, Refusal, Rule, refused, require};
+pub use refusal::{CheckFault, Detail, Refusal, Rule, refused};
 pub use sets::{NumberSet, first_outside};
 pub use state::State;
 pub use stmt::{Retype, Stmt, StmtKind};

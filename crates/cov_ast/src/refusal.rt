@@ -1,5 +1,5 @@
-ghost use Rattle.std.specs.Prelude.{◌≡◌, [], ◌∷◌, false};
-ghost use Rattle.cov_ast.specs.Obligations.{declared_entry, Decides};
+ghost use Rattle.std.specs.Prelude.{◌≡◌, false};
+ghost use Rattle.cov_ast.specs.Obligations.{declared_entry};
 ghost use Rattle.cov_ast.specs.declared.refusal.CheckFault.TheVariants as faults;
 
 use cov_expr::{Name, NoMemory};
@@ -74,16 +74,6 @@ impl From<Refusal> for CheckFault {
     fn from(refusal: Refusal) -> CheckFault {
         CheckFault::Refused(refusal)
     }
-}
-
-/// Refuses a program for a rule of declarations, at a place, unless what the rule asks there holds.
-pub fn require(holds: bool, rule: Rule, place: u32, detail: Detail) -> Result<(), CheckFault>
-    ensures { Decides (declared_entry rule place detail holds ∷ []) result }
-{
-    if holds {
-        return Ok(());
-    }
-    Err(refused(rule, place, detail))
 }
 
 /// The refusal of a program for a rule of declarations, at a place.
