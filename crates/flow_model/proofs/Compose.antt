@@ -13,7 +13,7 @@ use Rattle.flow_model.specs.Source.{Item, Local, local, Run, items_of, step, tur
 use Rattle.flow_model.specs.Agreement.{AreAlike, AreFitStarts, StatesAgree}
 use Rattle.flow_model.specs.Secure.{IsSecure}
 use Rattle.flow_model.specs.Game.{Copies, Move, own, outside, after_move, after_moves, opening, MeetsAssumptions, IsLawfulOutside, AreLawful, IsSecureMove, IsSecureThread}
-use Rattle.flow_model.specs.Composable.{HasWordBodies, AreControlsLow, AreApart}
+use Rattle.flow_model.specs.Composable.{HasWordBodies, AreControlsLow, HasCompatibleModes}
 use Rattle.flow_model.proofs.Turns.{ItemsHaveWords, TurnHasWords, turn_words, long_memory, long_holders, items_words}
 
 abbrev local_of : Run → ℕ → Local
@@ -84,7 +84,7 @@ standing c d is js ks ls e f =
 
 -- What an own move of u gives to all ------------------------------------------------------------------------------
 
-module _ (p : Plain) (m1 m2 : List ℕ) (apart : AreApart p) (s1 s2 : Run) (u : ℕ) (u_in : u < length p.threads) (k : Paired p m1 m2 s1 s2)
+module _ (p : Plain) (m1 m2 : List ℕ) (compatible : HasCompatibleModes p) (s1 s2 : Run) (u : ℕ) (u_in : u < length p.threads) (k : Paired p m1 m2 s1 s2)
     (owes : IsSecureMove p u (copies_of s1 s2 u) (after_move u own (copies_of s1 s2 u))) where
   leaves_left : (t : ℕ) → t < length p.threads → t ≢ u → MeetsAssumptions p t (local_of s1 t) (turned s1 u).memory (turned s1 u).holders
   unfolding copies_of
@@ -93,7 +93,7 @@ module _ (p : Plain) (m1 m2 : List ℕ) (apart : AreApart p) (s1 s2 : Run) (u : 
         memory = (sound_step p s1 u u_in k.left).memory;
         holders = (sound_step p s1 u u_in k.left).locks;
         held = λ l. same_holder _ _ t u d (owes.left.held l);
-        stable = λ x h. owes.left.kept x (λ w. apart s1.holders t u x u_in d w h);
+        stable = λ x h. owes.left.kept x (λ w. compatible s1.holders t u x u_in d w h);
       }
 
   leaves_right : (t : ℕ) → t < length p.threads → t ≢ u → MeetsAssumptions p t (local_of s2 t) (turned s2 u).memory (turned s2 u).holders
@@ -103,7 +103,7 @@ module _ (p : Plain) (m1 m2 : List ℕ) (apart : AreApart p) (s1 s2 : Run) (u : 
         memory = (sound_step p s2 u u_in k.right).memory;
         holders = (sound_step p s2 u u_in k.right).locks;
         held = λ l. same_holder _ _ t u d (owes.right.held l);
-        stable = λ x h. owes.right.kept x (λ w. apart s2.holders t u x u_in d w h);
+        stable = λ x h. owes.right.kept x (λ w. compatible s2.holders t u x u_in d w h);
       }
 
   lawful_for : (t : ℕ) → t < length p.threads → t ≢ u
@@ -141,14 +141,14 @@ owed : (p : Plain) (m1 m2 : List ℕ) → IsMemory (length p.vars) m1 → IsMemo
 owed p m1 m2 a b st s1 s2 u secure f = subst (λ q. IsSecureMove p u q (after_move u own q)) f.stands (secure m1 m2 a b st f.moves f.lawful)
 
 module _ (p : Plain) (m1 m2 : List ℕ) (a : IsMemory (length p.vars) m1) (b : IsMemory (length p.vars) m2) (st : AreFitStarts p m1 m2)
-    (secure : (t : ℕ) → t < length p.threads → IsSecureThread p t) (apart : AreApart p) where
+    (secure : (t : ℕ) → t < length p.threads → IsSecureThread p t) (compatible : HasCompatibleModes p) where
   paired_step : (s1 s2 : Run) (u : ℕ) → u < length p.threads → Paired p m1 m2 s1 s2 → Paired p m1 m2 (step s1 u) (step s2 u)
   unfolding copies_of
   paired_step s1 s2 u u_in k =
       record {
         left = sound_step p s1 u u_in k.left;
         right = sound_step p s2 u u_in k.right;
-        agree = record { memories = owes.memories; items = λ t. alike_at p m1 m2 apart s1 s2 u u_in k owes t (ℕ_discrete t u) };
+        agree = record { memories = owes.memories; items = λ t. alike_at p m1 m2 compatible s1 s2 u u_in k owes t (ℕ_discrete t u) };
         follows = λ t t_in. follows_at t t_in (ℕ_discrete t u);
       }
     where
@@ -156,8 +156,8 @@ module _ (p : Plain) (m1 m2 : List ℕ) (a : IsMemory (length p.vars) m1) (b : I
       owes = owed p m1 m2 a b st s1 s2 u (secure u u_in) (k.follows u u_in)
 
       follows_at : (t : ℕ) → t < length p.threads → Dec (t ≡ u) → Follows p m1 m2 (step s1 u) (step s2 u) t
-      follows_at t t_in (yes e) = rw e (follows_own p m1 m2 apart s1 s2 u u_in k owes (k.follows u u_in))
-      follows_at t t_in (no d) = follows_other p m1 m2 apart s1 s2 u u_in k owes t t_in d (k.follows t t_in)
+      follows_at t t_in (yes e) = rw e (follows_own p m1 m2 compatible s1 s2 u u_in k owes (k.follows u u_in))
+      follows_at t t_in (no d) = follows_other p m1 m2 compatible s1 s2 u u_in k owes t t_in d (k.follows t t_in)
 
   paired_run : (s : List ℕ) (s1 s2 : Run) → IsSchedule (length p.threads) s → Paired p m1 m2 s1 s2
       → Paired p m1 m2 (run_from s1 s) (run_from s2 s)
@@ -203,6 +203,6 @@ paired_start p m1 m2 w low_controls a b st =
     }
 
 pub compose : (p : Plain) → HasWordBodies p → AreControlsLow p
-    → ((t : ℕ) → t < length p.threads → IsSecureThread p t) → AreApart p → IsSecure p
-compose p w low_controls secure apart m1 m2 a b st s h =
-    (paired_run p m1 m2 a b st secure apart s (begin p m1) (begin p m2) h (paired_start p m1 m2 w low_controls a b st)).agree
+    → ((t : ℕ) → t < length p.threads → IsSecureThread p t) → HasCompatibleModes p → IsSecure p
+compose p w low_controls secure compatible m1 m2 a b st s h =
+    (paired_run p m1 m2 a b st secure compatible s (begin p m1) (begin p m2) h (paired_start p m1 m2 w low_controls a b st)).agree

@@ -1,5 +1,4 @@
--- What lets the games of all threads compose: expressions of words, controls that are low, and threads that don't write
--- what others have stable.
+-- What lets the games of all threads compose: expressions of words, controls that are low, and modes that are compatible.
 use Rattle.std.specs.Prelude.{◌≢◌, ℕ, ◌<◌, length, IsTrue}
 use Rattle.cov_expr.specs.Words.{HasWords}
 use Rattle.cov_ast.specs.Declarations.{is_control, is_plain_low, thread_at}
@@ -30,7 +29,9 @@ HasWordBodies p = (t : ℕ) → CmdsHaveWords (thread_at p t).body
 abbrev pub AreControlsLow : Plain → Type 0
 AreControlsLow p = (c : ℕ) → IsTrue (is_control p c) → IsTrue (is_plain_low p c)
 
--- What one thread may write, no other has stable, whoever holds the locks.
-abbrev pub AreApart : Plain → Type 0
-AreApart p =
+-- The modes of the threads are compatible: what one thread may write, no other has stable, whoever holds the locks.
+--
+-- (The compatibility of modes of Mantel, Sands and Sudbrock, with the locks of COVERN.)
+abbrev pub HasCompatibleModes : Plain → Type 0
+HasCompatibleModes p =
     (h : Holders) (t u x : ℕ) → u < length p.threads → t ≢ u → IsWritableNow p h u x → IsStableNow p h t x → ⊥

@@ -1,6 +1,6 @@
 ghost use Rattle.std.specs.Prelude.{◌≡◌, ◌↔◌, ℕ, ◌<◌, List, length, IsNone};
 ghost use Rattle.cov_ast.specs.Plain.{Plain};
-ghost use Rattle.flow_model.specs.Composable.{AreApart, AreControlsLow, HasWordBodies};
+ghost use Rattle.flow_model.specs.Composable.{AreControlsLow, HasCompatibleModes, HasWordBodies};
 ghost use Rattle.flow_model.specs.Agreement.{AreFitStarts, MemoriesAgree};
 ghost use Rattle.flow_model.specs.FirstDifference.{first_bad_start, first_difference};
 ghost use Rattle.flow_model.specs.Game.{IsSecureThread};
@@ -8,10 +8,10 @@ ghost use Rattle.flow_model.specs.Secure.{IsSecure};
 ghost use Rattle.flow_model.specs.Source.{Holders};
 
 /// The games of all threads compose, over every schedule: where each thread is secure alone, controls are low and no thread
-/// writes what another has stable, the program is secure (the compositionality theorem of Mantel, Sands and Sudbrock, with
-/// the locks of COVERN).
+/// writes what another has stable (modes are compatible), the program is secure (the compositionality theorem of Mantel,
+/// Sands and Sudbrock, with the locks of COVERN).
 pub fn threads_compose()
-    ensures { (p : Plain) → HasWordBodies p → AreControlsLow p → ((t : ℕ) → t < length p.threads → IsSecureThread p t) → AreApart p → IsSecure p }
+    ensures { (p : Plain) → HasWordBodies p → AreControlsLow p → ((t : ℕ) → t < length p.threads → IsSecureThread p t) → HasCompatibleModes p → IsSecure p }
 {}
 
 /// Memories with holders, of lengths as declared, agree exactly where they have no first difference.
