@@ -1,7 +1,12 @@
 -- Laws of types that are kept or replaced by what is known without more.
-use Rattle.std.proofs.Common.{◌≡◌, Bool, true, false, not, is_some, refl, sym, ap, Option, Some, None, option_map, if◌then◌else◌}
+use Rattle.std.proofs.Common.{◌≡◌, ℕ, List, Bool, true, false, not, is_some, refl, sym, ap, Option, Some, None, option_map, if◌then◌else◌}
 use Rattle.cov_expr.specs.Term.{Term}
+use Rattle.cov_expr.proofs.Values.{closed_mentions}
+use Rattle.cov_ast.specs.Plain.{Plain}
+use Rattle.typing_state.specs.After.{forgotten_type}
 use Rattle.typing_state.specs.Kept.{passes}
+use Rattle.typing_state.specs.Point.{default_type}
+use Rattle.typing_state.specs.Terms.{is_closed_type}
 
 -- a type that passes the test is kept
 pub passed : (test : Term → Bool) (known : Term) (q : Option Term) → passes test q ≡ true → q ≡ option_map (λ g. if test g then g else known) q
@@ -35,3 +40,8 @@ passed_not test known (Some g) e = at (test g) e
 pub replaced : (known : Term) (q : Option Term) → is_some q ≡ true → Some known ≡ option_map (λ g. known) q
 replaced known None e = cc
 replaced known (Some g) e = refl
+
+-- a type that mentions no variable isn't forgotten
+pub forgotten_keeps : (p : Plain) (t : ℕ) (held : List Bool) (x z : ℕ) (q : Option Term) → is_closed_type q ≡ true → option_map (forgotten_type p t held x z) q ≡ q
+forgotten_keeps p t held x z None h = refl
+forgotten_keeps p t held x z (Some g) h = ap (λ b. Some (if b then default_type p t held z else g)) (closed_mentions g x h)

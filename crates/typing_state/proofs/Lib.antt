@@ -7,3 +7,4 @@ mod Steps
 mod TyLaws
 mod TypeLaws
 mod VariableLaws
+mod WalkLaws

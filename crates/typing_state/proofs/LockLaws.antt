@@ -2,20 +2,23 @@
 use Rattle.std.proofs.Common.{◌≡◌, ℕ, ◌<◌, ◌&&◌, ◌||◌, List, [], ◌∷◌, Bool, true, false, not, length, map, get_or, set, refl, sym, ap, ◌∙◌, arith, Option, Some, None, option_map, is_some, if◌then◌else◌, inl, inr, ◌⊎◌}
 use Rattle.std.specs.List.{list_any}
 use Rattle.std.proofs.lemmas.List.{length-set, get_or-map, get_or-set_same, get_or-set_other}
-use Rattle.std.proofs.lemmas.Bool.{cases_eq}
-use Rattle.cov_expr.specs.Term.{Term}
+use Rattle.std.proofs.lemmas.Bool.{cases_eq, and_parts, not-true}
+use Rattle.cov_expr.specs.Term.{Term, const, var, neg, bin}
+use Rattle.cov_expr.specs.Trees.{is_closed}
 use Rattle.cov_ast.specs.Plain.{Plain}
 use Rattle.cov_ast.specs.Declarations.{class_of, is_control, no_lock, under, assumes}
 use Rattle.cov_ast.specs.Tables.{has}
 use Rattle.cov_ast.specs.View as view
 use Rattle.cov_ast.specs.declared.decl.LockDecl.{LockDecl}
 use Rattle.cov_ast.proofs.TableLaws.{or_true}
-use Rattle.mode_state.specs.Sets.{is_stable, locks_of}
+use Rattle.mode_state.specs.Sets.{Sets, modes_at, is_stable, locks_of}
 use Rattle.mode_state.proofs.HeldLaws.{any_from}
-use Rattle.typing_state.specs.Point.{Point, is_tracked, given_type}
+use Rattle.typing_state.specs.Point.{Point, is_tracked, given_type, default_type}
 use Rattle.typing_state.specs.After.{locked_type, after_lock, unlocked_type, kept_type, after_unlock}
-use Rattle.typing_state.specs.Kept.{IsPoint}
+use Rattle.typing_state.specs.Kept.{IsPoint, IsTrackedBeside}
+use Rattle.typing_state.specs.Terms.{each_variable, is_closed_type}
 use Rattle.typing_state.proofs.PointLaws.{updated_at, length-updated, some_mapped}
+use Rattle.typing_state.proofs.VariableLaws.{lists_is}
 
 pub lock_of : (locks : List LockDecl) (l : ℕ) (lock : LockDecl) → l < length locks → lock ≡ get_or locks l lock → view.lock lock ≡ get_or (map view.lock locks) l no_lock
 lock_of locks l lock inside is = ap view.lock is ∙ sym (get_or-map view.lock locks l lock no_lock inside)
@@ -26,6 +29,20 @@ any_same : (f g : ℕ → Bool) (xs : List ℕ) → ((k : ℕ) → f k ≡ g k) 
 any_same f g [] h = refl
 any_same f g (x ∷ xs) h = λ i. h x i || any_same f g xs h i
 
+-- a variable that a lock doesn't list is as stable as before, when the lock is taken or given back
+unlisted_stable : (p : Plain) (t l : ℕ) (held : List Bool) (b : Bool) (x : ℕ) → under p l x ≡ false → is_stable p t (set held l b) x ≡ is_stable p t held x
+unlisted_stable p t l held b x h =
+    ap (λ s. assumes p t x || s)
+    (any_same (λ k. has (set held l b) k && under p k x) (λ k. has held k && under p k x) (locks_of p)
+    (λ k. elim (cases_eq l k) [
+      | inl e ↦ none_at (has (set held l b) k) (under p k x) (ap (λ j. under p j x) (sym e) ∙ h) ∙ sym (none_at (has held k) (under p k x) (ap (λ j. under p j x) (sym e) ∙ h))
+      | inr ne ↦ ap (λ s. s && under p k x) (get_or-set_other held l k b false (λ e. ne (sym e)))
+    ]))
+  where
+    none_at : (a b : Bool) → b ≡ false → (a && b) ≡ false
+    none_at true b e = e
+    none_at false b e = refl
+
 module _ (p : Plain) (t l : ℕ) (held : List Bool) (count : length held ≡ length p.locks) (inside : l < length p.locks) where
   -- a variable of the lock
   stable_under : (x : ℕ) → under p l x ≡ true → is_stable p t (set held l true) x ≡ true
@@ -33,20 +50,6 @@ module _ (p : Plain) (t l : ℕ) (held : List Bool) (count : length held ≡ len
       ap (λ b. assumes p t x || b)
       (any_from (λ k. has (set held l true) k && under p k x) 0 (length p.locks) l (omega arith) (omega arith)
       (ap (λ b. b && under p l x) (get_or-set_same held l true false (omega (arith, count))) ∙ h)) ∙ or_true (assumes p t x)
-
-  -- another one
-  stable_else : (x : ℕ) → under p l x ≡ false → is_stable p t (set held l true) x ≡ is_stable p t held x
-  stable_else x h =
-      ap (λ b. assumes p t x || b)
-      (any_same (λ k. has (set held l true) k && under p k x) (λ k. has held k && under p k x) (locks_of p)
-      (λ k. elim (cases_eq l k) [
-        | inl e ↦ none_at (has (set held l true) k) (under p k x) (ap (λ j. under p j x) (sym e) ∙ h) ∙ sym (none_at (has held k) (under p k x) (ap (λ j. under p j x) (sym e) ∙ h))
-        | inr ne ↦ ap (λ b. b && under p k x) (get_or-set_other held l k true false (λ e. ne (sym e)))
-      ]))
-    where
-      none_at : (a b : Bool) → b ≡ false → (a && b) ≡ false
-      none_at true b e = e
-      none_at false b e = refl
 
   tracked_then : (x : ℕ) (u c : Bool) (q : Option Term) → under p l x ≡ u → is_control p x ≡ c → is_some q ≡ is_tracked p t held x
       → is_some (if u && not c then Some (class_of p x) else q) ≡ (is_stable p t (set held l true) x && not c)
@@ -56,7 +59,7 @@ module _ (p : Plain) (t l : ℕ) (held : List Bool) (count : length held ≡ len
       nothing true = refl
       nothing false = refl
   tracked_then x true false q h e k = sym (ap (λ b. b && true) (stable_under x h))
-  tracked_then x false c q h e k = k ∙ (λ i. sym (stable_else x h) i && not (e i))
+  tracked_then x false c q h e k = k ∙ (λ i. sym (unlisted_stable p t l held true x h) i && not (e i))
 
 pub lock_point : (p : Plain) (t l : ℕ) (a : Point) → l < length p.locks → IsPoint p t a → IsPoint p t (after_lock p t a l)
 lock_point p t l a inside h = record {
@@ -118,3 +121,38 @@ unlock_point p t l a inside h =
           ap is_some (updated_at (unlocked_type p t held) a.types x None there)
           ∙ tracked_after p t l a.held h.locks inside x (is_tracked p t held x) (kept_type p t held x) (given_type a x) refl (h.tracked x lt);
     }
+
+-- What a lock that is given back leaves alone ------------------------------------------------------------------
+
+-- an expression without variables passes each test of them
+closed_passes : (f : ℕ → Bool) (e : Term) → is_closed e ≡ true → each_variable f e ≡ true
+closed_passes f (const k) h = refl
+closed_passes f (var x) h = absurd (cc)
+closed_passes f (neg a) h = closed_passes f a h
+closed_passes f (bin op a b) h =
+    let parts = and_parts (is_closed a) (is_closed b) h in λ i. closed_passes f a parts.0 i && closed_passes f b parts.1 i
+
+-- beside a lock that is given back, what is tracked has a type
+pub tracked_beside : (p : Plain) (t l : ℕ) (a : Point) → IsPoint p t a → IsTrackedBeside p t (set a.held l false) l a.types
+tracked_beside p t l a h x lt away = h.tracked x lt ∙ ap (λ b. b && not (is_control p x)) (sym (unlisted_stable p t l a.held false x away))
+
+-- a type without variables is kept, and so is that there is none
+unlocked_keeps : (p : Plain) (t : ℕ) (held : List Bool) (x : ℕ) (q : Option Term) → is_some q ≡ is_tracked p t held x → is_closed_type q ≡ true
+    → unlocked_type p t held x q ≡ q
+unlocked_keeps p t held x None some closed = nothing (is_tracked p t held x)
+  where
+    nothing : (b : Bool) → (if b then option_map (kept_type p t held x) None else None) ≡ None
+    nothing true = refl
+    nothing false = refl
+unlocked_keeps p t held x (Some g) some closed =
+    ap (λ b. if b then option_map (kept_type p t held x) (Some g) else None) (sym some)
+    ∙ ap (λ b. Some (if b then g else default_type p t held x)) (closed_passes (is_stable p t held) g closed)
+
+-- a variable that the walk passes over keeps what it had
+pub passed_keeps : (p : Plain) (t : ℕ) (held : List Bool) (s : Sets) (l k : ℕ) (qs now : List (Option Term)) → s ≡ modes_at p t held → l < length p.locks → k < length p.vars
+    → IsTrackedBeside p t held l qs → get_or now k None ≡ get_or qs k None → (not (has (get_or s.listed l []) k) && is_closed_type (get_or now k None)) ≡ true
+    → unlocked_type p t held k (get_or qs k None) ≡ get_or qs k None
+passed_keeps p t held s l k qs now modes lock declared tracked same done =
+    let parts = and_parts (not (has (get_or s.listed l []) k)) (is_closed_type (get_or now k None)) done in
+    let away = not-true (has (get_or s.listed l []) k) parts.0 in
+    unlocked_keeps p t held k (get_or qs k None) (tracked k declared (sym (lists_is p t held s l k modes lock declared) ∙ away)) (ap is_closed_type (sym same) ∙ parts.1)

@@ -54,3 +54,28 @@ module _ (f : ℕ → Option Term → Option Term) where
         | inr ne ↦ get_or-set_other (upto f qs k) k z new d (λ e. ne (sym e))
             ∙ updated_at (below f k) qs z d inside ∙ same_below k z (get_or qs z d) ne ∙ sym (updated_at (below f (k + 1)) qs z d inside)
       ])
+
+  -- variables that keep what they had may be passed over
+  pub upto_pass : (qs : List (Option Term)) (a b : ℕ) → a ≤ b → ((k : ℕ) → a ≤ k → k < b → k < length qs → f k (get_or qs k None) ≡ get_or qs k None)
+      → upto f qs a ≡ upto f qs b
+  upto_pass qs a b le same =
+      updated_same (below f a) (below f b) qs qs refl
+      (λ z d lt. elim (nat_side z a) [
+        | inl low ↦ below_is a z (get_or qs z d) low ∙ sym (below_is b z (get_or qs z d) (omega arith))
+        | inr high ↦ above_is a z (get_or qs z d) high ∙ sym (elim (nat_side z b) [
+          | inl before ↦ below_is b z (get_or qs z d) before ∙ ap (f z) (get_or_default qs z d None lt) ∙ same z high before lt ∙ get_or_default qs z None d lt
+          | inr past ↦ above_is b z (get_or qs z d) past
+        ])
+      ])
+
+  -- where the rest keeps what it had, all have theirs
+  pub upto_end : (qs : List (Option Term)) (a n : ℕ) → length qs ≤ n → ((k : ℕ) → a ≤ k → k < n → k < length qs → f k (get_or qs k None) ≡ get_or qs k None)
+      → upto f qs a ≡ updated f qs
+  upto_end qs a n small same = elim (nat_side a n) [
+    | inl lt ↦ upto_pass qs a n (omega arith) same ∙ upto_all qs n small
+    | inr past ↦ upto_all qs a (omega arith)
+  ]
+
+  -- what isn't reached yet is as it was
+  pub upto_from : (qs : List (Option Term)) (a k : ℕ) → a ≤ k → k < length qs → get_or (upto f qs a) k None ≡ get_or qs k None
+  upto_from qs a k le lt = updated_at (below f a) qs k None lt ∙ above_is a k (get_or qs k None) le

@@ -1,14 +1,16 @@
 -- What is declared of variables, by number.
-use Rattle.std.proofs.Common.{◌≡◌, ℕ, ◌<◌, List, [], Bool, length, map, get_or, sym, ap, ◌∙◌, arith}
+use Rattle.std.proofs.Common.{◌≡◌, ℕ, ◌<◌, List, [], Bool, length, map, get_or, sym, ap, ◌∙◌, arith, ◌&&◌, not, true, Option, Some, if◌then◌else◌}
+use Rattle.std.proofs.lemmas.Bool.{not-true}
 use Rattle.std.proofs.lemmas.List.{get_or-map, length-map}
 use Rattle.std.proofs.lemmas.List.FromFn.{get_or-map-range_with_len, length-map-range_with_len}
 use Rattle.cov_expr.specs.Term.{Term, const}
-use Rattle.cov_ast.specs.Declarations.{class_of, under}
+use Rattle.cov_ast.specs.Declarations.{class_of, is_control, under}
 use Rattle.cov_ast.specs.Plain.{Plain}
 use Rattle.cov_ast.specs.Tables.{has, table}
-use Rattle.cov_ast.proofs.TableLaws.{table_at}
+use Rattle.cov_ast.proofs.TableLaws.{table_at, table_length}
 use Rattle.mode_state.specs.Sets.{Sets, modes_at}
 use Rattle.typing_state.specs.Point.{vars_of}
+use Rattle.typing_state.specs.After.{locked_type}
 
 -- the classes of a program
 module _ {X : Type 0} (g : X → Term) (classes : List X) (p : Plain) (is : map g classes ≡ map (class_of p) (vars_of p)) where
@@ -27,3 +29,17 @@ lists_is p t held s l x is lock inside =
     ap (λ u. has (get_or u.listed l []) x) is
     ∙ ap (λ m. has m x) (get_or-map-range_with_len (λ k. table (length p.vars) (under p k)) 0 (length p.locks) l l [] lock (omega arith))
     ∙ table_at (length p.vars) (under p l) x inside
+
+-- there is a place for each variable
+pub lists_long : (p : Plain) (t : ℕ) (held : List Bool) (s : Sets) (l : ℕ) → s ≡ modes_at p t held → l < length p.locks → length (get_or s.listed l []) ≡ length p.vars
+lists_long p t held s l is lock =
+    ap (λ u. length (get_or u.listed l [])) is
+    ∙ ap length (get_or-map-range_with_len (λ k. table (length p.vars) (under p k)) 0 (length p.locks) l l [] lock (omega arith))
+    ∙ table_length (length p.vars) (under p l)
+
+-- a variable that a lock doesn't list keeps its type
+pub unlisted_keeps : (p : Plain) (t : ℕ) (held : List Bool) (s : Sets) (l x : ℕ) (q : Option Term) → s ≡ modes_at p t held → l < length p.locks → x < length p.vars
+    → not (has (get_or s.listed l []) x) ≡ true → locked_type p l x q ≡ q
+unlisted_keeps p t held s l x q is lock inside away =
+    ap (λ u. if u && not (is_control p x) then Some (class_of p x) else q)
+    (sym (lists_is p t held s l x is lock inside) ∙ not-true (has (get_or s.listed l []) x) away)

@@ -3,7 +3,7 @@ use Rattle.std.specs.Prelude.{◌≡◌, ℕ, ◌<◌, ◌≤◌, ◌==◌, ◌&
 use Rattle.std.specs.Option.{option_or}
 use Rattle.cov_expr.specs.declared.expr.Op.TheVariants.{Both}
 use Rattle.cov_expr.specs.Term.{Term, const, var, neg, bin}
-use Rattle.cov_expr.specs.Trees.{has_term, nodes}
+use Rattle.cov_expr.specs.Trees.{has_term, is_closed, nodes}
 
 -- whether each variable of an expression passes a test
 abbrev pub each_variable : (ℕ → Bool) → Term → Bool
@@ -68,3 +68,8 @@ is_small e = nat_le (nodes e) 1000
 abbrev pub is_small_type : Option Term → Bool
 is_small_type None = true
 is_small_type (Some q) = is_small q
+
+-- whether a type mentions no variable
+abbrev pub is_closed_type : Option Term → Bool
+is_closed_type None = true
+is_closed_type (Some q) = is_closed q

@@ -1,13 +1,17 @@
-ghost use Rattle.std.specs.Prelude.{◌≡◌, ◌<◌, ◌≤◌, length, map, not, option_map, get_or, set, IfOk, OnOk};
+ghost use Rattle.std.specs.Prelude.{◌≡◌, ◌<◌, ◌≤◌, ◌&&◌, [], length, map, not, option_map, get_or, set, IfOk, OnOk};
 ghost use Rattle.std.specs.Prelude.{None};
 ghost use Rattle.cov_expr.specs.Trees as tree;
 ghost use Rattle.cov_expr.specs.View.{term};
 ghost use Rattle.cov_ast.specs.Plain.{Plain, plain};
+ghost use Rattle.cov_ast.specs.Tables.{has};
 ghost use Rattle.cov_ast.specs.View as view;
 ghost use Rattle.cov_ast.specs.WellFormed.{IsWellFormed};
 ghost use Rattle.typing_state.specs.After as after;
-ghost use Rattle.typing_state.specs.Kept.{AtEach, AtModes, passes};
+ghost use Rattle.typing_state.specs.Kept.{AtEach, AtModes, IsTrackedBeside, passes};
 ghost use Rattle.typing_state.specs.Point as point;
+ghost use Rattle.typing_state.specs.Terms.{is_closed_type};
+ghost use Rattle.typing_state.specs.Walks as walks;
+ghost use Rattle.typing_state.specs.Walks.{AreDone};
 
 use crate::retain::is_kept;
 use crate::start::{is_tracked, var_count};
@@ -34,22 +38,65 @@ pub fn default_type(
     variables.class(x)
 }
 
-/// Forgets what isn't stable any longer: types of variables that aren't tracked, and types that mention a variable that
-/// isn't stable.
+/// Forgets what isn't stable any longer, once a lock is given back: types of variables that aren't tracked, and types that
+/// mention a variable that isn't stable. Only the variables of the lock, and those whose type mentions a variable, are walked.
 pub fn unlock_types(
     p: &Program,
     modes: &ModeState,
     variables: &Variables,
+    l: u32,
     types: &mut Types,
 ) -> Result<(), NoMemory>
-    requires { IsWellFormed (view.program p.now) }
+    requires formed { IsWellFormed (view.program p.now) }
+    requires lock { l < length p.now.locks }
     ensures { OnOk result (AtEach (plain (view.program p.now)) modes.now variables.now (λ t held. length types.old ≤ length p.now.vars
+        → IsTrackedBeside (plain (view.program p.now)) t held l (map (option_map term) types.old)
         → map (option_map term) types.new ≡ after.updated (after.unlocked_type (plain (view.program p.now)) t held) (map (option_map term) types.old))) }
 {
-    for z in 0..var_count(p) {
+    let mut from = 0;
+    while let Some(z) = next_changed(p, modes, types, l, from) {
         unlock_type(p, modes, variables, types, z)?;
+        from = z + 1;
     }
     Ok(())
+}
+
+/// The first variable from a number on that a lock lists, or whose type may mention a variable.
+fn next_changed(p: &Program, modes: &ModeState, types: &Types, l: u32, from: u32) -> Option<u32>
+    requires { IsWellFormed (view.program p.now) }
+    ensures { AreDone (λ k. not (has (get_or (modes.now).listed l []) k) && is_closed_type (get_or (map (option_map term) types.now) k None)) from (length p.now.vars) result }
+{
+    let next = earlier(modes.next_listed(l, from), types.next_varying(from));
+    if_below(var_count(p), next)
+}
+
+/// The first variable from a number on whose type may mention a variable.
+fn next_varying(p: &Program, types: &Types, from: u32) -> Option<u32>
+    requires { IsWellFormed (view.program p.now) }
+    ensures { AreDone (λ k. is_closed_type (get_or (map (option_map term) types.now) k None)) from (length p.now.vars) result }
+{
+    if_below(var_count(p), types.next_varying(from))
+}
+
+/// The smaller of two numbers, where there are both.
+fn earlier(a: Option<u32>, b: Option<u32>) -> Option<u32>
+    ensures { result ≡ walks.earlier a b }
+{
+    match (a, b) {
+        (Some(x), Some(y)) => Some(x.min(y)),
+        (Some(x), None) => Some(x),
+        (None, y) => y,
+    }
+}
+
+/// A number, if it is below an end.
+fn if_below(end: u32, x: Option<u32>) -> Option<u32>
+    ensures { result ≡ walks.if_below end x }
+{
+    match x {
+        Some(x) if x < end => Some(x),
+        Some(_) | None => None,
+    }
 }
 
 fn unlock_type(
@@ -89,7 +136,7 @@ fn keeps_type(p: &Program, modes: &ModeState, types: &Types, z: u32) -> bool
     }
 }
 
-/// Forgets the types that mention a variable, which has a new value.
+/// Forgets the types that mention a variable, which has a new value. Only the types that mention any are walked.
 pub fn forget_types(
     p: &Program,
     modes: &ModeState,
@@ -101,8 +148,10 @@ pub fn forget_types(
     ensures { OnOk result (AtEach (plain (view.program p.now)) modes.now variables.now (λ t held. length types.old ≤ length p.now.vars
         → map (option_map term) types.new ≡ after.retyped (after.forgotten_type (plain (view.program p.now)) t held x) (map (option_map term) types.old))) }
 {
-    for z in 0..var_count(p) {
+    let mut from = 0;
+    while let Some(z) = next_varying(p, types, from) {
         forget_type(p, modes, variables, x, types, z)?;
+        from = z + 1;
     }
     Ok(())
 }

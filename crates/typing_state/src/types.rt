@@ -1,12 +1,15 @@
-ghost use Rattle.std.specs.Prelude.{◌≡◌, [], ◌∷◌, ◌++◌, map, option_copied, option_map, get_or, set, is_some, IfOk, OnOk, None, if◌then◌else◌};
+ghost use Rattle.std.specs.Prelude.{◌≡◌, [], ◌∷◌, ◌++◌, map, option_copied, option_map, get_or, set, is_some, not, IfOk, OnOk, None, if◌then◌else◌};
 ghost use Rattle.std.specs.List.{list_all};
+ghost use Rattle.cov_expr.specs.Trees as tree;
 ghost use Rattle.cov_expr.specs.View.{term};
 ghost use Rattle.cov_ast.specs.View as view;
 ghost use Rattle.typing_state.specs.After.{listed_or, retyped};
-ghost use Rattle.typing_state.specs.Terms.{is_small, is_small_type};
+ghost use Rattle.typing_state.specs.Terms.{is_small, is_small_type, is_closed_type};
+ghost use Rattle.typing_state.specs.Walks.{AreDone};
 
 use cov_ast::Retype;
-use cov_expr::{Expr, List, NoMemory, copy, nodes_at_most};
+use cov_expr::{Expr, List, NoMemory, closed, copy, nodes_at_most};
+use mode_state::Mask;
 use std::alloc::Global;
 use std::marker::Model;
 use std::rc::Rc;
@@ -14,11 +17,12 @@ use std::rc::Rc;
 /// The most nodes of a small type.
 const MOST_NODES: u32 = 1000;
 
-/// A type of a variable, and whether it is small. Contracts see it as its expression.
+/// A type of a variable, whether it is small, and whether it mentions no variable. Contracts see it as its expression.
 #[derive(Debug, Drop)]
 pub struct Type {
     expr: Expr,
     small: bool,
+    closed: bool,
 }
 
 impl Model for Type {
@@ -27,6 +31,7 @@ impl Model for Type {
     ghost use Rattle.cov_expr.specs.contracts.expr.Expr as e;
     ghost use Rattle.cov_expr.specs.declared.expr.Expr.{Expr};
     ghost use Rattle.cov_expr.specs.View.{term};
+    ghost use Rattle.cov_expr.specs.Trees.{is_closed};
     ghost use Rattle.typing_state.specs.Terms.{is_small};
 
     ghost Value = { Expr };
@@ -35,7 +40,7 @@ impl Model for Type {
 
     ghost view = { λ q. q.expr };
 
-    ghost invariant = { λ q. q.small ≡ is_small (term q.expr) };
+    ghost invariant = { λ q. (q.small ≡ is_small (term q.expr)) × (q.closed ≡ is_closed (term q.expr)) };
 }
 
 impl Type {
@@ -44,7 +49,13 @@ impl Type {
         ensures { IfOk result (λ made. made.value ≡ expr) }
     {
         let small = nodes_at_most(&expr, MOST_NODES);
-        Ok(Rc::new(alloc, Type { expr, small })?)
+        let closed = closed(&expr);
+        let made = Type {
+            expr,
+            small,
+            closed,
+        };
+        Ok(Rc::new(alloc, made)?)
     }
 
     fn expr(&self) -> &Expr
@@ -58,6 +69,12 @@ impl Type {
     {
         self.small
     }
+
+    fn is_closed(&self) -> bool
+        ensures { result ≡ tree.is_closed (term self.now) }
+    {
+        self.closed
+    }
 }
 
 /// Of each variable its type, if it has one, and how many of them are large. Copies share the types. Contracts see the list of
@@ -66,15 +83,18 @@ impl Type {
 pub struct Types {
     known: List<Option<Rc<Type, Global>>>,
     large: usize,
+    /// Those whose type mentions a variable are among these.
+    varying: Mask,
 }
 
 impl Model for Types {
-    ghost use Rattle.std.specs.Prelude.{◌≡◌, List, Option, map, not, option_map, count_by};
+    ghost use Rattle.std.specs.Prelude.{◌≡◌, ◌<◌, ℕ, List, Option, None, length, map, not, option_map, count_by, get_or, true, false};
+    ghost use Rattle.cov_ast.specs.Tables.{has};
     ghost use Rattle.std.specs.Coded.{codes};
     ghost use Rattle.cov_expr.specs.contracts.expr.Expr as e;
     ghost use Rattle.cov_expr.specs.declared.expr.Expr.{Expr};
     ghost use Rattle.cov_expr.specs.View.{term};
-    ghost use Rattle.typing_state.specs.Terms.{is_small_type};
+    ghost use Rattle.typing_state.specs.Terms.{is_small_type, is_closed_type};
 
     ghost Value = { List (Option Expr) };
 
@@ -82,7 +102,9 @@ impl Model for Types {
 
     ghost view = { λ s. map (option_map (λ q. q.value)) s.known };
 
-    ghost invariant = { λ s. s.large ≡ count_by (λ q. not (is_small_type (option_map (λ q. term q.value) q))) s.known };
+    ghost invariant = { λ s. (s.large ≡ count_by (λ q. not (is_small_type (option_map (λ q. term q.value) q))) s.known)
+        × (length s.varying ≡ 256) × ((x : ℕ) → x < 256 → has s.varying x ≡ false
+        → is_closed_type (get_or (map (option_map term) (map (option_map (λ q. q.value)) s.known)) x None) ≡ true) };
 }
 
 impl Types {
@@ -93,6 +115,7 @@ impl Types {
         Types {
             known: List::new(alloc),
             large: 0,
+            varying: Mask::new(256),
         }
     }
 
@@ -103,6 +126,7 @@ impl Types {
         Ok(Types {
             known: share_all(alloc, self.known.as_slice())?,
             large: self.large,
+            varying: self.varying.copy(),
         })
     }
 
@@ -111,7 +135,12 @@ impl Types {
         ensures { OnOk result (map (option_map term) self.new ≡ map (option_map term) self.old ++ option_map (λ q. term q.value) q ∷ []) }
     {
         let large = count_large(&q);
+        let varies = is_varying(&q);
+        let place = self.known.len();
         self.known.push(q)?;
+        if place < 256 {
+            self.varying.put(place as u32, varies);
+        }
         // (there are no more large ones than variables)
         let _count = self.known.len();
         self.large += large;
@@ -143,9 +172,18 @@ impl Types {
         if place < self.known.len() {
             let before = count_large(&self.known.as_slice()[place]);
             let after = count_large(&q);
+            let varies = is_varying(&q);
             self.known.set(place, q);
+            self.varying.put(x, varies);
             self.large = self.large - before + after;
         }
+    }
+
+    /// The first of the variables below 256, from a number on, whose type may mention a variable.
+    pub fn next_varying(&self, from: u32) -> Option<u32>
+        ensures { AreDone (λ k. is_closed_type (get_or (map (option_map term) self.now) k None)) from 256 result }
+    {
+        self.varying.next_from(from)
     }
 
     /// Whether each type is small.
@@ -172,6 +210,16 @@ fn count_large(q: &Option<Rc<Type, Global>>) -> usize
     match q {
         Some(q) if !q.is_small() => 1,
         Some(_) | None => 0,
+    }
+}
+
+/// Whether a type mentions a variable.
+fn is_varying(q: &Option<Rc<Type, Global>>) -> bool
+    ensures { result ≡ not (is_closed_type (option_map (λ q. term q.value) q.now)) }
+{
+    match q {
+        Some(q) => !q.is_closed(),
+        None => false,
     }
 }
 

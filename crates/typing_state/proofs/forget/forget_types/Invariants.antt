@@ -1,4 +1,4 @@
-use Rattle.std.proofs.Common.{◌≡◌, map, option_map}
+use Rattle.std.proofs.Common.{◌≡◌, ◌-◌, length, map, option_map}
 use Rattle.cov_expr.specs.View.{term}
 use Rattle.cov_ast.specs.Plain.{plain}
 use Rattle.cov_ast.specs.View as view
@@ -7,8 +7,11 @@ use Rattle.typing_state.specs.Kept.{AtEach}
 use Rattle.typing_state.proofs.Steps.{upto}
 use Rattle.typing_state.proofs.forget.forget_types.Given as goal
 
+abbrev pub decreases-loop-z : goal.decreases-loop-z
+decreases-loop-z l = length l.p.vars - l.from
+
 abbrev pub invariant-loop-z : goal.invariant-loop-z
 invariant-loop-z l =
     AtEach (plain (view.program l.p)) l.modes l.variables (λ t held.
     map (option_map term) l.types
-    ≡ upto (λ z q. option_map (forgotten_type (plain (view.program l.p)) t held l.x z) q) (map (option_map term) l.fn.types) l.z)
+    ≡ upto (λ z q. option_map (forgotten_type (plain (view.program l.p)) t held l.x z) q) (map (option_map term) l.fn.types) l.from)

@@ -1,0 +1,87 @@
+-- Walks over the variables that pass over those of which nothing is to be done.
+use Rattle.std.proofs.Common.{◌≡◌, ℕ, ◌<◌, ◌≤◌, ◌&&◌, List, Bool, true, false, not, length, get_or, set, nat_lt, refl, sym, ap, ◌∙◌, arith, inl, inr, Option, Some, None, if◌then◌else◌}
+use Rattle.std.specs.Prelude.{IfSome}
+use Rattle.std.proofs.lemmas.Bool.{cases_eq, cases_lt, ltb-true, ltb-false}
+use Rattle.std.proofs.lemmas.List.{get_or-set_same, get_or-set_other, get_or_past, length-set}
+use Rattle.cov_expr.specs.Term.{Term}
+use Rattle.cov_ast.specs.Tables.{has}
+use Rattle.mode_state.specs.Bits.{IsNext}
+use Rattle.typing_state.specs.After.{updated}
+use Rattle.typing_state.specs.Terms.{is_closed_type}
+use Rattle.typing_state.specs.Walks.{AreDone, earlier, if_below}
+use Rattle.typing_state.proofs.Steps.{upto, upto_pass, upto_end, upto_from}
+
+-- The next one -----------------------------------------------------------------------------------------------------
+
+-- where neither of two tests stops before
+pub done_both : (f g : ℕ → Bool) (from end : ℕ) (a b : Option ℕ) → AreDone f from end a → AreDone g from end b → AreDone (λ k. f k && g k) from end (earlier a b)
+done_both f g from end None None h k = λ x le lt i. h x le lt i && k x le lt i
+done_both f g from end None (Some y) h k = (k.0, k.1, λ x le lt. (λ i. h x le (let inside : y < end = k.0 in omega arith) i && k.2 x le lt i))
+done_both f g from end (Some y) None h k = (h.0, h.1, λ x le lt. (λ i. h.2 x le lt i && k x le (let inside : y < end = h.0 in omega arith) i))
+done_both f g from end (Some y) (Some z) h k =
+    (omega (arith, h.0), omega (arith, h.1, k.1), λ x le lt. (λ i. h.2 x le (omega arith) i && k.2 x le (omega arith) i))
+
+-- up to an end that comes earlier
+pub done_below : (f : ℕ → Bool) (from n end : ℕ) (x : Option ℕ) → end ≤ n → AreDone f from n x → AreDone f from end (if_below end x)
+done_below f from n end None le h = λ k low high. h k low (omega arith)
+done_below f from n end (Some x) le h = at (nat_lt x end) refl
+  where
+    at : (b : Bool) → nat_lt x end ≡ b → AreDone f from end (if b then Some x else None)
+    at true e = (ltb-true x end e, h.1, h.2)
+    at false e = λ k low high. h.2 k low (let past : end ≤ x = ltb-false x end e in omega arith)
+
+-- none before the next number of a set is in it
+pub next_done : (s : List Bool) (from end : ℕ) (x : Option ℕ) → IsNext (has s) from (length s) x → IfSome x (λ y. y < end) → AreDone (λ k. not (has s k)) from end x
+next_done s from end None h small = λ k le lt. elim (cases_lt k (length s)) [
+  | inl inside ↦ ap not (h k le inside)
+  | inr past ↦ ap not (get_or_past s k false past)
+]
+next_done s from end (Some x) h small = (small, h.1, λ k le lt. ap not (h.3 k le lt))
+
+-- Which types mention a variable -----------------------------------------------------------------------------------
+
+-- each type that isn't marked mentions no variable
+abbrev pub AreMarked : (marks : List Bool) → List (Option Term) → Type 0
+AreMarked marks qs = (x : ℕ) → x < 256 → has marks x ≡ false → is_closed_type (get_or qs x None) ≡ true
+
+closed : (b : Bool) → not b ≡ false → b ≡ true
+closed true h = refl
+closed false h = absurd (cc)
+
+unmarked : (b : Bool) → not b ≡ true → b ≡ false
+unmarked true h = absurd (cc)
+unmarked false h = refl
+
+module _ (marks : List Bool) (long : length marks ≡ 256) (qs : List (Option Term)) (old : AreMarked marks qs) where
+  pub marked_set : (b : Bool) (q : Option Term) → b ≡ not (is_closed_type q) → (x : ℕ) → AreMarked (set marks x b) (set qs x q)
+  marked_set b q is x k lt away = elim (cases_eq k x) [
+    | inl e ↦ let inside : x < length marks = omega (arith, e, long) in
+        let same : b ≡ false = sym (get_or-set_same marks x b false inside) ∙ ap (λ j. has (set marks x b) j) (sym e) ∙ away in
+        ap (λ j. is_closed_type (get_or (set qs x q) j None)) e
+        ∙ elim (cases_lt x (length qs)) [
+          | inl there ↦ ap is_closed_type (get_or-set_same qs x q None there) ∙ closed (is_closed_type q) (sym is ∙ same)
+          | inr past ↦ ap is_closed_type (get_or_past (set qs x q) x None (omega (arith, length-set qs x q)))
+        ]
+    | inr ne ↦ ap is_closed_type (get_or-set_other qs x k q None ne) ∙ old k lt (sym (get_or-set_other marks x k b false ne) ∙ away)
+  ]
+
+  -- types before the next mark
+  pub marked_done : (from : ℕ) (x : Option ℕ) → AreDone (λ k. not (has marks k)) from 256 x → AreDone (λ k. is_closed_type (get_or qs k None)) from 256 x
+  marked_done from None none = λ k le lt. old k lt (unmarked (has marks k) (none k le lt))
+  marked_done from (Some x) next =
+      (next.0, next.1, λ k le lt. let inside : x < 256 = next.0 in old k (omega arith) (unmarked (has marks k) (next.2 k le lt)))
+
+-- The list so far --------------------------------------------------------------------------------------------------
+
+-- `f` says what each variable has in the end, from what it had; those of which nothing is to be done keep it.
+module _ (f : ℕ → Option Term → Option Term) (qs now : List (Option Term)) (done : ℕ → Bool) (from end : ℕ) (is : now ≡ upto f qs from)
+    (keeps : (k : ℕ) → k < end → get_or now k None ≡ get_or qs k None → done k ≡ true → f k (get_or qs k None) ≡ get_or qs k None) where
+  as_it_was : (k : ℕ) → from ≤ k → k < length qs → get_or now k None ≡ get_or qs k None
+  as_it_was k le lt = ap (λ rs. get_or rs k None) is ∙ upto_from f qs from k le lt
+
+  pub walked_to : (z : ℕ) → AreDone done from end (Some z) → now ≡ upto f qs z
+  walked_to z h =
+      is ∙ upto_pass f qs from z h.1 (λ k low high there. keeps k (let inside : z < end = h.0 in omega arith) (as_it_was k low there) (h.2 k low high))
+
+  pub walked_all : length qs ≤ end → AreDone done from end None → now ≡ updated f qs
+  walked_all few h = is ∙ upto_end f qs from end few (λ k low high there. keeps k high (as_it_was k low there) (h k low high))
