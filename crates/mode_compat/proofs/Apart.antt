@@ -1,5 +1,5 @@
 -- Why what one thread may write is disjoint from what another has stable.
-use Rattle.std.proofs.Common.{◌≡◌, ◌≢◌, ℕ, zero, suc, ◌+◌, ◌<◌, ◌≤◌, ◌==◌, ◌||◌, ◌&&◌, not, List, [], ◌∷◌, ◌++◌, length, map, get_or, Bool, true, false, refl, sym, ◌∙◌, ap, subst, arith, IsTrue, inl, inr, ◌⊎◌, Option, Some, None, cond, if◌then◌else◌}
+use Rattle.std.proofs.Common.{◌≡◌, ◌≢◌, ℕ, zero, suc, ◌+◌, ◌<◌, ◌≤◌, ◌==◌, ◌||◌, ◌&&◌, not, List, [], ◌∷◌, ◌++◌, length, map, Bool, true, false, refl, sym, ◌∙◌, ap, subst, arith, IsTrue, inl, inr, ◌⊎◌, Option, Some, None, cond, if◌then◌else◌}
 use Rattle.std.specs.List.{flat_map, list_any, list_all, range_with_len}
 use Rattle.std.proofs.lemmas.Bool.{true≢false, and_parts, or_cases, eqb-true, eq-eqb, cases_Bool, ne_eqb, cases_lt, and_from, not-true}
 use Rattle.std.proofs.lemmas.List.{get_or-map, length-map, get_or_past, append-nil, append_assoc}
@@ -8,11 +8,12 @@ use Rattle.cov_ast.proofs.TableLaws.{or_true}
 use Rattle.mode_state.proofs.HeldLaws.{any_from, all_from}
 use Rattle.std.proofs.lemmas.List.Folds.{list_all-append, list_any-append}
 use Rattle.cov_expr.specs.Trees.{has_number, add_new}
-use Rattle.cov_ast.specs.Syntax.{Program, Thread}
+use Rattle.cov_ast.specs.Syntax.{Program}
 use Rattle.cov_ast.specs.Plain.{Plain, plain, plain_thread}
 use Rattle.cov_ast.specs.Declarations.{modes_of, no_thread, assumes, assumes_hide, guarantees, guarantees_hide, have_guaranteed, have_assumed, under, lists, no_lock}
 use Rattle.cov_ast.specs.Tables.{has}
 use Rattle.cov_ast.specs.Obligations.{Entry, all_hold, distinct}
+use Rattle.flow_model.specs.Composable.{HasCompatibleModes}
 use Rattle.flow_model.specs.Source.{Holders, holder, is_held_by}
 use Rattle.flow_model.specs.Holdings.{IsStableNow, IsWritableNow}
 use Rattle.mode_state.specs.Sets.{is_stable, may_write, locks_of}
@@ -21,7 +22,7 @@ use Rattle.lock_spec.specs.Locks.{lock_obligations}
 use Rattle.mode_compat.specs.Compatible.{mode_obligations, w6_entries, w7_entries, w8_entries, w9_entries, w9_pair, w9_entry, threads_of, numbered}
 use Rattle.mode_compat.specs.Compatible as rules
 use Rattle.mode_compat.specs.Declared.{declaration_obligations}
-use Rattle.mode_compat.specs.Disjoint.{AreDisjoint, AreHeldBy, AreSetsOf}
+use Rattle.mode_compat.specs.HeldSets.{AreHeldBy, AreSetsOf}
 
 -- Obligations that all hold ------------------------------------------------------------------------------------
 
@@ -130,7 +131,7 @@ module _ (p : Program) (h : IsTrue (all_hold (declaration_obligations p))) where
             ∙ or_true (has_number (modes_of (plain p) u).guarantee_nowrite x)
       ]
 
-  pub disjoint : AreDisjoint (plain p)
+  pub disjoint : HasCompatibleModes (plain p)
   disjoint hs t u x ku ne w s =
       let inside : u < length p.threads = omega (arith, ku, length-map p.threads plain_thread) in
       elim s [

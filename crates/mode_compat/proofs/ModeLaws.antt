@@ -1,5 +1,5 @@
 -- The obligations of modes, with sets in the place of lists.
-use Rattle.std.proofs.Common.{◌≡◌, ℕ, suc, ◌<◌, ◌==◌, ◌||◌, ◌&&◌, not, List, [], ◌∷◌, ◌++◌, Bool, true, false, length, map, get_or, replicate, refl, sym, ap, ◌∙◌, All, arith, ◌≤◌, drop, None, zero-add}
+use Rattle.std.proofs.Common.{◌≡◌, ℕ, suc, ◌<◌, ◌||◌, ◌&&◌, not, List, [], ◌∷◌, ◌++◌, Bool, true, false, length, map, get_or, replicate, refl, sym, ap, ◌∙◌, All, arith, ◌≤◌, drop, None, zero-add}
 use Rattle.std.specs.List.{flat_map, list_any, list_all, range_with_len}
 use Rattle.std.specs.Option.{option_or}
 use Rattle.std.proofs.lemmas.List.{map-append, length-map, drop_all}
@@ -18,7 +18,7 @@ use Rattle.cov_ast.specs.Obligations.{Entry, declared_entry, first_false, distin
 use Rattle.cov_ast.specs.declared.refusal.Rule.{Rule}
 use Rattle.cov_ast.specs.declared.refusal.Rule.TheVariants.{W7, W8}
 use Rattle.cov_ast.specs.declared.refusal.Detail.TheVariants.{Two}
-use Rattle.cov_ast.proofs.TableLaws.{table_at, table_same, table_length, none_table, with_all_table, or_assoc, or_false}
+use Rattle.cov_ast.proofs.TableLaws.{table_at, table_same, none_table, with_all_table, or_false}
 use Rattle.cov_ast.proofs.ObligationLaws.{first_false-append, distinct_same, distinct_map_same, marked_found, vars_found}
 use Rattle.mode_compat.specs.Compatible.{shown, controls_of, is_locked, all_assume, w6_entry, w6_entries, w7_entry, w7_entries, w8_entry, w8_entries, w9_entry, w9_pair, threads_of}
 use Rattle.mode_compat.specs.Marked.{with_locks, apart_entry, kept_entry, kept_entries, met_entry}

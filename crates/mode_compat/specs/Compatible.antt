@@ -5,7 +5,7 @@
 use Rattle.std.specs.Prelude.{ℕ, ◌==◌, ◌||◌, List, [], ◌++◌, Bool, not, map, length, get_or, if◌then◌else◌}
 use Rattle.std.specs.List.{flat_map, list_any, list_all, range_with_len}
 use Rattle.cov_expr.specs.Trees.{has_number, vars}
-use Rattle.cov_ast.specs.Syntax.{Lock, Modes, Thread, Block, done, Program}
+use Rattle.cov_ast.specs.Syntax.{Lock, Modes, Thread, done, Program}
 use Rattle.cov_ast.specs.Plain.{plain}
 use Rattle.cov_ast.specs.Declarations.{name_of, class_of, lists, have_assumed, have_guaranteed, no_modes}
 use Rattle.cov_ast.specs.Obligations.{Entry, declared_entry, distinct}

@@ -1,4 +1,4 @@
 pub mod Compatible
 pub mod Declared
-pub mod Disjoint
+pub mod HeldSets
 pub mod Marked

@@ -1,7 +1,7 @@
-use Rattle.std.proofs.Common.{◌≡◌, ◌∙◌, ◌++◌, List, ap, sym, map, length, Err, subst, All, ◌<◌}
+use Rattle.std.proofs.Common.{◌∙◌, ◌++◌, length, Err, subst}
 use Rattle.std.specs.List.{flat_map}
 use Rattle.cov_ast.specs.View as view
-use Rattle.cov_ast.specs.Obligations.{Entry, Decides, first_false}
+use Rattle.cov_ast.specs.Obligations.{Decides}
 use Rattle.cov_ast.proofs.ObligationLaws.{same_decided, append_decided, append_refused}
 use Rattle.cov_ast.specs.declared.refusal.Rule.TheVariants.{W7}
 use Rattle.cov_ast.specs.Tables.{with_all}

@@ -1,7 +1,6 @@
-use Rattle.std.proofs.Common.{◌≡◌, ◌∙◌, ◌++◌, List, ap, sym, map, length, Err, subst, All, ◌<◌}
-use Rattle.std.specs.List.{flat_map}
+use Rattle.std.proofs.Common.{◌++◌, map, length, Err, subst}
 use Rattle.cov_ast.specs.View as view
-use Rattle.cov_ast.specs.Obligations.{Entry, Decides, first_false}
+use Rattle.cov_ast.specs.Obligations.{Decides}
 use Rattle.cov_ast.proofs.ObligationLaws.{same_decided, append_decided, append_refused}
 use Rattle.mode_compat.specs.Compatible.{w6_entries}
 use Rattle.mode_compat.specs.Marked.{apart_entry}

@@ -1,7 +1,6 @@
 use Rattle.std.specs.List.{flat_map}
-use Rattle.std.proofs.Common.{◌++◌, ◌∙◌, Err, sym}
+use Rattle.std.proofs.Common.{◌++◌, ◌∙◌, Err}
 use Rattle.cov_ast.specs.View as view
-use Rattle.cov_ast.specs.Obligations.{Decides, first_false}
 use Rattle.cov_ast.proofs.ObligationLaws.{append_decided, append_refused, append_held}
 use Rattle.mode_compat.specs.Compatible.{w6_entries, w7_entries, w8_entries, w9_entries, threads_of}
 use Rattle.mode_compat.proofs.modes.check_modes.Goals as goal
