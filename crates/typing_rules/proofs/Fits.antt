@@ -10,7 +10,7 @@ use Rattle.flow_model.specs.Source.{Item, run, put, test, Holders, holder, items
 use Rattle.flow_model.specs.Holdings.{IsStableNow, IsWritableNow}
 use Rattle.flow_model.specs.Agreement.{SameAt, MemoriesAgree}
 use Rattle.flow_model.specs.Game.{FreeInvariantsHold}
-use Rattle.mode_compat.specs.Disjoint.{AreHeldBy}
+use Rattle.mode_compat.specs.HeldSets.{AreHeldBy}
 use Rattle.typing_state.specs.Point.{Point, type_at}
 
 -- the memories of two copies, and the holders of locks, which are the same in both

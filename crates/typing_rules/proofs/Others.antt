@@ -16,7 +16,7 @@ use Rattle.flow_model.specs.Agreement.{IsLow, SameAt}
 use Rattle.flow_model.specs.Game.{FreeInvariantsHold}
 use Rattle.mode_state.specs.Sets.{is_hidden}
 use Rattle.mode_compat.specs.Declared.{IsDeclared}
-use Rattle.mode_compat.specs.Disjoint.{AreHeldBy}
+use Rattle.mode_compat.specs.HeldSets.{AreHeldBy}
 use Rattle.typing_state.specs.Terms.{with_option, listed}
 use Rattle.typing_state.specs.Point.{Point, given_type, type_at, default_type, is_tracked, is_over_stable}
 use Rattle.typing_state.specs.After.{after_lock, locked_type, after_unlock, kept_type, unlocked_type, with_guard, meet, noted}

@@ -14,7 +14,7 @@ use Rattle.flow_model.specs.Source.{Holders, holder, is_held_by}
 use Rattle.flow_model.specs.Agreement.{AreFitStarts, SameAt}
 use Rattle.flow_model.specs.Game.{IsSecureThread}
 use Rattle.mode_compat.specs.Declared.{IsDeclared}
-use Rattle.mode_compat.specs.Disjoint.{AreHeldBy}
+use Rattle.mode_compat.specs.HeldSets.{AreHeldBy}
 use Rattle.typing_state.specs.Point.{Point, is_tracked, vars_of, type_at}
 use Rattle.typing_state.specs.After.{start, after_assign, after_lock, after_unlock, with_guard, meet, noted}
 use Rattle.typing_rules.specs.Blocks.{value_type, after_stm, after_block}

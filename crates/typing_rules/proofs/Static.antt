@@ -16,7 +16,7 @@ use Rattle.flow_model.specs.Holdings.{IsStableNow, IsWritableNow, IsHiddenNow}
 use Rattle.mode_state.specs.Sets.{is_stable, is_hidden, may_read, may_write}
 use Rattle.mode_state.proofs.HeldLaws.{any_from}
 use Rattle.mode_compat.specs.Declared.{IsDeclared}
-use Rattle.mode_compat.specs.Disjoint.{AreHeldBy}
+use Rattle.mode_compat.specs.HeldSets.{AreHeldBy}
 use Rattle.mode_compat.proofs.Apart.{sets_of}
 use Rattle.typing_state.specs.Terms.{each_variable}
 use Rattle.typing_state.specs.Point.{is_over_stable, is_over_controls}

@@ -17,12 +17,13 @@ use Rattle.cov_ast.specs.Obligations.{all_hold}
 use Rattle.cov_ast.specs.Tables.{has}
 use Rattle.cov_ast.specs.WellFormed.{IsWellFormed}
 use Rattle.flow_model.specs.Source.{Item, run, put, test, Holders, holder, Local, local, items_then, turn, is_held_by, after_lock, after_unlock, Run, items_of, run_from, step, begin, after}
+use Rattle.flow_model.specs.Composable.{HasCompatibleModes}
 use Rattle.flow_model.specs.Holdings.{IsStableNow, IsWritableNow}
 use Rattle.flow_model.specs.Agreement.{SameAt}
 use Rattle.mode_state.specs.Sets.{is_stable, may_write}
 use Rattle.mode_compat.specs.Compatible.{numbered}
 use Rattle.mode_compat.specs.Compatible as rules
-use Rattle.mode_compat.specs.Disjoint.{AreDisjoint, AreHeldBy, AreSetsOf}
+use Rattle.mode_compat.specs.HeldSets.{AreHeldBy, AreSetsOf}
 use Rattle.typing_state.specs.After.{start}
 use Rattle.typing_rules.specs.Obligations.{thread_obligations, block_entries, end_entry, end_point}
 use Rattle.verify.specs.Accepted.{IsAccepted}
@@ -284,7 +285,7 @@ module _ (p : Program) where
     keeps_run [] s h k = k
     keeps_run (u ∷ us) s h k = keeps_run us (step s u) h.1 (keeps_step s u h.0 k)
 
-    disciplined_at : AreDisjoint (plain p) → (s : Run) → Keeps s → (t : ℕ) → t < length (plain p).threads → IsDisciplinedAt p s t
+    disciplined_at : HasCompatibleModes (plain p) → (s : Run) → Keeps s → (t : ℕ) → t < length (plain p).threads → IsDisciplinedAt p s t
     disciplined_at apart s k t inside =
         let stand = k.stands t inside in
         record {
@@ -348,6 +349,6 @@ module _ (p : Program) (formed : IsWellFormed p) (accepted : IsAccepted p)
             rest = left (plain p) t (held_at p t) items H placed;
           })
 
-  pub disciplined : AreSets p → AreDisjoint (plain p) → IsDisciplined p
+  pub disciplined : AreSets p → HasCompatibleModes (plain p) → IsDisciplined p
   disciplined sets apart m words us h t inside =
       disciplined_at p sets apart (after (plain p) m us) (keeps_run p sets us (begin (plain p) m) h (keeps_start m)) t inside

@@ -12,7 +12,7 @@ use Rattle.cov_ast.specs.declared.refusal.Rule.TheVariants.{V9, W9}
 use Rattle.cov_ast.specs.declared.refusal.Detail.TheVariants.{Number, Three}
 use Rattle.flow_model.specs.Source.{Run, after, items_of}
 use Rattle.flow_model.specs.Holdings.{IsStableNow}
-use Rattle.mode_compat.specs.Disjoint.{AreHeldBy}
+use Rattle.mode_compat.specs.HeldSets.{AreHeldBy}
 use Rattle.verify.specs.Accepted.{IsAccepted, program_obligations}
 use Rattle.verify.specs.Verdicts.{counts}
 use Rattle.verify.specs.Disciplined.{held_at, held_in_front_of, IsEvaluable, IsDisciplinedAt, IsDisciplined}

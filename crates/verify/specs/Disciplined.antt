@@ -14,7 +14,7 @@ use Rattle.flow_model.specs.Source.{Item, run, Holders, Run, items_of, place_of,
 use Rattle.flow_model.specs.Holdings.{IsStableNow}
 use Rattle.flow_model.specs.Agreement.{SameAt}
 use Rattle.mode_compat.specs.Compatible.{numbered}
-use Rattle.mode_compat.specs.Disjoint.{AreHeldBy}
+use Rattle.mode_compat.specs.HeldSets.{AreHeldBy}
 use Rattle.typing_state.specs.Point.{Point}
 use Rattle.typing_state.specs.After.{start, with_guard, meet}
 use Rattle.typing_rules.specs.Blocks.{after_stm}
