@@ -26,9 +26,9 @@ use Rattle.typing_rules.specs.Blocks.{value_type, after_stm, after_block}
 use Rattle.typing_rules.specs.Entailments.{Entailment, from_preds, from_one_more, type_follows, state_follows, guard_follows, written_type, shown_value, shown_controlled, controlled_follows, controlled_values, retype_follows, assign_entailments, freed_value, unlock_entailments}
 use Rattle.typing_rules.specs.Obligations.{flat, stm_parts, block_entries}
 use Rattle.typing_rules.proofs.Counting.{count_skip, count_assign, count_lock, count_unlock, count_note, count_branch, count_loop, count_more}
-use Rattle.typing_rules.proofs.FromEntries.{AllTrue, all_true, true_left, true_right}
-use Rattle.typing_rules.proofs.Lists.{has_left, has_right}
-use Rattle.typing_rules.proofs.Static.{clash, cond_is}
+use Rattle.typing_rules.proofs.Soundness.FromEntries.{AllTrue, all_true, true_left, true_right}
+use Rattle.typing_rules.proofs.Soundness.Lists.{has_left, has_right}
+use Rattle.typing_rules.proofs.Soundness.Static.{clash, cond_is}
 
 -- Lists --------------------------------------------------------------------------------------------------------
 

@@ -21,9 +21,9 @@ use Rattle.typing_state.specs.Point.{Point, default_type, is_over_stable, is_tra
 use Rattle.typing_state.specs.Terms.{distinct_terms, is_one, joined, joined_from, with_term, with_terms, without_ones}
 use Rattle.typing_rules.specs.Blocks.{after_block, after_stm, value_type}
 use Rattle.typing_rules.specs.Walking.{HasTypesBelow}
-use Rattle.typing_rules.proofs.Conditions.{EachType}
-use Rattle.typing_rules.proofs.Lists.{listed_is, retyped_is, updated_is}
-use Rattle.typing_rules.proofs.Static.{cond_is}
+use Rattle.typing_rules.proofs.Soundness.Conditions.{EachType}
+use Rattle.typing_rules.proofs.Soundness.Lists.{listed_is, retyped_is, updated_is}
+use Rattle.typing_rules.proofs.Soundness.Static.{cond_is}
 
 -- Expressions ----------------------------------------------------------------------------------------------------
 

@@ -2,7 +2,7 @@ use Rattle.std.proofs.Common.{◌<◌, length, arith}
 use Rattle.std.proofs.lemmas.List.{length-map}
 use Rattle.cov_ast.specs.Plain.{plain, plain_thread}
 use Rattle.verify.proofs.Parts.{declarations_hold, thread_holds}
-use Rattle.typing_rules.proofs.Words.{bodies_have_words}
+use Rattle.typing_rules.proofs.Soundness.Words.{bodies_have_words}
 use Rattle.verify.proofs.laws.accepted_is_secure.Goals as goal
 
 pub returns : goal.returns

@@ -17,9 +17,9 @@ use Rattle.mode_compat.specs.Declared.{IsDeclared}
 use Rattle.typing_state.specs.Terms.{with_term, with_terms, distinct_terms}
 use Rattle.typing_state.specs.Point.{Point, type_at, ty, ty_var}
 use Rattle.typing_state.specs.After.{with_term_if}
-use Rattle.typing_rules.proofs.Fits.{World, Fits, IsNotForeign, AllOver, AllStable}
-use Rattle.typing_rules.proofs.Lists.{with_holds, all_joined_hold, parts_hold, in_vars}
-use Rattle.typing_rules.proofs.Static.{stable_gives, stable_of, readable_not_foreign, unstable_shown, clash, cond_is}
+use Rattle.typing_rules.proofs.Soundness.Fits.{World, Fits, IsNotForeign, AllOver, AllStable}
+use Rattle.typing_rules.proofs.Soundness.Lists.{with_holds, all_joined_hold, parts_hold, in_vars}
+use Rattle.typing_rules.proofs.Soundness.Static.{stable_gives, stable_of, readable_not_foreign, unstable_shown, clash, cond_is}
 
 pub not_const_zero : (m : List ℕ) → ¬ Holds (const 0) m
 not_const_zero m h = h refl

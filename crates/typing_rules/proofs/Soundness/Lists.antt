@@ -11,8 +11,8 @@ use Rattle.entail_cert.proofs.Truth.{all_left, all_right, all_both, both_left, b
 use Rattle.mode_compat.proofs.Apart.{in_distinct}
 use Rattle.typing_state.specs.Terms.{with_term, with_terms, distinct_terms, is_one, without_ones, joined_from, joined, listed}
 use Rattle.typing_state.specs.After.{updated_from, updated, retyped}
-use Rattle.typing_rules.proofs.Conditions.{EachType}
-use Rattle.typing_rules.proofs.Static.{cond_is}
+use Rattle.typing_rules.proofs.Soundness.Conditions.{EachType}
+use Rattle.typing_rules.proofs.Soundness.Static.{cond_is}
 
 -- Truth --------------------------------------------------------------------------------------------------------
 

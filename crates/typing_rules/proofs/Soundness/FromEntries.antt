@@ -26,10 +26,10 @@ use Rattle.typing_rules.specs.Blocks.{value_type, after_stm, after_block}
 use Rattle.typing_rules.specs.Entailments.{Entailment, from_preds, from_one_more, cert_for, is_proved, type_follows, state_follows, guard_follows, written_type, shown_value, shown_controlled, controlled_follows, controlled_values, retype_follows, assign_entailments, freed_value}
 use Rattle.typing_rules.specs.Obligations.{flat, of_var, reads, one_unstable, narrow, guard_entries, over_stable, type_entries, state_entries, proved, assign_parts, unlock_parts, stm_parts, block_entries}
 use Rattle.typing_rules.specs.WordThreads.{ProofsHaveWords, StmHasWords, BlockHasWords}
-use Rattle.typing_rules.proofs.Conditions.{Each, EachType, Gives, StateFollows, AssignChecks, UnlockChecks, GuardChecks, StateOver, Checks, BlockChecks}
-use Rattle.typing_rules.proofs.Exprs.{one_holds}
-use Rattle.typing_rules.proofs.Lists.{in_vars}
-use Rattle.typing_rules.proofs.Static.{clash, cond_is}
+use Rattle.typing_rules.proofs.Soundness.Conditions.{Each, EachType, Gives, StateFollows, AssignChecks, UnlockChecks, GuardChecks, StateOver, Checks, BlockChecks}
+use Rattle.typing_rules.proofs.Soundness.Exprs.{one_holds}
+use Rattle.typing_rules.proofs.Soundness.Lists.{in_vars}
+use Rattle.typing_rules.proofs.Soundness.Static.{clash, cond_is}
 
 -- Lists --------------------------------------------------------------------------------------------------------
 

@@ -20,8 +20,8 @@ use Rattle.mode_compat.specs.HeldSets.{AreHeldBy}
 use Rattle.mode_compat.proofs.Apart.{sets_of}
 use Rattle.typing_state.specs.Terms.{each_variable}
 use Rattle.typing_state.specs.Point.{is_over_stable, is_over_controls}
-use Rattle.typing_rules.proofs.Fits.{IsNotForeign}
-use Rattle.typing_rules.proofs.Play.{held_is, is_held}
+use Rattle.typing_rules.proofs.Soundness.Fits.{IsNotForeign}
+use Rattle.typing_rules.proofs.Soundness.Play.{held_is, is_held}
 
 pub clash {ℓ} : {A : Type ℓ} (b : Bool) → b ≡ true → b ≡ false → A
 clash b h k = absurd (let e : true ≡ false = sym h ∙ k in cc)

@@ -21,11 +21,11 @@ use Rattle.mode_compat.specs.Declared.{IsDeclared}
 use Rattle.typing_state.specs.Point.{Point, type_at, default_type, ty, ty_var, is_over_stable}
 use Rattle.typing_state.specs.Terms.{listed}
 use Rattle.typing_state.specs.After.{after_assign, assigned_type, keeps_value}
-use Rattle.typing_rules.proofs.Conditions.{AssignChecks, Gives}
-use Rattle.typing_rules.proofs.Fits.{World, Settled, Fits, IsNotForeign, AllStable, OverStableControls, Pending, AssignOk, stored}
-use Rattle.typing_rules.proofs.Lists.{listed_is, each_map, retyped_is}
-use Rattle.typing_rules.proofs.Static.{stable_gives, over_gives, all_stable, shown_of, stable_shown, not_foreign_of_shown, writable, class_over, control_of, class_of_control, clash, cond_is}
-use Rattle.typing_rules.proofs.Exprs.{filter_holds, with_if_holds, with_if_over, filter_over, var_agrees, term_agrees, one_holds, not_const_zero}
+use Rattle.typing_rules.proofs.Soundness.Conditions.{AssignChecks, Gives}
+use Rattle.typing_rules.proofs.Soundness.Fits.{World, Settled, Fits, IsNotForeign, AllStable, OverStableControls, Pending, AssignOk, stored}
+use Rattle.typing_rules.proofs.Soundness.Lists.{listed_is, each_map, retyped_is}
+use Rattle.typing_rules.proofs.Soundness.Static.{stable_gives, over_gives, all_stable, shown_of, stable_shown, not_foreign_of_shown, writable, class_over, control_of, class_of_control, clash, cond_is}
+use Rattle.typing_rules.proofs.Soundness.Exprs.{filter_holds, with_if_holds, with_if_over, filter_over, var_agrees, term_agrees, one_holds, not_const_zero}
 
 -- a store leaves the value of what does not mention x
 pub value_set : (e : Term) (m : List ℕ) (x v : ℕ) → mentions e x ≡ false → value e (set m x v) ≡ value e m

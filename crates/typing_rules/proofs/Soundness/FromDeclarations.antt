@@ -16,9 +16,9 @@ use Rattle.mode_compat.specs.Compatible as rules
 use Rattle.mode_compat.specs.Declared.{IsDeclared, declaration_obligations}
 use Rattle.mode_compat.proofs.Apart.{in_distinct}
 use Rattle.mode_compat.proofs.Apart as apart
-use Rattle.typing_rules.proofs.FromEntries.{AllTrue, all_true, true_left, true_right, entry_holds}
-use Rattle.typing_rules.proofs.Lists.{has_left, has_right, in_vars}
-use Rattle.typing_rules.proofs.Static.{clash, lock_declared}
+use Rattle.typing_rules.proofs.Soundness.FromEntries.{AllTrue, all_true, true_left, true_right, entry_holds}
+use Rattle.typing_rules.proofs.Soundness.Lists.{has_left, has_right, in_vars}
+use Rattle.typing_rules.proofs.Soundness.Static.{clash, lock_declared}
 
 -- Lists --------------------------------------------------------------------------------------------------------
 

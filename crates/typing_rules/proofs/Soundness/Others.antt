@@ -20,12 +20,12 @@ use Rattle.mode_compat.specs.HeldSets.{AreHeldBy}
 use Rattle.typing_state.specs.Terms.{with_option, listed}
 use Rattle.typing_state.specs.Point.{Point, given_type, type_at, default_type, is_tracked, is_over_stable}
 use Rattle.typing_state.specs.After.{after_lock, locked_type, after_unlock, kept_type, unlocked_type, with_guard, meet, noted}
-use Rattle.typing_rules.proofs.Conditions.{Each, StateFollows, StateOver, UnlockChecks, GuardChecks}
-use Rattle.typing_rules.proofs.Fits.{World, Settled, Fits, IsNotForeign, AllOver, AllStable, OverStableControls, LockOk, UnlockOk, GuardOk, Weaker, holding}
-use Rattle.typing_rules.proofs.Play.{is_held}
-use Rattle.typing_rules.proofs.Static.{held_gives, over_gives, all_stable, stable_shown, not_foreign_of_shown, class_over, under_hide, clash, cond_is}
-use Rattle.typing_rules.proofs.Lists.{distinct_holds, with_holds, listed_is, each_map, updated_is, retyped_is}
-use Rattle.typing_rules.proofs.Exprs.{distinct_over, with_over, filter_holds, with_if_holds, with_if_over, filter_over, term_agrees, not_const_zero}
+use Rattle.typing_rules.proofs.Soundness.Conditions.{Each, StateFollows, StateOver, UnlockChecks, GuardChecks}
+use Rattle.typing_rules.proofs.Soundness.Fits.{World, Settled, Fits, IsNotForeign, AllOver, AllStable, OverStableControls, LockOk, UnlockOk, GuardOk, Weaker, holding}
+use Rattle.typing_rules.proofs.Soundness.Play.{is_held}
+use Rattle.typing_rules.proofs.Soundness.Static.{held_gives, over_gives, all_stable, stable_shown, not_foreign_of_shown, class_over, under_hide, clash, cond_is}
+use Rattle.typing_rules.proofs.Soundness.Lists.{distinct_holds, with_holds, listed_is, each_map, updated_is, retyped_is}
+use Rattle.typing_rules.proofs.Soundness.Exprs.{distinct_over, with_over, filter_holds, with_if_holds, with_if_over, filter_over, term_agrees, not_const_zero}
 
 module _ (p : Plain) (d : IsDeclared p) (t : ℕ) (t_in : t < length p.threads) where
   -- What is known of a variable without more: its class, where nobody hides it.

@@ -13,7 +13,7 @@ use Rattle.flow_model.specs.Holdings.{IsStableNow, IsWritableNow}
 use Rattle.flow_model.specs.Agreement.{AreFitStarts, SameAt, AreAlike, shape}
 use Rattle.flow_model.specs.Game.{AreLawful, after_moves, opening, IsSecureThread, Copies, Move, own, outside, after_move, IsLawfulOutside, MeetsGuarantees, IsSecureMove}
 use Rattle.typing_state.specs.Point.{Point, type_at}
-use Rattle.typing_rules.proofs.Fits.{World, AllStable, AllOver, Settled, Fits, stored, holding, Pending, AssignOk, LockOk, UnlockOk, GuardOk, Typed, TypedItems, typed_then, typed_append}
+use Rattle.typing_rules.proofs.Soundness.Fits.{World, AllStable, AllOver, Settled, Fits, stored, holding, Pending, AssignOk, LockOk, UnlockOk, GuardOk, Typed, TypedItems, typed_then, typed_append}
 
 -- what is held is held by the holders
 pub held_is : (o : Option ℕ) (t : ℕ) → is_held_by o t ≡ true → o ≡ Some t

@@ -18,9 +18,9 @@ use Rattle.mode_compat.specs.Declared.{declaration_obligations}
 use Rattle.typing_state.specs.After.{start}
 use Rattle.typing_rules.specs.Obligations.{thread_obligations, block_entries, end_entry, end_point}
 use Rattle.typing_rules.specs.WordThreads.{HasWordThreads}
-use Rattle.typing_rules.proofs.FromDeclarations.{declared}
-use Rattle.typing_rules.proofs.FromEntries.{all_true, true_left, block_of}
-use Rattle.typing_rules.proofs.Sound.{thread_secure}
+use Rattle.typing_rules.proofs.Soundness.FromDeclarations.{declared}
+use Rattle.typing_rules.proofs.Soundness.FromEntries.{all_true, true_left, block_of}
+use Rattle.typing_rules.proofs.Soundness.Sound.{thread_secure}
 
 body_is : (p : Program) (t : ℕ) → t < length p.threads → (thread_at (plain p) t).body ≡ plain_block (numbered p t).body
 body_is p t lt = ap (λ th. th.body) (get_or-map plain_thread p.threads t rules.no_thread no_thread lt)

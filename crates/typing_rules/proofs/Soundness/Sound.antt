@@ -19,13 +19,13 @@ use Rattle.typing_state.specs.Point.{Point, is_tracked, vars_of, type_at}
 use Rattle.typing_state.specs.After.{start, after_assign, after_lock, after_unlock, with_guard, meet, noted}
 use Rattle.typing_rules.specs.Blocks.{value_type, after_stm, after_block}
 use Rattle.typing_rules.specs.Obligations.{agree, same_held}
-use Rattle.typing_rules.proofs.Fits.{Fits, Weaker, Typed, OverStableControls, typed_from}
-use Rattle.typing_rules.proofs.Play.{world, secure_of}
-use Rattle.typing_rules.proofs.Conditions.{Checks, BlockChecks}
-use Rattle.typing_rules.proofs.Static.{class_over, class_of_control, each_below, cond_is}
-use Rattle.typing_rules.proofs.Exprs.{one_holds, not_const_zero}
-use Rattle.typing_rules.proofs.Assign.{assign_ok}
-use Rattle.typing_rules.proofs.Others.{met, noted_ok, guard_ok, lock_ok, unlock_ok}
+use Rattle.typing_rules.proofs.Soundness.Fits.{Fits, Weaker, Typed, OverStableControls, typed_from}
+use Rattle.typing_rules.proofs.Soundness.Play.{world, secure_of}
+use Rattle.typing_rules.proofs.Soundness.Conditions.{Checks, BlockChecks}
+use Rattle.typing_rules.proofs.Soundness.Static.{class_over, class_of_control, each_below, cond_is}
+use Rattle.typing_rules.proofs.Soundness.Exprs.{one_holds, not_const_zero}
+use Rattle.typing_rules.proofs.Soundness.Assign.{assign_ok}
+use Rattle.typing_rules.proofs.Soundness.Others.{met, noted_ok, guard_ok, lock_ok, unlock_ok}
 
 agreed : (a b : Bool) → IsTrue (agree a b) → a ≡ b
 agreed true b h = sym h
