@@ -1,6 +1,6 @@
 -- Instances of axioms hold, where they are made of words.
-use Rattle.std.proofs.Common.{◌≡◌, ◌≢◌, nat_lt, ℕ, zero, suc, ◌<◌, ◌==◌, ◌^◌, ◌&&◌, not, List, [], ◌∷◌, length, map, get_or, slice_get, Bool, true, false, Option, Some, None, IfSome, refl, sym, ◌∙◌, ap, subst, if◌then◌else◌, inl, inr, arith, lit<}
-use Rattle.std.proofs.lemmas.Bool.{eqb-true, ltb-true}
+use Rattle.std.proofs.Common.{◌≡◌, ◌≢◌, ℕ, zero, suc, ◌<◌, ◌==◌, ◌&&◌, not, List, [], ◌∷◌, length, map, get_or, slice_get, Bool, true, false, Option, Some, None, IfSome, refl, sym, ◌∙◌, ap, subst, if◌then◌else◌, inl, inr, arith, lit<}
+use Rattle.std.proofs.lemmas.Bool.{eqb-true}
 use Rattle.std.proofs.lemmas.Bool.Decides.{eqb_tells}
 use Rattle.std.specs.List.{list_all}
 use Rattle.cov_expr.specs.Term.{Term, const, var, neg, bin, value, apply, flag, is_set}
@@ -10,13 +10,13 @@ use Rattle.cov_expr.specs.Entailment.{Holds, Entails}
 use Rattle.cov_ast.specs.Syntax.{Cert}
 use Rattle.cov_ast.specs.Syntax as by
 use Rattle.entail_cert.specs.Axioms.{axioms, numbered, instance, instance_for, axiom_for}
-use Rattle.entail_cert.specs.Valid.{first_bad}
+use Rattle.entail_cert.specs.Valid.{first_bad, is_valid}
 use Rattle.entail_cert.specs.Walks.{InstancesHaveWords}
-use Rattle.entail_cert.specs.Words.{HaveWords, CertHasWords}
+use Rattle.entail_cert.specs.Words.{HaveWords, CertHasWords, is_of_words}
 use Rattle.cov_expr.proofs.Values.{value_word}
 use Rattle.entail_cert.proofs.Axioms.{axioms_hold}
-use Rattle.entail_cert.proofs.Truth.{and_left, and_right, or_cases, numbered_holds}
-use Rattle.entail_cert.proofs.Sound.{InstancesHold, cert_sound}
+use Rattle.entail_cert.proofs.Truth.{and_left, and_right, or_cases, numbered_holds, words_of}
+use Rattle.entail_cert.proofs.Sound.{InstancesHold, none_is, cert_sound}
 
 -- Instances ----------------------------------------------------------------------------------------------------
 
@@ -116,19 +116,6 @@ instance_words (var i) es h w = word_of es i w
 instance_words (neg t) es h w = instance_words t es h w
 instance_words (bin op t u) es h w = (instance_words t es h.0 w, instance_words u es h.1 w)
 
--- whether each number and each variable is a word
-abbrev is_of_words : Term → Bool
-is_of_words (const k) = nat_lt k (2 ^ 32)
-is_of_words (var x) = nat_lt x (2 ^ 32)
-is_of_words (neg e) = is_of_words e
-is_of_words (bin op a b) = is_of_words a && is_of_words b
-
-words_of : (e : Term) → is_of_words e ≡ true → HasWords e
-words_of (const k) h = ltb-true k (2 ^ 32) h
-words_of (var x) h = ltb-true x (2 ^ 32) h
-words_of (neg e) h = words_of e h
-words_of (bin op a b) h = (words_of a (and_left (is_of_words a) (is_of_words b) h), words_of b (and_right (is_of_words a) (is_of_words b) h))
-
 axiom_words : (k : ℕ) (t : Term) → numbered axioms k ≡ Some t → HasWords t
 axiom_words zero t h = let c : ◌≡◌ {A = Option Term} None (Some t) = h in cc
 axiom_words (suc k) t h = words_of t (all_at is_of_words axioms k t refl h)
@@ -189,4 +176,7 @@ instances_of_words m w by.ring h = tt
 instances_of_words m w by.range h = tt
 
 pub walked_entails : (hyps : List Term) (goal : Term) (c : Cert) → first_bad hyps goal c ≡ None → InstancesHaveWords c → Entails hyps goal
-walked_entails hyps goal c h w m m_words k = cert_sound m c hyps goal h (instances_of_words m m_words c w) k
+walked_entails hyps goal c h w m m_words k = cert_sound m m_words c hyps goal h (instances_of_words m m_words c w) k
+
+pub valid_entails : (hyps : List Term) (goal : Term) (c : Cert) → CertHasWords c → is_valid hyps goal c ≡ true → Entails hyps goal
+valid_entails hyps goal c w v m m_words k = cert_sound m m_words c hyps goal (none_is (first_bad hyps goal c) v) (instances_hold m m_words c w) k

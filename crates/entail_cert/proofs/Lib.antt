@@ -2,6 +2,7 @@ pub mod Axioms
 pub mod Finds
 pub mod Hypotheses
 pub mod Instances
+pub mod Conditions
 pub mod Conjuncts
 pub mod Numbers
 pub mod Sound

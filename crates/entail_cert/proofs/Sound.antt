@@ -3,13 +3,18 @@ use Rattle.std.proofs.Common.{◌≡◌, ℕ, List, [], ◌∷◌, ◌++◌, Boo
 use Rattle.cov_expr.specs.declared.expr.Op.TheVariants.{Eq, Both, Either}
 use Rattle.cov_expr.specs.Term.{Term, const, neg, bin, value}
 use Rattle.cov_expr.specs.Trees.{same}
+use Rattle.cov_expr.specs.Words.{AreWords, HasWords}
 use Rattle.cov_expr.specs.Entailment.{Holds, AllHold}
 use Rattle.cov_expr.proofs.Trees.{same_is}
 use Rattle.cov_ast.specs.Syntax.{Cert}
 use Rattle.cov_ast.specs.Syntax as by
+use Rattle.entail_range.specs.Range.{range_valid}
+use Rattle.entail_range.proofs.Sound.{range_sound}
+use Rattle.entail_ring.proofs.Sound.{ring_equal_sound}
 use Rattle.entail_cert.specs.Axioms.{numbered, axiom_for}
-use Rattle.entail_cert.specs.Valid.{is_plain, is_true, is_false, is_some_and, is_negation, is_reflexive, operands, operands_of, negated, filled, only_if, only_with, one, two, first_bad}
-use Rattle.entail_cert.proofs.Truth.{operands_is, operands_of_is, negated_is, both_of, both_left, both_right, either_left, either_right, either_cases, neg_fails, either_way, equal_values, values_equal, true_holds, false_fails, all_both, numbered_holds, plain_holds, filled_same}
+use Rattle.entail_cert.specs.Words.{is_of_words}
+use Rattle.entail_cert.specs.Valid.{is_plain, is_true, is_false, is_some_and, is_negation, is_reflexive, operands, operands_of, negated, are_ring_equal, is_ring, is_range, filled, only_if, only_with, one, two, first_bad}
+use Rattle.entail_cert.proofs.Truth.{operands_is, operands_of_is, negated_is, both_of, both_left, both_right, either_left, either_right, either_cases, neg_fails, either_way, and_left, and_right, words_of, equal_values, values_equal, true_holds, false_fails, all_both, numbered_holds, plain_holds, filled_same}
 
 -- Where no node fails ------------------------------------------------------------------------------------------
 
@@ -79,7 +84,7 @@ InstancesHold m (by.instance k es c) = ((e : Term) → axiom_for k es ≡ Some e
 InstancesHold m by.ring = Unit {0}
 InstancesHold m by.range = Unit {0}
 
-module _ (m : List ℕ) where
+module _ (m : List ℕ) (m_words : AreWords m) where
   negation_fails : (o p : Option Term) → is_negation o p ≡ true → ((e : Term) → o ≡ Some e → Holds e m) → ((e : Term) → p ≡ Some e → Holds e m) → ⊥
   negation_fails None p h k l = let c : false ≡ true = h in cc
   negation_fails (Some e) None h k l = let c : false ≡ true = h in cc
@@ -89,6 +94,16 @@ module _ (m : List ℕ) where
   reflexive_holds None goal h k = let c : false ≡ true = h in cc
   reflexive_holds (Some p) goal h k =
       subst (λ g. Holds g m) (sym (k p refl)) (equal_values (value p.0 m) (value p.1 m) (ap (λ e. value e m) (same_is p.0 p.1 h)))
+
+  ring_holds : (goal : Term) → is_ring goal ≡ true → Holds goal m
+  ring_holds goal h = at (operands Eq goal) refl (and_left (are_ring_equal (operands Eq goal)) (is_of_words goal) h)
+    where
+      at : (o : Option (Term × Term)) → operands Eq goal ≡ o → are_ring_equal o ≡ true → Holds goal m
+      at None i j = let c : false ≡ true = j in cc
+      at (Some p) i j =
+          let s = operands_is Eq goal p i in
+          let w : HasWords (bin Eq p.0 p.1) = subst HasWords s (words_of goal (and_right (are_ring_equal (operands Eq goal)) (is_of_words goal) h)) in
+          subst (λ g. Holds g m) (sym s) (equal_values (value p.0 m) (value p.1 m) (ring_equal_sound p.0 p.1 w.0 w.1 j m m_words))
 
   -- a goal that a template gives of equal expressions
   replaced_holds : (t a b goal : Term) → value a m ≡ value b m → same (filled t a) goal ≡ true → Holds (filled t b) m → Holds goal m
@@ -175,5 +190,7 @@ module _ (m : List ℕ) where
   cert_sound (by.instance n es c) hyps goal h w k =
       let s = only_with_there Term (axiom_for n es) (λ e. one (first_bad (hyps ++ e ∷ []) goal c)) h in
       cert_sound c (hyps ++ s.it ∷ []) goal (one_free (first_bad (hyps ++ s.it ∷ []) goal c) s.free) w.1 (with_one hyps s.it k (w.0 s.it s.is))
-  cert_sound by.ring hyps goal h w k = some_none (Holds goal m) [] h
-  cert_sound by.range hyps goal h w k = some_none (Holds goal m) [] h
+  cert_sound by.ring hyps goal h w k = ring_holds goal (only_if_true (is_ring goal) None h)
+  cert_sound by.range hyps goal h w k =
+      let i = only_if_true (is_range hyps goal) None h in
+      range_sound hyps goal (words_of goal (and_right (range_valid hyps goal) (is_of_words goal) i)) (and_left (range_valid hyps goal) (is_of_words goal) i) m m_words k

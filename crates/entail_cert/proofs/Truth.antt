@@ -1,6 +1,6 @@
 -- What holds in a memory, part by part.
-use Rattle.std.proofs.Common.{◌≡◌, ◌≢◌, ℕ, zero, suc, ◌==◌, ◌&&◌, ◌||◌, not, List, [], ◌∷◌, ◌++◌, Bool, true, false, Option, Some, None, refl, ◌∙◌, ap, subst, ◌⊎◌, inl, inr, slice_get, if◌then◌else◌, arith}
-use Rattle.std.proofs.lemmas.Bool.{eqb-true}
+use Rattle.std.proofs.Common.{◌≡◌, ◌≢◌, ℕ, zero, suc, ◌==◌, ◌&&◌, ◌||◌, not, List, [], ◌∷◌, ◌++◌, Bool, true, false, Option, Some, None, refl, ◌∙◌, ap, subst, ◌⊎◌, inl, inr, slice_get, if◌then◌else◌, arith, ◌^◌}
+use Rattle.std.proofs.lemmas.Bool.{eqb-true, ltb-true, lt-ltb, and_from}
 use Rattle.std.proofs.lemmas.Bool.Decides.{nat_tests}
 use Rattle.std.specs.List.{list_any, list_all}
 use Rattle.cov_expr.specs.declared.expr.Op.{Op}
@@ -8,11 +8,12 @@ use Rattle.cov_expr.specs.declared.expr.Op.TheVariants.{Eq, Both, Either}
 use Rattle.cov_expr.specs.declared.expr.TheConstants.{HOLE}
 use Rattle.cov_expr.specs.Term.{Term, const, var, neg, bin, value, apply, flag, is_set}
 use Rattle.cov_expr.specs.Trees.{op_number, same, is_closed, conjuncts, has_term, has_conjunct}
-use Rattle.cov_expr.specs.Words.{HasVarsBelow}
+use Rattle.cov_expr.specs.Words.{HasVarsBelow, HasWords}
 use Rattle.cov_expr.specs.Entailment.{Holds, AllHold}
 use Rattle.cov_expr.proofs.Trees.{same_is, op_is}
 use Rattle.cov_expr.proofs.Values.{value-closed}
 use Rattle.entail_cert.specs.Axioms.{numbered}
+use Rattle.entail_cert.specs.Words.{is_of_words}
 use Rattle.entail_cert.specs.Valid.{is_true, is_false, is_known, is_plain, operands, operands_of, negated, filled}
 
 -- Truth values -------------------------------------------------------------------------------------------------
@@ -114,6 +115,19 @@ closed_below (const k) n h = tt
 closed_below (var x) n h = let c : false ≡ true = h in cc
 closed_below (neg e) n h = closed_below e n h
 closed_below (bin op a b) n h = (closed_below a n (and_left (is_closed a) (is_closed b) h), closed_below b n (and_right (is_closed a) (is_closed b) h))
+
+-- words
+pub words_of : (e : Term) → is_of_words e ≡ true → HasWords e
+words_of (const k) h = ltb-true k (2 ^ 32) h
+words_of (var x) h = ltb-true x (2 ^ 32) h
+words_of (neg e) h = words_of e h
+words_of (bin op a b) h = (words_of a (and_left (is_of_words a) (is_of_words b) h), words_of b (and_right (is_of_words a) (is_of_words b) h))
+
+pub has_words : (e : Term) → HasWords e → is_of_words e ≡ true
+has_words (const k) w = lt-ltb k (2 ^ 32) w
+has_words (var x) w = lt-ltb x (2 ^ 32) w
+has_words (neg e) w = has_words e w
+has_words (bin op a b) w = and_from (is_of_words a) (is_of_words b) (has_words a w.0) (has_words b w.1)
 
 -- In a memory --------------------------------------------------------------------------------------------------
 

@@ -11,7 +11,10 @@ use Rattle.cov_expr.specs.Term.{Term, const, var, neg, bin, value, is_set}
 use Rattle.cov_expr.specs.Trees.{op_number, same, is_closed, conjuncts, has_conjunct, subst}
 use Rattle.cov_ast.specs.Syntax.{Cert}
 use Rattle.cov_ast.specs.Syntax as by
+use Rattle.entail_range.specs.Range.{range_valid}
+use Rattle.entail_ring.specs.Ring.{ring_equal}
 use Rattle.entail_cert.specs.Axioms.{numbered, axiom_for}
+use Rattle.entail_cert.specs.Words.{is_of_words}
 
 -- Conditions ---------------------------------------------------------------------------------------------------
 
@@ -70,6 +73,19 @@ abbrev pub is_reflexive : Option (Term × Term) → Bool
 is_reflexive None = false
 is_reflexive (Some sides) = same sides.0 sides.1
 
+-- whether both sides are one polynomial
+abbrev pub are_ring_equal : Option (Term × Term) → Bool
+are_ring_equal None = false
+are_ring_equal (Some sides) = ring_equal sides.0 sides.1
+
+-- An equation of two sides that are one polynomial. Each expression of the code is made of words, so the test for that leaves out none.
+abbrev pub is_ring : Term → Bool
+is_ring goal = are_ring_equal (operands Eq goal) && is_of_words goal
+
+-- A goal that follows from the bounds that hypotheses give. The test for words is as above.
+abbrev pub is_range : List Term → Term → Bool
+is_range hyps goal = range_valid hyps goal && is_of_words goal
+
 -- Nodes that fail ----------------------------------------------------------------------------------------------
 --
 -- A node is named by its path from the root: the numbers of the children that lead to it. A search for the first node
@@ -124,9 +140,8 @@ first_bad hyps goal (by.rev i t c) =
     only_with (operands_of Eq (numbered hyps i))
     (λ (a, b). only_if (same (filled t b) goal) (one (first_bad hyps (filled t a) c)))
 first_bad hyps goal (by.instance k es c) = only_with (axiom_for k es) (λ e. one (first_bad (hyps ++ e ∷ []) goal c))
--- not yet
-first_bad hyps goal by.ring = Some []
-first_bad hyps goal by.range = Some []
+first_bad hyps goal by.ring = only_if (is_ring goal) None
+first_bad hyps goal by.range = only_if (is_range hyps goal) None
 
 -- No node fails.
 abbrev pub is_valid : List Term → Term → Cert → Bool

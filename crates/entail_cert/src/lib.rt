@@ -2,11 +2,13 @@
 //!
 //! - [`check_cert`] says whether a certificate is valid, and names the first node that fails. Nothing is searched for.
 //!   [`check_cert_with`] takes one more hypothesis.
-//! - [`axioms_hold`] and [`valid_gives_entailment`] have no body: their contracts are the laws on which its answer rests.
+//! - [`axioms_hold`], [`valid_gives_entailment`] and [`expressions_are_of_words`] do nothing: their contracts are the laws on which its
+//!   answer rests.
 //!
 //! `specs/Valid.antt` says which certificates are valid, and `specs/Axioms.antt` has the axioms.
 #![tactic(auto)]
 
+mod arithmetic;
 mod check;
 mod fact;
 mod instance;
@@ -14,9 +16,7 @@ mod known;
 mod laws;
 mod parts;
 mod shapes;
-#[cfg(test)]
-mod tests;
 mod walk;
 
 pub use check::{CertFault, check_cert, check_cert_with};
-pub use laws::{axioms_hold, valid_gives_entailment};
+pub use laws::{axioms_hold, expressions_are_of_words, valid_gives_entailment};

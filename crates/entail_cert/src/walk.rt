@@ -12,6 +12,7 @@ ghost use Rattle.entail_cert.specs.Valid.{filled, first_bad, in_child, is_negati
 ghost use Rattle.entail_cert.specs.Valid as spec;
 ghost use Rattle.entail_cert.specs.Walks.{Halves, Finds, Parts, InstancesHaveWords, Replaces, Rewrites, hypotheses};
 
+use crate::arithmetic::{is_range, is_ring, lent_facts};
 use crate::fact::Fact;
 use crate::instance::axiom_for;
 use crate::known::{has_false, has_false_fact, knows_each};
@@ -236,6 +237,14 @@ impl<'a> Walk<'a> {
         }
     }
 
+    /// Whether the goal follows from the bounds that the hypotheses give.
+    fn is_bounded(&self, given: &[Expr], goal: &Expr) -> Result<bool, NoMemory>
+        ensures { IfOk result (λ holds. holds ≡ spec.is_range (hypotheses given.now self.now) (term goal.now)) }
+    {
+        let added = lent_facts(self.alloc, self.added.as_slice())?;
+        Ok(is_range(given, added.as_slice(), goal))
+    }
+
     /// Looks for the first node that fails below a certificate, its own node first.
     #[cycle(check)]
     pub fn node(&mut self, cert: &'a Cert, given: &'a [Expr], goal: &Expr) -> Result<(), Stop>
@@ -275,7 +284,8 @@ impl<'a> Walk<'a> {
             Cert::Fwd(i, t, c) => self.forward(c, *i, t, given, goal),
             Cert::Rev(i, t, c) => self.backward(c, *i, t, given, goal),
             Cert::Axiom(k, args, c) => self.axiom(c, *k, args, given, goal),
-            Cert::Ring | Cert::Range => Err(Stop::Bad),
+            Cert::Ring => accept(is_ring(self.alloc, goal)?),
+            Cert::Range => accept(self.is_bounded(given, goal)?),
         }
     }
 

@@ -1,0 +1,40 @@
+ghost use Rattle.std.specs.Prelude.{◌≡◌, ◌++◌, IfOk, map};
+ghost use Rattle.cov_expr.specs.View.{term};
+ghost use Rattle.entail_range.specs.Range.{lent};
+ghost use Rattle.entail_cert.specs.Facts.{fact};
+ghost use Rattle.entail_cert.specs.Valid as spec;
+
+use crate::fact::Fact;
+use crate::parts::operands;
+use cov_expr::{Expr, List, NoMemory, Op};
+use entail_range::range_valid_with;
+use entail_ring::ring_equal;
+use std::alloc::Global;
+
+/// Whether a goal is an equation whose sides are one polynomial.
+pub fn is_ring(alloc: Global, goal: &Expr) -> Result<bool, NoMemory>
+    ensures { IfOk result (λ holds. holds ≡ spec.is_ring (term goal.now)) }
+{
+    match operands(Op::Eq, goal) {
+        Some((a, b)) => ring_equal(alloc, a, b),
+        None => Ok(false),
+    }
+}
+
+/// Whether a goal follows from the bounds that hypotheses give, which come in two parts.
+pub fn is_range(given: &[Expr], added: &[&Expr], goal: &Expr) -> bool
+    ensures { result ≡ spec.is_range (map term given.now ++ map lent added.now) (term goal.now) }
+{
+    range_valid_with(given, added, goal)
+}
+
+/// The hypotheses that a walk has added, each lent.
+pub fn lent_facts<'f>(alloc: Global, facts: &'f [Fact<'_>]) -> Result<List<&'f Expr>, NoMemory>
+    ensures { IfOk result (λ made. map lent made ≡ map fact facts.now) }
+{
+    let mut made = List::new(alloc);
+    for f in facts {
+        made.push(f.expr())?;
+    }
+    Ok(made)
+}
