@@ -9,9 +9,7 @@ ghost use Rattle.cov_ast.specs.WellFormed.{IsWellFormed, IsLockInRange};
 ghost use Rattle.lock_spec.specs.Locks as spec;
 ghost use Rattle.lock_spec.specs.Marked.{marked_entries, marked_from};
 
-use cov_ast::{
-    CheckFault, Detail, LockDecl, NumberSet, Program, Rule, first_outside, refused, require,
-};
+use cov_ast::{CheckFault, Detail, LockDecl, NumberSet, Program, Rule, first_outside, refused};
 use std::alloc::Global;
 
 /// Refuses a program for the first variable that is named a second time in the lists of locks (W4), or else for the
