@@ -1,5 +1,5 @@
 -- Summaries of declarations.
-use Rattle.std.proofs.Common.{◌≡◌, ℕ, zero, suc, ◌+◌, ◌-◌, ◌≤◌, ◌<◌, ◌==◌, List, [], ◌∷◌, ◌++◌, map, Bool, true, false, not, ◌&&◌, Option, Some, None, refl, sym, ap, subst, ◌∙◌, arith, append_assoc, append-nil}
+use Rattle.std.proofs.Common.{◌≡◌, ℕ, zero, suc, ◌+◌, ◌-◌, ◌≤◌, ◌<◌, ◌==◌, List, [], ◌∷◌, ◌++◌, length, map, Bool, true, false, not, ◌&&◌, Option, Some, None, refl, sym, ap, subst, ◌∙◌, arith, append_assoc, append-nil, length-append}
 use Rattle.std.specs.Prelude.{flat_map, option_map}
 use Rattle.std.specs.List.{All, list_any}
 use Rattle.std.proofs.lemmas.List.Elements.{All-nil, All-cons}
@@ -14,10 +14,11 @@ use Rattle.cov_grammar.specs.Trees.{Placed, Class, Var, Lock, Thread, Block, exp
 use Rattle.cov_grammar.specs.Trees as t
 use Rattle.cov_grammar.specs.Shapes.{Shape, rule, seq, Sense, Spells, Each}
 use Rattle.cov_grammar.specs.Grammar.{◌▸◌, listed, named, names, low_or, class, var_decl, lock_decl, two_lists, modes_behind, two_modes, thread_decl}
+use Rattle.cov_ast.specs.Syntax as syntax
 use Rattle.cov_ast.specs.Plain.{class_term}
 use Rattle.cov_ast.specs.Declarations.{invariant_term}
 use Rattle.cov_ast.specs.Ready.{Use, as_variable, uses_in_class, uses_in_option, uses_in_lock, uses_in_thread, uses_in_block}
-use Rattle.cov_ast.specs.WellFormed.{IsTypeInRange, IsBlockInRange, IsLockInRange, IsThreadInRange, IsBodyFine, are_distinct, block_size, places}
+use Rattle.cov_ast.specs.WellFormed.{IsTypeInRange, IsBlockInRange, IsLockInRange, IsThreadInRange, are_distinct, block_size, places}
 use Rattle.cov_parse.specs.Uses.{declares}
 use Rattle.cov_parse.specs.Trees.{expr_of, class_of, lock_of, block_of, thread_of}
 use Rattle.cov_parse.proofs.UseLaws.{uses_from, IsSilent, IsPlain, uses_at_thread}
@@ -151,12 +152,18 @@ all_differ low high [] h = refl
 all_differ low high (x ∷ ns) h =
     ap (λ c. not c && are_distinct (◌==◌) ns) (not_among x (x + 1) high ns (omega arith) h.1) ∙ all_differ (x + 1) high ns h.1
 
-abbrev pub of_body : ℕ → Block → Summary
-of_body n v = record { uses = uses_in_block (block_of v); size = block_size (block_of v); places = places (block_of v); ids = IsBlockInRange n n (block_of v) × IsBodyFine (block_of v) }
+-- the places of a body's statements differ
+abbrev HaveDistinctPlaces : syntax.Block → Type 0
+HaveDistinctPlaces b = are_distinct (◌==◌) (places b) ≡ true
 
--- what is asked of the body of a thread, and the numbers of names in a thread
-abbrev pub IsGood : ℕ → Rattle.cov_ast.specs.Syntax.Thread → Type 0
-IsGood n h = IsThreadInRange n n h × IsBodyFine h.body
+abbrev pub of_body : ℕ → Block → Summary
+of_body n v = record { uses = uses_in_block (block_of v); size = block_size (block_of v); places = places (block_of v); ids = IsBlockInRange n n (block_of v) × HaveDistinctPlaces (block_of v) }
+
+-- What the numbers of names in a thread are, and what its body is in a text of at most so many tokens.
+pub record IsGood (n most : ℕ) (h : syntax.Thread) : Type 0 where
+  pub ids : IsThreadInRange n n h
+  pub places_differ : HaveDistinctPlaces h.body
+  pub small : block_size h.body ≤ most
 
 module _ (n : ℕ) (inside : Sense) (tb : IsSummary true n inside IsSilent (rule block) (of_block n)) (ns : List (List ℕ)) where
   body_summary : IsSummary true n inside IsSilent (rule block) (of_body n)
@@ -167,12 +174,17 @@ module _ (n : ℕ) (inside : Sense) (tb : IsSummary true n inside IsSilent (rule
           uses = x.uses;
           size = x.size;
           places = x.places;
-          ids = (x.ids, record { places_differ = all_differ fine.low fine.high (places (block_of v)) (x.places fine.low fine.high fine.order); small = omega (arith, x.size, fine.few) });
+          ids = (x.ids, all_differ fine.low fine.high (places (block_of v)) (x.places fine.low fine.high fine.order));
         };
   }
 
   abbrev of_thread : Thread → Summary
-  of_thread h = record { uses = uses_in_thread (thread_of ns h); size = 0; places = places (block_of h.body); ids = (h.name.0 < n) × IsGood n (thread_of ns h) }
+  of_thread h = record {
+    uses = uses_in_thread (thread_of ns h);
+    size = block_size (block_of h.body);
+    places = places (block_of h.body);
+    ids = (h.name.0 < n) × (IsThreadInRange n n (thread_of ns h) × HaveDistinctPlaces (block_of h.body));
+  }
 
   abbrev Parts : Type 0
   Parts = (ℕ × ℕ) × ((List ℕ × List ℕ) × ((List ℕ × List ℕ) × Block))
@@ -207,11 +219,11 @@ module _ (n : ℕ) (inside : Sense) (tb : IsSummary true n inside IsSilent (rule
     );
   }
 
-  -- The tokens are of these threads, wherever they begin.
-  pub record ThreadsSummary (hs : List Thread) (ts : List Token) : Type 0 where
+  -- The tokens are of these threads, wherever they begin, in a text of at most so many tokens.
+  pub record ThreadsSummary (most : ℕ) (hs : List Thread) (ts : List Token) : Type 0 where
     pub uses : (b : Bool) (before : Kind) → uses_from b before ts ≡ flat_map uses_in_thread (map (thread_of ns) hs)
     pub names : All (λ h. h.name.0 < n) hs
-    pub good : All (IsGood n) (map (thread_of ns) hs)
+    pub good : All (IsGood n most) (map (thread_of ns) hs)
 
   one_thread : (h : Thread) (us : List Token) → AreFine n us → Spells inside thread_decl h us
       → (t : Token) × (rest : List Token) × (us ≡ t ∷ rest) × (t.kind ≡ k.Thread) × HasSummary true (λ j. declares true j ≡ true) (of_thread h) rest
@@ -226,16 +238,19 @@ module _ (n : ℕ) (inside : Sense) (tb : IsSummary true n inside IsSilent (rule
   unfolding kind_is
   declared_behind = refl
 
-  pub threads_summary : (hs : List Thread) (ts : List Token) → AreFine n ts → Each (Spells inside thread_decl) hs ts → ThreadsSummary hs ts
-  threads_summary [] ts fine s = record { uses = λ b before. ap (uses_from b before) s; names = All-nil (λ h. h.name.0 < n); good = All-nil (IsGood n) }
-  threads_summary (h ∷ hs) ts fine s =
+  pub threads_summary : (most : ℕ) (hs : List Thread) (ts : List Token) → length ts ≤ most → AreFine n ts → Each (Spells inside thread_decl) hs ts → ThreadsSummary most hs ts
+  threads_summary most [] ts few fine s = record { uses = λ b before. ap (uses_from b before) s; names = All-nil (λ h. h.name.0 < n); good = All-nil (IsGood n most) }
+  threads_summary most (h ∷ hs) ts few fine s =
       let one = one_thread h s.0 (fine_left n s.0 s.1 ts s.4 fine) s.2 in
-      let rest = threads_summary hs s.1 (fine_right n s.0 s.1 ts s.4 fine) s.3 in
+      let rest = threads_summary most hs s.1 (omega (arith, few, ap length s.4, length-append s.0 s.1)) (fine_right n s.0 s.1 ts s.4 fine) s.3 in
       let x = one.4.uses k.Thread declared_behind s.1 in
+      let small : block_size (block_of h.body) ≤ most = omega (arith, few, ap length s.4, length-append s.0 s.1, ap length one.2, one.4.size) in
       record {
         uses =
             λ b before. ap (uses_from b before) (s.4 ∙ ap (λ us. us ++ s.1) one.2) ∙ uses_at_thread b before one.0 (one.1 ++ s.1) one.3 ∙ x.2
             ∙ ap (λ us. uses_in_thread (thread_of ns h) ++ us) (rest.uses true x.0);
         names = All-cons (λ g. g.name.0 < n) h hs one.4.ids.0 rest.names;
-        good = All-cons (IsGood n) (thread_of ns h) (map (thread_of ns) hs) one.4.ids.1 rest.good;
+        good =
+            All-cons (IsGood n most) (thread_of ns h) (map (thread_of ns) hs)
+            (record { ids = one.4.ids.1.0; places_differ = one.4.ids.1.1; small = small }) rest.good;
       }

@@ -1,5 +1,5 @@
 -- The uses of names in a text are those of its tree, in the same order, and each id is the number of a name.
-use Rattle.std.proofs.Common.{◌≡◌, ℕ, ◌≤◌, ◌<◌, List, [], ◌∷◌, ◌++◌, length, map, Bool, true, false, if◌then◌else◌, ◌||◌, refl, sym, ap, subst, ◌∙◌, append_assoc}
+use Rattle.std.proofs.Common.{◌≡◌, ℕ, ◌≤◌, ◌<◌, List, [], ◌∷◌, ◌++◌, length, map, Bool, true, false, if◌then◌else◌, ◌||◌, refl, sym, ap, subst, ◌∙◌, arith, append_assoc, append-nil, length-append}
 use Rattle.std.specs.Prelude.{flat_map}
 use Rattle.std.specs.List.{All}
 use Rattle.std.proofs.lemmas.List.Elements.{All-nil, All-cons, All-append}
@@ -21,16 +21,17 @@ use Rattle.cov_ast.specs.WellFormed.{IsLockInRange}
 use Rattle.cov_grammar.proofs.Basics.{kind_one}
 use Rattle.cov_parse.specs.Limits.{in_program, in_expr}
 use Rattle.cov_parse.specs.Named.{AreNamed}
-use Rattle.cov_parse.specs.Uses.{declares, is_lock, use_of, uses_behind, uses_of}
+use Rattle.cov_parse.specs.Uses.{declares, is_lock, use_of, uses_behind, uses_of, AreUsesOf}
 use Rattle.cov_parse.specs.Trees.{var_of, lock_of, thread_of, expr_of}
 use Rattle.cov_parse.specs.Text.{words_of, names_of, IsShallow, IsText, program_of}
 use Rattle.cov_parse.proofs.UseLaws.{uses_from, IsSilent}
-use Rattle.cov_parse.proofs.Summaries.{AreBelow, AreFine, fine_left, fine_right}
+use Rattle.cov_parse.proofs.Summaries.{AreBelow, AreFine, HasSummary, fine_left, fine_right}
 use Rattle.cov_parse.proofs.ShapeSummaries.{all, many_law}
+use Rattle.cov_parse.proofs.TermSummaries.{of_expr}
 use Rattle.cov_parse.proofs.StmtSummaries.{rule_summaries, block_summary}
 use Rattle.cov_parse.proofs.CertSummaries.{whole_summary}
 use Rattle.cov_parse.proofs.DeclSummaries.{all_ids, all_uses, of_var, of_lock, var_summary, lock_summary, IsGood, threads_summary}
-use Rattle.cov_parse.proofs.WordLaws.{names_few, words_fine}
+use Rattle.cov_parse.proofs.WordLaws.{words_fine}
 
 -- A summary of the tokens of a program, of which so many names are listed.
 pub record ProgramSummary (n : ℕ) (ns : List (List ℕ)) (p : Program) (ts : List Token) : Type 0 where
@@ -38,7 +39,7 @@ pub record ProgramSummary (n : ℕ) (ns : List (List ℕ)) (p : Program) (ts : L
   pub named : AreNamed n p
   pub classes : All (λ v. HasVarsBelow (class_term v.class) n) (map (var_of ns) p.vars)
   pub locks : All (IsLockInRange n n) (map (lock_of ns) p.locks)
-  pub threads : All (IsGood n) (map (thread_of ns) p.threads)
+  pub threads : All (IsGood n (length ts)) (map (thread_of ns) p.threads)
 
 map_same : {A : Type 0} (xs : List A) → map (λ x. x) xs ≡ xs
 map_same [] = refl
@@ -60,7 +61,8 @@ program_summary n few ns p ts fine is = subst (λ q. ProgramSummary n ns q ts) i
         let behind = fine_right n s.0 s.1 ts s.4 fine in
         let vars = (many_law false n (Within is.0) (var_summary n (Within is.0) plain.expr)).of is.1.0.0 s.0 (fine_left n s.0 s.1 ts s.4 fine) s.2 in
         let locks = (many_law false n (Within is.0) (lock_summary n (Within is.0) plain.expr ns)).of is.1.0.1.0 r.0 (fine_left n r.0 r.1 s.1 r.4 behind) r.2 in
-        let threads = threads_summary n (Within is.0) (block_summary n few is.0) ns is.1.0.1.1 r.1 (fine_right n r.0 r.1 s.1 r.4 behind) r.3 in
+        let shorter : length r.1 ≤ length ts = omega (arith, ap length s.4, length-append s.0 s.1, ap length r.4, length-append r.0 r.1) in
+        let threads = threads_summary n (Within is.0) (block_summary n few is.0) ns (length ts) is.1.0.1.1 r.1 shorter (fine_right n r.0 r.1 s.1 r.4 behind) r.3 in
         let one = vars.uses k.Semicolon begins_silent s.1 in
         let two = locks.uses one.0 one.1 r.1 in
         record {
@@ -106,26 +108,41 @@ module _ (n : ℕ) where
       All-append IsNamed (use_of b before t) (uses_behind (b || kind_is k.Thread t.kind) t.kind ts)
       (use_below b before t below.0) (uses_below (b || kind_is k.Thread t.kind) t.kind ts below.1)
 
-module _ (text : List ℕ) (short : length text ≤ 1048576) where
-  -- a summary of a text by its tree
-  pub text_summary : (tree : Program) → IsShallow text → Is program tree (words_of text) → ProgramSummary (length (names_of text)) (names_of text) tree (words_of text)
-  text_summary tree tokens spelled =
-      program_summary (length (names_of text)) (names_few text short tokens.lexes) (names_of text) tree (words_of text) (words_fine text short tokens.lexes) spelled
+module _ (text : List ℕ) where
+  abbrev count : ℕ
+  count = length (names_of text)
 
-  -- The list of uses has each name that the declarations use, in the order of the text.
-  pub uses_in_order : (tree : Program) → IsText program in_program text tree → map ready.use_of (uses_of (words_of text)) ≡ uses_in_declarations (program_of text tree)
-  uses_in_order tree is = (text_summary tree is.tokens is.spelled).uses
+  pub uses_named : IsShallow text → All (IsNamed count) (uses_of (words_of text))
+  uses_named tokens = uses_below count false k.Semicolon (words_of text) (words_fine text tokens.lexes).names
 
-  -- declarations are named by numbers of names
-  pub declarations_named : (names : List (List ℕ)) (ws : List Token) (tree : Program) → IsShallow text → names ≡ names_of text → ws ≡ words_of text → Is program tree ws → AreNamed (length names) tree
-  declarations_named names ws tree tokens named read spelled =
-      subst (λ ns. AreNamed (length ns) tree) (sym named) (text_summary tree tokens (subst (Is program tree) read spelled)).named
+  -- Texts of fewer names than the hole's number ------------------------------------------------------------------
 
-  pub uses_named : (tree : Program) → IsText program in_program text tree → All (IsNamed (length (names_of text))) (uses_of (words_of text))
-  uses_named tree is = uses_below (length (names_of text)) false k.Semicolon (words_of text) (words_fine text short is.tokens.lexes).names
+  module _ (few : length (names_of text) ≤ HOLE) where
+    -- a summary of a text by its tree
+    pub text_summary : (tree : Program) → IsShallow text → Is program tree (words_of text) → ProgramSummary count (names_of text) tree (words_of text)
+    text_summary tree tokens spelled = program_summary count few (names_of text) tree (words_of text) (words_fine text tokens.lexes) spelled
 
-  -- in a text that is an expression, each variable is the number of a name
-  pub expr_below : (tree : Placed Term) → IsText whole in_expr text tree → HasVarsBelow (expr_of tree) (length (names_of text))
-  expr_below tree is =
-      ((whole_summary false (length (names_of text)) (Within is.spelled.0) (rule_summaries (length (names_of text)) (names_few text short is.tokens.lexes) false is.spelled.0).expr).of
-      tree (words_of text) (words_fine text short is.tokens.lexes) is.spelled.1).ids
+    -- The list of uses has each name that the declarations use, in the order of the text.
+    pub uses_in_order : (tree : Program) → IsText program in_program text tree → map ready.use_of (uses_of (words_of text)) ≡ uses_in_declarations (program_of text tree)
+    uses_in_order tree is = (text_summary tree is.tokens is.spelled).uses
+
+    -- declarations are named by numbers of names
+    pub declarations_named : (names : List (List ℕ)) (ws : List Token) (tree : Program) → IsShallow text → names ≡ names_of text → ws ≡ words_of text → Is program tree ws → AreNamed (length names) tree
+    declarations_named names ws tree tokens named read spelled =
+        subst (λ ns. AreNamed (length ns) tree) (sym named) (text_summary tree tokens (subst (Is program tree) read spelled)).named
+
+    -- a summary of a text that is an expression
+    expression_summary : (tree : Placed Term) → IsText whole in_expr text tree → HasSummary false IsSilent (of_expr count (expr_of tree)) (words_of text)
+    expression_summary tree is =
+        (whole_summary false count (Within is.spelled.0) (rule_summaries count few false is.spelled.0).expr).of
+        tree (words_of text) (words_fine text is.tokens.lexes) is.spelled.1
+
+    -- in a text that is an expression, each variable is the number of a name
+    pub expr_below : (tree : Placed Term) → IsText whole in_expr text tree → HasVarsBelow (expr_of tree) count
+    expr_below tree is = (expression_summary tree is).ids
+
+    -- The list of uses has the variables of the expression, in the order of the text.
+    pub expr_uses : (tree : Placed Term) → IsText whole in_expr text tree → AreUsesOf (uses_of (words_of text)) (expr_of tree)
+    expr_uses tree is =
+        let x = (expression_summary tree is).uses k.Semicolon begins_silent [] in
+        ap (uses_from false k.Semicolon) (sym (append-nil (words_of text))) ∙ x.2 ∙ append-nil (uses_in (expr_of tree))

@@ -1,7 +1,7 @@
 -- What reading a text promises of its tree.
-use Rattle.std.proofs.Common.{◌≡◌, ℕ, zero, suc, ◌≤◌, List, [], ◌∷◌, length, map, Bool, true, false, if◌then◌else◌, Option, Some, None, Result, Ok, Err, refl, sym, subst, arith, IfOk}
+use Rattle.std.proofs.Common.{◌≡◌, ℕ, zero, suc, ◌≤◌, ◌<◌, List, [], ◌∷◌, length, map, Bool, true, false, if◌then◌else◌, Option, Some, None, Result, Ok, Err, refl, sym, subst, arith, IfOk}
 use Rattle.std.specs.Prelude.{nat_le}
-use Rattle.std.specs.List.{Contains}
+use Rattle.std.specs.List.{All, Contains}
 use Rattle.std.proofs.lemmas.List.{length-map}
 use Rattle.cov_expr.specs.Words.{HasVarsBelow}
 use Rattle.cov_grammar.specs.Trees.{Program}
@@ -15,8 +15,10 @@ use Rattle.cov_parse.specs.declared.fault.Excess.{Excess}
 use Rattle.cov_parse.specs.declared.fault.ParseFault.{ParseFault}
 use Rattle.cov_parse.specs.Limits.{sooner, past, past_variables, past_locks, past_threads, in_program, in_expr}
 use Rattle.cov_parse.specs.Trees.{var_of, lock_of, thread_of}
+use Rattle.cov_parse.specs.Uses.{AreUsesOf}
 use Rattle.cov_parse.specs.Text.{names_of, IsText, Answers, program_of, expression_of, Expression}
-use Rattle.cov_parse.proofs.NamesInOrder.{text_summary, uses_in_order, uses_named, expr_below}
+use Rattle.cov_parse.proofs.NamesInOrder.{text_summary, uses_in_order, uses_named, expr_below, expr_uses}
+use Rattle.cov_parse.proofs.WordLaws.{names_few, words_few}
 
 -- Limits -------------------------------------------------------------------------------------------------------
 
@@ -61,13 +63,15 @@ within_limits ns p h =
 
 pub text_ready : (text : List ℕ) → length text ≤ 1048576 → (tree : Program) → IsText program in_program text tree → IsReady (program_of text tree)
 text_ready text short tree is =
-    let known = text_summary text short tree is.tokens is.spelled in
+    let few = names_few text is.tokens.lexes short in
+    let known = text_summary text few tree is.tokens is.spelled in
     record {
-      ids = record { classes = known.classes; of_locks = known.locks; of_threads = λ i d inside. (known.threads i d inside).0 };
+      ids = record { classes = known.classes; of_locks = known.locks; of_threads = λ i d inside. (known.threads i d inside).ids };
       limits = within_limits (names_of text) tree is.small;
-      bodies = λ i d inside. (known.threads i d inside).1;
-      used_ids = uses_named text short tree is;
-      uses = λ u inside. subst (λ us. Contains us u) (sym (uses_in_order text short tree is)) inside;
+      bodies = λ i d inside. let good = known.threads i d inside in
+          record { places_differ = good.places_differ; small = omega (arith, good.small, words_few text is.tokens.lexes short) };
+      used_ids = uses_named text is.tokens;
+      uses = λ u inside. subst (λ us. Contains us u) (sym (uses_in_order text few tree is)) inside;
     }
 
 pub parsed_ready : {X : Type 0} (text : List ℕ) → length text ≤ 1048576 → (view : X → Parsed) (r : Result X ParseFault) → Answers program in_program text view (program_of text) r → IfOk r (λ x. IsReady (view x))
@@ -76,10 +80,19 @@ parsed_ready text short view (Err fault) h = tt
 
 pub parsed_in_order : {X : Type 0} (text : List ℕ) → length text ≤ 1048576 → (view : X → Parsed) (r : Result X ParseFault) → Answers program in_program text view (program_of text) r
     → IfOk r (λ x. HasUsesInOrder (view x))
-parsed_in_order text short view (Ok x) h = subst HasUsesInOrder (sym h.2) (uses_in_order text short h.0 h.1)
+parsed_in_order text short view (Ok x) h = subst HasUsesInOrder (sym h.2) (uses_in_order text (names_few text h.1.tokens.lexes short) h.0 h.1)
 parsed_in_order text short view (Err fault) h = tt
 
 pub parsed_below : {X : Type 0} (text : List ℕ) → length text ≤ 1048576 → (view : X → Expression) (r : Result X ParseFault) → Answers whole in_expr text view (expression_of text) r
     → IfOk r (λ x. HasVarsBelow (view x).expr (length (view x).names))
-parsed_below text short view (Ok x) h = subst (λ e. HasVarsBelow e.expr (length e.names)) (sym h.2) (expr_below text short h.0 h.1)
+parsed_below text short view (Ok x) h = subst (λ e. HasVarsBelow e.expr (length e.names)) (sym h.2) (expr_below text (names_few text h.1.tokens.lexes short) h.0 h.1)
 parsed_below text short view (Err fault) h = tt
+
+pub parsed_used : {X : Type 0} (text : List ℕ) (view : X → Expression) (r : Result X ParseFault) → Answers whole in_expr text view (expression_of text) r → IfOk r (λ x. All (λ u. u.name < length (view x).names) (view x).uses)
+parsed_used text view (Ok x) h = subst (λ e. All (λ u. u.name < length e.names) e.uses) (sym h.2) (uses_named text h.1.tokens)
+parsed_used text view (Err fault) h = tt
+
+pub parsed_expr_uses : {X : Type 0} (text : List ℕ) → length text ≤ 1048576 → (view : X → Expression) (r : Result X ParseFault) → Answers whole in_expr text view (expression_of text) r
+    → IfOk r (λ x. AreUsesOf (view x).uses (view x).expr)
+parsed_expr_uses text short view (Ok x) h = subst (λ e. AreUsesOf e.uses e.expr) (sym h.2) (expr_uses text (names_few text h.1.tokens.lexes short) h.0 h.1)
+parsed_expr_uses text short view (Err fault) h = tt

@@ -46,13 +46,12 @@ abbrev pub AreBelow : ℕ → List Token → Type 0
 AreBelow n [] = Unit {0}
 AreBelow n (t ∷ ts) = (t.kind ≡ k.Name → t.value < n) × AreBelow n ts
 
--- Tokens as a text has them: their names are below a bound, each is behind the one before, and they aren't many.
+-- Tokens as a text has them: their names are below a bound, and each is behind the one before.
 pub record AreFine (n : ℕ) (ts : List Token) : Type 0 where
   pub names : AreBelow n ts
   pub low : ℕ
   pub high : ℕ
   pub order : AreWithin low high (places ts)
-  pub few : length ts < 2097152
 
 below_left : (n : ℕ) (us vs : List Token) → AreBelow n (us ++ vs) → AreBelow n us
 below_left n [] vs h = tt
@@ -65,12 +64,12 @@ below_right n (u ∷ us) vs h = below_right n us vs h.1
 pub fine_left : (n : ℕ) (us vs ts : List Token) → ts ≡ us ++ vs → AreFine n ts → AreFine n us
 fine_left n us vs ts e f =
     let x = places_split f.low f.high us vs (subst (λ ws. AreWithin f.low f.high (places ws)) e f.order) in
-    record { names = below_left n us vs (subst (AreBelow n) e f.names); low = f.low; high = x.0; order = x.1; few = omega (arith, f.few, ap length e, length-append us vs) }
+    record { names = below_left n us vs (subst (AreBelow n) e f.names); low = f.low; high = x.0; order = x.1 }
 
 pub fine_right : (n : ℕ) (us vs ts : List Token) → ts ≡ us ++ vs → AreFine n ts → AreFine n vs
 fine_right n us vs ts e f =
     let x = places_split f.low f.high us vs (subst (λ ws. AreWithin f.low f.high (places ws)) e f.order) in
-    record { names = below_right n us vs (subst (AreBelow n) e f.names); low = x.0; high = f.high; order = x.2; few = omega (arith, f.few, ap length e, length-append us vs) }
+    record { names = below_right n us vs (subst (AreBelow n) e f.names); low = x.0; high = f.high; order = x.2 }
 
 -- Summaries ---------------------------------------------------------------------------------------------------
 

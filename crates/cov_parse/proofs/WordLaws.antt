@@ -178,17 +178,12 @@ same_places : (text : List ℕ) (all : List (List ℕ)) (ts : List lexed.Token) 
 same_places text all [] = refl
 same_places text all (t ∷ ts) = ap (λ ps. t.at ∷ ps) (same_places text all ts)
 
-module _ (text : List ℕ) (short : length text ≤ 1048576) (lexes : tokens_of text ≡ Ok (lexed_of text)) where
+module _ (text : List ℕ) (lexes : tokens_of text ≡ Ok (lexed_of text)) where
   order : AreWithin 0 (length text) (raw_places (lexed_of text))
   order = in_order text (lexed_of text) lexes
 
   few_tokens : length (lexed_of text) ≤ length text
   few_tokens = omega (arith, few_within 0 (length text) (raw_places (lexed_of text)) order, length-map (lexed_of text) (λ t. t.at))
-
-  -- there are fewer names than the hole's number
-  pub names_few : length (names_of text) ≤ HOLE
-  unfolding names_of
-  names_few = omega (arith, few_names text [] (lexed_of text), few_tokens)
 
   pub words_fine : AreFine (length (names_of text)) (words_of text)
   unfolding names_of words_of
@@ -197,5 +192,14 @@ module _ (text : List ℕ) (short : length text ≤ 1048576) (lexes : tokens_of 
     low = 0;
     high = length text;
     order = subst (AreWithin 0 (length text)) (same_places text (names_of text) (lexed_of text)) order;
-    few = omega (arith, few_tokens, length-map (lexed_of text) (word_of text (names_of text)));
   }
+
+  module _ (short : length text ≤ 1048576) where
+    -- there are fewer names than the hole's number
+    pub names_few : length (names_of text) ≤ HOLE
+    unfolding names_of
+    names_few = omega (arith, few_names text [] (lexed_of text), few_tokens)
+
+    pub words_few : length (words_of text) ≤ 1048576
+    unfolding names_of words_of
+    words_few = omega (arith, few_tokens, length-map (lexed_of text) (word_of text (names_of text)))

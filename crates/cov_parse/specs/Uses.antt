@@ -1,5 +1,7 @@
 -- The names that a text uses.
-use Rattle.std.specs.Prelude.{List, [], ◌∷◌, ◌++◌, Bool, false, if◌then◌else◌, ◌||◌}
+use Rattle.std.specs.Prelude.{◌≡◌, List, [], ◌∷◌, ◌++◌, map, Bool, false, if◌then◌else◌, ◌||◌}
+use Rattle.cov_expr.specs.Term.{Term}
+use Rattle.cov_ast.specs.Ready as ready
 use Rattle.cov_ast.specs.declared.parsed.NameUse.{NameUse}
 use Rattle.cov_grammar.specs.declared.token.Kind.{Kind}
 use Rattle.cov_grammar.specs.declared.token.Kind.TheVariants as k
@@ -26,3 +28,7 @@ uses_behind in_thread before (t ∷ ts) = use_of in_thread before t ++ uses_behi
 -- Every use of a name, in the order of the text. In front of the first token nothing is declared.
 abbrev pub uses_of : List Token → List NameUse
 uses_of ts = uses_behind false k.Semicolon ts
+
+-- The uses are those of the variables of an expression, in the order of the text: one for each place of a variable, and none of a lock.
+abbrev pub AreUsesOf : List NameUse → Term → Type 0
+AreUsesOf uses e = map ready.use_of uses ≡ ready.uses_in e

@@ -23,8 +23,6 @@ mod programs;
 mod states;
 mod stmt;
 mod stmts;
-#[cfg(test)]
-mod tests;
 mod text;
 mod uses;
 mod words;

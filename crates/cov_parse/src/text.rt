@@ -1,4 +1,4 @@
-ghost use Rattle.std.specs.Prelude.{◌≡◌, ◌≤◌, length, IfOk};
+ghost use Rattle.std.specs.Prelude.{◌≡◌, ◌≤◌, ◌<◌, length, All, IfOk};
 ghost use Rattle.cov_ast.specs.Ready.{HasUsesInOrder, IsReady};
 ghost use Rattle.cov_ast.specs.View as ast;
 ghost use Rattle.cov_grammar.specs.Trees.{Program, Placed};
@@ -12,6 +12,7 @@ ghost use Rattle.cov_parse.specs.DeclViews as decls;
 ghost use Rattle.cov_parse.specs.Limits as limits;
 ghost use Rattle.cov_parse.specs.Text.{IsText, Answers, Only, program_of, expression_of};
 ghost use Rattle.cov_parse.specs.Replies.{Reads, parsed_expr};
+ghost use Rattle.cov_parse.specs.Uses.{AreUsesOf};
 
 use crate::cert::Whole;
 use crate::certs::read_whole;
@@ -74,8 +75,11 @@ fn read_program_text(alloc: Global, bytes: &[u8]) -> Result<Parsed, ParseFault>
 pub fn parse_expr(alloc: Global, bytes: &[u8]) -> Result<ParsedExpr, ParseFault>
     requires { length bytes.now ≤ 1048576 }
     ensures answer { Answers grammar.whole limits.in_expr bytes.now parsed_expr (expression_of bytes.now) result }
-    // Each variable is the number of a name.
+    // Each variable, and each name of the list of uses, is the number of a name.
     ensures below { IfOk result (λ p. HasVarsBelow (term p.expr) (length p.names)) }
+    ensures used { IfOk result (λ p. All (λ u. u.name < length p.names) p.uses) }
+    // The list of uses has the variables of the expression, in the order of the text.
+    ensures in_order { IfOk result (λ p. AreUsesOf p.uses (term p.expr)) }
     ensures only { (tree : Placed Term) → IsText grammar.whole limits.in_expr bytes.now tree → Only parsed_expr (expression_of bytes.now tree) result }
 {
     read_expr_text(alloc, bytes)

@@ -2,10 +2,11 @@ use Rattle.std.proofs.Common.{◌≡◌, rules}
 use Rattle.cov_parse.specs.DeclViews as decls
 use Rattle.cov_parse.specs.Text.{words_of}
 use Rattle.cov_parse.proofs.NamesInOrder.{declarations_named}
+use Rattle.cov_parse.proofs.WordLaws.{names_few}
 use Rattle.cov_parse.proofs.text.read_program_text.Goals as goal
 
 pub parsed_of-requires : goal.parsed_of-requires
 parsed_of-requires c =
     let same : c.as_slice.result.now ≡ words_of c.args.bytes.now = search rules in
-    declarations_named c.args.bytes.now c.requires c.in_ok-names.field-0.names c.as_slice.result.now (decls.program c.in_ok-program.program)
+    declarations_named c.args.bytes.now (names_few c.args.bytes.now c.in_ok-names.ensures.0.lexes c.requires) c.in_ok-names.field-0.names c.as_slice.result.now (decls.program c.in_ok-program.program)
     c.in_ok-names.ensures.0 c.in_ok-names.ensures.1 same c.in_ok-program.ensures
