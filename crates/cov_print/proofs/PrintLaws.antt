@@ -1,5 +1,6 @@
 -- What is printed is read back to the same program, places aside.
-use Rattle.std.proofs.Common.{◌≡◌, ℕ, ◌≤◌, List, [], ◌∷◌, ◌++◌, length, map, flat_map, codes, refl, sym, ap, ap₂, subst, ◌∙◌}
+use Rattle.std.proofs.Common.{◌≡◌, ℕ, ◌≤◌, List, [], ◌∷◌, ◌++◌, length, map, flat_map, codes, refl, sym, ap, ap₂, subst, ◌∙◌, arith}
+use Rattle.cov_expr.specs.declared.expr.TheConstants.{HOLE}
 use Rattle.cov_grammar.specs.Trees.{Program}
 use Rattle.cov_grammar.specs.Grammar.{program}
 use Rattle.cov_ast.specs.Syntax as s
@@ -109,15 +110,17 @@ uses_of_seen names us vs p q e =
 -- The law ------------------------------------------------------------------------------------------------------
 
 -- what is printed of the tree of a text
-of_text : (text : List ℕ) (tree : Program) → length text ≤ 1048576 → IsText program in_program text tree → length (spec.spelling (program_of text tree)) ≤ 1048576 → SpellsProgram (spec.spelling (program_of text tree)) (program_of text tree)
+of_text : (text : List ℕ) (tree : Program) → IsText program in_program text tree → length (spec.spelling (program_of text tree)) ≤ 1048576 → SpellsProgram (spec.spelling (program_of text tree)) (program_of text tree)
 unfolding names_of words_of
-of_text text tree small is short =
+of_text text tree is short =
     let raw = lexed_of text in
     let b = back.reads_back text raw is.tokens.lexes tree is.spelled is.small (uses_of (words_of text)) short in
     let out = spec.spelling (program_of text tree) in
     let again = b.tree_again in
-    let first = uses_in_order text small tree is in
-    let second = uses_in_order out short again b.is_text in
+    let few : length (names_of text) ≤ HOLE = omega (arith, b.names_few) in
+    let few_again : length (names_of out) ≤ HOLE = omega (arith, b.names_few, ap length b.names_again) in
+    let first = uses_in_order text few tree is in
+    let second = uses_in_order out few_again again b.is_text in
     let renamed : program_of out again ≡ parsed_of (names_of text) (uses_of (words_of out)) again = ap (λ ns. parsed_of ns (uses_of (words_of out)) again) b.names_again in
     let alike : uses_in_declarations (program_of out again) ≡ uses_in_declarations (program_of text tree) =
     ap uses_in_declarations renamed ∙ uses_of_seen (names_of text) (uses_of (words_of out)) (uses_of (words_of text)) again tree b.seen_again in
@@ -134,7 +137,7 @@ of_text text tree small is short =
 -- What is printed of a program that some text spells, spells it too.
 pub spells_again : (p : s.Parsed) (printed : List ℕ) → printed ≡ spec.spelling p → SpellsAgain printed p
 unfolding SpellsAgain
-spells_again p printed e text small h short =
+spells_again p printed e text h short =
     let same : spec.spelling (program_of text h.tree) ≡ printed = sym (spelling_unplaced (program_of text h.tree)) ∙ ap spec.spelling h.same ∙ spelling_unplaced p ∙ sym e in
-    let r = of_text text h.tree small h.is_text (subst (λ t. length t ≤ 1048576) (sym same) short) in
+    let r = of_text text h.tree h.is_text (subst (λ t. length t ≤ 1048576) (sym same) short) in
     subst (λ t. SpellsProgram t p) same (record { tree = r.tree; is_text = r.is_text; same = r.same ∙ h.same })

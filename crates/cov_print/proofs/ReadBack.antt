@@ -72,6 +72,7 @@ module _ (text : List ℕ) (raw : List lexed.Token) (lexes : tokens_of text ≡ 
       pub tree_again : Program
       pub is_text : IsText program in_program out tree_again
       pub names_again : names_of out ≡ all
+      pub names_few : length all ≤ 1048576
       pub seen_again : seen_program all tree_again ≡ seen_program all tree
 
     module _ (ts : List lexed.Token) (tokens : tokens_of out ≡ Ok ts) (show : Show all out written ts) where
@@ -116,6 +117,7 @@ module _ (text : List ℕ) (raw : List lexed.Token) (lexes : tokens_of text ≡ 
           small = fine_none (in_program again.0) (limits_same all again.0 ∙ ap program_fine again.2 ∙ sym (limits_same all tree) ∙ ap fine small);
         };
         names_again = names_are out ts tokens ∙ names_same;
+        names_few = few;
         seen_again = again.2;
       }
 

@@ -13,6 +13,6 @@ pub record SpellsProgram (text : List ℕ) (p : Parsed) : Type 0 where
   pub is_text : IsText program in_program text tree
   pub same : unplaced (program_of text tree) ≡ unplaced p
 
--- A text spells a program where any text does, unless it is longer than a text may be.
+-- A text spells a program where some text does, however long that one is, unless it is longer itself than a text may be.
 unfoldable pub SpellsAgain : (printed : List ℕ) → Parsed → Type 0
-SpellsAgain printed p = (text : List ℕ) → length text ≤ 1048576 → SpellsProgram text p → length printed ≤ 1048576 → SpellsProgram printed p
+SpellsAgain printed p = (text : List ℕ) → SpellsProgram text p → length printed ≤ 1048576 → SpellsProgram printed p

@@ -69,7 +69,21 @@ is_word s.calc = true
 is_word s.reflexive = true
 is_word s.ring = true
 is_word s.range = true
-is_word _ = false
+is_word (s.hyp i) = false
+is_word (s.clash i) = false
+is_word (s.absurdity i j) = false
+is_word (s.and c d) = false
+is_word (s.left c) = false
+is_word (s.right c) = false
+is_word (s.unpack i c) = false
+is_word (s.cases i c d) = false
+is_word (s.split e c d) = false
+is_word (s.have e c d) = false
+is_word (s.negation c) = false
+is_word (s.contra c) = false
+is_word (s.fwd i e c) = false
+is_word (s.rev i e c) = false
+is_word (s.instance k es c) = false
 
 -- a certificate inside of another, with the blank before it: in parentheses, unless it is a lone word
 abbrev pub inner : s.Cert → List ℕ → List ℕ

@@ -9,8 +9,6 @@ mod expr;
 mod program;
 mod state;
 mod stmt;
-#[cfg(test)]
-mod tests;
 mod text;
 
 pub use program::print;

@@ -45,7 +45,8 @@ fn add_threads(
 /// as blocks, certificates or expressions nest.
 pub fn print(alloc: Global, p: &Parsed) -> Result<List<u8>, NoMemory>
     ensures spelled { IfOk result (λ text. text ≡ spec.spelling (view.parsed p.now)) }
-    // Where some text spells the program, places aside, what is printed does, unless it is longer than a text may be.
+    // Where some text of any length spells the program, places aside, what is printed does, unless it is longer than a
+    // text may be.
     ensures read_back { IfOk result (λ text. SpellsAgain text (view.parsed p.now)) }
 {
     let mut out = List::new(alloc);
