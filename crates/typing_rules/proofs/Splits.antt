@@ -24,7 +24,7 @@ parts_walk p t ess fss after counted (Ok walked) e w = (ap first_false (flat-app
 parts_walk p t ess fss after counted (Err fault) e w = parts_decided ess fss (Err fault) e w
 
 -- a fault that is handed on
-pub handed_on : (p : Plain) (t : ℕ) (entries : List Entry) (after : Point) (counted : ℕ) (fault : CheckFault) (r : Result Walked CheckFault)
+handed_on : (p : Plain) (t : ℕ) (entries : List Entry) (after : Point) (counted : ℕ) (fault : CheckFault) (r : Result Walked CheckFault)
     → IsErrAnd r (λ f. f ≡ fault) → Decides entries (Err fault) → Walks p t entries after counted r
 handed_on p t entries after counted fault (Ok walked) h k = absurd h
 handed_on p t entries after counted fault (Err f) h k = subst (λ f. Decides entries (Err f)) (sym h) k
@@ -39,30 +39,38 @@ module _ (p : Plain) (t at : ℕ) (proofs : List Proof) (a : Point) (e : Term) (
   abbrev second : List Entry
   second = block_entries p t no_block (with_guard p t a (neg e))
 
-  abbrev joined : List (List Entry)
-  joined = join_parts p t at proofs 1 j (after_block p t yes_block (with_guard p t a e)) (after_block p t no_block (with_guard p t a (neg e)))
+  abbrev joined : (before : ℕ) → List (List Entry)
+  joined before = join_parts p t at proofs before j (after_block p t yes_block (with_guard p t a e)) (after_block p t no_block (with_guard p t a (neg e)))
 
   abbrev branch_entries : List Entry
   branch_entries = flat (stm_parts p t (branch e yes_block no_block j) at proofs a)
 
-  pub fork_refused : (fault : CheckFault) → Decides (flat forked) (Err fault) → Decides branch_entries (Err fault)
-  fork_refused fault h = parts_refused forked (first ∷ second ∷ joined) fault h
+  -- the answer about the branch
+  abbrev BranchWalks : Result Walked CheckFault → Type 0
+  BranchWalks r = Walks p t branch_entries (after_stm p t (branch e yes_block no_block j) a) (entailment_count branch_entries) r
+
+  -- where a part refuses, the branch does
+  branch_refused : (fault : CheckFault) (r : Result Walked CheckFault) → IsErrAnd r (λ f. f ≡ fault) → Decides branch_entries (Err fault) → BranchWalks r
+  branch_refused fault r is h = handed_on p t branch_entries (after_stm p t (branch e yes_block no_block j) a) (entailment_count branch_entries) fault r is h
+
+  pub fork_refused : (fault : CheckFault) (r : Result Walked CheckFault) → IsErrAnd r (λ f. f ≡ fault) → Decides (flat forked) (Err fault) → BranchWalks r
+  fork_refused fault r is h = branch_refused fault r is (parts_refused forked (first ∷ second ∷ joined 1) fault h)
 
   module _ (held : first_false (flat forked) ≡ None) where
-    pub first_refused : (fault : CheckFault) → Decides first (Err fault) → Decides branch_entries (Err fault)
-    first_refused fault h = part_refused forked first (second ∷ joined) fault held h
+    pub first_refused : (fault : CheckFault) (r : Result Walked CheckFault) → IsErrAnd r (λ f. f ≡ fault) → Decides first (Err fault) → BranchWalks r
+    first_refused fault r is h = branch_refused fault r is (part_refused forked first (second ∷ joined 1) fault held h)
 
     module _ (first_held : first_false first ≡ None) where
-      pub second_refused : (fault : CheckFault) → Decides second (Err fault) → Decides branch_entries (Err fault)
-      second_refused fault h = part_refused (forked ++ first ∷ []) second joined fault (part_held forked first held first_held) h
+      pub second_refused : (fault : CheckFault) (r : Result Walked CheckFault) → IsErrAnd r (λ f. f ≡ fault) → Decides second (Err fault) → BranchWalks r
+      second_refused fault r is h = branch_refused fault r is (part_refused (forked ++ first ∷ []) second (joined 1) fault (part_held forked first held first_held) h)
 
-      pub branch_walks : first_false second ≡ None → (r : Result Walked CheckFault) (counted : ℕ) → counted ≡ entailment_count branch_entries
-          → Walks p t (flat joined) (after_stm p t (branch e yes_block no_block j) a) counted r
-          → Walks p t branch_entries (after_stm p t (branch e yes_block no_block j) a) (entailment_count branch_entries) r
-      branch_walks second_held r counted is w =
+      pub branch_walks : first_false second ≡ None → (r : Result Walked CheckFault) (before counted : ℕ) → before ≡ 1 → counted ≡ entailment_count branch_entries
+          → Walks p t (flat (joined before)) (after_stm p t (branch e yes_block no_block j) a) counted r → BranchWalks r
+      branch_walks second_held r before counted one is w =
           subst (λ n. Walks p t branch_entries (after_stm p t (branch e yes_block no_block j) a) n r) is
-          (parts_walk p t (forked ++ first ∷ second ∷ []) joined (after_stm p t (branch e yes_block no_block j) a) counted r
-          (part_held (forked ++ first ∷ []) second (part_held forked first held first_held) second_held) w)
+          (parts_walk p t (forked ++ first ∷ second ∷ []) (joined 1) (after_stm p t (branch e yes_block no_block j) a) counted r
+          (part_held (forked ++ first ∷ []) second (part_held forked first held first_held) second_held)
+          (subst (λ n. Walks p t (flat (joined n)) (after_stm p t (branch e yes_block no_block j) a) counted r) one w))
 
 module _ (p : Plain) (t at : ℕ) (proofs : List Proof) (a : Point) (e : Term) (j : State) (b : Block) where
   abbrev top : Point
@@ -74,24 +82,36 @@ module _ (p : Plain) (t at : ℕ) (proofs : List Proof) (a : Point) (e : Term) (
   abbrev turn : List Entry
   turn = block_entries p t b (with_guard p t (meet p t a j) e)
 
-  abbrev turned : List (List Entry)
-  turned =
-      turn_parts p t at proofs (length (state_follows a j ++ guard_follows p t (meet p t a j) e ∷ [])) j
+  -- how many entailments are tried before the block
+  abbrev asked : ℕ
+  asked = length (state_follows a j ++ guard_follows p t (meet p t a j) e ∷ [])
+
+  abbrev turned : (before : ℕ) → List (List Entry)
+  turned before =
+      turn_parts p t at proofs before j
       (after_block p t b (with_guard p t (meet p t a j) e)) (with_guard p t (meet p t a j) (neg e))
 
   abbrev loop_entries : List Entry
   loop_entries = flat (stm_parts p t (loop e j b) at proofs a)
 
-  pub head_refused : (fault : CheckFault) → Decides (flat headed) (Err fault) → Decides loop_entries (Err fault)
-  head_refused fault h = parts_refused headed (turn ∷ turned) fault h
+  -- the answer about the loop
+  abbrev LoopWalks : Result Walked CheckFault → Type 0
+  LoopWalks r = Walks p t loop_entries (after_stm p t (loop e j b) a) (entailment_count loop_entries) r
+
+  -- where a part refuses, the loop does
+  loop_refused : (fault : CheckFault) (r : Result Walked CheckFault) → IsErrAnd r (λ f. f ≡ fault) → Decides loop_entries (Err fault) → LoopWalks r
+  loop_refused fault r is h = handed_on p t loop_entries (after_stm p t (loop e j b) a) (entailment_count loop_entries) fault r is h
+
+  pub head_refused : (fault : CheckFault) (r : Result Walked CheckFault) → IsErrAnd r (λ f. f ≡ fault) → Decides (flat headed) (Err fault) → LoopWalks r
+  head_refused fault r is h = loop_refused fault r is (parts_refused headed (turn ∷ turned asked) fault h)
 
   module _ (held : first_false (flat headed) ≡ None) where
-    pub turn_refused : (fault : CheckFault) → Decides turn (Err fault) → Decides loop_entries (Err fault)
-    turn_refused fault h = part_refused headed turn turned fault held h
+    pub turn_refused : (fault : CheckFault) (r : Result Walked CheckFault) → IsErrAnd r (λ f. f ≡ fault) → Decides turn (Err fault) → LoopWalks r
+    turn_refused fault r is h = loop_refused fault r is (part_refused headed turn (turned asked) fault held h)
 
-    pub loop_walks : first_false turn ≡ None → (r : Result Walked CheckFault) (counted : ℕ) → counted ≡ entailment_count loop_entries
-        → Walks p t (flat turned) (after_stm p t (loop e j b) a) counted r
-        → Walks p t loop_entries (after_stm p t (loop e j b) a) (entailment_count loop_entries) r
-    loop_walks turn_held r counted is w =
+    pub loop_walks : first_false turn ≡ None → (r : Result Walked CheckFault) (before counted : ℕ) → before ≡ asked → counted ≡ entailment_count loop_entries
+        → Walks p t (flat (turned before)) (after_stm p t (loop e j b) a) counted r → LoopWalks r
+    loop_walks turn_held r before counted same is w =
         subst (λ n. Walks p t loop_entries (after_stm p t (loop e j b) a) n r) is
-        (parts_walk p t (headed ++ turn ∷ []) turned (after_stm p t (loop e j b) a) counted r (part_held headed turn held turn_held) w)
+        (parts_walk p t (headed ++ turn ∷ []) (turned asked) (after_stm p t (loop e j b) a) counted r (part_held headed turn held turn_held)
+        (subst (λ n. Walks p t (flat (turned n)) (after_stm p t (loop e j b) a) counted r) same w))

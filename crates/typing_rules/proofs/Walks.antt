@@ -4,13 +4,13 @@ use Rattle.cov_expr.specs.View.{term}
 use Rattle.cov_expr.specs.declared.expr.Expr.{Expr}
 use Rattle.cov_ast.specs.Obligations.{Decides, first_false}
 use Rattle.cov_ast.specs.Plain.{Plain}
-use Rattle.cov_ast.specs.Syntax.{Proof, Stm, skip, assign, lock, unlock, loop, note, Block, done, more}
+use Rattle.cov_ast.specs.Syntax.{Proof, Stm, skip, assign, lock, unlock, branch, loop, note, Block, done, more}
 use Rattle.cov_ast.specs.View as view
 use Rattle.cov_ast.specs.declared.refusal.CheckFault.{CheckFault}
 use Rattle.cov_ast.specs.declared.state.State.{State}
 use Rattle.cov_ast.specs.declared.stmt.Retype.{Retype}
 use Rattle.cov_ast.specs.declared.stmt.Stmt.{Stmt}
-use Rattle.cov_ast.specs.declared.stmt.StmtKind.{StmtKind-F, fold-roll-StmtKind}
+use Rattle.cov_ast.specs.declared.stmt.StmtKind.{StmtKind, StmtKind-F, fold-roll-StmtKind}
 use Rattle.cov_ast.specs.declared.stmt.StmtKind.TheVariants as kinds
 use Rattle.cov_ast.proofs.ObligationLaws.{append_held, append_refused, same_decided}
 use Rattle.typing_state.specs.Kept.{Keeps}
@@ -21,6 +21,7 @@ use Rattle.typing_rules.specs.Blocks.{after_block, after_stm}
 use Rattle.typing_rules.specs.Obligations.{block_entries, flat, stm_parts}
 use Rattle.typing_rules.specs.declared.walk.Walked.{Walked}
 use Rattle.typing_rules.proofs.Counting.{count_more}
+use Rattle.typing_rules.proofs.Statements.{branch_is}
 
 -- what is kept is kept of one point
 pub one_point : (p : Plain) (t : ℕ) (a b : Point) (kept : declared.Point) → Keeps p t a kept → Keeps p t b kept → a ≡ b
@@ -83,3 +84,14 @@ loop_is e j b = ap view.kind (sym (kinds.rolls-While e j b)) ∙ fold-roll-StmtK
 
 pub note_is : (j : State) → view.kind (kinds.Note j) ≡ note (view.state j)
 note_is j = ap view.kind (sym (kinds.rolls-Note j)) ∙ fold-roll-StmtKind _ _ view.kind_step view.stmt_step (StmtKind-F.Note j)
+
+-- A branch or a loop whose blocks are seen as lists is this one.
+
+pub branch_seen : (k : StmtKind) (e : Expr) (a b : List Stmt) (j : State) → k ≡ kinds.If e a b j → (xs : List Stmt) → xs ≡ a → (ys : List Stmt) → ys ≡ b
+    → view.kind k ≡ branch (term e) (view.block xs) (view.block ys) (view.state j)
+branch_seen k e a b j is xs first ys second =
+    ap view.kind is ∙ branch_is e a b j ∙ (λ i. branch (term e) (view.block (sym first i)) (view.block (sym second i)) (view.state j))
+
+pub loop_seen : (k : StmtKind) (e : Expr) (j : State) (b : List Stmt) → k ≡ kinds.While e j b → (xs : List Stmt) → xs ≡ b
+    → view.kind k ≡ loop (term e) (view.state j) (view.block xs)
+loop_seen k e j b is xs same = ap view.kind is ∙ loop_is e j b ∙ ap (λ ss. loop (term e) (view.state j) (view.block ss)) (sym same)

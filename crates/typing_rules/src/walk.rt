@@ -1,6 +1,8 @@
 ghost use Rattle.std.specs.Prelude.{◌≡◌, ◌<◌, ◌++◌, ℕ, List, map, length, None};
+ghost use Rattle.cov_expr.specs.View.{term};
 ghost use Rattle.cov_ast.specs.Obligations.{Decides, Entry, first_false};
 ghost use Rattle.cov_ast.specs.Plain.{Plain};
+ghost use Rattle.cov_ast.specs.Syntax as syntax;
 ghost use Rattle.cov_ast.specs.View as view;
 ghost use Rattle.cov_ast.specs.WellFormed.{IsBlockInRange, IsStmInRange, block_size, stm_size};
 ghost use Rattle.typing_state.specs.Kept.{Keeps};
@@ -9,7 +11,8 @@ ghost use Rattle.typing_rules.specs.Answers.{Walks};
 ghost use Rattle.typing_rules.specs.Walking.{IsWalk, Stands, WalksBlock, WalksStm};
 
 use crate::site::Site;
-use cov_ast::{CheckFault, Program, Proof, Stmt, StmtKind};
+use cov_ast::{CheckFault, Program, Proof, State, Stmt, StmtKind};
+use cov_expr::Expr;
 use std::alloc::Global;
 use typing_state::Point;
 
@@ -122,24 +125,67 @@ impl Walk<'_> {
             StmtKind::Unlock(l) => self.unlock(at, *l, proofs, point),
             StmtKind::Note(j) => self.note(at, j, proofs, point),
             StmtKind::If(e, yes, no, join) => {
-                let Guarded {
-                    holds,
-                    fails,
-                    count,
-                } = self.fork(at, e, proofs, point)?;
-                let first = self.block(yes.as_slice(), holds)?;
-                let second = self.block(no.as_slice(), fails)?;
-                self.join(at, join, proofs, count, first, second)
+                self.branch(at, e, yes.as_slice(), no.as_slice(), join, proofs, point)
             }
             StmtKind::While(e, inv, body) => {
-                let Guarded {
-                    holds,
-                    fails,
-                    count,
-                } = self.head(at, inv, e, proofs, point)?;
-                let end = self.block(body.as_slice(), holds)?;
-                self.turn(at, inv, proofs, count, end, fails)
+                self.while_loop(at, e, inv, body.as_slice(), proofs, point)
             }
         }
+    }
+
+    /// Checks a branch.
+    #[cycle(walk)]
+    fn branch(
+        &self,
+        at: u32,
+        e: &Expr,
+        yes: &[Stmt],
+        no: &[Stmt],
+        join: &State,
+        proofs: &[Proof],
+        point: Point,
+    ) -> Result<Walked, CheckFault>
+        requires walk { IsWalk self.now }
+        requires range { IsStmInRange (length self.now.program.now.vars) (length self.now.program.now.locks)
+            (syntax.branch (term e.now) (view.block yes.now) (view.block no.now) (view.state join.now)) }
+        requires small { stm_size (syntax.branch (term e.now) (view.block yes.now) (view.block no.now) (view.state join.now)) < 2097152 }
+        requires point { Stands self.now point }
+        ensures { WalksStm self.now at (syntax.branch (term e.now) (view.block yes.now) (view.block no.now) (view.state join.now)) (map view.proof proofs.now) point result }
+    {
+        let Guarded {
+            holds,
+            fails,
+            count,
+        } = self.fork(at, e, proofs, point)?;
+        let first = self.block(yes, holds)?;
+        let second = self.block(no, fails)?;
+        self.join(at, join, proofs, count, first, second)
+    }
+
+    /// Checks a loop.
+    #[cycle(walk)]
+    fn while_loop(
+        &self,
+        at: u32,
+        e: &Expr,
+        inv: &State,
+        body: &[Stmt],
+        proofs: &[Proof],
+        point: Point,
+    ) -> Result<Walked, CheckFault>
+        requires walk { IsWalk self.now }
+        requires range { IsStmInRange (length self.now.program.now.vars) (length self.now.program.now.locks)
+            (syntax.loop (term e.now) (view.state inv.now) (view.block body.now)) }
+        requires small { stm_size (syntax.loop (term e.now) (view.state inv.now) (view.block body.now)) < 2097152 }
+        requires point { Stands self.now point }
+        ensures { WalksStm self.now at (syntax.loop (term e.now) (view.state inv.now) (view.block body.now)) (map view.proof proofs.now) point result }
+    {
+        let Guarded {
+            holds,
+            fails,
+            count,
+        } = self.head(at, inv, e, proofs, point)?;
+        let end = self.block(body, holds)?;
+        self.turn(at, inv, proofs, count, end, fails)
     }
 }

@@ -1,35 +1,27 @@
-use Rattle.std.proofs.Common.{◌≡◌, ℕ, ◌+◌, ◌*◌, ◌≤◌, ◌<◌, [], ◌∷◌, ◌++◌, List, length, map, drop, sym, ap, ◌∙◌, subst, arith, Result, Err}
+use Rattle.std.proofs.Common.{◌≡◌, ◌+◌, ◌*◌, ◌≤◌, ◌<◌, [], ◌∷◌, ◌++◌, length, map, drop, sym, ap, ◌∙◌, subst, arith, Err}
 use Rattle.std.proofs.lemmas.List.{drop_all, length-append, length-map}
 use Rattle.cov_ast.specs.Obligations.{Decides}
 use Rattle.cov_expr.specs.Term.{neg}
 use Rattle.cov_expr.specs.View.{term}
-use Rattle.cov_ast.specs.Syntax.{Proof, Stm, branch, loop, Block}
+use Rattle.cov_ast.specs.Syntax.{branch, loop, Block}
 use Rattle.cov_ast.specs.View as view
 use Rattle.cov_ast.specs.WellFormed.{IsBlockInRange, IsStmInRange, block_size, stm_size}
 use Rattle.cov_ast.specs.declared.decl.Program as decl
-use Rattle.cov_ast.specs.declared.refusal.CheckFault.{CheckFault}
 use Rattle.typing_state.specs.After.{meet, with_guard}
 use Rattle.typing_state.specs.Point.{Point}
-use Rattle.typing_rules.specs.Answers.{Walks, entailment_count}
+use Rattle.typing_rules.specs.Answers.{entailment_count}
 use Rattle.typing_rules.specs.Blocks.{after_block, after_stm}
 use Rattle.typing_rules.specs.Entailments.{guard_follows, state_follows}
 use Rattle.typing_rules.specs.Obligations.{block_entries, flat, stm_parts}
-use Rattle.typing_rules.specs.Walking.{HasTypesBelow, WalksStm, join_parts, plain_of, turn_parts}
+use Rattle.typing_rules.specs.Walking.{HasTypesBelow, IsWalk, WalksStm, plain_of}
 use Rattle.typing_rules.specs.declared.walk.Walk.{Walk}
-use Rattle.typing_rules.specs.declared.walk.Walked.{Walked}
 use Rattle.typing_rules.proofs.Bounds.{few_claims_state, few_entailments}
 use Rattle.typing_rules.proofs.Counting.{count_branch, count_loop}
 use Rattle.typing_rules.proofs.Ranges.{block_below, classes_below, meet_below, stm_below}
-use Rattle.typing_rules.proofs.Splits.{branch_walks, first_refused, fork_refused, handed_on, head_refused, loop_walks, second_refused, turn_refused}
-use Rattle.typing_rules.proofs.Statements.{branch_is, block_from}
-use Rattle.typing_rules.proofs.Walks.{assign_is, lock_is, loop_is, Reaches, one_point, reaches_end, reaches_few, reaches_more, reaches_refused, reaches_start}
+use Rattle.typing_rules.proofs.Splits.{branch_walks, first_refused, fork_refused, head_refused, loop_walks, second_refused, turn_refused}
+use Rattle.typing_rules.proofs.Statements.{block_from}
+use Rattle.typing_rules.proofs.Walks.{assign_is, branch_seen, lock_is, loop_seen, Reaches, one_point, reaches_end, reaches_few, reaches_more, reaches_refused, reaches_start}
 use Rattle.typing_rules.proofs.walk.Walk.+walk.Goals as goal
-
--- the answer about a statement at a point
-abbrev At : Walk → (at : ℕ) → List Proof → Point → Stm → Result Walked CheckFault → Type 0
-At w at proofs a s result =
-    Walks (plain_of w) w.thread (flat (stm_parts (plain_of w) w.thread s at proofs a)) (after_stm (plain_of w) w.thread s a)
-    (entailment_count (flat (stm_parts (plain_of w) w.thread s at proofs a))) result
 
 -- ids in range of the program as it is seen
 seen_range : (p : decl.Program) (b : Block) → IsBlockInRange (length p.vars) (length p.locks) b
@@ -52,7 +44,7 @@ block-statement-requires t c =
     let size = ap block_size next in
     let start = c.requires.point in
     let r = c.loop-stmt.invariant.2 start.at start.keeps start.types in
-    let falls : 2 * stm_size (view.kind c.stmt-item.result.kind) + 1 < t = omega (arith, size, c.loop-stmt.invariant.1, c.decreases) in (
+    let falls : 3 * stm_size (view.kind c.stmt-item.result.kind) + 2 < t = omega (arith, size, c.loop-stmt.invariant.1, c.decreases) in (
       falls,
       (
         c.requires.walk,
@@ -143,410 +135,33 @@ block-returns-in-Err t c a k =
     reaches_refused p w.thread whole a s.at (view.kind s.kind) (map view.proof s.proofs) rest r.0 c.loop-stmt.entailments reached c.in-Err.fault
     (subst (λ ps. Decides (flat (stm_parts p w.thread (view.kind s.kind) s.at (map view.proof ps) r.0)) (Err c.in-Err.fault)) c.as_slice.ensures (c.in-Err.ensures r.0 r.1.0))
 
-pub statement-fork-requires-clause-guard : goal.statement-fork-requires-clause-guard
-statement-fork-requires-clause-guard t c =
+-- Statements by their kind ----------------------------------------------------------------------------------------
+
+pub statement-branch-self-requires : goal.statement-branch-self-requires
+statement-branch-self-requires t c =
     let p = c.args.self.now.program.now in
-    (subst (IsStmInRange (length p.vars) (length p.locks)) (ap view.kind c.in-If.is ∙ branch_is c.in-If.e c.in-If.yes c.in-If.no c.in-If.join) c.requires.range).0
-
-pub statement-block-requires : goal.statement-block-requires
-statement-block-requires t c =
-    let w = c.args.self.now in
-    let program = w.program.now in
-    let p = plain_of w in
-    let th = w.thread in
-    let at = c.args.at in
-    let proofs = map view.proof c.args.proofs.now in
-    let e = term c.in-If.e in
-    let yes = view.block c.in-If.yes in
-    let no = view.block c.in-If.no in
-    let j = view.state c.in-If.join in
-    let is = ap view.kind c.in-If.is ∙ branch_is c.in-If.e c.in-If.yes c.in-If.no c.in-If.join in
-    let range = subst (IsStmInRange (length program.vars) (length program.locks)) is c.requires.range in
+    let is = branch_seen c.args.kind.now c.in-If.e c.in-If.yes c.in-If.no c.in-If.join c.in-If.is c.as_slice.result.now c.as_slice.ensures c.as_slice-in-If.result.now c.as_slice-in-If.ensures in
     let size = ap stm_size is in
-    let a = c.requires.point.at in
-    let k = c.requires.point.keeps in
-    let fork = c.in_ok-holds-in-If.ensures a k in
-    let falls : 2 * block_size (view.block c.as_slice.result.now) < t = omega (arith, ap (λ ss. block_size (view.block ss)) c.as_slice.ensures, size, c.decreases) in (
-      falls,
-      (
-        c.requires.walk,
-        (
-          subst (λ ss. IsBlockInRange (length program.vars) (length program.locks) (view.block ss)) (sym c.as_slice.ensures) range.1,
-          (
-            (let small : block_size yes < 2097152 = omega (arith, size, c.requires.small) in
-                subst (λ ss. block_size (view.block ss) < 2097152) (sym c.as_slice.ensures) small),
-            record { at = with_guard p th a e; keeps = fork.1; types = c.requires.point.types },
-          ),
-        ),
-      ),
-    )
+    let falls : 3 * stm_size (branch (term c.in-If.e) (view.block c.as_slice.result.now) (view.block c.as_slice-in-If.result.now) (view.state c.in-If.join)) + 1 < t = omega (arith, size, c.decreases) in
+    (falls, (c.requires.walk, (subst (IsStmInRange (length p.vars) (length p.locks)) is c.requires.range, (subst (λ s. stm_size s < 2097152) is c.requires.small, c.requires.point))))
 
-pub statement-block-requires-in-If : goal.statement-block-requires-in-If
-statement-block-requires-in-If t c =
-    let w = c.args.self.now in
-    let program = w.program.now in
-    let p = plain_of w in
-    let th = w.thread in
-    let at = c.args.at in
-    let proofs = map view.proof c.args.proofs.now in
-    let e = term c.in-If.e in
-    let yes = view.block c.in-If.yes in
-    let no = view.block c.in-If.no in
-    let j = view.state c.in-If.join in
-    let is = ap view.kind c.in-If.is ∙ branch_is c.in-If.e c.in-If.yes c.in-If.no c.in-If.join in
-    let range = subst (IsStmInRange (length program.vars) (length program.locks)) is c.requires.range in
-    let size = ap stm_size is in
-    let a = c.requires.point.at in
-    let k = c.requires.point.keeps in
-    let fork = c.in_ok-holds-in-If.ensures a k in
-    let falls : 2 * block_size (view.block c.as_slice-in-If.result.now) < t = omega (arith, ap (λ ss. block_size (view.block ss)) c.as_slice-in-If.ensures, size, c.decreases) in (
-      falls,
-      (
-        c.requires.walk,
-        (
-          subst (λ ss. IsBlockInRange (length program.vars) (length program.locks) (view.block ss)) (sym c.as_slice-in-If.ensures) range.2,
-          (
-            (let small : block_size no < 2097152 = omega (arith, size, c.requires.small) in
-                subst (λ ss. block_size (view.block ss) < 2097152) (sym c.as_slice-in-If.ensures) small),
-            record { at = with_guard p th a (neg e); keeps = fork.2; types = c.requires.point.types },
-          ),
-        ),
-      ),
-    )
+pub statement-returns-in-If : goal.statement-returns-in-If
+statement-returns-in-If t c =
+    subst (λ s. WalksStm c.args.self.now c.args.at s (map view.proof c.args.proofs.now) c.args.point c.branch-self.result)
+    (sym (branch_seen c.args.kind.now c.in-If.e c.in-If.yes c.in-If.no c.in-If.join c.in-If.is c.as_slice.result.now c.as_slice.ensures c.as_slice-in-If.result.now c.as_slice-in-If.ensures)) c.branch-self.ensures
 
-pub statement-returns-in_err-holds-in-If : goal.statement-returns-in_err-holds-in-If
-statement-returns-in_err-holds-in-If t c a k =
-    let w = c.args.self.now in
-    let program = w.program.now in
-    let p = plain_of w in
-    let th = w.thread in
-    let at = c.args.at in
-    let proofs = map view.proof c.args.proofs.now in
-    let e = term c.in-If.e in
-    let yes = view.block c.in-If.yes in
-    let no = view.block c.in-If.no in
-    let j = view.state c.in-If.join in
-    let is = ap view.kind c.in-If.is ∙ branch_is c.in-If.e c.in-If.yes c.in-If.no c.in-If.join in
-    subst (λ s. At w at proofs a s c.from_residual.result) (sym is)
-    (handed_on p th (flat (stm_parts p th (branch e yes no j) at proofs a)) (after_stm p th (branch e yes no j) a) (entailment_count (flat (stm_parts p th (branch e yes no j) at proofs a))) c.in_err-holds-in-If.field-0.0 c.from_residual.result
-    c.from_residual.ensures.1 (fork_refused p th at proofs a e yes no j c.in_err-holds-in-If.field-0.0 (c.in_err-holds-in-If.ensures a k)))
-
-pub statement-returns-in_err-first-in-If : goal.statement-returns-in_err-first-in-If
-statement-returns-in_err-first-in-If t c a k =
-    let w = c.args.self.now in
-    let program = w.program.now in
-    let p = plain_of w in
-    let th = w.thread in
-    let at = c.args.at in
-    let proofs = map view.proof c.args.proofs.now in
-    let e = term c.in-If.e in
-    let yes = view.block c.in-If.yes in
-    let no = view.block c.in-If.no in
-    let j = view.state c.in-If.join in
-    let is = ap view.kind c.in-If.is ∙ branch_is c.in-If.e c.in-If.yes c.in-If.no c.in-If.join in
-    let fork = c.in_ok-holds-in-If.ensures a k in
-    subst (λ s. At w at proofs a s c.from_residual-in_err-first-in-If.result) (sym is)
-    (handed_on p th (flat (stm_parts p th (branch e yes no j) at proofs a)) (after_stm p th (branch e yes no j) a) (entailment_count (flat (stm_parts p th (branch e yes no j) at proofs a))) c.in_err-first-in-If.field-0.0 c.from_residual-in_err-first-in-If.result
-    c.from_residual-in_err-first-in-If.ensures.1 (first_refused p th at proofs a e yes no j fork.0 c.in_err-first-in-If.field-0.0 (subst (λ ss. Decides (block_entries p th (view.block ss) (with_guard p th a e)) (Err c.in_err-first-in-If.field-0.0)) c.as_slice.ensures (c.in_err-first-in-If.ensures (with_guard p th a e) fork.1))))
-
-pub statement-returns-in_err-second-in-If : goal.statement-returns-in_err-second-in-If
-statement-returns-in_err-second-in-If t c a k =
-    let w = c.args.self.now in
-    let program = w.program.now in
-    let p = plain_of w in
-    let th = w.thread in
-    let at = c.args.at in
-    let proofs = map view.proof c.args.proofs.now in
-    let e = term c.in-If.e in
-    let yes = view.block c.in-If.yes in
-    let no = view.block c.in-If.no in
-    let j = view.state c.in-If.join in
-    let is = ap view.kind c.in-If.is ∙ branch_is c.in-If.e c.in-If.yes c.in-If.no c.in-If.join in
-    let fork = c.in_ok-holds-in-If.ensures a k in
-    let first = (rw c.as_slice.ensures at c.in_ok-first-in-If.ensures) (with_guard p th a e) fork.1 in
-    subst (λ s. At w at proofs a s c.from_residual-in_err-second-in-If.result) (sym is)
-    (handed_on p th (flat (stm_parts p th (branch e yes no j) at proofs a)) (after_stm p th (branch e yes no j) a) (entailment_count (flat (stm_parts p th (branch e yes no j) at proofs a))) c.in_err-second-in-If.field-0.0 c.from_residual-in_err-second-in-If.result
-    c.from_residual-in_err-second-in-If.ensures.1 (second_refused p th at proofs a e yes no j fork.0 first.0 c.in_err-second-in-If.field-0.0 (subst (λ ss. Decides (block_entries p th (view.block ss) (with_guard p th a (neg e))) (Err c.in_err-second-in-If.field-0.0)) c.as_slice-in-If.ensures (c.in_err-second-in-If.ensures (with_guard p th a (neg e)) fork.2))))
-
-pub statement-join-requires-clause-range : goal.statement-join-requires-clause-range
-statement-join-requires-clause-range t c =
+pub statement-while_loop-requires : goal.statement-while_loop-requires
+statement-while_loop-requires t c =
     let p = c.args.self.now.program.now in
-    (subst (IsStmInRange (length p.vars) (length p.locks)) (ap view.kind c.in-If.is ∙ branch_is c.in-If.e c.in-If.yes c.in-If.no c.in-If.join) c.requires.range).3
-
-pub statement-join-requires-clause-yes : goal.statement-join-requires-clause-yes
-statement-join-requires-clause-yes t c =
-    let w = c.args.self.now in
-    let program = w.program.now in
-    let p = plain_of w in
-    let th = w.thread in
-    let at = c.args.at in
-    let proofs = map view.proof c.args.proofs.now in
-    let e = term c.in-If.e in
-    let yes = view.block c.in-If.yes in
-    let no = view.block c.in-If.no in
-    let j = view.state c.in-If.join in
-    let is = ap view.kind c.in-If.is ∙ branch_is c.in-If.e c.in-If.yes c.in-If.no c.in-If.join in
-    let range = subst (IsStmInRange (length program.vars) (length program.locks)) is c.requires.range in
+    let is = loop_seen c.args.kind.now c.in-While.e c.in-While.inv c.in-While.body c.in-While.is c.as_slice-in-While.result.now c.as_slice-in-While.ensures in
     let size = ap stm_size is in
-    let a = c.requires.point.at in
-    let k = c.requires.point.keeps in
-    let classes = classes_below program c.requires.walk.formed in
-    let fork = c.in_ok-holds-in-If.ensures a k in
-    let first = (rw c.as_slice.ensures at c.in_ok-first-in-If.ensures) (with_guard p th a e) fork.1 in
-    record {
-      at = after_block p th yes (with_guard p th a e);
-      keeps = first.1;
-      types = block_below p th (length program.vars) (length program.locks) classes yes (with_guard p th a e) range.1 c.requires.point.types;
-    }
+    let falls : 3 * stm_size (loop (term c.in-While.e) (view.state c.in-While.inv) (view.block c.as_slice-in-While.result.now)) + 1 < t = omega (arith, size, c.decreases) in
+    (falls, (c.requires.walk, (subst (IsStmInRange (length p.vars) (length p.locks)) is c.requires.range, (subst (λ s. stm_size s < 2097152) is c.requires.small, c.requires.point))))
 
-pub statement-join-requires-clause-no : goal.statement-join-requires-clause-no
-statement-join-requires-clause-no t c =
-    let w = c.args.self.now in
-    let program = w.program.now in
-    let p = plain_of w in
-    let th = w.thread in
-    let at = c.args.at in
-    let proofs = map view.proof c.args.proofs.now in
-    let e = term c.in-If.e in
-    let yes = view.block c.in-If.yes in
-    let no = view.block c.in-If.no in
-    let j = view.state c.in-If.join in
-    let is = ap view.kind c.in-If.is ∙ branch_is c.in-If.e c.in-If.yes c.in-If.no c.in-If.join in
-    let range = subst (IsStmInRange (length program.vars) (length program.locks)) is c.requires.range in
-    let size = ap stm_size is in
-    let a = c.requires.point.at in
-    let k = c.requires.point.keeps in
-    let classes = classes_below program c.requires.walk.formed in
-    let fork = c.in_ok-holds-in-If.ensures a k in
-    let second = (rw c.as_slice-in-If.ensures at c.in_ok-second-in-If.ensures) (with_guard p th a (neg e)) fork.2 in
-    record {
-      at = after_block p th no (with_guard p th a (neg e));
-      keeps = second.1;
-      types = block_below p th (length program.vars) (length program.locks) classes no (with_guard p th a (neg e)) range.2 c.requires.point.types;
-    }
-
-pub statement-join-requires-clause-few : goal.statement-join-requires-clause-few
-statement-join-requires-clause-few t c =
-    let w = c.args.self.now in
-    let program = w.program.now in
-    let p = plain_of w in
-    let th = w.thread in
-    let at = c.args.at in
-    let proofs = map view.proof c.args.proofs.now in
-    let e = term c.in-If.e in
-    let yes = view.block c.in-If.yes in
-    let no = view.block c.in-If.no in
-    let j = view.state c.in-If.join in
-    let is = ap view.kind c.in-If.is ∙ branch_is c.in-If.e c.in-If.yes c.in-If.no c.in-If.join in
-    let range = subst (IsStmInRange (length program.vars) (length program.locks)) is c.requires.range in
-    let size = ap stm_size is in
-    let a = c.requires.point.at in
-    let k = c.requires.point.keeps in
-    let fork = c.in_ok-holds-in-If.ensures a k in
-    let first = (rw c.as_slice.ensures at c.in_ok-first-in-If.ensures) (with_guard p th a e) fork.1 in
-    let second = (rw c.as_slice-in-If.ensures at c.in_ok-second-in-If.ensures) (with_guard p th a (neg e)) fork.2 in
-    omega (
-      arith,
-      fork.3,
-      first.2,
-      second.2,
-      size,
-      c.requires.small,
-      few_entailments (view.program program) th c.requires.walk.formed c.requires.walk.declared yes (with_guard p th a e) (seen_range program yes range.1),
-      few_entailments (view.program program) th c.requires.walk.formed c.requires.walk.declared no (with_guard p th a (neg e)) (seen_range program no range.2),
-    )
-
-pub statement-head-requires-clause-guard : goal.statement-head-requires-clause-guard
-statement-head-requires-clause-guard t c =
-    let p = c.args.self.now.program.now in
-    (subst (IsStmInRange (length p.vars) (length p.locks)) (ap view.kind c.in-While.is ∙ loop_is c.in-While.e c.in-While.inv c.in-While.body) c.requires.range).0
-
-pub statement-head-requires-clause-range : goal.statement-head-requires-clause-range
-statement-head-requires-clause-range t c =
-    let p = c.args.self.now.program.now in
-    (subst (IsStmInRange (length p.vars) (length p.locks)) (ap view.kind c.in-While.is ∙ loop_is c.in-While.e c.in-While.inv c.in-While.body) c.requires.range).1
-
-pub statement-head-requires-clause-small : goal.statement-head-requires-clause-small
-statement-head-requires-clause-small t c =
-    let is = ap stm_size (ap view.kind c.in-While.is ∙ loop_is c.in-While.e c.in-While.inv c.in-While.body) in
-    omega (arith, is, c.requires.small)
-
-pub statement-returns-in_err-holds-in-While : goal.statement-returns-in_err-holds-in-While
-statement-returns-in_err-holds-in-While t c a k =
-    let w = c.args.self.now in
-    let program = w.program.now in
-    let p = plain_of w in
-    let th = w.thread in
-    let at = c.args.at in
-    let proofs = map view.proof c.args.proofs.now in
-    let e = term c.in-While.e in
-    let j = view.state c.in-While.inv in
-    let body = view.block c.in-While.body in
-    let is = ap view.kind c.in-While.is ∙ loop_is c.in-While.e c.in-While.inv c.in-While.body in
-    subst (λ s. At w at proofs a s c.from_residual-in_err-holds-in-While.result) (sym is)
-    (handed_on p th (flat (stm_parts p th (loop e j body) at proofs a)) (after_stm p th (loop e j body) a) (entailment_count (flat (stm_parts p th (loop e j body) at proofs a))) c.in_err-holds-in-While.field-0.0 c.from_residual-in_err-holds-in-While.result
-    c.from_residual-in_err-holds-in-While.ensures.1 (head_refused p th at proofs a e j body c.in_err-holds-in-While.field-0.0 (c.in_err-holds-in-While.ensures a k)))
-
-pub statement-block-requires-in-While : goal.statement-block-requires-in-While
-statement-block-requires-in-While t c =
-    let w = c.args.self.now in
-    let program = w.program.now in
-    let p = plain_of w in
-    let th = w.thread in
-    let at = c.args.at in
-    let proofs = map view.proof c.args.proofs.now in
-    let e = term c.in-While.e in
-    let j = view.state c.in-While.inv in
-    let body = view.block c.in-While.body in
-    let is = ap view.kind c.in-While.is ∙ loop_is c.in-While.e c.in-While.inv c.in-While.body in
-    let range = subst (IsStmInRange (length program.vars) (length program.locks)) is c.requires.range in
-    let size = ap stm_size is in
-    let a = c.requires.point.at in
-    let k = c.requires.point.keeps in
-    let classes = classes_below program c.requires.walk.formed in
-    let head = c.in_ok-holds-in-While.ensures a k in
-    let top = meet p th a j in
-    let falls : 2 * block_size (view.block c.as_slice-in-While.result.now) < t = omega (arith, ap (λ ss. block_size (view.block ss)) c.as_slice-in-While.ensures, size, c.decreases) in (
-      falls,
-      (
-        c.requires.walk,
-        (
-          subst (λ ss. IsBlockInRange (length program.vars) (length program.locks) (view.block ss)) (sym c.as_slice-in-While.ensures) range.2,
-          (
-            (let small : block_size body < 2097152 = omega (arith, size, c.requires.small) in
-                subst (λ ss. block_size (view.block ss) < 2097152) (sym c.as_slice-in-While.ensures) small),
-            record { at = with_guard p th top e; keeps = head.1; types = meet_below p th (length program.vars) (length program.locks) classes a j range.1.types },
-          ),
-        ),
-      ),
-    )
-
-pub statement-returns-in_err-end-in-While : goal.statement-returns-in_err-end-in-While
-statement-returns-in_err-end-in-While t c a k =
-    let w = c.args.self.now in
-    let program = w.program.now in
-    let p = plain_of w in
-    let th = w.thread in
-    let at = c.args.at in
-    let proofs = map view.proof c.args.proofs.now in
-    let e = term c.in-While.e in
-    let j = view.state c.in-While.inv in
-    let body = view.block c.in-While.body in
-    let is = ap view.kind c.in-While.is ∙ loop_is c.in-While.e c.in-While.inv c.in-While.body in
-    let head = c.in_ok-holds-in-While.ensures a k in
-    let top = meet p th a j in
-    subst (λ s. At w at proofs a s c.from_residual-in_err-end-in-While.result) (sym is)
-    (handed_on p th (flat (stm_parts p th (loop e j body) at proofs a)) (after_stm p th (loop e j body) a) (entailment_count (flat (stm_parts p th (loop e j body) at proofs a))) c.in_err-end-in-While.field-0.0 c.from_residual-in_err-end-in-While.result
-    c.from_residual-in_err-end-in-While.ensures.1 (turn_refused p th at proofs a e j body head.0 c.in_err-end-in-While.field-0.0 (subst (λ ss. Decides (block_entries p th (view.block ss) (with_guard p th top e)) (Err c.in_err-end-in-While.field-0.0)) c.as_slice-in-While.ensures (c.in_err-end-in-While.ensures (with_guard p th top e) head.1))))
-
-pub statement-turn-requires-clause-end : goal.statement-turn-requires-clause-end
-statement-turn-requires-clause-end t c =
-    let w = c.args.self.now in
-    let program = w.program.now in
-    let p = plain_of w in
-    let th = w.thread in
-    let at = c.args.at in
-    let proofs = map view.proof c.args.proofs.now in
-    let e = term c.in-While.e in
-    let j = view.state c.in-While.inv in
-    let body = view.block c.in-While.body in
-    let is = ap view.kind c.in-While.is ∙ loop_is c.in-While.e c.in-While.inv c.in-While.body in
-    let range = subst (IsStmInRange (length program.vars) (length program.locks)) is c.requires.range in
-    let size = ap stm_size is in
-    let a = c.requires.point.at in
-    let k = c.requires.point.keeps in
-    let classes = classes_below program c.requires.walk.formed in
-    let head = c.in_ok-holds-in-While.ensures a k in
-    let top = meet p th a j in
-    let end = (rw c.as_slice-in-While.ensures at c.in_ok-end-in-While.ensures) (with_guard p th top e) head.1 in
-    record {
-      at = after_block p th body (with_guard p th top e);
-      keeps = end.1;
-      types = block_below p th (length program.vars) (length program.locks) classes body (with_guard p th top e) range.2
-          (meet_below p th (length program.vars) (length program.locks) classes a j range.1.types);
-    }
-
-pub statement-turn-requires-clause-few : goal.statement-turn-requires-clause-few
-statement-turn-requires-clause-few t c =
-    let w = c.args.self.now in
-    let program = w.program.now in
-    let p = plain_of w in
-    let th = w.thread in
-    let at = c.args.at in
-    let proofs = map view.proof c.args.proofs.now in
-    let e = term c.in-While.e in
-    let j = view.state c.in-While.inv in
-    let body = view.block c.in-While.body in
-    let is = ap view.kind c.in-While.is ∙ loop_is c.in-While.e c.in-While.inv c.in-While.body in
-    let range = subst (IsStmInRange (length program.vars) (length program.locks)) is c.requires.range in
-    let size = ap stm_size is in
-    let a = c.requires.point.at in
-    let k = c.requires.point.keeps in
-    let head = c.in_ok-holds-in-While.ensures a k in
-    let top = meet p th a j in
-    let end = (rw c.as_slice-in-While.ensures at c.in_ok-end-in-While.ensures) (with_guard p th top e) head.1 in
-    omega (
-      arith,
-      head.3,
-      end.2,
-      size,
-      c.requires.small,
-      few_claims_state a j,
-      length-append (state_follows a j) (guard_follows p th top e ∷ []),
-      few_entailments (view.program program) th c.requires.walk.formed c.requires.walk.declared body (with_guard p th top e) (seen_range program body range.2),
-    )
-
-pub statement-returns-in_ok-second-in-If : goal.statement-returns-in_ok-second-in-If
-statement-returns-in_ok-second-in-If t c a k =
-    let w = c.args.self.now in
-    let program = w.program.now in
-    let p = plain_of w in
-    let th = w.thread in
-    let at = c.args.at in
-    let proofs = map view.proof c.args.proofs.now in
-    let e = term c.in-If.e in
-    let yes = view.block c.in-If.yes in
-    let no = view.block c.in-If.no in
-    let j = view.state c.in-If.join in
-    let is = ap view.kind c.in-If.is ∙ branch_is c.in-If.e c.in-If.yes c.in-If.no c.in-If.join in
-    let fork = c.in_ok-holds-in-If.ensures a k in
-    let first = (rw c.as_slice.ensures at c.in_ok-first-in-If.ensures) (with_guard p th a e) fork.1 in
-    let second = (rw c.as_slice-in-If.ensures at c.in_ok-second-in-If.ensures) (with_guard p th a (neg e)) fork.2 in
-    let yes_end = after_block p th yes (with_guard p th a e) in
-    let no_end = after_block p th no (with_guard p th a (neg e)) in
-    let hs = state_follows yes_end j ++ state_follows no_end j in
-    let before = c.in_ok-holds-in-If.field-0.count in
-    let counted = before + c.in_ok-first-in-If.first.entailments + c.in_ok-second-in-If.second.entailments + length hs in
-    let sum : counted ≡ entailment_count (flat (stm_parts p th (branch e yes no j) at proofs a)) = omega (arith, fork.3, first.2, second.2, count_branch p th at proofs a e yes no j) in
-    subst (λ s. At w at proofs a s c.join.result) (sym is)
-    (branch_walks p th at proofs a e yes no j fork.0 first.0 second.0 c.join.result counted sum
-    (subst (λ n. Walks p th (flat (join_parts p th at proofs n j yes_end no_end)) (meet p th yes_end j) counted c.join.result) fork.3
-    (c.join.ensures yes_end first.1 no_end second.1)))
-
-pub statement-returns-in_ok-end-in-While : goal.statement-returns-in_ok-end-in-While
-statement-returns-in_ok-end-in-While t c a k =
-    let w = c.args.self.now in
-    let program = w.program.now in
-    let p = plain_of w in
-    let th = w.thread in
-    let at = c.args.at in
-    let proofs = map view.proof c.args.proofs.now in
-    let e = term c.in-While.e in
-    let j = view.state c.in-While.inv in
-    let body = view.block c.in-While.body in
-    let is = ap view.kind c.in-While.is ∙ loop_is c.in-While.e c.in-While.inv c.in-While.body in
-    let head = c.in_ok-holds-in-While.ensures a k in
-    let top = meet p th a j in
-    let end = (rw c.as_slice-in-While.ensures at c.in_ok-end-in-While.ensures) (with_guard p th top e) head.1 in
-    let body_end = after_block p th body (with_guard p th top e) in
-    let after = with_guard p th top (neg e) in
-    let before = c.in_ok-holds-in-While.field-0.count in
-    let counted = before + c.in_ok-end-in-While.end.entailments + length (state_follows body_end j) in
-    let sum : counted ≡ entailment_count (flat (stm_parts p th (loop e j body) at proofs a)) = omega (arith, head.3, end.2, count_loop p th at proofs a e j body) in
-    subst (λ s. At w at proofs a s c.turn.result) (sym is)
-    (loop_walks p th at proofs a e j body head.0 end.0 c.turn.result counted sum
-    (subst (λ n. Walks p th (flat (turn_parts p th at proofs n j body_end after)) after counted c.turn.result) head.3
-    (c.turn.ensures body_end end.1 after head.2)))
+pub statement-returns-in-While : goal.statement-returns-in-While
+statement-returns-in-While t c =
+    subst (λ s. WalksStm c.args.self.now c.args.at s (map view.proof c.args.proofs.now) c.args.point c.while_loop.result)
+    (sym (loop_seen c.args.kind.now c.in-While.e c.in-While.inv c.in-While.body c.in-While.is c.as_slice-in-While.result.now c.as_slice-in-While.ensures)) c.while_loop.ensures
 
 pub statement-assign-requires-clause-range : goal.statement-assign-requires-clause-range
 statement-assign-requires-clause-range t c =
@@ -567,3 +182,257 @@ pub statement-returns-in-Lock : goal.statement-returns-in-Lock
 statement-returns-in-Lock t c =
     subst (λ s. WalksStm c.args.self.now c.args.at s (map view.proof c.args.proofs.now) c.args.point c.lock.result)
     (sym (ap view.kind c.in-Lock.is ∙ lock_is c.in-Lock.l)) (c.lock.ensures (map view.proof c.args.proofs.now))
+
+-- Branches -------------------------------------------------------------------------------------------------------
+
+pub branch-fork-requires-clause-guard : goal.branch-fork-requires-clause-guard
+branch-fork-requires-clause-guard t c = c.requires.range.0
+
+pub branch-block-requires : goal.branch-block-requires
+branch-block-requires t c =
+    let w = c.args.self.now in
+    let a = c.requires.point.at in
+    let yes = view.block c.args.yes.now in
+    let falls : 3 * block_size yes < t = omega (arith, c.decreases) in
+    let small : block_size yes < 2097152 = omega (arith, c.requires.small) in (
+      falls,
+      (
+        c.requires.walk,
+        (
+          c.requires.range.1,
+          (
+            small,
+            record {
+              at = with_guard (plain_of w) w.thread a (term c.args.e.now);
+              keeps = (c.in_ok-holds.ensures a c.requires.point.keeps).1;
+              types = c.requires.point.types;
+            },
+          ),
+        ),
+      ),
+    )
+
+pub branch-block-requires-2 : goal.branch-block-requires-2
+branch-block-requires-2 t c =
+    let w = c.args.self.now in
+    let a = c.requires.point.at in
+    let no = view.block c.args.no.now in
+    let falls : 3 * block_size no < t = omega (arith, c.decreases) in
+    let small : block_size no < 2097152 = omega (arith, c.requires.small) in (
+      falls,
+      (
+        c.requires.walk,
+        (
+          c.requires.range.2,
+          (
+            small,
+            record {
+              at = with_guard (plain_of w) w.thread a (neg (term c.args.e.now));
+              keeps = (c.in_ok-holds.ensures a c.requires.point.keeps).2;
+              types = c.requires.point.types;
+            },
+          ),
+        ),
+      ),
+    )
+
+pub branch-returns-in_err-holds : goal.branch-returns-in_err-holds
+branch-returns-in_err-holds t c a k =
+    let w = c.args.self.now in
+    fork_refused (plain_of w) w.thread c.args.at (map view.proof c.args.proofs.now) a (term c.args.e.now) (view.block c.args.yes.now) (view.block c.args.no.now) (view.state c.args.join.now)
+    c.in_err-holds.field-0.0 c.from_residual.result c.from_residual.ensures.1 (c.in_err-holds.ensures a k)
+
+pub branch-returns-in_err-first : goal.branch-returns-in_err-first
+branch-returns-in_err-first t c a k =
+    let w = c.args.self.now in
+    let p = plain_of w in
+    let e = term c.args.e.now in
+    let fork = c.in_ok-holds.ensures a k in
+    first_refused p w.thread c.args.at (map view.proof c.args.proofs.now) a e (view.block c.args.yes.now) (view.block c.args.no.now) (view.state c.args.join.now) fork.0
+    c.in_err-first.field-0.0 c.from_residual-in_err-first.result c.from_residual-in_err-first.ensures.1 (c.in_err-first.ensures (with_guard p w.thread a e) fork.1)
+
+pub branch-returns-in_err-second : goal.branch-returns-in_err-second
+branch-returns-in_err-second t c a k =
+    let w = c.args.self.now in
+    let p = plain_of w in
+    let e = term c.args.e.now in
+    let fork = c.in_ok-holds.ensures a k in
+    let first = c.in_ok-first.ensures (with_guard p w.thread a e) fork.1 in
+    second_refused p w.thread c.args.at (map view.proof c.args.proofs.now) a e (view.block c.args.yes.now) (view.block c.args.no.now) (view.state c.args.join.now) fork.0 first.0
+    c.in_err-second.field-0.0 c.from_residual-in_err-second.result c.from_residual-in_err-second.ensures.1 (c.in_err-second.ensures (with_guard p w.thread a (neg e)) fork.2)
+
+pub branch-join-requires-clause-range : goal.branch-join-requires-clause-range
+branch-join-requires-clause-range t c = c.requires.range.3
+
+pub branch-join-requires-clause-yes : goal.branch-join-requires-clause-yes
+branch-join-requires-clause-yes t c =
+    let w = c.args.self.now in
+    let program = w.program.now in
+    let start = with_guard (plain_of w) w.thread c.requires.point.at (term c.args.e.now) in
+    let fork = c.in_ok-holds.ensures c.requires.point.at c.requires.point.keeps in
+    record {
+      at = after_block (plain_of w) w.thread (view.block c.args.yes.now) start;
+      keeps = (c.in_ok-first.ensures start fork.1).1;
+      types = block_below (plain_of w) w.thread (length program.vars) (length program.locks) (classes_below program c.requires.walk.formed)
+          (view.block c.args.yes.now) start c.requires.range.1 c.requires.point.types;
+    }
+
+pub branch-join-requires-clause-no : goal.branch-join-requires-clause-no
+branch-join-requires-clause-no t c =
+    let w = c.args.self.now in
+    let program = w.program.now in
+    let start = with_guard (plain_of w) w.thread c.requires.point.at (neg (term c.args.e.now)) in
+    let fork = c.in_ok-holds.ensures c.requires.point.at c.requires.point.keeps in
+    record {
+      at = after_block (plain_of w) w.thread (view.block c.args.no.now) start;
+      keeps = (c.in_ok-second.ensures start fork.2).1;
+      types = block_below (plain_of w) w.thread (length program.vars) (length program.locks) (classes_below program c.requires.walk.formed)
+          (view.block c.args.no.now) start c.requires.range.2 c.requires.point.types;
+    }
+
+-- a block has few entailments
+few_of : (w : Walk) → IsWalk w → (b : Block) (a : Point) → IsBlockInRange (length w.program.now.vars) (length w.program.now.locks) b
+    → entailment_count (block_entries (plain_of w) w.thread b a) ≤ 1024 * block_size b
+few_of w is b a range = few_entailments (view.program w.program.now) w.thread is.formed is.declared b a (seen_range w.program.now b range)
+
+pub branch-join-requires-clause-few : goal.branch-join-requires-clause-few
+branch-join-requires-clause-few t c =
+    let w = c.args.self.now in
+    let p = plain_of w in
+    let yes_start = with_guard p w.thread c.requires.point.at (term c.args.e.now) in
+    let no_start = with_guard p w.thread c.requires.point.at (neg (term c.args.e.now)) in
+    let fork = c.in_ok-holds.ensures c.requires.point.at c.requires.point.keeps in
+    omega (
+      arith,
+      fork.3,
+      (c.in_ok-first.ensures yes_start fork.1).2,
+      (c.in_ok-second.ensures no_start fork.2).2,
+      c.requires.small,
+      few_of w c.requires.walk (view.block c.args.yes.now) yes_start c.requires.range.1,
+      few_of w c.requires.walk (view.block c.args.no.now) no_start c.requires.range.2,
+    )
+
+pub branch-returns : goal.branch-returns
+branch-returns t c a k =
+    let w = c.args.self.now in
+    let p = plain_of w in
+    let proofs = map view.proof c.args.proofs.now in
+    let e = term c.args.e.now in
+    let yes = view.block c.args.yes.now in
+    let no = view.block c.args.no.now in
+    let j = view.state c.args.join.now in
+    let fork = c.in_ok-holds.ensures a k in
+    let first = c.in_ok-first.ensures (with_guard p w.thread a e) fork.1 in
+    let second = c.in_ok-second.ensures (with_guard p w.thread a (neg e)) fork.2 in
+    let yes_end = after_block p w.thread yes (with_guard p w.thread a e) in
+    let no_end = after_block p w.thread no (with_guard p w.thread a (neg e)) in
+    let counted = c.in_ok-holds.field-0.count + c.in_ok-first.first.entailments + c.in_ok-second.second.entailments + length (state_follows yes_end j ++ state_follows no_end j) in
+    let sum : counted ≡ entailment_count (flat (stm_parts p w.thread (branch e yes no j) c.args.at proofs a)) = omega (arith, fork.3, first.2, second.2, count_branch p w.thread c.args.at proofs a e yes no j) in
+    branch_walks p w.thread c.args.at proofs a e yes no j fork.0 first.0 second.0 c.join.result c.in_ok-holds.field-0.count counted fork.3 sum
+    (c.join.ensures yes_end first.1 no_end second.1)
+
+-- Loops ----------------------------------------------------------------------------------------------------------
+
+pub while_loop-head-requires-clause-guard : goal.while_loop-head-requires-clause-guard
+while_loop-head-requires-clause-guard t c = c.requires.range.0
+
+pub while_loop-head-requires-clause-range : goal.while_loop-head-requires-clause-range
+while_loop-head-requires-clause-range t c = c.requires.range.1
+
+pub while_loop-returns-in_err-holds : goal.while_loop-returns-in_err-holds
+while_loop-returns-in_err-holds t c a k =
+    let w = c.args.self.now in
+    head_refused (plain_of w) w.thread c.args.at (map view.proof c.args.proofs.now) a (term c.args.e.now) (view.state c.args.inv.now) (view.block c.args.body.now)
+    c.in_err-holds.field-0.0 c.from_residual.result c.from_residual.ensures.1 (c.in_err-holds.ensures a k)
+
+pub while_loop-block-requires : goal.while_loop-block-requires
+while_loop-block-requires t c =
+    let w = c.args.self.now in
+    let p = plain_of w in
+    let program = w.program.now in
+    let a = c.requires.point.at in
+    let j = view.state c.args.inv.now in
+    let body = view.block c.args.body.now in
+    let falls : 3 * block_size body < t = omega (arith, c.decreases) in
+    let small : block_size body < 2097152 = omega (arith, c.requires.small) in (
+      falls,
+      (
+        c.requires.walk,
+        (
+          c.requires.range.2,
+          (
+            small,
+            record {
+              at = with_guard p w.thread (meet p w.thread a j) (term c.args.e.now);
+              keeps = (c.in_ok-holds.ensures a c.requires.point.keeps).1;
+              types = meet_below p w.thread (length program.vars) (length program.locks) (classes_below program c.requires.walk.formed) a j c.requires.range.1.types;
+            },
+          ),
+        ),
+      ),
+    )
+
+pub while_loop-returns-in_err-end : goal.while_loop-returns-in_err-end
+while_loop-returns-in_err-end t c a k =
+    let w = c.args.self.now in
+    let p = plain_of w in
+    let e = term c.args.e.now in
+    let j = view.state c.args.inv.now in
+    let head = c.in_ok-holds.ensures a k in
+    turn_refused p w.thread c.args.at (map view.proof c.args.proofs.now) a e j (view.block c.args.body.now) head.0
+    c.in_err-end.field-0.0 c.from_residual-in_err-end.result c.from_residual-in_err-end.ensures.1 (c.in_err-end.ensures (with_guard p w.thread (meet p w.thread a j) e) head.1)
+
+pub while_loop-turn-requires-clause-end : goal.while_loop-turn-requires-clause-end
+while_loop-turn-requires-clause-end t c =
+    let w = c.args.self.now in
+    let p = plain_of w in
+    let program = w.program.now in
+    let a = c.requires.point.at in
+    let j = view.state c.args.inv.now in
+    let body = view.block c.args.body.now in
+    let start = with_guard p w.thread (meet p w.thread a j) (term c.args.e.now) in
+    let head = c.in_ok-holds.ensures a c.requires.point.keeps in
+    let classes = classes_below program c.requires.walk.formed in
+    record {
+      at = after_block p w.thread body start;
+      keeps = (c.in_ok-end.ensures start head.1).1;
+      types = block_below p w.thread (length program.vars) (length program.locks) classes body start c.requires.range.2
+          (meet_below p w.thread (length program.vars) (length program.locks) classes a j c.requires.range.1.types);
+    }
+
+pub while_loop-turn-requires-clause-few : goal.while_loop-turn-requires-clause-few
+while_loop-turn-requires-clause-few t c =
+    let w = c.args.self.now in
+    let p = plain_of w in
+    let a = c.requires.point.at in
+    let e = term c.args.e.now in
+    let j = view.state c.args.inv.now in
+    let body = view.block c.args.body.now in
+    let top = meet p w.thread a j in
+    let head = c.in_ok-holds.ensures a c.requires.point.keeps in
+    omega (
+      arith,
+      head.3,
+      (c.in_ok-end.ensures (with_guard p w.thread top e) head.1).2,
+      c.requires.small,
+      few_claims_state a j,
+      length-append (state_follows a j) (guard_follows p w.thread top e ∷ []),
+      few_of w c.requires.walk body (with_guard p w.thread top e) c.requires.range.2,
+    )
+
+pub while_loop-returns : goal.while_loop-returns
+while_loop-returns t c a k =
+    let w = c.args.self.now in
+    let p = plain_of w in
+    let proofs = map view.proof c.args.proofs.now in
+    let e = term c.args.e.now in
+    let j = view.state c.args.inv.now in
+    let body = view.block c.args.body.now in
+    let top = meet p w.thread a j in
+    let head = c.in_ok-holds.ensures a k in
+    let end = c.in_ok-end.ensures (with_guard p w.thread top e) head.1 in
+    let body_end = after_block p w.thread body (with_guard p w.thread top e) in
+    let counted = c.in_ok-holds.field-0.count + c.in_ok-end.end.entailments + length (state_follows body_end j) in
+    let sum : counted ≡ entailment_count (flat (stm_parts p w.thread (loop e j body) c.args.at proofs a)) = omega (arith, head.3, end.2, count_loop p w.thread c.args.at proofs a e j body) in
+    loop_walks p w.thread c.args.at proofs a e j body head.0 end.0 c.turn.result c.in_ok-holds.field-0.count counted head.3 sum
+    (c.turn.ensures body_end end.1 (with_guard p w.thread top (neg e)) head.2)

@@ -1,4 +1,6 @@
 use Rattle.std.proofs.Common.{◌+◌, ◌*◌, ◌≤◌, drop, length}
+use Rattle.cov_expr.specs.View.{term}
+use Rattle.cov_ast.specs.Syntax.{branch, loop}
 use Rattle.cov_ast.specs.View as view
 use Rattle.cov_ast.specs.WellFormed.{IsBlockInRange, block_size, stm_size}
 use Rattle.typing_state.specs.Kept.{Keeps}
@@ -18,8 +20,15 @@ invariant-block-loop-stmt l =
     × Reaches (plain_of l.self) l.self.thread (view.block l.body) a rest b l.entailments))
 
 -- a statement is smaller than the block that it stands in, and so is a block than its statement
+
 abbrev pub decreases-block : goal.decreases-block
-decreases-block l = 2 * block_size (view.block l.body.now)
+decreases-block l = 3 * block_size (view.block l.body.now)
 
 abbrev pub decreases-statement : goal.decreases-statement
-decreases-statement l = 2 * stm_size (view.kind l.kind.now) + 1
+decreases-statement l = 3 * stm_size (view.kind l.kind.now) + 2
+
+abbrev pub decreases-branch : goal.decreases-branch
+decreases-branch l = 3 * stm_size (branch (term l.e.now) (view.block l.yes.now) (view.block l.no.now) (view.state l.join.now)) + 1
+
+abbrev pub decreases-while_loop : goal.decreases-while_loop
+decreases-while_loop l = 3 * stm_size (loop (term l.e.now) (view.state l.inv.now) (view.block l.body.now)) + 1
