@@ -10,7 +10,7 @@ use Rattle.cov_expr.specs.Words.{IsMemory, IsSchedule}
 use Rattle.cov_ast.specs.Plain.{Plain, plain}
 use Rattle.cov_ast.specs.Plain as code
 use Rattle.cov_ast.specs.Syntax.{Stm, skip, assign, lock, unlock, branch, loop, note, Block, done, more, Program}
-use Rattle.flow_model.specs.Source.{Item, run, Holders, Run, items_of, place_of, step, after}
+use Rattle.flow_model.specs.Source.{Item, run, put, test, Holders, Run, items_of, place_of, step, after}
 use Rattle.flow_model.specs.Holdings.{IsStableNow}
 use Rattle.flow_model.specs.Agreement.{SameAt}
 use Rattle.mode_compat.specs.Compatible.{numbered}
@@ -59,10 +59,15 @@ held_in_front_of p t (i ∷ is) = held_at p t (place_of i)
 
 -- the expression that the next step evaluates, if it evaluates one
 abbrev pub evaluated : List Item → Option Term
+evaluated [] = None
+evaluated (run at code.skip ∷ is) = None
 evaluated (run at (code.assign x e) ∷ is) = Some e
+evaluated (run at (code.lock l) ∷ is) = None
+evaluated (run at (code.unlock l) ∷ is) = None
 evaluated (run at (code.branch e yes_block no_block) ∷ is) = Some e
 evaluated (run at (code.loop e body) ∷ is) = Some e
-evaluated is = None
+evaluated (put at x word ∷ is) = None
+evaluated (test at word yes_block no_block ∷ is) = None
 
 -- The expression has width at most 7, and of any two occurrences of variables in it one is stable now: others may write at
 -- most one of the words that are read.

@@ -10,8 +10,6 @@
 
 mod check;
 mod laws;
-#[cfg(test)]
-mod tests;
 mod verdict;
 
 pub use check::{check_declared, check_program};
