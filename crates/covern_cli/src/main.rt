@@ -1,21 +1,11 @@
-//! Covern checks that a program of several threads never lets secrets flow to where an observer may look, whatever the
-//! schedule.
-//!
-//! [`covern::covern`] is the whole program: its contract says what each command replies, and what a reply means. `main`
-//! hands it the command line, the files of the system and standard output.
+//! The program: the command line, the files of the system and standard output go to [`top_call::covern`], which is the
+//! whole program as a library, and whose status is the exit status.
 #![tactic(auto)]
 
-mod answer;
-mod covern;
-mod judge;
-mod refusal;
-#[cfg(test)]
-mod tests;
-
-use crate::covern::covern;
 use cov_io::{FileShelf, StdSink};
 use std::process::ExitCode;
 use std::{env, io};
+use top_call::covern;
 
 /// The exit status where a word of the command line isn't text.
 const BAD_WORDS: u8 = 10;

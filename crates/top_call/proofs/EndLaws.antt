@@ -1,0 +1,35 @@
+-- Laws of how a call ends.
+use Rattle.std.proofs.Common.{◌≡◌, ◌⊎◌, inl, inr, refl, ap, ◌∙◌}
+use Rattle.cov_io.specs.Sinks.{Sunk}
+use Rattle.top_call.specs.Ends.{Ends}
+use Rattle.top_call.specs.Replies.{Reply, status_of}
+use Rattle.top_call.specs.declared.answers.Status.{Status}
+use Rattle.top_call.specs.declared.answers.Status.TheVariants as s
+
+-- a call that ends with one reply ends with another, if that follows
+pub ends_onward : (does does' : Reply → Type 0) (old new : Sunk) (status : Status) → ((reply : Reply) → does reply → does' reply)
+    → Ends does old new status → Ends does' old new status
+ends_onward does does' old new s.NoMemory each h = h
+ends_onward does does' old new s.WriteFault each (reply, h, e, w) = (reply, each reply h, e, w)
+ends_onward does does' old new s.Done each (reply, h, e, w) = (reply, each reply h, e, w)
+ends_onward does does' old new s.Refused each (reply, h, e, w) = (reply, each reply h, e, w)
+ends_onward does does' old new s.Usage each (reply, h, e, w) = (reply, each reply h, e, w)
+ends_onward does does' old new s.Malformed each (reply, h, e, w) = (reply, each reply h, e, w)
+ends_onward does does' old new s.ReadFault each (reply, h, e, w) = (reply, each reply h, e, w)
+ends_onward does does' old new s.TooLong each (reply, h, e, w) = (reply, each reply h, e, w)
+ends_onward does does' old new s.Differ each (reply, h, e, w) = (reply, each reply h, e, w)
+ends_onward does does' old new s.BadStarts each (reply, h, e, w) = (reply, each reply h, e, w)
+
+-- the status of a call that ends with a reply, unless memory ran out or the write failed
+pub status_is : (reply : Reply) (old new : Sunk) (status : Status) → Ends (λ r. r ≡ reply) old new status
+    → (status ≡ s.NoMemory) ⊎ (status ≡ s.WriteFault) ⊎ (status ≡ status_of reply)
+status_is reply old new s.NoMemory h = inl refl
+status_is reply old new s.WriteFault h = inr (inl refl)
+status_is reply old new s.Done (r, e, is, w) = inr (inr (is ∙ ap status_of e))
+status_is reply old new s.Refused (r, e, is, w) = inr (inr (is ∙ ap status_of e))
+status_is reply old new s.Usage (r, e, is, w) = inr (inr (is ∙ ap status_of e))
+status_is reply old new s.Malformed (r, e, is, w) = inr (inr (is ∙ ap status_of e))
+status_is reply old new s.ReadFault (r, e, is, w) = inr (inr (is ∙ ap status_of e))
+status_is reply old new s.TooLong (r, e, is, w) = inr (inr (is ∙ ap status_of e))
+status_is reply old new s.Differ (r, e, is, w) = inr (inr (is ∙ ap status_of e))
+status_is reply old new s.BadStarts (r, e, is, w) = inr (inr (is ∙ ap status_of e))

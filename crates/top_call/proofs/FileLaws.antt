@@ -1,0 +1,127 @@
+-- Laws of reading a file, whatever is replied to its bytes.
+use Rattle.std.proofs.Common.{◌≡◌, ◌⊎◌, ℕ, ◌<◌, ◌≤◌, nat_lt, List, Bool, true, false, Result, Option, Ok, Err, Some, None, IfSome, IsSomeAnd, IsNone, IsTrue, length, subst, ap, sym, ◌∙◌, inl, inr, arith}
+use Rattle.std.specs.Prelude.{MatchBool}
+use Rattle.std.proofs.lemmas.Bool.Decides.{nat_tests}
+use Rattle.cov_io.specs.Counts.{Rose}
+use Rattle.cov_io.specs.Shelves.{File, Shelved, Gives, held}
+use Rattle.cov_io.specs.declared.shelf.Fetched.TheVariants.{Whole}
+use Rattle.top_call.specs.Files.{Reads, GivenBy}
+use Rattle.top_call.specs.Inside.{Stops, Gets, LacksMemory}
+use Rattle.top_call.specs.Outcome.{HoldsFile}
+use Rattle.top_call.specs.Programs.{IsProgramText}
+use Rattle.top_call.specs.Replies.{Reply, read_fault, too_long, status_of}
+use Rattle.top_call.specs.declared.answers.Answer.{Answer}
+use Rattle.top_call.specs.declared.answers.Status.TheVariants as s
+use Rattle.top_call.specs.declared.answers.Stop.{Stop}
+use Rattle.top_call.specs.declared.answers.Stop.TheVariants as stops
+
+-- Steps --------------------------------------------------------------------------------------------------------
+
+-- what gives one reply gives another, if that follows
+pub stops_onward : (does does' : Reply → Type 0) (stop : Stop) → ((reply : Reply) → does reply → does' reply) → Stops does stop → Stops does' stop
+stops_onward does does' (stops.Answer answer) each h = each _ h
+stops_onward does does' stops.NoMemory each h = tt
+
+pub gets_onward : (does does' : Reply → Type 0) (r : Result Answer Stop) → ((reply : Reply) → does reply → does' reply) → Gets does r → Gets does' r
+gets_onward does does' (Ok answer) each h = each _ h
+gets_onward does does' (Err stop) each h = stops_onward does does' stop each h
+
+-- A reply says whether bytes spell a program; so does a step, unless memory ran out.
+pub gets_fit : (does : Reply → Type 0) (bytes : List ℕ) → ((reply : Reply) → does reply → IsProgramText bytes ⊎ (¬ IsProgramText bytes))
+    → (r : Result Answer Stop) → Gets does r → IsProgramText bytes ⊎ (¬ IsProgramText bytes) ⊎ LacksMemory r
+gets_fit does bytes fit r h = by r h
+  where
+    onward : (r : Result Answer Stop) → IsProgramText bytes ⊎ (¬ IsProgramText bytes) → IsProgramText bytes ⊎ (¬ IsProgramText bytes) ⊎ LacksMemory r
+    onward r (inl h) = inl h
+    onward r (inr h) = inr (inl h)
+
+    by : (r : Result Answer Stop) → Gets does r → IsProgramText bytes ⊎ (¬ IsProgramText bytes) ⊎ LacksMemory r
+    by (Ok answer) h = onward (Ok answer) (fit _ h)
+    by (Err (stops.Answer answer)) h = onward (Err (stops.Answer answer)) (fit _ h)
+    by (Err stops.NoMemory) h = inr (inr tt)
+
+module _ (before after : Shelved) (name : List ℕ) (most : ℕ) (next : List ℕ → Reply → Type 0) where
+  -- the bytes of a file, and what is replied to them
+  pub bytes_read : (bytes seen_bytes : List ℕ) (r : Result Answer Stop) → Gives before after name most (Ok (Whole bytes))
+      → seen_bytes ≡ bytes → Gets (next seen_bytes) r → Gets (Reads before after name most next) r
+  bytes_read bytes seen_bytes r fetched same h =
+      gets_onward (next seen_bytes) (Reads before after name most next) r (λ reply given. inl (bytes, fetched, subst (λ b. next b reply) same given)) h
+
+  -- a read fault comes only where the shelf's faults rose
+  pub fault_rose : (reply : Reply) → ((bytes : List ℕ) → next bytes reply → status_of reply ≡ s.ReadFault → ⊥)
+      → Reads before after name most next reply → status_of reply ≡ s.ReadFault → Rose before.faults after.faults
+  fault_rose reply never (inl (bytes, fetched, h)) e = absurd (never bytes h e)
+  fault_rose reply never (inr (inl h)) e = let wrong : s.TooLong ≡ s.ReadFault = sym (ap status_of h.1) ∙ e in cc
+  fault_rose reply never (inr (inr h)) e = h.0.0
+
+  -- only bytes that were fetched make a call Done
+  pub done_read : (reply : Reply) → Reads before after name most next reply → status_of reply ≡ s.Done
+      → (bytes : List ℕ) × Gives before after name most (Ok (Whole bytes)) × next bytes reply
+  done_read reply (inl read) done = read
+  done_read reply (inr (inl h)) done = let wrong : s.TooLong ≡ s.Done = sym (ap status_of h.1) ∙ done in cc
+  done_read reply (inr (inr h)) done = let wrong : s.ReadFault ≡ s.Done = sym (ap status_of h.1) ∙ done in cc
+
+-- What the files say -------------------------------------------------------------------------------------------
+
+match_true : (P Q : Type 0) (b : Bool) → b ≡ true → P → MatchBool b P Q
+match_true P Q true e p = p
+match_true P Q false e p = cc
+
+match_false : (P Q : Type 0) (b : Bool) → b ≡ false → Q → MatchBool b P Q
+match_false P Q true e q = cc
+match_false P Q false e q = q
+
+from_false : (P Q : Type 0) (b : Bool) → b ≡ false → MatchBool b P Q → Q
+from_false P Q true e h = cc
+from_false P Q false e h = h
+
+not_above : (most n : ℕ) → n ≤ most → nat_lt most n ≡ false
+not_above most n h = grind (arith, nat_tests)
+
+above : (most n : ℕ) → most < n → nat_lt most n ≡ true
+above most n h = grind (arith, nat_tests)
+
+-- No call of the shelf fails but for a name that isn't there, or none fails at all.
+abbrev pub Reliable : (before after : Shelved) → Type 0
+Reliable before after = IsTrue before.sure ⊎ (Rose before.faults after.faults → ⊥)
+
+module _ (name : List ℕ) (most : ℕ) (next : List ℕ → Reply → Type 0) where
+  given_long : (o : Option (List ℕ)) (reply : Reply) → IsSomeAnd o (λ bytes. most < length bytes) → reply ≡ too_long name → GivenBy o name most next reply
+  given_long None reply long e = absurd long
+  given_long (Some bytes) reply long e = match_true (reply ≡ too_long name) (next bytes reply) (nat_lt most (length bytes)) (above most (length bytes) long) e
+
+  given_none : (o : Option (List ℕ)) (reply : Reply) → IsNone o → reply ≡ read_fault name → GivenBy o name most next reply
+  given_none None reply none e = e
+  given_none (Some bytes) reply none e = cc
+
+  -- what the shelf's calls give is what its files say
+  pub reads_exact : (before after : Shelved) (files : List File) (reply : Reply)
+      → before.told ≡ Some files → Reliable before after → Reads before after name most next reply → GivenBy (held files name) name most next reply
+  reads_exact before after files reply told reliable (inl (bytes, fetched, h)) =
+      let at : held files name ≡ Some bytes = subst (λ t. IfSome t (λ fs. held fs name ≡ Some bytes)) told fetched.1 in
+      subst (λ o. GivenBy o name most next reply) (sym at) (match_false (reply ≡ too_long name) (next bytes reply) (nat_lt most (length bytes)) (not_above most (length bytes) fetched.0) h)
+  reads_exact before after files reply told reliable (inr (inl h)) =
+      given_long (held files name) reply (subst (λ t. IfSome t (λ fs. IsSomeAnd (held fs name) (λ bytes. most < length bytes))) told h.0.1) h.1
+  reads_exact before after files reply told (inl sure) (inr (inr h)) =
+      given_none (held files name) reply (subst (λ t. IfSome t (λ fs. IsNone (held fs name))) told (h.0.1 sure)) h.1
+  reads_exact before after files reply told (inr quiet) (inr (inr h)) = absurd (quiet h.0.0)
+
+  -- one reply by the files, if there is one by the bytes
+  pub given_one : (o : Option (List ℕ)) (reply other : Reply) → ((bytes : List ℕ) → next bytes reply → next bytes other → reply ≡ other)
+      → GivenBy o name most next reply → GivenBy o name most next other → reply ≡ other
+  given_one None reply other one h k = h ∙ sym k
+  given_one (Some bytes) reply other one h k = by (nat_lt most (length bytes)) h k
+    where
+      by : (b : Bool) → MatchBool b (reply ≡ too_long name) (next bytes reply) → MatchBool b (other ≡ too_long name) (next bytes other) → reply ≡ other
+      by true h k = h ∙ sym k
+      by false h k = one bytes h k
+
+  -- of a file that is there, within its limit, the bytes decide
+  pub held_given : (files : List File) (IsFit : List ℕ → Type 0) (reply : Reply) → HoldsFile files name most IsFit → GivenBy (held files name) name most next reply
+      → (bytes : List ℕ) × IsFit bytes × next bytes reply
+  held_given files IsFit reply (bytes, at, fits, fit) given = (
+    bytes,
+    fit,
+    from_false (reply ≡ too_long name) (next bytes reply) (nat_lt most (length bytes)) (not_above most (length bytes) fits)
+        (subst (λ o. GivenBy o name most next reply) at given),
+  )

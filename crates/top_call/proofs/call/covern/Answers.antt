@@ -1,0 +1,35 @@
+use Rattle.std.proofs.Common.{◌≡◌, inl, inr, map, string_bytes, rules}
+use Rattle.top_call.specs.Asks.{files_of}
+use Rattle.top_call.specs.Commands.{command_of}
+use Rattle.top_call.specs.Inside.{seen}
+use Rattle.top_call.specs.declared.answers.Status.TheVariants as s
+use Rattle.top_call.proofs.AskLaws.{asks_onward}
+use Rattle.top_call.proofs.OutcomeLaws.{call_exact, call_complete}
+use Rattle.top_call.proofs.call.covern.Goals as goal
+
+pub returns-clause-exact : goal.returns-clause-exact
+returns-clause-exact g c sure =
+    let shelved = g.S.Shelf.shelved in
+    let sunk = g.K.Sink.sunk in
+    call_exact (shelved c.args.shelf.now) (shelved c.answer.new.shelf) (command_of (map string_bytes c.args.words.now)) (seen c.match-answer.answer) (search rules)
+    (sunk c.args.sink.now) (sunk c.end.new.sink) c.end.result c.end.ensures.ends (inl sure)
+
+pub returns-clause-quiet : goal.returns-clause-quiet
+returns-clause-quiet g c quiet =
+    let shelved = g.S.Shelf.shelved in
+    let sunk = g.K.Sink.sunk in
+    call_exact (shelved c.args.shelf.now) (shelved c.answer.new.shelf) (command_of (map string_bytes c.args.words.now)) (seen c.match-answer.answer) (search rules)
+    (sunk c.args.sink.now) (sunk c.end.new.sink) c.end.result c.end.ensures.ends (inr quiet)
+
+pub returns-clause-complete : goal.returns-clause-complete
+returns-clause-complete g c quiet written =
+    let shelved = g.S.Shelf.shelved in
+    let sunk = g.K.Sink.sunk in
+    call_complete (shelved c.args.shelf.now) (shelved c.answer.new.shelf) (command_of (map string_bytes c.args.words.now)) (seen c.match-answer.answer) (search rules)
+    (sunk c.args.sink.now) (sunk c.end.new.sink) c.end.result c.end.ensures.ends c.end.ensures.write_fault quiet written
+
+pub returns-clause-asks : goal.returns-clause-asks
+returns-clause-asks g c =
+    let shelved = g.S.Shelf.shelved in
+    asks_onward (shelved c.args.shelf.now) (shelved c.answer.new.shelf) (files_of (command_of (map string_bytes c.args.words.now))) ⊥ (c.end.result ≡ s.NoMemory)
+    (λ none. absurd none) (search rules)

@@ -1,0 +1,13 @@
+pub mod Commands
+pub mod Outcome
+pub mod Headline
+pub mod Check
+pub mod Format
+pub mod Programs
+pub mod Files
+pub mod Asks
+pub mod Replies
+pub mod Reports
+pub mod Ends
+pub mod Laws
+pub mod Inside

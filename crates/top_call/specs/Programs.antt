@@ -1,0 +1,36 @@
+-- The text of a program.
+use Rattle.std.specs.Prelude.{◌≡◌, ℕ, List, Option, Some, None}
+use Rattle.cov_grammar.specs.Trees as trees
+use Rattle.cov_grammar.specs.Grammar as grammar
+use Rattle.cov_parse.specs.Limits.{in_program}
+use Rattle.cov_parse.specs.Text.{IsText, IsFault}
+use Rattle.cov_parse.specs.declared.fault.ParseFault.{ParseFault}
+use Rattle.cov_parse.specs.declared.fault.ParseFault.TheVariants as faults
+use Rattle.top_call.specs.declared.answers.Fault.{Fault}
+use Rattle.top_call.specs.declared.answers.FaultKind.{FaultKind}
+use Rattle.top_call.specs.declared.answers.FaultKind.TheVariants as k
+
+-- The bytes spell a program of the language, within its limits.
+abbrev pub SpellsTree : List ℕ → trees.Program → Type 0
+SpellsTree bytes tree = IsText grammar.program in_program bytes tree
+
+-- The bytes spell some program.
+abbrev pub IsProgramText : List ℕ → Type 0
+IsProgramText bytes = (tree : trees.Program) × SpellsTree bytes tree
+
+abbrev pub fault_at : FaultKind → ℕ → Fault
+fault_at kind at = record { kind = kind; at = at }
+
+-- a fault of a text as reports show it; want of memory is none
+abbrev pub shown : ParseFault → Option Fault
+shown (faults.BadByte at) = Some (fault_at k.Byte at)
+shown (faults.NumberTooLarge at) = Some (fault_at k.Number at)
+shown (faults.NameTooLong at) = Some (fault_at k.Name at)
+shown (faults.Unexpected at) = Some (fault_at k.Token at)
+shown (faults.TooMany what at) = Some (fault_at k.Limit at)
+shown (faults.TooDeep at) = Some (fault_at k.Depth at)
+shown faults.NoMemory = None
+
+-- The first fault of the bytes, which spell no program, is shown so.
+abbrev pub IsShownFault : List ℕ → Fault → Type 0
+IsShownFault bytes fault = (found : ParseFault) × IsFault grammar.program in_program bytes found × (shown found ≡ Some fault)

@@ -1,0 +1,104 @@
+ghost use Rattle.std.specs.Prelude.{◌≡◌};
+ghost use Rattle.top_call.specs.Inside.{seen};
+ghost use Rattle.top_call.specs.Replies.{status_of};
+ghost use Rattle.top_call.specs.declared.answers.Stop.TheVariants as stops;
+
+use cov_ast::Refusal;
+use cov_expr::{Blob, Name, NoMemory};
+
+/// How a call ends. The number is the exit status.
+#[derive(Clone, Copy, Debug, PartialEq, Eq)]
+pub enum Status {
+    /// The command did all its work.
+    Done = 0,
+    /// The program breaks a rule.
+    Refused = 1,
+    /// The words are none of the forms.
+    Usage = 2,
+    /// A file isn't in its grammar and limits.
+    Malformed = 3,
+    /// A file couldn't be read.
+    ReadFault = 4,
+    /// The report couldn't be written: a proper prefix of it was.
+    WriteFault = 5,
+    /// Memory ran out, and nothing was written.
+    NoMemory = 6,
+    /// A file is longer than its limit.
+    TooLong = 7,
+    /// Two runs don't agree.
+    Differ = 8,
+    /// Two memories aren't fit to start from.
+    BadStarts = 9,
+}
+
+/// How much an accepted program has.
+#[derive(Clone, Copy, Debug, PartialEq, Eq)]
+pub struct Counts {
+    pub threads: u64,
+    pub statements: u64,
+    pub entailments: u64,
+}
+
+/// What is wrong with a file.
+#[derive(Clone, Copy, Debug, PartialEq, Eq)]
+pub enum FaultKind {
+    Byte,
+    Number,
+    Name,
+    Token,
+    Limit,
+    Depth,
+}
+
+/// A fault of a file, as reports show it.
+#[derive(Clone, Copy, Debug, PartialEq, Eq)]
+pub struct Fault {
+    pub kind: FaultKind,
+    /// The offset of a byte.
+    pub at: u32,
+}
+
+/// What a call answers, the want of memory and a failed write aside. Names are words of the command line.
+#[derive(Debug, Drop)]
+pub enum Answer<'w> {
+    Usage,
+    ReadFault(&'w str),
+    TooLong(&'w str),
+    Malformed(&'w str, Fault),
+    /// The first rule that is broken, and the name of the thread, for a rule of statements.
+    Refused(Refusal, Option<Name>),
+    Accepted(Counts),
+    /// The canonical spelling of a program.
+    Spelled(Blob),
+}
+
+/// Why a step of a command gives no value.
+#[derive(Debug, Drop)]
+pub enum Stop<'w> {
+    /// This is what the call answers.
+    Answer(Answer<'w>),
+    /// Memory ran out.
+    NoMemory,
+}
+
+impl From<NoMemory> for Stop<'_> {
+    ghost from_gives = { λ _ stop. stop ≡ stops.NoMemory };
+
+    fn from(_error: NoMemory) -> Self {
+        Stop::NoMemory
+    }
+}
+
+/// The status of an answer.
+pub fn status_for(answer: &Answer<'_>) -> Status
+    ensures { result ≡ status_of (seen answer.now) }
+{
+    match answer {
+        Answer::Usage => Status::Usage,
+        Answer::ReadFault(_) => Status::ReadFault,
+        Answer::TooLong(_) => Status::TooLong,
+        Answer::Malformed(_, _) => Status::Malformed,
+        Answer::Refused(_, _) => Status::Refused,
+        Answer::Accepted(_) | Answer::Spelled(_) => Status::Done,
+    }
+}

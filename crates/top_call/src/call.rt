@@ -1,0 +1,53 @@
+ghost use Rattle.std.specs.Prelude.{◌≡◌, ◌⊎◌, IfSome, IsTrue, map, string_bytes, ◌≤◌};
+ghost use Rattle.cov_io.specs.Shelves.{Passes};
+ghost use Rattle.cov_io.specs.Counts.{Rose};
+ghost use Rattle.top_call.specs.Asks.{Asks, files_of};
+ghost use Rattle.top_call.specs.Commands.{command_of};
+ghost use Rattle.top_call.specs.Ends.{Ends};
+ghost use Rattle.top_call.specs.Headline.{HoldsSecure};
+ghost use Rattle.top_call.specs.Outcome.{Does, Outcome, IsMet, IsSuccess};
+
+use crate::answers::{Status, Stop};
+use crate::commands::answer;
+use crate::end::end;
+use cov_io::{Shelf, Sink};
+use std::alloc::Global;
+
+/// Does what the command line says, and writes the report. `words` are the command line without the program's name; files
+/// are read from `shelf` by name, and the report goes to `sink`.
+pub fn covern<S: Shelf, K: Sink>(
+    alloc: Global,
+    words: &[String],
+    shelf: &mut S,
+    sink: &mut K,
+) -> Status
+    // The status, and what is put, are those of a reply that the command may give.
+    ensures outcome { Ends (Does (S.shelved shelf.old) (S.shelved shelf.new) (command_of (map string_bytes words.now)))
+        (K.sunk sink.old) (K.sunk sink.new) result }
+    // On a sure shelf the reply is the one that the files say.
+    ensures exact { IsTrue (S.shelved shelf.old).sure → IfSome (S.shelved shelf.old).told (λ files.
+        Ends (Outcome files (command_of (map string_bytes words.now))) (K.sunk sink.old) (K.sunk sink.new) result) }
+    // So it is on every shelf that tells its files, if no call of it failed.
+    ensures quiet { ¬ Rose (S.shelved shelf.old).faults (S.shelved shelf.new).faults → IfSome (S.shelved shelf.old).told (λ files.
+        Ends (Outcome files (command_of (map string_bytes words.now))) (K.sunk sink.old) (K.sunk sink.new) result) }
+    // A program that is accepted is secure.
+    ensures secure { result ≡ Status.Done → IfSome (S.shelved shelf.old).told (λ files.
+        HoldsSecure files (command_of (map string_bytes words.now))) }
+    // Where the shelf tells, no call of it and no put failed, and all that the command asks holds, it is done, or memory ran out.
+    ensures complete { ¬ Rose (S.shelved shelf.old).faults (S.shelved shelf.new).faults → ¬ Rose (K.sunk sink.old).faults (K.sunk sink.new).faults
+        → IfSome (S.shelved shelf.old).told (λ files. IsMet files (command_of (map string_bytes words.now))
+        → IsSuccess (command_of (map string_bytes words.now)) result ⊎ (result ≡ Status.NoMemory)) }
+    // The files of the command are asked for in the order of the words, once each, up to the first that isn't read, and no other.
+    ensures asks { Asks (S.shelved shelf.old) (S.shelved shelf.new) (files_of (command_of (map string_bytes words.now))) (result ≡ Status.NoMemory) }
+    ensures read_fault { result ≡ Status.ReadFault → Rose (S.shelved shelf.old).faults (S.shelved shelf.new).faults }
+    ensures write_fault { result ≡ Status.WriteFault → Rose (K.sunk sink.old).faults (K.sunk sink.new).faults }
+    // What a shelf tells stays, and no count falls.
+    ensures passes { Passes (S.shelved shelf.old) (S.shelved shelf.new) }
+    ensures counts { (K.sunk sink.old).faults ≤ (K.sunk sink.new).faults }
+{
+    let answer = match answer(alloc, words, shelf) {
+        Ok(answer) | Err(Stop::Answer(answer)) => answer,
+        Err(Stop::NoMemory) => return Status::NoMemory,
+    };
+    end(alloc, answer, sink)
+}

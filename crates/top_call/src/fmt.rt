@@ -1,0 +1,39 @@
+ghost use Rattle.std.specs.Prelude.{length, ◌≤◌};
+ghost use Rattle.cov_io.specs.Shelves.{Passes};
+ghost use Rattle.top_call.specs.Asks.{Asks, files_of};
+ghost use Rattle.top_call.specs.Commands as asked;
+ghost use Rattle.top_call.specs.Format.{Formats};
+ghost use Rattle.top_call.specs.Inside.{LacksMemory, Gets};
+ghost use Rattle.top_call.specs.Outcome.{Does};
+
+use crate::answers::{Answer, Stop};
+use crate::files::{PROGRAM_LIMIT, fetch, unread};
+use cov_io::Shelf;
+use cov_parse::parse;
+use cov_print::print;
+use std::alloc::Global;
+
+/// Formats the program of a file.
+pub fn format<'w, S: Shelf>(
+    alloc: Global,
+    name: &'w str,
+    shelf: &mut S,
+) -> Result<Answer<'w>, Stop<'w>>
+    ensures does { Gets (Does (S.shelved shelf.old) (S.shelved shelf.new) (asked.fmt name.now)) result }
+    ensures asks { Asks (S.shelved shelf.old) (S.shelved shelf.new) (files_of (asked.fmt name.now)) (LacksMemory result) }
+    ensures passes { Passes (S.shelved shelf.old) (S.shelved shelf.new) }
+{
+    let bytes = fetch(alloc, name, PROGRAM_LIMIT, shelf)?;
+    format_text(alloc, name, bytes.as_slice())
+}
+
+/// Formats the program of a text.
+fn format_text<'w>(alloc: Global, name: &'w str, bytes: &[u8]) -> Result<Answer<'w>, Stop<'w>>
+    requires { length bytes.now ≤ 1048576 }
+    ensures { Gets (Formats name.now bytes.now) result }
+{
+    match parse(alloc, bytes) {
+        Ok(parsed) => Ok(Answer::Spelled(print(alloc, &parsed)?)),
+        Err(fault) => Err(unread(name, fault)),
+    }
+}
