@@ -2,7 +2,7 @@
 """Times `covern check` and `covern fmt` on texts that it makes, and checks of certificates and of modes, and prints a table of each.
 
 usage: bench/bench.py [PROGRAM [PARTS]]    (the built programs; without them, the one that the launcher built, and what
-                                           `rt run` or `rt ci` left in crates/covern_parts/out)
+                                           `rt run` or `rt ci` left in crates/covern_cases/out)
 
 A time is the least processor time (user and system) of several runs, less that of a run on the empty text. The peak memory
 is what the system counts as the most that was resident. Where rustc is on the path, the same texts are given to programs in plain
@@ -306,10 +306,10 @@ def built_plain(folder, name):
 
 def main():
     program = os.path.abspath(sys.argv[1]) if len(sys.argv) > 1 else f"{TOP}/.build/covern"
-    parts = os.path.abspath(sys.argv[2]) if len(sys.argv) > 2 else f"{TOP}/crates/covern_parts/out/covern_parts"
+    parts = os.path.abspath(sys.argv[2]) if len(sys.argv) > 2 else f"{TOP}/crates/covern_cases/out/covern_cases"
     for made in (program, parts):
         if not os.path.exists(made):
-            sys.exit(f"no built program {made}: run ./covern once, and rt run in crates/covern_parts")
+            sys.exit(f"no built program {made}: run ./covern once, and rt run in crates/covern_cases")
     with tempfile.TemporaryDirectory() as folder:
         plain, checker = built_plain(folder, "main"), built_plain(folder, "check")
         tables = [list(checked(folder)), list(formatted(folder))]
@@ -319,7 +319,7 @@ def main():
             for row in (row for rows in tables for row in rows):
                 row.run(program, checker if row.command == "check" else plain)
             for row in certificate_texts:
-                row.run([parts, "certificates"])
+                row.run([parts, "--times", "certificates"])
                 if plain:
                     row.run([plain, "certs"])
         failures = []
@@ -328,8 +328,8 @@ def main():
             failures += table(program, plain, rows[0], rows[1:])
             least = peak_of(program, rows[0].command, rows[0].path) / 2**20
             print(f"\n{rows[0].name} text: {rows[0].seconds * 1000:.1f} ms, {least:.1f} MiB\n")
-        failures += certificate_table([parts, "certificates"], [plain, "certs"] if plain else None, certificate_texts)
-        failures += modes_table([parts, "declarations"], [plain, "modes"] if plain else None, folder)
+        failures += certificate_table([parts, "--times", "certificates"], [plain, "certs"] if plain else None, certificate_texts)
+        failures += modes_table([parts, "--times", "declared"], [plain, "modes"] if plain else None, folder)
         for failure in failures:
             print(f"FAILED {failure}")
         return 1 if failures else 0

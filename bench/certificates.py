@@ -1,7 +1,7 @@
 #!/usr/bin/env python3
-"""Texts with large certificates, as `covern_parts` reads them.
+"""Texts with large certificates.
 
-usage: bench/certificates.py >crates/covern_parts/data/large    (writes that file again)
+usage: bench/certificates.py >crates/covern_cases/data/large    (writes that file of cases again)
 
 Each text is a note that states hypotheses and a goal, with one certificate. A certificate in a text has at most 10,000 nodes and the
 height 64, the expressions inside not counted, an expression at most 1,000 nodes, and a note at most 64 predicates.
@@ -99,6 +99,7 @@ def measured():
 def main():
     sys.stdout.write("// Made by bench/certificates.py.\n")
     sys.stdout.write(row("10,000 nodes, height 64", [], "1", highest("split [a]", "calc")))
+    sys.stdout.write("% certificates\nvalid\n\n")
 
 
 if __name__ == "__main__":

@@ -1,0 +1,125 @@
+use crate::failure::Failure;
+use crate::lines::add_line;
+use cov_expr::{Blob, List, Name, NoMemory};
+use std::alloc::Global;
+
+/// Texts under names, and what calls on them have to show.
+#[derive(Debug, Drop)]
+pub struct Case {
+    pub name: Blob,
+    pub files: Vec<(Name, Blob)>,
+    pub calls: Vec<Call>,
+}
+
+/// A call, and what it has to show.
+#[derive(Debug, Drop)]
+pub struct Call {
+    /// Whether it is a call of the product, and not of a part of it.
+    pub is_whole: bool,
+    pub words: Blob,
+    pub due: Blob,
+}
+
+/// What a line belongs to.
+#[derive(Clone, Copy)]
+enum Place {
+    Comment,
+    File,
+    Call,
+}
+
+/// The cases of a file.
+pub fn cases_of(alloc: Global, bytes: &[u8]) -> Result<Vec<Case>, Failure> {
+    let mut cases = Vec::new(alloc);
+    let mut place = Place::Comment;
+    for line in bytes.split_inclusive(|byte| *byte == b'\n') {
+        match line.strip_prefix(b"//// ") {
+            Some(name) => {
+                cases.push(case_named(alloc, name)?)?;
+                place = Place::File;
+            }
+            None => {
+                if let Some(case) = cases.last_mut() {
+                    place = continue_case(alloc, line, place, case)?;
+                }
+            }
+        }
+    }
+    Ok(cases)
+}
+
+/// A case with an empty file `p`.
+fn case_named(alloc: Global, name: &[u8]) -> Result<Case, Failure> {
+    let mut case = Case {
+        name: text_of(alloc, name)?,
+        files: Vec::new(alloc),
+        calls: Vec::new(alloc),
+    };
+    begin_file(alloc, b"p", &mut case)?;
+    Ok(case)
+}
+
+/// Adds a line to a case. `place` is what the line before belongs to, and the answer what this one does.
+fn continue_case(
+    alloc: Global,
+    line: &[u8],
+    place: Place,
+    case: &mut Case,
+) -> Result<Place, Failure> {
+    if let Some(words) = line.strip_prefix(b"$") {
+        begin_call(alloc, true, words, case)?;
+        return Ok(Place::Call);
+    }
+    if let Some(words) = line.strip_prefix(b"%") {
+        begin_call(alloc, false, words, case)?;
+        return Ok(Place::Call);
+    }
+    if let Some(name) = line.strip_prefix(b">") {
+        begin_file(alloc, name.trim_ascii(), case)?;
+        return Ok(Place::File);
+    }
+    let is_empty = line.trim_ascii_end().is_empty();
+    match place {
+        Place::Call if is_empty => return Ok(Place::Comment),
+        Place::Comment => {}
+        Place::File => {
+            if let Some((_, text)) = case.files.last_mut() {
+                add_line(alloc, line, text)?;
+            }
+        }
+        Place::Call => {
+            if let Some(call) = case.calls.last_mut() {
+                add_line(alloc, line, &mut call.due)?;
+            }
+        }
+    }
+    Ok(place)
+}
+
+fn begin_call(
+    alloc: Global,
+    is_whole: bool,
+    words: &[u8],
+    case: &mut Case,
+) -> Result<(), NoMemory> {
+    let call = Call {
+        is_whole,
+        words: text_of(alloc, words)?,
+        due: List::new(alloc),
+    };
+    Ok(case.calls.push(call)?)
+}
+
+fn begin_file(alloc: Global, name: &[u8], case: &mut Case) -> Result<(), Failure> {
+    let Some(name) = Name::new(name) else {
+        return Err(Failure::Usage);
+    };
+    Ok(case.files.push((name, List::new(alloc)))?)
+}
+
+/// What stands in a line, without what is blank at its ends.
+fn text_of(alloc: Global, line: &[u8]) -> Result<Blob, NoMemory> {
+    let mut text = List::new(alloc);
+    text.extend_from_slice(line.trim_ascii())?;
+    Ok(text)
+}

@@ -1,0 +1,102 @@
+//! Parts of the product by themselves.
+ghost use Rattle.std.specs.Prelude.{◌≤◌, length};
+ghost use Rattle.cov_ast.specs.View as view;
+ghost use Rattle.cov_ast.specs.Ready.{IsReady};
+
+use crate::certificates::add_claims;
+use crate::failure::Failure;
+use cov_ast::{CheckFault, Parsed};
+use cov_expr::Blob;
+use cov_lex::{LexFault, lex};
+use cov_parse::{ParseFault, parse};
+use lock_spec::check_locks;
+use mode_compat::check_modes;
+use policy_class::{check_policy, resolve};
+use std::alloc::{AllocError, Global};
+
+/// The most bytes of a text.
+const TEXT_LIMIT: usize = 1_048_576;
+
+/// Adds what a part of the product shows of a text. What is measured is done so many times, and at least once.
+///
+/// - `tokens`: a line for each token, with its kind and the places of its first byte and of the one behind it; or the fault.
+/// - `parsed`: that it spells a program, or its first fault, with what there is too much of.
+/// - `declared`: whether the rules of declarations hold. Those of modes are measured.
+/// - `certificates`: of each note with a proof whether the certificate is valid, or the path of the first node that fails, `top` for
+///   the root. The check of a certificate is measured.
+pub fn add_part(
+    alloc: Global,
+    part: &str,
+    times: u32,
+    text: &[u8],
+    out: &mut Blob,
+) -> Result<(), Failure> {
+    if text.len() > TEXT_LIMIT {
+        return Err(Failure::TooLong);
+    }
+    match part {
+        "tokens" => add_tokens(alloc, text, out),
+        "parsed" => add_parsed(alloc, text, out),
+        "declared" => add_declared(alloc, times, text, out),
+        "certificates" => add_claims(alloc, times, text, out),
+        _ => Err(Failure::Usage),
+    }
+}
+
+fn add_tokens(alloc: Global, text: &[u8], out: &mut Blob) -> Result<(), Failure>
+    requires { length text.now ≤ 1048576 }
+{
+    match lex(alloc, text) {
+        Ok(tokens) => {
+            for token in tokens.as_slice() {
+                let line = format!(in alloc; "{:?} {} {}\n", token.kind, token.at, token.end)?;
+                out.extend_from_slice(line.as_bytes())?;
+            }
+            Ok(())
+        }
+        Err(LexFault::NoMemory) => Err(Failure::NoMemory),
+        Err(fault) => add_text(format!(in alloc; "{fault:?}\n"), out),
+    }
+}
+
+fn add_parsed(alloc: Global, text: &[u8], out: &mut Blob) -> Result<(), Failure>
+    requires { length text.now ≤ 1048576 }
+{
+    match parse(alloc, text) {
+        Ok(_) => Ok(out.extend_from_slice(b"parsed\n")?),
+        Err(ParseFault::NoMemory) => Err(Failure::NoMemory),
+        Err(fault) => add_text(format!(in alloc; "{fault:?}\n"), out),
+    }
+}
+
+fn add_declared(alloc: Global, times: u32, text: &[u8], out: &mut Blob) -> Result<(), Failure>
+    requires { length text.now ≤ 1048576 }
+{
+    let said: &[u8] = match parse(alloc, text) {
+        Ok(parsed) => match declare(alloc, times, &parsed) {
+            Ok(()) => b"declared\n",
+            Err(CheckFault::Refused(_)) => b"refused\n",
+            Err(CheckFault::NoMemory) => return Err(Failure::NoMemory),
+        },
+        Err(ParseFault::NoMemory) => return Err(Failure::NoMemory),
+        Err(_) => b"malformed\n",
+    };
+    Ok(out.extend_from_slice(said)?)
+}
+
+/// Tries the rules of declarations.
+fn declare(alloc: Global, times: u32, parsed: &Parsed) -> Result<(), CheckFault>
+    requires { IsReady (view.parsed parsed.now) }
+{
+    let program = resolve(alloc, parsed)?;
+    check_policy(alloc, &program)?;
+    check_locks(alloc, &program)?;
+    for _ in 1..times {
+        check_modes(alloc, &program)?;
+    }
+    check_modes(alloc, &program)
+}
+
+fn add_text(text: Result<String, AllocError>, out: &mut Blob) -> Result<(), Failure> {
+    Ok(out.extend_from_slice(text?.as_bytes())?)
+}
