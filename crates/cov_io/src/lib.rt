@@ -1,9 +1,10 @@
 //! The outside of the program: where files are read from, and where the report is written to.
 //!
 //! - [`Shelf`]: files are fetched from it by name, with a limit of length. [`MemShelf`] holds them in memory and fails
-//!   at chosen calls; [`FileShelf`] reads those of the system.
-//! - [`Sink`]: bytes are put to it. [`MemSink`] keeps them in memory and fails at chosen puts; [`StdSink`] writes them
-//!   to standard output.
+//!   at chosen calls; [`DiskShelf`] reads them by the calls of a [`Disk`], and is a [`FileShelf`] over the files of the
+//!   system.
+//! - [`Sink`]: bytes are put to it. [`MemSink`] keeps them in memory and fails at chosen puts; [`OutputSink`] writes
+//!   them by the call of an [`Output`], and is a [`StdSink`] over standard output.
 //! - [`write_whole`]: puts all of a text.
 //!
 //! What a call may answer is said by the traits, for every implementation: `Gives` of `specs/Shelves.antt` for a fetch,
@@ -12,8 +13,14 @@
 //! call failed. So a fault is never answered unless the count of the object at hand rose in the call.
 //!
 //! The two implementations in memory are exact: `specs/MemShelves.antt` and `specs/MemSinks.antt` have their next answer
-//! and their next state as functions. The two of the system tell nothing, so that nothing is proved of the bytes that
-//! they read and write but how many there are.
+//! and their next state as functions.
+//!
+//! A disk and an output may tell too, and count how often a call was interrupted and how often one failed. So it is
+//! proved, of every disk and output, that what is fetched is all the bytes under the very name that was asked for, and
+//! that as many bytes are answered as were written; and `IsCaused` of `specs/Disks.antt` and `IsPutCaused` of
+//! `specs/Outputs.antt` say that a fault stands for one error, or for a call that was interrupted each time that it was
+//! made, and that no other answer had an error. Those of the system tell nothing: their three calls stand in
+//! `src/system.rt`.
 #![tactic(auto)]
 
 mod counts;
