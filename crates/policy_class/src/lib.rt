@@ -12,8 +12,6 @@ mod places;
 mod policy;
 mod programs;
 mod resolution;
-#[cfg(test)]
-mod tests;
 mod uses;
 
 pub use policy::{check_policy, class_of, controls};
