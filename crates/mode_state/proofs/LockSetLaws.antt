@@ -2,7 +2,7 @@
 use Rattle.std.proofs.Common.{◌≡◌, ℕ, ◌^◌, ◌<◌, ◌≤◌, ◌&&◌, ◌||◌, ◌==◌, not, Bool, true, false, length, replicate, refl, sym, ap, ◌∙◌, arith, nat_eq, inl, inr, w64, eqb-true}
 use Rattle.std.specs.Prelude.{bit_and}
 use Rattle.std.specs.Int.{bit_not}
-use Rattle.std.proofs.lemmas.Bool.{cases_lt, eqb-false}
+use Rattle.std.proofs.lemmas.Bool.{and_parts, cases_lt, eqb-false, not-true}
 use Rattle.std.proofs.lemmas.Nat.{and_le_l}
 use Rattle.std.proofs.lemmas.Nat.Bits.{bit_at-zero}
 use Rattle.cov_ast.specs.Tables.{table, has}
@@ -17,24 +17,12 @@ use Rattle.mode_state.proofs.MaskLaws.{table_past}
 pub no_word : (n : ℕ) → table n (has_bit 0) ≡ replicate n false
 no_word n = table_same n (has_bit 0) (λ y. false) (λ x lt. ap (λ b. b == 1) (bit_at-zero x)) ∙ sym (none_table n)
 
-left_of : (a b : Bool) → (a && b) ≡ true → a ≡ true
-left_of true b h = refl
-left_of false b h = h
-
-right_of : (a b : Bool) → (a && b) ≡ true → b ≡ true
-right_of true b h = h
-right_of false b h = absurd (cc)
-
 -- a set that lacks no number of another
 covered : (a b : Bool) → (b && not a) ≡ false → (not b || a) ≡ true
 covered true true h = refl
 covered true false h = refl
 covered false true h = absurd (cc)
 covered false false h = refl
-
-uncovered : (a : Bool) → not a ≡ true → a ≡ false
-uncovered true h = absurd (cc)
-uncovered false h = refl
 
 -- what a word says of each of its numbers, where it has none past a bound
 pub word_at : (n w : ℕ) → ((k : ℕ) → n ≤ k → k < 64 → has_bit w k ≡ false) → (k : ℕ) → k < 64 → has (table n (has_bit w)) k ≡ has_bit w k
@@ -68,7 +56,7 @@ module _ (a b n m : ℕ) (fa : a < 2 ^ 64) (fb : b < 2 ^ 64) (small : m ≤ 64) 
         let k = some.0 in
         let in_both : (has_bit a k && has_bit b k) ≡ true = sym (and_bit a b k) ∙ some.2 in
         sym (any_from (λ k. has (table n (has_bit a)) k && has (table m (has_bit b)) k) 0 (length (table m (has_bit b))) k (omega arith)
-        (let lt = below k some.1 (right_of (has_bit a k) (has_bit b k) in_both) in omega arith)
+        (let lt = below k some.1 (and_parts (has_bit a k) (has_bit b k) in_both).1 in omega arith)
         (common k some.1 ∙ some.2))
   ] refl
 
@@ -83,8 +71,9 @@ module _ (a b n m : ℕ) (fa : a < 2 ^ 64) (fb : b < 2 ^ 64) (small : m ≤ 64) 
         let some = some_bit (bit_and b (bit_not w64 a)) (eqb-false (bit_and b (bit_not w64 a)) 0 e) (omega (arith, and_le_l b (bit_not w64 a))) in
         let k = some.0 in
         let one : (has_bit b k && not (has_bit a k)) ≡ true = sym (missing k some.1) ∙ some.2 in
-        let there = left_of (has_bit b k) (not (has_bit a k)) one in
-        let away = uncovered (has_bit a k) (right_of (has_bit b k) (not (has_bit a k)) one) in
+        let parts = and_parts (has_bit b k) (not (has_bit a k)) one in
+        let there = parts.0 in
+        let away = not-true (has_bit a k) parts.1 in
         sym (not_all_from (λ k. not (has (table m (has_bit b)) k) || has (table n (has_bit a)) k) 0 (length (table m (has_bit b))) k (omega arith)
         (let lt = below k some.1 there in omega arith)
         (λ i. not ((word_at m b pb k some.1 ∙ there) i) || (word_at n a pa k some.1 ∙ away) i))
