@@ -1,7 +1,7 @@
 -- Walks over the variables that pass over those of which nothing is to be done.
 use Rattle.std.proofs.Common.{◌≡◌, ℕ, ◌<◌, ◌≤◌, ◌&&◌, List, Bool, true, false, not, length, get_or, set, nat_lt, refl, sym, ap, ◌∙◌, arith, inl, inr, Option, Some, None, if◌then◌else◌}
 use Rattle.std.specs.Prelude.{IfSome}
-use Rattle.std.proofs.lemmas.Bool.{cases_eq, cases_lt, ltb-true, ltb-false}
+use Rattle.std.proofs.lemmas.Bool.{cases_eq, cases_lt, ltb-true, ltb-false, not-true, not-false}
 use Rattle.std.proofs.lemmas.List.{get_or-set_same, get_or-set_other, get_or_past, length-set}
 use Rattle.cov_expr.specs.Term.{Term}
 use Rattle.cov_ast.specs.Tables.{has}
@@ -44,22 +44,15 @@ next_done s from end (Some x) h small = (small, h.1, λ k le lt. ap not (h.3 k l
 abbrev pub AreMarked : (marks : List Bool) → List (Option Term) → Type 0
 AreMarked marks qs = (x : ℕ) → x < 256 → has marks x ≡ false → is_closed_type (get_or qs x None) ≡ true
 
-closed : (b : Bool) → not b ≡ false → b ≡ true
-closed true h = refl
-closed false h = absurd (cc)
-
-unmarked : (b : Bool) → not b ≡ true → b ≡ false
-unmarked true h = absurd (cc)
-unmarked false h = refl
-
 module _ (marks : List Bool) (long : length marks ≡ 256) (qs : List (Option Term)) (old : AreMarked marks qs) where
+  -- a type is put in the place of another, and its mark with it
   pub marked_set : (b : Bool) (q : Option Term) → b ≡ not (is_closed_type q) → (x : ℕ) → AreMarked (set marks x b) (set qs x q)
   marked_set b q is x k lt away = elim (cases_eq k x) [
     | inl e ↦ let inside : x < length marks = omega (arith, e, long) in
         let same : b ≡ false = sym (get_or-set_same marks x b false inside) ∙ ap (λ j. has (set marks x b) j) (sym e) ∙ away in
         ap (λ j. is_closed_type (get_or (set qs x q) j None)) e
         ∙ elim (cases_lt x (length qs)) [
-          | inl there ↦ ap is_closed_type (get_or-set_same qs x q None there) ∙ closed (is_closed_type q) (sym is ∙ same)
+          | inl there ↦ ap is_closed_type (get_or-set_same qs x q None there) ∙ not-false (is_closed_type q) (sym is ∙ same)
           | inr past ↦ ap is_closed_type (get_or_past (set qs x q) x None (omega (arith, length-set qs x q)))
         ]
     | inr ne ↦ ap is_closed_type (get_or-set_other qs x k q None ne) ∙ old k lt (sym (get_or-set_other marks x k b false ne) ∙ away)
@@ -67,9 +60,9 @@ module _ (marks : List Bool) (long : length marks ≡ 256) (qs : List (Option Te
 
   -- types before the next mark
   pub marked_done : (from : ℕ) (x : Option ℕ) → AreDone (λ k. not (has marks k)) from 256 x → AreDone (λ k. is_closed_type (get_or qs k None)) from 256 x
-  marked_done from None none = λ k le lt. old k lt (unmarked (has marks k) (none k le lt))
+  marked_done from None none = λ k le lt. old k lt (not-true (has marks k) (none k le lt))
   marked_done from (Some x) next =
-      (next.0, next.1, λ k le lt. let inside : x < 256 = next.0 in old k (omega arith) (unmarked (has marks k) (next.2 k le lt)))
+      (next.0, next.1, λ k le lt. let inside : x < 256 = next.0 in old k (omega arith) (not-true (has marks k) (next.2 k le lt)))
 
 -- The list so far --------------------------------------------------------------------------------------------------
 
@@ -79,9 +72,11 @@ module _ (f : ℕ → Option Term → Option Term) (qs now : List (Option Term))
   as_it_was : (k : ℕ) → from ≤ k → k < length qs → get_or now k None ≡ get_or qs k None
   as_it_was k le lt = ap (λ rs. get_or rs k None) is ∙ upto_from f qs from k le lt
 
+  -- the walk goes on at the next one
   pub walked_to : (z : ℕ) → AreDone done from end (Some z) → now ≡ upto f qs z
   walked_to z h =
       is ∙ upto_pass f qs from z h.1 (λ k low high there. keeps k (let inside : z < end = h.0 in omega arith) (as_it_was k low there) (h.2 k low high))
 
+  -- the walk ends
   pub walked_all : length qs ≤ end → AreDone done from end None → now ≡ updated f qs
   walked_all few h = is ∙ upto_end f qs from end few (λ k low high there. keeps k high (as_it_was k low there) (h k low high))
