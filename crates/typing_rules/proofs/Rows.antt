@@ -1,7 +1,6 @@
 -- Programs of which the verdict is known, by computation: the first obligation of a thread that fails, or how many
 -- statements and entailments it has. Places are those of the text above each program.
-use Rattle.std.proofs.Common.{◌≡◌, ℕ, zero, suc, List, [], ◌∷◌, Option, Some, None, refl, map, not}
-use Rattle.std.specs.Prelude.{filter}
+use Rattle.std.proofs.Common.{◌≡◌, ℕ, zero, suc, List, [], ◌∷◌, Option, Some, None, refl, map}
 use Rattle.std.specs.List.{range_with_len}
 use Rattle.cov_expr.specs.declared.expr.Op.TheVariants.{Add, Eq, Lt, Le}
 use Rattle.cov_expr.specs.declared.expr.TheConstants.{HOLE}
@@ -11,7 +10,7 @@ use Rattle.cov_ast.specs.Syntax as by
 use Rattle.cov_ast.specs.Declarations.{no_modes}
 use Rattle.cov_ast.specs.Plain.{no_state}
 use Rattle.cov_ast.specs.View.{Placed, block_of}
-use Rattle.cov_ast.specs.Obligations.{Entry, first_false}
+use Rattle.cov_ast.specs.Obligations.{first_false}
 use Rattle.cov_ast.specs.declared.refusal.Rule.{Rule}
 use Rattle.cov_ast.specs.declared.refusal.Rule.TheVariants.{V1, V2, V3, V4, V5, V6, V7, V8, V9, V10, V11, V12, V13, V14, V15, V16}
 use Rattle.cov_ast.specs.declared.refusal.Detail.{Detail}
@@ -46,10 +45,6 @@ says preds types = record { preds = preds; types = types }
 
 abbrev modes_of : (assume_nowrite assume_hide guarantee_nowrite guarantee_hide : List ℕ) → Modes
 modes_of an ah gn gh = record { assume_nowrite = an; assume_hide = ah; guarantee_nowrite = gn; guarantee_hide = gh }
-
--- what the obligations that don't hold refuse
-abbrev failed : List Entry → List Refusal
-failed entries = map (λ e. e.refusal) (filter (λ e. not e.holds) entries)
 
 -- under so many `!`
 abbrev negated : ℕ → Term → Term
@@ -272,9 +267,8 @@ counts_to_three = record {
       ∷ stm 236 (unlock 0) [] ∷ [])) 246 ∷ [];
 }
 
--- all obligations hold but the one whose certificate is `range`, since such nodes fail as yet
-counts_to_three-fails : failed (thread_obligations counts_to_three 0) ≡ refusal V9 0 90 (Number 2) ∷ []
-counts_to_three-fails = refl
+counts_to_three-accepted : first_false (thread_obligations counts_to_three 0) ≡ None
+counts_to_three-accepted = refl
 
 counts_to_three-counts : counts counts_to_three 0 ≡ record { statements = 6; entailments = 6 }
 counts_to_three-counts = refl

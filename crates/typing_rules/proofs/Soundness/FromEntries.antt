@@ -14,9 +14,7 @@ use Rattle.cov_ast.specs.Syntax.{State, Proof, Stm, skip, assign, lock, unlock, 
 use Rattle.cov_ast.specs.WellFormed.{IsStmInRange, IsBlockInRange}
 use Rattle.cov_ast.specs.declared.refusal.Rule.TheVariants.{V1, V5}
 use Rattle.entail_cert.specs.Words.{CertHasWords}
-use Rattle.entail_cert.specs.Valid.{first_bad}
-use Rattle.entail_cert.proofs.Instances.{instances_hold}
-use Rattle.entail_cert.proofs.Sound.{none_is, cert_sound}
+use Rattle.entail_cert.proofs.Instances.{valid_entails}
 use Rattle.entail_cert.proofs.Truth.{and_left, and_right, all_both}
 use Rattle.mode_state.specs.Sets.{is_stable, is_hidden, may_read}
 use Rattle.mode_state.proofs.HeldLaws.{any_from}
@@ -83,9 +81,7 @@ cert_words [] n w = tt
 cert_words (q ∷ qs) n w = cond_is CertHasWords (q.number == n) q.cert (cert_for qs n) (λ _. w.0) (λ _. cert_words qs n w.1)
 
 follows : (proofs : List Proof) (n : ℕ) (g : Entailment) → ProofsHaveWords proofs → IsTrue (is_proved proofs n g) → Entails g.hyps g.goal
-follows proofs n g w v m m_words h =
-    let c = cert_for proofs n in
-    cert_sound m c g.hyps g.goal (none_is (first_bad g.hyps g.goal c) v) (instances_hold m m_words c (cert_words proofs n w)) h
+follows proofs n g w v = valid_entails g.hyps g.goal (cert_for proofs n) (cert_words proofs n w) v
 
 abbrev AllFollow : List Entailment → Type 0
 AllFollow [] = Unit {0}
