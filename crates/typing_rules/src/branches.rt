@@ -12,7 +12,7 @@ ghost use Rattle.typing_state.specs.After.{meet, with_guard};
 ghost use Rattle.typing_state.specs.Kept.{Keeps};
 ghost use Rattle.typing_rules.specs.Answers.{Walks};
 ghost use Rattle.typing_rules.specs.Entailments.{Entailment, guard_follows, state_follows};
-ghost use Rattle.typing_rules.specs.Obligations.{flat};
+ghost use Rattle.typing_rules.specs.Obligations.{flat, same_locks, state_entries};
 ghost use Rattle.typing_rules.specs.Walking.{Guards, GuardsAt, IsWalk, Stands, TriesAt, Wherever, first_parts, fork_parts, head_parts, join_parts, plain_of, starts_of, turn_parts};
 
 use crate::guards::check_guard;
@@ -165,16 +165,27 @@ impl Walk<'_> {
             (meet (plain_of self.now) self.now.thread a (view.state join.now))
             (before + yes.entailments + no.entailments + length (state_follows a (view.state join.now) ++ state_follows b (view.state join.now))) result)) }
     {
-        let (p, site) = (self.program, self.site(at));
         let inside = yes.entailments + no.entailments;
         let (yes, no) = (yes.point, no.point);
-        let same = check_same_locks(p, site, yes.modes(), no.modes());
-        let stated = check_state(p, site, &yes, join);
+        let met = self.check_ends(at, join, &yes, &no);
         let tried = self.try_both(at, &yes, &no, join, proofs, 1 + before)?;
         let entailments = u64::from(before) + inside + u64::from(tried.count);
-        let after = yes.meet(self.alloc, p, join)?;
+        let after = yes.meet(self.alloc, self.program, join)?;
         let last = self.check_last(at, proofs, before, tried, after.has_small_types());
-        finish(after, entailments, both(same, both(stated, last)))
+        finish(after, entailments, both(met, last))
+    }
+
+    /// The ends of two blocks hold the same locks, and a state may stand behind the first (V8, V12, V14, V4).
+    fn check_ends(&self, at: u32, join: &State, yes: &Point, no: &Point) -> Result<(), CheckFault>
+        requires walk { IsWalk self.now }
+        requires range { IsStateInRange (length self.now.program.now.vars) (length self.now.program.now.locks) (view.state join.now) }
+        ensures { Wherever self.now yes.now (λ a. Wherever self.now no.now (λ b. Decides
+            (same_locks (plain_of self.now) self.now.thread at a.held b.held ++ state_entries (plain_of self.now) self.now.thread at a.held (view.state join.now)) result)) }
+    {
+        let site = self.site(at);
+        let same = check_same_locks(self.program, site, yes.modes(), no.modes());
+        let stated = check_state(self.program, site, yes, join);
+        both(same, stated)
     }
 
     /// Tries what is asked where a state is to be met at two points.

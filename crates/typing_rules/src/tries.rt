@@ -99,13 +99,26 @@ fn check_claim(
         (spec.is_proved (map view.proof proofs.now) number (entailment a.preds claim.now)) ∷ [])
         result) }
 {
-    let auto = Cert::Auto;
-    let cert = cert_for(proofs, number, &auto);
-    match try_claim(alloc, point, claim, cert) {
+    match try_proof(alloc, point, proofs, number, claim) {
         Ok(()) => Ok(()),
         Err(CertFault::Invalid(_)) => Err(refused_at(site, Rule::V9, Detail::Number(number))),
         Err(CertFault::NoMemory) => Err(CheckFault::NoMemory),
     }
+}
+
+/// Tries the certificate that is given for the number of a claim, else `auto`.
+fn try_proof(
+    alloc: Global,
+    point: &Point,
+    proofs: &[Proof],
+    number: u32,
+    claim: &Claim<'_>,
+) -> Result<(), CertFault>
+    ensures { (p : Plain) → (t : ℕ) → AtPoint p t point.now (λ a. Answers
+        (first_bad (entailment a.preds claim.now).hyps (entailment a.preds claim.now).goal (spec.cert_for (map view.proof proofs.now) number)) result) }
+{
+    let auto = Cert::Auto;
+    try_claim(alloc, point, claim, cert_for(proofs, number, &auto))
 }
 
 /// Tries a certificate for a claim.

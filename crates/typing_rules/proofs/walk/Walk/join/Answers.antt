@@ -1,4 +1,5 @@
-use Rattle.std.proofs.Common.{◌≡◌, [], ◌∷◌, ◌++◌, ◌+◌, suc, map, length, refl, sym, ◌∙◌, arith, subst}
+use Rattle.std.proofs.Common.{◌≡◌, [], ◌∷◌, ◌++◌, ◌+◌, suc, map, length, refl, sym, ◌∙◌, arith, append_assoc, subst, None}
+use Rattle.cov_ast.specs.Obligations.{Decides, first_false}
 use Rattle.cov_ast.specs.View as view
 use Rattle.typing_state.specs.After.{meet}
 use Rattle.typing_rules.specs.Entailments.{state_follows}
@@ -23,13 +24,12 @@ returns c a k b kb =
     let tries = subst (λ n. TriesAt w at proofs n gs c.in_ok-tried.tried) n (c.in_ok-tried.ensures a k b kb) in
     let after = meet p t a j in
     let keeps = c.in_ok-after.ensures t a k in
-    let same = same_locks p t at a.held b.held in
-    let stated = state_entries p t at a.held j in
-    let same_ok = (rw c.site-site.ensures at c.check_same_locks-same.ensures) a.held (c.modes.ensures p t a k) b.held (c.modes-2.ensures p t b kb) in
-    let stated_ok = (rw c.site-site.ensures at c.check_state-stated.ensures) a k in
+    let met = same_locks p t at a.held b.held ++ state_entries p t at a.held j in
     let rest = flat (last_parts p t at proofs (suc before) count gs (after ∷ [])) in
     let last = c.check_last-last.ensures gs (after ∷ []) count tries (c.has_small_types.ensures p t after keeps ∙ sym (and_true (has_small_types after))) refl in
-    c.finish.ensures p t (same ++ (stated ++ rest)) after (before + c.args.yes.entailments + c.args.no.entailments + length gs) keeps
-    (c.both-2.ensures same (stated ++ rest) same_ok (λ _. c.both.ensures stated rest stated_ok (λ _. last)))
-    (λ held. let counted = all_counted p t at proofs (suc before) count gs (after ∷ []) c.in_ok-tried.tried (same ++ stated) tries held in
+    c.finish.ensures p t (same_locks p t at a.held b.held ++ (state_entries p t at a.held j ++ rest)) after (before + c.args.yes.entailments + c.args.no.entailments + length gs) keeps
+    (subst (λ es. Decides es c.both.result) (append_assoc (same_locks p t at a.held b.held) (state_entries p t at a.held j) rest)
+    (c.both.ensures met rest (c.check_ends-met.ensures a k b kb) (λ _. last)))
+    (λ held. let counted = all_counted p t at proofs (suc before) count gs (after ∷ []) c.in_ok-tried.tried met tries
+    (subst (λ es. first_false es ≡ None) (sym (append_assoc (same_locks p t at a.held b.held) (state_entries p t at a.held j) rest)) held) in
     omega (arith, counted, c.from.ensures, c.from-2.ensures))
