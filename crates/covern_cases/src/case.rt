@@ -4,7 +4,7 @@ use cov_expr::{Blob, List, Name, NoMemory};
 use std::alloc::Global;
 
 /// Texts under names, and what calls on them have to show.
-#[derive(Debug, Drop)]
+#[derive(Drop)]
 pub struct Case {
     pub name: Blob,
     pub files: Vec<(Name, Blob)>,
@@ -12,7 +12,7 @@ pub struct Case {
 }
 
 /// A call, and what it has to show.
-#[derive(Debug, Drop)]
+#[derive(Drop)]
 pub struct Call {
     /// Whether it is a call of the product, and not of a part of it.
     pub is_whole: bool,

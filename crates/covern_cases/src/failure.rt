@@ -5,7 +5,7 @@ use std::io;
 /// Why the program ends with another status than 0.
 #[derive(Debug, Drop)]
 pub enum Failure {
-    /// The words are neither form, or a line of a file of cases names no part or no file.
+    /// The words are neither form, or a file of a case has no name of its own.
     Usage,
     /// A file couldn't be read.
     Unreadable,

@@ -39,7 +39,7 @@ pub fn add_part(
         "parsed" => add_parsed(alloc, text, out),
         "declared" => add_declared(alloc, times, text, out),
         "certificates" => add_claims(alloc, times, text, out),
-        _ => Err(Failure::Usage),
+        _ => Ok(out.extend_from_slice(b"no such part\n")?),
     }
 }
 
