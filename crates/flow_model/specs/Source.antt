@@ -99,9 +99,15 @@ step s t = put_back s t (turn t s.memory s.holders (items_of s t))
 -- whether the next step of thread t stays where it is: at a lock that is held by anybody, the thread too, or at an
 -- unlock of a lock that the thread doesn't hold
 abbrev pub stays_at : ℕ → Holders → List Item → Bool
+stays_at t h [] = false
+stays_at t h (run at skip ∷ rest) = false
+stays_at t h (run at (assign x e) ∷ rest) = false
 stays_at t h (run at (lock l) ∷ rest) = is_some (holder h l)
 stays_at t h (run at (unlock l) ∷ rest) = not (is_held_by (holder h l) t)
-stays_at t h _ = false
+stays_at t h (run at (branch e a b) ∷ rest) = false
+stays_at t h (run at (loop e b) ∷ rest) = false
+stays_at t h (put at x word ∷ rest) = false
+stays_at t h (test at word a b ∷ rest) = false
 
 -- Runs ---------------------------------------------------------------------------------------------------------
 
