@@ -29,6 +29,7 @@ uses_behind in_thread before (t ∷ ts) = use_of in_thread before t ++ uses_behi
 abbrev pub uses_of : List Token → List NameUse
 uses_of ts = uses_behind false k.Semicolon ts
 
--- The uses are those of the variables of an expression, in the order of the text: one for each place of a variable, and none of a lock.
+-- The uses are those of the variables of an expression, in the order of the text: one for each place of a variable, and
+-- none of a lock.
 abbrev pub AreUsesOf : List NameUse → Term → Type 0
 AreUsesOf uses e = map ready.use_of uses ≡ ready.uses_in e
