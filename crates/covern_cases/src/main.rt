@@ -37,8 +37,6 @@ mod failure;
 mod lines;
 mod parts;
 mod play;
-#[cfg(test)]
-mod tests;
 mod top;
 
 use crate::failure::Failure;
