@@ -1,5 +1,6 @@
 //! `check P` as a plain program would do it: the whole language read to trees, each rule tried in its order, and the line that
 //! `covern check P` prints. Of a malformed text it names no fault, and it proves nothing.
+mod arithmetic;
 mod declared;
 mod syntax;
 mod terms;

@@ -97,7 +97,8 @@ pub enum Cert {
     Fwd(u32, Term, Box<Cert>),
     Rev(u32, Term, Box<Cert>),
     Axiom(u32, Vec<Term>, Box<Cert>),
-    Later,
+    Ring,
+    Range,
 }
 
 pub struct Stmt {
@@ -401,7 +402,8 @@ impl<'t> Reader<'t> {
             "auto" => Cert::Auto,
             "calc" => Cert::Calc,
             "refl" => Cert::Refl,
-            "ring" | "range" => Cert::Later,
+            "ring" => Cert::Ring,
+            "range" => Cert::Range,
             "(" => {
                 let (cert, size) = self.cert()?;
                 self.expect(")")?;

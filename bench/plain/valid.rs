@@ -1,4 +1,5 @@
 //! Which certificates are valid.
+use crate::arithmetic::{range, ring};
 use crate::syntax::{Cert, Expr, HOLE, Op, Term, term};
 use crate::terms::{all_conjuncts, has_conjunct, is_filled, same, subst, value};
 use crate::typed::Pred;
@@ -75,6 +76,8 @@ fn node(hyps: &mut Vec<Term>, goal: Term, cert: &Cert) -> bool {
         (Cert::Refl, Expr::Bin(Op::Eq, a, b)) => same(a, b),
         (Cert::Fwd(i, t, c), _) => rewritten(hyps, operands(hyps, *i, Op::Eq), t, goal, c),
         (Cert::Rev(i, t, c), _) => rewritten(hyps, operands(hyps, *i, Op::Eq).map(|(a, b)| (b, a)), t, goal, c),
+        (Cert::Ring, _) => ring(goal),
+        (Cert::Range, _) => range(hyps, goal),
         (Cert::Axiom(k, args, c), _) => axiom(*k, args).is_some_and(|e| with(hyps, &[e], goal, c)),
         _ => false,
     }
