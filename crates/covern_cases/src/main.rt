@@ -37,6 +37,8 @@ mod failure;
 mod lines;
 mod parts;
 mod play;
+#[cfg(test)]
+mod tests;
 mod top;
 
 use crate::failure::Failure;
