@@ -9,41 +9,41 @@ use Rattle.cov_expr.specs.Term.{Term, const, var, neg, bin}
 use Rattle.cov_expr.specs.Trees.{add_new, has_number, occurrences, vars}
 use Rattle.cov_expr.specs.Words.{HasVarsBelow}
 use Rattle.cov_ast.specs.Tables.{table, has, first_outside}
-use Rattle.cov_ast.specs.Obligations.{Entry, first_false, Decides, distinct}
+use Rattle.cov_ast.specs.Obligations.{Obligation, first_false, Decides, distinct}
 use Rattle.cov_ast.specs.declared.refusal.CheckFault.{CheckFault}
 use Rattle.cov_ast.specs.declared.refusal.CheckFault.TheVariants.{Refused, NoMemory}
 use Rattle.cov_ast.specs.declared.refusal.Refusal.{Refusal}
 use Rattle.cov_ast.proofs.TableLaws.{table_at}
 
-pub first_false-append : (a b : List Entry) → first_false (a ++ b) ≡ option_or (first_false a) (first_false b)
+pub first_false-append : (a b : List Obligation) → first_false (a ++ b) ≡ option_or (first_false a) (first_false b)
 first_false-append [] b = refl
 first_false-append (e ∷ es) b =
     elim e.holds as (λ h. cond h (first_false (es ++ b)) (Some e.refusal) ≡ option_or (cond h (first_false es) (Some e.refusal)) (first_false b))
     [ true ↦ first_false-append es b | false ↦ refl ]
 
 -- behind obligations that hold
-pub append_held : (a b : List Entry) → first_false a ≡ None → first_false (a ++ b) ≡ first_false b
+pub append_held : (a b : List Obligation) → first_false a ≡ None → first_false (a ++ b) ≡ first_false b
 append_held a b h = first_false-append a b ∙ ap (λ o. option_or o (first_false b)) h
 
 -- Answers ------------------------------------------------------------------------------------------------------
 
-pub same_decided : (a b : List Entry) (r : Result (Unit {0}) CheckFault) → first_false a ≡ first_false b → Decides a r → Decides b r
+pub same_decided : (a b : List Obligation) (r : Result (Unit {0}) CheckFault) → first_false a ≡ first_false b → Decides a r → Decides b r
 same_decided a b (Ok done) e h = sym e ∙ h
 same_decided a b (Err (Refused refusal)) e h = sym e ∙ h
 same_decided a b (Err NoMemory) e h = tt
 
 -- what refuses a first part refuses the whole
-pub append_refused : (a b : List Entry) (fault : CheckFault) → Decides a (Err fault) → Decides (a ++ b) (Err fault)
+pub append_refused : (a b : List Obligation) (fault : CheckFault) → Decides a (Err fault) → Decides (a ++ b) (Err fault)
 append_refused a b (Refused refusal) h = first_false-append a b ∙ ap (λ o. option_or o (first_false b)) h
 append_refused a b NoMemory h = tt
 
 -- where a first part holds, the rest decides
-pub append_decided : (a b : List Entry) (r : Result (Unit {0}) CheckFault) → first_false a ≡ None → Decides b r → Decides (a ++ b) r
+pub append_decided : (a b : List Obligation) (r : Result (Unit {0}) CheckFault) → first_false a ≡ None → Decides b r → Decides (a ++ b) r
 append_decided a b r e h = same_decided b (a ++ b) r (sym (append_held a b e)) h
 
 -- Loops: F gives the obligations of what is left of a list, g those of its first item, and G those of the rest. The
 -- first false one of what is left is that of the whole.
-module _ {X : Type 0} (F G : List X → List Entry) (g whole : List Entry) (xs : List X) (i : ℕ) (x : X) (inside : i < length xs) (is : x ≡ get_or xs i x)
+module _ {X : Type 0} (F G : List X → List Obligation) (g whole : List Obligation) (xs : List X) (i : ℕ) (x : X) (inside : i < length xs) (is : x ≡ get_or xs i x)
     (splits : (ys : List X) → F (x ∷ ys) ≡ g ++ G ys) (kept : first_false (F (drop i xs)) ≡ first_false whole) where
   at : F (drop i xs) ≡ g ++ G (drop (i + 1) xs)
   at = at_drop_more F xs i x inside ∙ ap (λ y. F (y ∷ drop (i + 1) xs)) (sym is) ∙ splits (drop (i + 1) xs)
@@ -57,7 +57,7 @@ module _ {X : Type 0} (F G : List X → List Entry) (g whole : List Entry) (xs :
 
 -- Lists without repeats ----------------------------------------------------------------------------------------
 
-module _ (g : ℕ → List Entry) where
+module _ (g : ℕ → List Obligation) where
   first_of : List ℕ → Option Refusal
   first_of xs = first_false (flat_map g xs)
 
@@ -106,7 +106,7 @@ module _ (g : ℕ → List Entry) where
   unfolding first_of
   distinct_same xs = added [] xs
 
-pub distinct_map_same : (f : ℕ → Entry) (xs : List ℕ) → first_false (map f (distinct xs)) ≡ first_false (map f xs)
+pub distinct_map_same : (f : ℕ → Obligation) (xs : List ℕ) → first_false (map f (distinct xs)) ≡ first_false (map f xs)
 distinct_map_same f xs =
     ap first_false (sym (flat_map_single f (distinct xs))) ∙ distinct_same (λ x. f x ∷ []) xs ∙ ap first_false (flat_map_single f xs)
 
@@ -158,25 +158,25 @@ module _ (marks : List Bool) (r : ℕ → Refusal) where
       ∙ ap (λ t. refused_at r (first_outside marks (occurrences t))) same
 
 module _ (n : ℕ) (test : ℕ → Bool) (r : ℕ → Refusal) where
-  entry : ℕ → Entry
-  entry x = record { refusal = r x; holds = test x }
+  obligation : ℕ → Obligation
+  obligation x = record { refusal = r x; holds = test x }
 
-  found_in : (xs : List ℕ) → AreBelow n xs → first_false (map entry xs) ≡ refused_at r (first_outside (table n test) xs)
-  unfolding entry
+  found_in : (xs : List ℕ) → AreBelow n xs → first_false (map obligation xs) ≡ refused_at r (first_outside (table n test) xs)
+  unfolding obligation
   found_in [] h = refl
   found_in (x ∷ xs) h =
-      ap (λ b. cond b (first_false (map entry xs)) (Some (r x))) (sym (table_at n test x h.0)) ∙ go (found_in xs h.1) (has (table n test) x)
+      ap (λ b. cond b (first_false (map obligation xs)) (Some (r x))) (sym (table_at n test x h.0)) ∙ go (found_in xs h.1) (has (table n test) x)
     where
-      go : first_false (map entry xs) ≡ refused_at r (first_outside (table n test) xs) → (b : Bool)
-          → cond b (first_false (map entry xs)) (Some (r x)) ≡ refused_at r (cond b (first_outside (table n test) xs) (Some x))
+      go : first_false (map obligation xs) ≡ refused_at r (first_outside (table n test) xs) → (b : Bool)
+          → cond b (first_false (map obligation xs)) (Some (r x)) ≡ refused_at r (cond b (first_outside (table n test) xs) (Some x))
       go rest true = rest
       go rest false = refl
 
   -- the obligations of the variables of an expression, against the first occurrence outside a set
   pub vars_found : (e : Term) → HasVarsBelow e n
       → first_false (map (λ x. record { refusal = r x; holds = test x }) (vars e)) ≡ refused_at r (first_outside (table n test) (occurrences e))
-  unfolding entry
-  vars_found e h = distinct_map_same entry (occurrences e) ∙ found_in (occurrences e) (occurrences_below e n h)
+  unfolding obligation
+  vars_found e h = distinct_map_same obligation (occurrences e) ∙ found_in (occurrences e) (occurrences_below e n h)
 
   module _ (marks : List Bool) (made : marks ≡ table n test) (e seen : Term) (same : e ≡ seen) (below : HasVarsBelow e n) where
     found_seen : first_false (map (λ x. record { refusal = r x; holds = test x }) (vars e)) ≡ refused_at r (first_outside marks (occurrences seen))

@@ -9,27 +9,27 @@ use Rattle.cov_ast.specs.declared.refusal.CheckFault.{CheckFault}
 use Rattle.cov_ast.specs.declared.refusal.CheckFault.TheVariants.{Refused, NoMemory}
 
 -- one obligation: whether it holds, and what is refused where it doesn't
-pub record Entry : Type 0 where
+pub record Obligation : Type 0 where
   pub refusal : Refusal
   pub holds : Bool
 
 -- an obligation of declarations, which belongs to no thread
-abbrev pub declared_entry : Rule → (place : ℕ) → Detail → Bool → Entry
-declared_entry rule place detail holds = record { refusal = record { rule = rule; thread = None; place = place; detail = detail }; holds = holds }
+abbrev pub declared_obligation : Rule → (place : ℕ) → Detail → Bool → Obligation
+declared_obligation rule place detail holds = record { refusal = record { rule = rule; thread = None; place = place; detail = detail }; holds = holds }
 
-abbrev pub all_hold : List Entry → Bool
-all_hold entries = list_all (λ e. e.holds) entries
+abbrev pub all_hold : List Obligation → Bool
+all_hold obligations = list_all (λ e. e.holds) obligations
 
 -- the first obligation that doesn't hold
-abbrev pub first_false : List Entry → Option Refusal
+abbrev pub first_false : List Obligation → Option Refusal
 first_false [] = None
 first_false (e ∷ es) = if e.holds then first_false es else Some e.refusal
 
 -- The answer is that all hold, or else the refusal of the first obligation that doesn't, unless memory ran out.
-abbrev pub Decides : List Entry → Result (Unit {0}) CheckFault → Type 0
-Decides entries (Ok done) = first_false entries ≡ None
-Decides entries (Err (Refused refusal)) = first_false entries ≡ Some refusal
-Decides entries (Err NoMemory) = Unit {0}
+abbrev pub Decides : List Obligation → Result (Unit {0}) CheckFault → Type 0
+Decides obligations (Ok done) = first_false obligations ≡ None
+Decides obligations (Err (Refused refusal)) = first_false obligations ≡ Some refusal
+Decides obligations (Err NoMemory) = Unit {0}
 
 -- numbers, each once, by first occurrence
 abbrev pub distinct : List ℕ → List ℕ

@@ -1,5 +1,5 @@
 ghost use Rattle.std.specs.Prelude.{◌≡◌, false};
-ghost use Rattle.cov_ast.specs.Obligations.{declared_entry};
+ghost use Rattle.cov_ast.specs.Obligations.{declared_obligation};
 ghost use Rattle.cov_ast.specs.declared.refusal.CheckFault.TheVariants as faults;
 
 use cov_expr::{Name, NoMemory};
@@ -78,7 +78,7 @@ impl From<Refusal> for CheckFault {
 
 /// The refusal of a program for a rule of declarations, at a place.
 pub fn refused(rule: Rule, place: u32, detail: Detail) -> CheckFault
-    ensures { result ≡ faults.Refused (declared_entry rule place detail false).refusal }
+    ensures { result ≡ faults.Refused (declared_obligation rule place detail false).refusal }
 {
     CheckFault::Refused(Refusal {
         rule,

@@ -1,4 +1,4 @@
-pub mod Rows
+pub mod Examples
 pub mod StatementKinds
 pub mod Written
 pub mod Keeps

@@ -1,8 +1,8 @@
 -- Obligations of which none is refused.
 use Rattle.std.proofs.Common.{◌≡◌, [], ◌∷◌, List, Bool, true, false, cond, Some, None, refl, IsTrue, ◌&&◌}
-use Rattle.cov_ast.specs.Obligations.{Entry, all_hold, first_false}
+use Rattle.cov_ast.specs.Obligations.{Obligation, all_hold, first_false}
 
-pub all_held : (es : List Entry) → first_false es ≡ None → IsTrue (all_hold es)
+pub all_held : (es : List Obligation) → first_false es ≡ None → IsTrue (all_hold es)
 all_held [] h = refl
 all_held (e ∷ es) h = at (λ k. all_held es k) e.holds h
   where

@@ -1,4 +1,4 @@
-mod Rows
+mod Examples
 pub mod Turns
 pub mod Compose
 pub mod Firsts

@@ -11,7 +11,7 @@ use Rattle.cov_ast.specs.Tables.{has, table, with_all}
 use Rattle.cov_ast.proofs.TableLaws.{none_table, or_assoc, or_false, table_at, table_same, with_all_table}
 use Rattle.flow_model.specs.Source.{Holders}
 use Rattle.flow_model.specs.FirstDifference.{first_var, hidden_by, is_apart, is_hidden, is_low_in, same_word}
-use Rattle.flow_model.specs.Marks.{is_marked_apart, with_assumed, with_controls, with_held}
+use Rattle.flow_model.specs.Inside.{is_marked_apart, with_assumed, with_controls, with_held}
 use Rattle.flow_model.proofs.Firsts.{same_found}
 
 pub with_all_append : (marks : List Bool) (xs ys : List ℕ) → with_all marks (xs ++ ys) ≡ with_all (with_all marks xs) ys

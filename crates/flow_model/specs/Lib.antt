@@ -5,4 +5,4 @@ pub mod Secure
 pub mod Game
 pub mod Composable
 pub mod FirstDifference
-pub mod Marks
+pub mod Inside

@@ -6,7 +6,7 @@ ghost use Rattle.cov_ast.specs.WellFormed.{IsWellFormed};
 ghost use Rattle.flow_model.specs.Agreement.{MemoriesAgree};
 ghost use Rattle.flow_model.specs.FirstDifference as spec;
 ghost use Rattle.flow_model.specs.FirstDifference.{held_by, holders_of};
-ghost use Rattle.flow_model.specs.Marks.{is_marked_apart};
+ghost use Rattle.flow_model.specs.Inside.{is_marked_apart};
 
 use crate::machine::Holder;
 use crate::marks::{mark_assumed, mark_controls, mark_held};

@@ -5,7 +5,7 @@ ghost use Rattle.cov_ast.specs.View as view;
 ghost use Rattle.cov_ast.specs.Plain.{plain, class_term};
 ghost use Rattle.cov_ast.specs.Tables.{with_all};
 ghost use Rattle.flow_model.specs.FirstDifference.{holders_of};
-ghost use Rattle.flow_model.specs.Marks.{with_assumed, with_controls, with_held};
+ghost use Rattle.flow_model.specs.Inside.{with_assumed, with_controls, with_held};
 
 use crate::machine::Holder;
 use cov_ast::{Class, Program};

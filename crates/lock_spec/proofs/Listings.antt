@@ -5,7 +5,7 @@ use Rattle.std.proofs.lemmas.List.Folds.{list_any-append}
 use Rattle.cov_expr.specs.Trees.{has_number}
 use Rattle.cov_ast.specs.Syntax.{Lock, Program}
 use Rattle.cov_ast.specs.Tables.{table, has, with_all}
-use Rattle.cov_ast.specs.Obligations.{Entry, declared_entry}
+use Rattle.cov_ast.specs.Obligations.{Obligation, declared_obligation}
 use Rattle.cov_ast.specs.declared.refusal.Rule.TheVariants.{W4}
 use Rattle.cov_ast.specs.declared.refusal.Detail.TheVariants.{One}
 use Rattle.cov_ast.specs.Plain.{plain}
@@ -13,8 +13,8 @@ use Rattle.cov_ast.specs.Declarations.{name_of}
 use Rattle.std.proofs.lemmas.Grind.{common_steps}
 use Rattle.cov_ast.specs.WellFormed.{IsLockInRange}
 use Rattle.cov_ast.proofs.TableLaws.{table_at, table_same, set_table, with_all_table, none_table, or_false}
-use Rattle.lock_spec.specs.Locks.{listing_entries, w4_from}
-use Rattle.lock_spec.specs.Marked.{marked_entry, marked_entries, marked_from}
+use Rattle.lock_spec.specs.Locks.{listing_obligations, w4_from}
+use Rattle.lock_spec.specs.Inside.{marked_obligation, marked_obligations, marked_from}
 
 pub with_all_append : (marks : List Bool) (xs ys : List ℕ) → with_all marks (xs ++ ys) ≡ with_all (with_all marks xs) ys
 with_all_append marks [] ys = refl
@@ -22,9 +22,9 @@ with_all_append marks (x ∷ xs) ys = with_all_append (set marks x true) xs ys
 
 module _ (p : Program) where
   pub marked_append : (l : Lock) (marks : List Bool) (xs ys : List ℕ)
-      → marked_entries p l marks (xs ++ ys) ≡ marked_entries p l marks xs ++ marked_entries p l (with_all marks xs) ys
+      → marked_obligations p l marks (xs ++ ys) ≡ marked_obligations p l marks xs ++ marked_obligations p l (with_all marks xs) ys
   marked_append l marks [] ys = refl
-  marked_append l marks (x ∷ xs) ys = ap (λ es. marked_entry p l marks x ∷ es) (marked_append l (set marks x true) xs ys)
+  marked_append l marks (x ∷ xs) ys = ap (λ es. marked_obligation p l marks x ∷ es) (marked_append l (set marks x true) xs ys)
 
   has_number_push : (xs : List ℕ) (x y : ℕ) → has_number (xs ++ x ∷ []) y ≡ (has_number xs y || x == y)
   has_number_push xs x y = list_any-append (λ z. z == y) xs (x ∷ []) ∙ ap (λ b. has_number xs y || b) (or_false (x == y))
@@ -43,13 +43,13 @@ module _ (p : Program) where
   tail n x xs all k d h = all (suc k) d (omega arith)
 
   marked_listing : (n : ℕ) (l : Lock) (before xs : List ℕ) → All (λ x. x < n) xs
-      → marked_entries p l (table n (has_number before)) xs ≡ listing_entries p l before xs
+      → marked_obligations p l (table n (has_number before)) xs ≡ listing_obligations p l before xs
   marked_listing n l before [] all = refl
   marked_listing n l before (x ∷ xs) all =
-      ap (λ b. declared_entry W4 l.at (One (name_of (plain p) x)) (not b) ∷ marked_entries p l (set (table n (has_number before)) x true) xs)
+      ap (λ b. declared_obligation W4 l.at (One (name_of (plain p) x)) (not b) ∷ marked_obligations p l (set (table n (has_number before)) x true) xs)
       (table_at n (has_number before) x (all 0 0 (omega arith)))
-      ∙ ap (λ es. declared_entry W4 l.at (One (name_of (plain p) x)) (not (has_number before x)) ∷ es)
-      (ap (λ m. marked_entries p l m xs) (one_more n before x) ∙ marked_listing n l (before ++ x ∷ []) xs (tail n x xs all))
+      ∙ ap (λ es. declared_obligation W4 l.at (One (name_of (plain p) x)) (not (has_number before x)) ∷ es)
+      (ap (λ m. marked_obligations p l m xs) (one_more n before x) ∙ marked_listing n l (before ++ x ∷ []) xs (tail n x xs all))
 
   both : (n : ℕ) (xs ys : List ℕ) → All (λ x. x < n) xs → All (λ x. x < n) ys → All (λ x. x < n) (xs ++ ys)
   both n xs ys h k = grind (arith, common_steps)
@@ -60,7 +60,7 @@ module _ (p : Program) where
       let here : IsLockInRange n m l = all 0 l (omega arith) in
       ap (λ es. es ++ marked_from p (with_all (table n (has_number before)) (l.nowrite ++ l.hide)) ls)
       (marked_listing n l before (l.nowrite ++ l.hide) (both n l.nowrite l.hide here.nowrite here.hide))
-      ∙ ap (λ es. listing_entries p l before (l.nowrite ++ l.hide) ++ es)
+      ∙ ap (λ es. listing_obligations p l before (l.nowrite ++ l.hide) ++ es)
       (ap (λ marks. marked_from p marks ls) (all_more n before (l.nowrite ++ l.hide))
       ∙ marked_locks n m (before ++ (l.nowrite ++ l.hide)) ls (λ k d h. all (suc k) d (omega arith)))
 

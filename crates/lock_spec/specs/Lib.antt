@@ -1,2 +1,2 @@
 pub mod Locks
-pub mod Marked
+pub mod Inside

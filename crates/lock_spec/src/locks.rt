@@ -7,7 +7,7 @@ ghost use Rattle.cov_ast.specs.Tables.{with_all};
 ghost use Rattle.cov_ast.specs.Obligations.{Decides};
 ghost use Rattle.cov_ast.specs.WellFormed.{IsWellFormed, IsLockInRange};
 ghost use Rattle.lock_spec.specs.Locks as spec;
-ghost use Rattle.lock_spec.specs.Marked.{marked_entries, marked_from};
+ghost use Rattle.lock_spec.specs.Inside.{marked_obligations, marked_from};
 
 use cov_ast::{CheckFault, Detail, LockDecl, NumberSet, Program, Rule, first_outside, refused};
 use std::alloc::Global;
@@ -40,7 +40,7 @@ fn check_listings(p: &Program, seen: &mut NumberSet) -> Result<(), CheckFault>
 
 fn check_listing(p: &Program, lock: &LockDecl, seen: &mut NumberSet) -> Result<(), CheckFault>
     requires { IsLockInRange (length p.now.vars) (length p.now.locks) (view.lock lock.now) }
-    ensures decides { Decides (marked_entries (view.program p.now) (view.lock lock.now) seen.old (lock.now.nowrite ++ lock.now.hide)) result }
+    ensures decides { Decides (marked_obligations (view.program p.now) (view.lock lock.now) seen.old (lock.now.nowrite ++ lock.now.hide)) result }
     ensures ok { OnOk result (seen.new ≡ with_all seen.old (lock.now.nowrite ++ lock.now.hide)) }
 {
     match check_list(p, lock, lock.nowrite.as_slice(), seen) {
@@ -57,7 +57,7 @@ fn check_list(
     seen: &mut NumberSet,
 ) -> Result<(), CheckFault>
     requires { All (λ x. x < length p.now.vars) list.now }
-    ensures decides { Decides (marked_entries (view.program p.now) (view.lock lock.now) seen.old list.now) result }
+    ensures decides { Decides (marked_obligations (view.program p.now) (view.lock lock.now) seen.old list.now) result }
     ensures ok { OnOk result (seen.new ≡ with_all seen.old list.now) }
 {
     for x in list {
@@ -72,7 +72,7 @@ fn check_list(
 /// The invariants speak of the variables of their locks alone.
 fn check_invariants(alloc: Global, p: &Program) -> Result<(), CheckFault>
     requires { IsWellFormed (view.program p.now) }
-    ensures { Decides (flat_map (spec.invariant_entries (view.program p.now)) (map view.lock p.now.locks)) result }
+    ensures { Decides (flat_map (spec.invariant_obligations (view.program p.now)) (map view.lock p.now.locks)) result }
 {
     for lock in p.locks.as_slice() {
         if let Err(fault) = check_invariant(alloc, p, lock) {
@@ -84,7 +84,7 @@ fn check_invariants(alloc: Global, p: &Program) -> Result<(), CheckFault>
 
 fn check_invariant(alloc: Global, p: &Program, lock: &LockDecl) -> Result<(), CheckFault>
     requires { IsLockInRange (length p.now.vars) (length p.now.locks) (view.lock lock.now) }
-    ensures { Decides (spec.invariant_entries (view.program p.now) (view.lock lock.now)) result }
+    ensures { Decides (spec.invariant_obligations (view.program p.now) (view.lock lock.now)) result }
 {
     let Some(inv) = &lock.inv else {
         return Ok(());

@@ -12,25 +12,25 @@ use Rattle.cov_ast.specs.Syntax.{Program}
 use Rattle.cov_ast.specs.Plain.{Plain, plain, plain_thread}
 use Rattle.cov_ast.specs.Declarations.{modes_of, no_thread, assumes, assumes_hide, guarantees, guarantees_hide, have_guaranteed, have_assumed, under, lists, no_lock}
 use Rattle.cov_ast.specs.Tables.{has}
-use Rattle.cov_ast.specs.Obligations.{Entry, all_hold, distinct}
+use Rattle.cov_ast.specs.Obligations.{Obligation, all_hold, distinct}
 use Rattle.flow_model.specs.Composable.{HasCompatibleModes}
 use Rattle.flow_model.specs.Source.{Holders, holder, is_held_by}
 use Rattle.flow_model.specs.Holdings.{IsStableNow, IsWritableNow}
 use Rattle.mode_state.specs.Sets.{is_stable, may_write, locks_of}
 use Rattle.policy_class.specs.Policy.{policy_obligations}
 use Rattle.lock_spec.specs.Locks.{lock_obligations}
-use Rattle.mode_compat.specs.Compatible.{mode_obligations, w6_entries, w7_entries, w8_entries, w9_entries, w9_pair, w9_entry, threads_of, numbered}
+use Rattle.mode_compat.specs.Compatible.{mode_obligations, w6_obligations, w7_obligations, w8_obligations, w9_obligations, w9_pair, w9_obligation, threads_of, numbered}
 use Rattle.mode_compat.specs.Compatible as rules
 use Rattle.mode_compat.specs.Declared.{declaration_obligations}
 use Rattle.mode_compat.specs.HeldSets.{AreHeldBy, AreSetsOf}
 
 -- Obligations that all hold ------------------------------------------------------------------------------------
 
-all_parts : (a b : List Entry) → IsTrue (all_hold (a ++ b)) → IsTrue (all_hold a) × IsTrue (all_hold b)
+all_parts : (a b : List Obligation) → IsTrue (all_hold (a ++ b)) → IsTrue (all_hold a) × IsTrue (all_hold b)
 all_parts a b h = and_parts (all_hold a) (all_hold b) (sym (list_all-append (λ e. e.holds) a b) ∙ h)
 
 -- of a number that is listed
-number_holds : (g : ℕ → List Entry) (xs : List ℕ) (x : ℕ) → IsTrue (all_hold (flat_map g xs)) → has_number xs x ≡ true → IsTrue (all_hold (g x))
+number_holds : (g : ℕ → List Obligation) (xs : List ℕ) (x : ℕ) → IsTrue (all_hold (flat_map g xs)) → has_number xs x ≡ true → IsTrue (all_hold (g x))
 number_holds g [] x h k = absurd (true≢false (sym k))
 number_holds g (y ∷ ys) x h k =
     let parts = all_parts (g y) (flat_map g ys) h in
@@ -39,14 +39,14 @@ number_holds g (y ∷ ys) x h k =
       | inr e ↦ number_holds g ys x parts.1 e
     ]
 
--- one entry for each number
-entry_holds : (f : ℕ → Entry) (xs : List ℕ) (x : ℕ) → IsTrue (all_hold (map f xs)) → has_number xs x ≡ true → (f x).holds ≡ true
-entry_holds f [] x h k = absurd (true≢false (sym k))
-entry_holds f (y ∷ ys) x h k =
+-- one obligation for each number
+obligation_holds : (f : ℕ → Obligation) (xs : List ℕ) (x : ℕ) → IsTrue (all_hold (map f xs)) → has_number xs x ≡ true → (f x).holds ≡ true
+obligation_holds f [] x h k = absurd (true≢false (sym k))
+obligation_holds f (y ∷ ys) x h k =
     let parts = and_parts (f y).holds (all_hold (map f ys)) h in
     elim (or_cases (y == x) (has_number ys x) k) [
       | inl e ↦ subst (λ z. (f z).holds ≡ true) (eqb-true y x e) parts.0
-      | inr e ↦ entry_holds f ys x parts.1 e
+      | inr e ↦ obligation_holds f ys x parts.1 e
     ]
 
 in_range : (a n x : ℕ) → a ≤ x → x < a + n → has_number (range_with_len a n) x ≡ true
@@ -90,15 +90,15 @@ numbered_modes : (p : Program) (t : ℕ) → t < length p.threads → modes_of (
 numbered_modes p t lt = ap (λ th. th.modes) (get_or-map plain_thread p.threads t rules.no_thread no_thread lt)
 
 module _ (p : Program) (h : IsTrue (all_hold (declaration_obligations p))) where
-  w9 : IsTrue (all_hold (flat_map (w9_entries p) (threads_of p)))
+  w9 : IsTrue (all_hold (flat_map (w9_obligations p) (threads_of p)))
   w9 =
       let modes = (all_parts (policy_obligations p ++ lock_obligations p) (mode_obligations p) h).1 in
-      (all_parts (flat_map (w6_entries p) p.threads ++ flat_map (w7_entries p) p.locks ++ flat_map (w8_entries p) p.threads)
-      (flat_map (w9_entries p) (threads_of p)) modes).1
+      (all_parts (flat_map (w6_obligations p) p.threads ++ flat_map (w7_obligations p) p.locks ++ flat_map (w8_obligations p) p.threads)
+      (flat_map (w9_obligations p) (threads_of p)) modes).1
 
   pair_holds : (t u : ℕ) → t < length p.threads → u < length p.threads → t ≢ u → IsTrue (all_hold (w9_pair p (numbered p t) (numbered p u)))
   pair_holds t u lt ku ne =
-      let each = number_holds (w9_entries p) (threads_of p) t w9 (in_range 0 (length p.threads) t (omega arith) (omega arith)) in
+      let each = number_holds (w9_obligations p) (threads_of p) t w9 (in_range 0 (length p.threads) t (omega arith) (omega arith)) in
       let one : IsTrue (all_hold (if t == u then [] else w9_pair p (numbered p t) (numbered p u))) =
       number_holds (λ v. if t == v then [] else w9_pair p (numbered p t) (numbered p v)) (threads_of p) u each
       (in_range 0 (length p.threads) u (omega arith) (omega arith)) in
@@ -106,20 +106,20 @@ module _ (p : Program) (h : IsTrue (all_hold (declaration_obligations p))) where
 
   pub met_hide : (t u x : ℕ) → u < length p.threads → t ≢ u → t < length p.threads → IsTrue (assumes_hide (plain p) t x) → IsTrue (guarantees_hide (plain p) u x)
   met_hide t u x ku ne lt a =
-      let e1 : ℕ → Entry = λ y. w9_entry p (numbered p t) (numbered p u) y (have_guaranteed (numbered p u).modes y) in
-      let e2 : ℕ → Entry = λ y. w9_entry p (numbered p t) (numbered p u) y (has_number (numbered p u).modes.guarantee_hide y) in
+      let e1 : ℕ → Obligation = λ y. w9_obligation p (numbered p t) (numbered p u) y (have_guaranteed (numbered p u).modes y) in
+      let e2 : ℕ → Obligation = λ y. w9_obligation p (numbered p t) (numbered p u) y (has_number (numbered p u).modes.guarantee_hide y) in
       let parts = all_parts (map e1 (distinct (numbered p t).modes.assume_nowrite)) (map e2 (distinct (numbered p t).modes.assume_hide)) (pair_holds t u lt ku ne) in
       ap (λ m. has_number m.guarantee_hide x) (numbered_modes p u ku)
-      ∙ entry_holds e2 (distinct (numbered p t).modes.assume_hide) x parts.1
+      ∙ obligation_holds e2 (distinct (numbered p t).modes.assume_hide) x parts.1
       (in_distinct (numbered p t).modes.assume_hide x (sym (ap (λ m. has_number m.assume_hide x) (numbered_modes p t lt)) ∙ a))
 
   met_nowrite : (t u x : ℕ) → u < length p.threads → t ≢ u → t < length p.threads → has_number (modes_of (plain p) t).assume_nowrite x ≡ true → IsTrue (guarantees (plain p) u x)
   met_nowrite t u x ku ne lt a =
-      let e1 : ℕ → Entry = λ y. w9_entry p (numbered p t) (numbered p u) y (have_guaranteed (numbered p u).modes y) in
-      let e2 : ℕ → Entry = λ y. w9_entry p (numbered p t) (numbered p u) y (has_number (numbered p u).modes.guarantee_hide y) in
+      let e1 : ℕ → Obligation = λ y. w9_obligation p (numbered p t) (numbered p u) y (have_guaranteed (numbered p u).modes y) in
+      let e2 : ℕ → Obligation = λ y. w9_obligation p (numbered p t) (numbered p u) y (has_number (numbered p u).modes.guarantee_hide y) in
       let parts = all_parts (map e1 (distinct (numbered p t).modes.assume_nowrite)) (map e2 (distinct (numbered p t).modes.assume_hide)) (pair_holds t u lt ku ne) in
       ap (λ m. have_guaranteed m x) (numbered_modes p u ku)
-      ∙ entry_holds e1 (distinct (numbered p t).modes.assume_nowrite) x parts.0
+      ∙ obligation_holds e1 (distinct (numbered p t).modes.assume_nowrite) x parts.0
       (in_distinct (numbered p t).modes.assume_nowrite x (sym (ap (λ m. has_number m.assume_nowrite x) (numbered_modes p t lt)) ∙ a))
 
   pub met : (t u x : ℕ) → u < length p.threads → t ≢ u → IsTrue (assumes (plain p) t x) → IsTrue (guarantees (plain p) u x)

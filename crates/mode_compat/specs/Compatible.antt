@@ -8,7 +8,7 @@ use Rattle.cov_expr.specs.Trees.{has_number, vars}
 use Rattle.cov_ast.specs.Syntax.{Lock, Modes, Thread, done, Program}
 use Rattle.cov_ast.specs.Plain.{plain}
 use Rattle.cov_ast.specs.Declarations.{name_of, class_of, lists, have_assumed, have_guaranteed, no_modes}
-use Rattle.cov_ast.specs.Obligations.{Entry, declared_entry, distinct}
+use Rattle.cov_ast.specs.Obligations.{Obligation, declared_obligation, distinct}
 use Rattle.cov_ast.specs.declared.refusal.Rule.TheVariants.{W6, W7, W8, W9}
 use Rattle.cov_ast.specs.declared.refusal.Detail.TheVariants.{One, Two, Three}
 
@@ -35,32 +35,32 @@ module _ (p : Program) where
   abbrev pub all_assume : ℕ → Bool
   all_assume x = list_all (λ t. have_assumed t.modes x) p.threads
 
-  abbrev pub w6_entry : Thread → ℕ → Entry
-  w6_entry t x = declared_entry W6 t.at (One (shown x)) (not (is_locked x))
+  abbrev pub w6_obligation : Thread → ℕ → Obligation
+  w6_obligation t x = declared_obligation W6 t.at (One (shown x)) (not (is_locked x))
 
-  abbrev pub w6_entries : Thread → List Entry
-  w6_entries t = map (w6_entry t) (assumed_list t.modes)
+  abbrev pub w6_obligations : Thread → List Obligation
+  w6_obligations t = map (w6_obligation t) (assumed_list t.modes)
 
-  abbrev pub w7_entry : Lock → (x c : ℕ) → Entry
-  w7_entry l x c = declared_entry W7 l.at (Two (shown x) (shown c)) (lists l c || all_assume c)
+  abbrev pub w7_obligation : Lock → (x c : ℕ) → Obligation
+  w7_obligation l x c = declared_obligation W7 l.at (Two (shown x) (shown c)) (lists l c || all_assume c)
 
-  abbrev pub w7_entries : Lock → List Entry
-  w7_entries l = flat_map (λ x. map (w7_entry l x) (controls_of x)) (l.nowrite ++ l.hide)
+  abbrev pub w7_obligations : Lock → List Obligation
+  w7_obligations l = flat_map (λ x. map (w7_obligation l x) (controls_of x)) (l.nowrite ++ l.hide)
 
-  abbrev pub w8_entry : Thread → (x c : ℕ) → Entry
-  w8_entry t x c = declared_entry W8 t.at (Two (shown x) (shown c)) (have_assumed t.modes c)
+  abbrev pub w8_obligation : Thread → (x c : ℕ) → Obligation
+  w8_obligation t x c = declared_obligation W8 t.at (Two (shown x) (shown c)) (have_assumed t.modes c)
 
-  abbrev pub w8_entries : Thread → List Entry
-  w8_entries t = flat_map (λ x. map (w8_entry t x) (controls_of x)) (assumed_list t.modes)
+  abbrev pub w8_obligations : Thread → List Obligation
+  w8_obligations t = flat_map (λ x. map (w8_obligation t x) (controls_of x)) (assumed_list t.modes)
 
-  abbrev pub w9_entry : (t u : Thread) → ℕ → Bool → Entry
-  w9_entry t u x met = declared_entry W9 t.at (Three t.name u.name (shown x)) met
+  abbrev pub w9_obligation : (t u : Thread) → ℕ → Bool → Obligation
+  w9_obligation t u x met = declared_obligation W9 t.at (Three t.name u.name (shown x)) met
 
   -- what t assumes unwritten is in a guarantee list of u; what it assumes hidden u guarantees to leave alone
-  abbrev pub w9_pair : (t u : Thread) → List Entry
+  abbrev pub w9_pair : (t u : Thread) → List Obligation
   w9_pair t u =
-      map (λ x. w9_entry t u x (have_guaranteed u.modes x)) (distinct t.modes.assume_nowrite)
-      ++ map (λ x. w9_entry t u x (has_number u.modes.guarantee_hide x)) (distinct t.modes.assume_hide)
+      map (λ x. w9_obligation t u x (have_guaranteed u.modes x)) (distinct t.modes.assume_nowrite)
+      ++ map (λ x. w9_obligation t u x (has_number u.modes.guarantee_hide x)) (distinct t.modes.assume_hide)
 
   -- the numbers of the threads
   abbrev pub threads_of : List ℕ
@@ -69,11 +69,11 @@ module _ (p : Program) where
   abbrev pub numbered : ℕ → Thread
   numbered t = get_or p.threads t no_thread
 
-  abbrev pub w9_other : (t u : ℕ) → List Entry
+  abbrev pub w9_other : (t u : ℕ) → List Obligation
   w9_other t u = if t == u then [] else w9_pair (numbered t) (numbered u)
 
-  abbrev pub w9_entries : ℕ → List Entry
-  w9_entries t = flat_map (w9_other t) threads_of
+  abbrev pub w9_obligations : ℕ → List Obligation
+  w9_obligations t = flat_map (w9_other t) threads_of
 
-  abbrev pub mode_obligations : List Entry
-  mode_obligations = flat_map w6_entries p.threads ++ flat_map w7_entries p.locks ++ flat_map w8_entries p.threads ++ flat_map w9_entries threads_of
+  abbrev pub mode_obligations : List Obligation
+  mode_obligations = flat_map w6_obligations p.threads ++ flat_map w7_obligations p.locks ++ flat_map w8_obligations p.threads ++ flat_map w9_obligations threads_of

@@ -4,13 +4,13 @@ use Rattle.cov_expr.specs.Trees.{mentions}
 use Rattle.cov_ast.specs.Syntax.{Program}
 use Rattle.cov_ast.specs.Plain.{Plain}
 use Rattle.cov_ast.specs.Declarations.{class_of, invariant_of, is_control, is_plain_low, under, assumes, assumes_hide, guarantees, guarantees_hide}
-use Rattle.cov_ast.specs.Obligations.{Entry}
+use Rattle.cov_ast.specs.Obligations.{Obligation}
 use Rattle.policy_class.specs.Policy.{policy_obligations}
 use Rattle.lock_spec.specs.Locks.{lock_obligations}
 use Rattle.mode_compat.specs.Compatible.{mode_obligations}
 
 -- W3 to W9, in their order
-abbrev pub declaration_obligations : Program → List Entry
+abbrev pub declaration_obligations : Program → List Obligation
 declaration_obligations p = policy_obligations p ++ lock_obligations p ++ mode_obligations p
 
 -- What the rules W3 to W9 say, for proofs.

@@ -1,4 +1,4 @@
 pub mod Compatible
 pub mod Declared
 pub mod HeldSets
-pub mod Marked
+pub mod Inside

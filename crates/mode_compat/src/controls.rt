@@ -6,7 +6,7 @@ ghost use Rattle.cov_ast.specs.Declarations as declared;
 ghost use Rattle.cov_ast.specs.Obligations.{Decides};
 ghost use Rattle.cov_ast.specs.WellFormed.{IsWellFormed, IsLockInRange, IsThreadInRange};
 ghost use Rattle.mode_compat.specs.Compatible as spec;
-ghost use Rattle.mode_compat.specs.Marked as marked;
+ghost use Rattle.mode_compat.specs.Inside as marked;
 
 use cov_ast::{
     CheckFault, Class, Detail, LockDecl, NumberSet, Program, Rule, ThreadDecl, first_outside,
@@ -19,7 +19,7 @@ use std::alloc::Global;
 /// Each control of a variable under a lock is under the lock too, or every thread assumes it.
 pub fn check_lock_controls(alloc: Global, p: &Program) -> Result<(), CheckFault>
     requires { IsWellFormed (view.program p.now) }
-    ensures { Decides (flat_map (spec.w7_entries (view.program p.now)) (map view.lock p.now.locks)) result }
+    ensures { Decides (flat_map (spec.w7_obligations (view.program p.now)) (map view.lock p.now.locks)) result }
 {
     let assumed = assumed_by_all(alloc, p)?;
     check_locks(alloc, p, &assumed)
@@ -79,7 +79,7 @@ fn assumed_set(alloc: Global, count: usize, thread: &ThreadDecl) -> Result<Numbe
 fn check_locks(alloc: Global, p: &Program, assumed: &NumberSet) -> Result<(), CheckFault>
     requires formed { IsWellFormed (view.program p.now) }
     requires assumed { assumed.now ≡ table (length p.now.vars) (spec.all_assume (view.program p.now)) }
-    ensures { Decides (flat_map (spec.w7_entries (view.program p.now)) (map view.lock p.now.locks)) result }
+    ensures { Decides (flat_map (spec.w7_obligations (view.program p.now)) (map view.lock p.now.locks)) result }
 {
     for lock in p.locks.as_slice() {
         if let Err(fault) = check_lock(alloc, p, lock, assumed) {
@@ -98,7 +98,7 @@ fn check_lock(
     requires formed { IsWellFormed (view.program p.now) }
     requires range { IsLockInRange (length p.now.vars) (length p.now.locks) (view.lock lock.now) }
     requires assumed { assumed.now ≡ table (length p.now.vars) (spec.all_assume (view.program p.now)) }
-    ensures { Decides (spec.w7_entries (view.program p.now) (view.lock lock.now)) result }
+    ensures { Decides (spec.w7_obligations (view.program p.now) (view.lock lock.now)) result }
 {
     let mut kept = assumed.copy(alloc)?;
     kept.insert_all(lock.nowrite.as_slice());
@@ -112,7 +112,7 @@ fn check_lock(
 /// Each control of a variable that a thread assumes is assumed by it too.
 pub fn check_assumed_controls(alloc: Global, p: &Program) -> Result<(), CheckFault>
     requires { IsWellFormed (view.program p.now) }
-    ensures { Decides (flat_map (spec.w8_entries (view.program p.now)) (map view.thread p.now.threads)) result }
+    ensures { Decides (flat_map (spec.w8_obligations (view.program p.now)) (map view.thread p.now.threads)) result }
 {
     for thread in p.threads.as_slice() {
         if let Err(fault) = check_thread(alloc, p, thread) {
@@ -125,7 +125,7 @@ pub fn check_assumed_controls(alloc: Global, p: &Program) -> Result<(), CheckFau
 fn check_thread(alloc: Global, p: &Program, thread: &ThreadDecl) -> Result<(), CheckFault>
     requires formed { IsWellFormed (view.program p.now) }
     requires range { IsThreadInRange (length p.now.vars) (length p.now.locks) (view.thread thread.now) }
-    ensures { Decides (spec.w8_entries (view.program p.now) (view.thread thread.now)) result }
+    ensures { Decides (spec.w8_obligations (view.program p.now) (view.thread thread.now)) result }
 {
     let kept = assumed_set(alloc, p.vars.len(), thread)?;
     match check_controls(
@@ -156,7 +156,7 @@ fn check_controls(
 ) -> Result<(), CheckFault>
     requires formed { IsWellFormed (view.program p.now) }
     requires range { All (λ x. x < length p.now.vars) list.now }
-    ensures { Decides (flat_map (marked.kept_entries (view.program p.now) rule place kept.now) list.now) result }
+    ensures { Decides (flat_map (marked.kept_obligations (view.program p.now) rule place kept.now) list.now) result }
 {
     for x in list {
         if let Err(fault) = check_controls_of(p, kept, *x, rule, place) {
@@ -175,7 +175,7 @@ fn check_controls_of(
 ) -> Result<(), CheckFault>
     requires formed { IsWellFormed (view.program p.now) }
     requires range { x < length p.now.vars }
-    ensures { Decides (marked.kept_entries (view.program p.now) rule place kept.now x) result }
+    ensures { Decides (marked.kept_obligations (view.program p.now) rule place kept.now x) result }
 {
     let Class::When(e) = class_of(p, x) else {
         return Ok(());

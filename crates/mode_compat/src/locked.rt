@@ -5,7 +5,7 @@ ghost use Rattle.cov_ast.specs.Tables.{table};
 ghost use Rattle.cov_ast.specs.Obligations.{Decides};
 ghost use Rattle.cov_ast.specs.WellFormed.{IsWellFormed, IsThreadInRange};
 ghost use Rattle.mode_compat.specs.Compatible as spec;
-ghost use Rattle.mode_compat.specs.Marked as marked;
+ghost use Rattle.mode_compat.specs.Inside as marked;
 
 use cov_ast::{CheckFault, Detail, NumberSet, Program, Rule, ThreadDecl, refused};
 use cov_expr::NoMemory;
@@ -14,7 +14,7 @@ use std::alloc::Global;
 /// What a thread assumes is under no lock.
 pub fn check_unlocked(alloc: Global, p: &Program) -> Result<(), CheckFault>
     requires { IsWellFormed (view.program p.now) }
-    ensures { Decides (flat_map (spec.w6_entries (view.program p.now)) (map view.thread p.now.threads)) result }
+    ensures { Decides (flat_map (spec.w6_obligations (view.program p.now)) (map view.thread p.now.threads)) result }
 {
     let locked = locked(alloc, p)?;
     check_threads(p, &locked)
@@ -41,7 +41,7 @@ fn add_locks(p: &Program, locked: &mut NumberSet)
 fn check_threads(p: &Program, locked: &NumberSet) -> Result<(), CheckFault>
     requires formed { IsWellFormed (view.program p.now) }
     requires locked { locked.now ≡ marked.with_locks (replicate (length p.now.vars) false) (map view.lock p.now.locks) }
-    ensures { Decides (flat_map (spec.w6_entries (view.program p.now)) (map view.thread p.now.threads)) result }
+    ensures { Decides (flat_map (spec.w6_obligations (view.program p.now)) (map view.thread p.now.threads)) result }
 {
     for thread in p.threads.as_slice() {
         if let Err(fault) = check_thread(p, thread, locked) {
@@ -55,7 +55,7 @@ fn check_thread(p: &Program, thread: &ThreadDecl, locked: &NumberSet) -> Result<
     requires formed { IsWellFormed (view.program p.now) }
     requires range { IsThreadInRange (length p.now.vars) (length p.now.locks) (view.thread thread.now) }
     requires locked { locked.now ≡ marked.with_locks (replicate (length p.now.vars) false) (map view.lock p.now.locks) }
-    ensures { Decides (spec.w6_entries (view.program p.now) (view.thread thread.now)) result }
+    ensures { Decides (spec.w6_obligations (view.program p.now) (view.thread thread.now)) result }
 {
     match check_list(p, thread, thread.modes.assume_nowrite.as_slice(), locked) {
         Ok(()) => check_list(p, thread, thread.modes.assume_hide.as_slice(), locked),
@@ -70,7 +70,7 @@ fn check_list(
     locked: &NumberSet,
 ) -> Result<(), CheckFault>
     requires { All (λ x. x < length p.now.vars) list.now }
-    ensures { Decides (map (marked.apart_entry (view.program p.now) (view.thread thread.now) locked.now) list.now) result }
+    ensures { Decides (map (marked.apart_obligation (view.program p.now) (view.thread thread.now) locked.now) list.now) result }
 {
     for x in list {
         if locked.has(*x) {

@@ -4,7 +4,7 @@ ghost use Rattle.cov_ast.specs.View as view;
 ghost use Rattle.cov_ast.specs.Obligations.{Decides};
 ghost use Rattle.cov_ast.specs.WellFormed.{IsWellFormed, IsThreadInRange};
 ghost use Rattle.mode_compat.specs.Compatible as spec;
-ghost use Rattle.mode_compat.specs.Marked as marked;
+ghost use Rattle.mode_compat.specs.Inside as marked;
 
 use cov_ast::{CheckFault, Detail, NumberSet, Program, Rule, ThreadDecl, refused};
 use cov_expr::{List, NoMemory};
@@ -16,7 +16,7 @@ type Guaranteed = (NumberSet, NumberSet);
 /// What one thread assumes every other guarantees.
 pub fn check_guarantees(alloc: Global, p: &Program) -> Result<(), CheckFault>
     requires { IsWellFormed (view.program p.now) }
-    ensures { Decides (flat_map (spec.w9_entries (view.program p.now)) (spec.threads_of (view.program p.now))) result }
+    ensures { Decides (flat_map (spec.w9_obligations (view.program p.now)) (spec.threads_of (view.program p.now))) result }
 {
     let sets = guaranteed_sets(alloc, p)?;
     check_threads(p, sets.as_slice())
@@ -50,7 +50,7 @@ fn guaranteed_set(alloc: Global, count: usize, thread: &ThreadDecl) -> Result<Gu
 fn check_threads(p: &Program, sets: &[Guaranteed]) -> Result<(), CheckFault>
     requires formed { IsWellFormed (view.program p.now) }
     requires sets { sets.now ≡ map (marked.guaranteed_by (length p.now.vars)) p.now.threads }
-    ensures { Decides (flat_map (spec.w9_entries (view.program p.now)) (spec.threads_of (view.program p.now))) result }
+    ensures { Decides (flat_map (spec.w9_obligations (view.program p.now)) (spec.threads_of (view.program p.now))) result }
 {
     for (t, thread) in p.threads.as_slice().iter().enumerate() {
         if let Err(fault) = check_others(p, sets, t, thread) {
@@ -71,7 +71,7 @@ fn check_others(
     requires sets { sets.now ≡ map (marked.guaranteed_by (length p.now.vars)) p.now.threads }
     requires range { IsThreadInRange (length p.now.vars) (length p.now.locks) (view.thread thread.now) }
     requires number { view.thread thread.now ≡ spec.numbered (view.program p.now) t }
-    ensures { Decides (spec.w9_entries (view.program p.now) t) result }
+    ensures { Decides (spec.w9_obligations (view.program p.now) t) result }
 {
     for (u, other) in p.threads.as_slice().iter().enumerate() {
         if let Err(fault) = check_other(p, t, thread, u, other, &sets[u]) {
@@ -135,7 +135,7 @@ fn check_met(
     met: &NumberSet,
 ) -> Result<(), CheckFault>
     requires { All (λ x. x < length p.now.vars) list.now }
-    ensures { Decides (map (marked.met_entry (view.program p.now) (view.thread thread.now) (view.thread other.now) met.now) list.now) result }
+    ensures { Decides (map (marked.met_obligation (view.program p.now) (view.thread thread.now) (view.thread other.now) met.now) list.now) result }
 {
     for x in list {
         if !met.has(*x) {

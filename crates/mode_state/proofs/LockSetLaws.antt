@@ -8,7 +8,7 @@ use Rattle.std.proofs.lemmas.Nat.Bits.{bit_at-zero}
 use Rattle.cov_ast.specs.Tables.{table, has}
 use Rattle.cov_ast.proofs.TableLaws.{table_at, table_length, table_same, none_table}
 use Rattle.mode_state.specs.Bits.{has_bit}
-use Rattle.mode_state.specs.Held.{meet, cover}
+use Rattle.mode_state.specs.Inside.{meet, cover}
 use Rattle.mode_state.proofs.BitLaws.{and_bit, not_bit, some_bit, no_bit}
 use Rattle.mode_state.proofs.HeldLaws.{any_from, none_from, all_from, not_all_from}
 use Rattle.mode_state.proofs.MaskLaws.{table_past}

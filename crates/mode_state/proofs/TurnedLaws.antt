@@ -5,7 +5,7 @@ use Rattle.std.proofs.lemmas.List.{same_lists, get_or-replicate, get_or_default}
 use Rattle.std.proofs.lemmas.List.FromFn.{get_or-map-range_with_len, length-map-range_with_len}
 use Rattle.cov_ast.specs.Tables.{table, has}
 use Rattle.cov_ast.proofs.TableLaws.{table_same, none_table}
-use Rattle.mode_state.specs.Held.{set_at, marked_if, turned, turned_row}
+use Rattle.mode_state.specs.Inside.{set_at, marked_if, turned, turned_row}
 use Rattle.mode_state.proofs.MaskLaws.{table_put}
 
 -- the locks below a number whose sets have a variable

@@ -11,12 +11,12 @@ use Rattle.std.proofs.lemmas.Cmp.{nat_list_eq_equiv}
 use Rattle.cov_expr.specs.Names.{IsName}
 use Rattle.cov_ast.specs.declared.refusal.CheckFault.{CheckFault}
 use Rattle.cov_ast.specs.Names.{find_name, with_name}
-use Rattle.cov_ast.specs.Obligations.{Entry, first_false, Decides}
+use Rattle.cov_ast.specs.Obligations.{Obligation, first_false, Decides}
 use Rattle.cov_ast.specs.Syntax.{Parsed}
 use Rattle.cov_ast.specs.WellFormed.{are_distinct, names_of}
 use Rattle.policy_class.specs.declared.names.Declared.{Declared}
 use Rattle.policy_class.specs.DeclaredNames.{IsTableOf, named}
-use Rattle.policy_class.specs.Resolved.{Named, is_among, without_value, w1_entry, w1_from, declared_names, var_named, lock_named, thread_named}
+use Rattle.policy_class.specs.Resolved.{Named, is_among, without_value, w1_obligation, w1_from, declared_names, var_named, lock_named, thread_named}
 use Rattle.policy_class.proofs.PositionLaws.{is_inside, absent}
 
 pub or_parts : (a b : Bool) → (a || b) ≡ false → (a ≡ false) × (b ≡ false)
@@ -42,7 +42,7 @@ abbrev texts : List Named → List (List ℕ)
 texts ns = map (λ n. n.name) ns
 
 -- of obligations that all hold, the first does, and so do the rest
-pub head_holds : (e : Entry) (es : List Entry) → first_false (e ∷ es) ≡ None → (e.holds ≡ true) × (first_false es ≡ None)
+pub head_holds : (e : Obligation) (es : List Obligation) → first_false (e ∷ es) ≡ None → (e.holds ≡ true) × (first_false es ≡ None)
 head_holds e es h = go e.holds h
   where
     go : (b : Bool) → cond b (first_false es) (Some e.refusal) ≡ None → (b ≡ true) × (first_false es ≡ None)
@@ -53,7 +53,7 @@ w1_holds : (before : List (List ℕ)) (ns : List Named) → first_false (w1_from
     → AreFresh before (texts ns) × (are_distinct bytes_eq (texts ns) ≡ true)
 w1_holds before [] h = (tt, refl)
 w1_holds before (n ∷ ns) h =
-    let parts = head_holds (w1_entry before n) (w1_from (before ++ n.name ∷ []) ns) h in
+    let parts = head_holds (w1_obligation before n) (w1_from (before ++ n.name ∷ []) ns) h in
     let rest = w1_holds (before ++ n.name ∷ []) ns parts.1 in
     let apart = fresh_split before n.name (texts ns) rest.0 in
     let distinct = and_from (not (is_among (texts ns) n.name)) (are_distinct bytes_eq (texts ns)) (not_from_false (is_among (texts ns) n.name) apart.1) rest.1 in

@@ -8,12 +8,12 @@ use Rattle.cov_expr.specs.declared.expr.TheConstants.{HOLE}
 use Rattle.cov_ast.specs.declared.parsed.NameUse.{NameUse}
 use Rattle.cov_ast.specs.declared.refusal.CheckFault.{CheckFault}
 use Rattle.cov_ast.specs.Syntax.{Parsed}
-use Rattle.cov_ast.specs.Obligations.{Entry, first_false, Decides}
+use Rattle.cov_ast.specs.Obligations.{Obligation, first_false, Decides}
 use Rattle.cov_ast.specs.Ready.{IsReady, Use, use_of, uses_in_declarations}
 use Rattle.cov_ast.specs.WellFormed.{IsWellFormed, IsWithinLimits, are_distinct, names_of}
 use Rattle.cov_ast.proofs.ObligationLaws.{append_refused, append_decided}
 use Rattle.policy_class.specs.DeclaredNames.{IsTableOf}
-use Rattle.policy_class.specs.Resolved.{is_among, is_declared, use_entry, without_value, var_place, lock_place, var_names, lock_names, text_of, placed_variable, placed_lock, placed_thread, resolved}
+use Rattle.policy_class.specs.Resolved.{is_among, is_declared, use_obligation, without_value, var_place, lock_place, var_names, lock_names, text_of, placed_variable, placed_lock, placed_thread, resolved}
 use Rattle.policy_class.proofs.NameLaws.{head_holds}
 use Rattle.policy_class.proofs.PositionLaws.{present}
 use Rattle.policy_class.proofs.Each.{Each, each_listed}
@@ -43,10 +43,10 @@ module _ (p : Parsed) where
       go true k = omega (arith, present (bytes_eq (text_of p u.name)) (lock_names p) k, length-map p.locks (λ l. l.name), length-map p.locks (placed_lock (var_place p) (lock_place p)))
       go false k = omega (arith, present (bytes_eq (text_of p u.name)) (var_names p) k, length-map p.vars (λ v. v.name), length-map p.vars (placed_variable (var_place p) (lock_place p)))
 
-  all_placed : (us : List NameUse) → first_false (map (use_entry p) us) ≡ None → Each (IsPlacedIn vars locks) (map use_of us)
+  all_placed : (us : List NameUse) → first_false (map (use_obligation p) us) ≡ None → Each (IsPlacedIn vars locks) (map use_of us)
   all_placed [] h = tt
   all_placed (u ∷ us) h =
-      let parts = head_holds (use_entry p u) (map (use_entry p) us) h in
+      let parts = head_holds (use_obligation p u) (map (use_obligation p) us) h in
       (declared_placed u parts.0, all_placed us parts.1)
 
   -- Names and limits -------------------------------------------------------------------------------------------
@@ -69,7 +69,7 @@ module _ (p : Parsed) where
   }
 
   -- where the names are in order, the program is well formed
-  pub resolved_formed : (table : List (List ℕ)) → IsReady p → length p.names ≤ HOLE → IsTableOf p table → first_false (map (use_entry p) p.uses) ≡ None
+  pub resolved_formed : (table : List (List ℕ)) → IsReady p → length p.names ≤ HOLE → IsTableOf p table → first_false (map (use_obligation p) p.uses) ≡ None
       → IsWellFormed (resolved p)
   unfolding vars locks
   resolved_formed table ready few t declared = record {
@@ -84,12 +84,12 @@ module _ (p : Parsed) where
 -- Answers ------------------------------------------------------------------------------------------------------
 
 -- what a call passes on of the fault of another, of the first obligations and of the rest
-pub first_refused : {X : Type 0} (a b : List Entry) (fault : CheckFault) (r : Result X CheckFault) → IsErrAnd r (λ f. f ≡ fault) → Decides a (Err fault)
+pub first_refused : {X : Type 0} (a b : List Obligation) (fault : CheckFault) (r : Result X CheckFault) → IsErrAnd r (λ f. f ≡ fault) → Decides a (Err fault)
     → Decides (a ++ b) (without_value r)
 first_refused a b fault (Ok x) e h = absurd e
 first_refused a b fault (Err f) e h = append_refused a b f (subst (λ g. Decides a (Err g)) (sym e) h)
 
-pub rest_refused : {X : Type 0} (a b : List Entry) (fault : CheckFault) (r : Result X CheckFault) → IsErrAnd r (λ f. f ≡ fault) → first_false a ≡ None
+pub rest_refused : {X : Type 0} (a b : List Obligation) (fault : CheckFault) (r : Result X CheckFault) → IsErrAnd r (λ f. f ≡ fault) → first_false a ≡ None
     → Decides b (Err fault) → Decides (a ++ b) (without_value r)
 rest_refused a b fault (Ok x) e held h = absurd e
 rest_refused a b fault (Err f) e held h = append_decided a b (Err f) held (subst (λ g. Decides b (Err g)) (sym e) h)

@@ -6,7 +6,7 @@ use Rattle.cov_expr.specs.declared.expr.TheConstants.{HOLE}
 use Rattle.cov_ast.specs.Syntax.{Class, low, high, when, Var, Lock, Block, done, more, Proof, Thread, Parsed, Stm}
 use Rattle.cov_ast.specs.Syntax as s
 use Rattle.cov_ast.specs.Declarations.{no_modes}
-use Rattle.cov_ast.specs.Obligations.{first_false, declared_entry}
+use Rattle.cov_ast.specs.Obligations.{first_false, declared_obligation}
 use Rattle.cov_ast.specs.declared.parsed.NameUse.{NameUse}
 use Rattle.cov_ast.specs.declared.refusal.Refusal.{Refusal}
 use Rattle.cov_ast.specs.declared.refusal.Rule.TheVariants.{W1, W2}
@@ -30,10 +30,10 @@ abbrev used_lock : ℕ → ℕ → NameUse
 used_lock name at = record { name = name; lock = true; at = at }
 
 abbrev w1 : ℕ → ℕ → Option Refusal
-w1 at letter = Some (declared_entry W1 at (One (letter ∷ [])) false).refusal
+w1 at letter = Some (declared_obligation W1 at (One (letter ∷ [])) false).refusal
 
 abbrev w2 : ℕ → ℕ → Option Refusal
-w2 at letter = Some (declared_entry W2 at (One (letter ∷ [])) false).refusal
+w2 at letter = Some (declared_obligation W2 at (One (letter ∷ [])) false).refusal
 
 -- Refusals -----------------------------------------------------------------------------------------------------
 

@@ -7,7 +7,7 @@ use Rattle.cov_expr.specs.Term.{Term, const, var, neg, bin}
 use Rattle.cov_expr.specs.declared.expr.TheConstants.{HOLE}
 use Rattle.cov_ast.specs.Syntax.{Class, low, high, when, Var, Lock, Modes, State, Cert, Proof, Stm, Block, done, more, Thread, Program, Parsed}
 use Rattle.cov_ast.specs.Syntax as s
-use Rattle.cov_ast.specs.Obligations.{Entry, declared_entry}
+use Rattle.cov_ast.specs.Obligations.{Obligation, declared_obligation}
 use Rattle.cov_ast.specs.declared.parsed.NameUse.{NameUse}
 use Rattle.cov_ast.specs.declared.refusal.Rule.TheVariants.{W1, W2}
 use Rattle.cov_ast.specs.declared.refusal.Detail.TheVariants.{One}
@@ -37,12 +37,12 @@ abbrev pub is_among : List (List ℕ) → List ℕ → Bool
 is_among names name = list_any (bytes_eq name) names
 
 -- W1: no name was declared before
-abbrev pub w1_entry : (before : List (List ℕ)) → Named → Entry
-w1_entry before n = declared_entry W1 n.at (One n.name) (not (is_among before n.name))
+abbrev pub w1_obligation : (before : List (List ℕ)) → Named → Obligation
+w1_obligation before n = declared_obligation W1 n.at (One n.name) (not (is_among before n.name))
 
-abbrev pub w1_from : (before : List (List ℕ)) → List Named → List Entry
+abbrev pub w1_from : (before : List (List ℕ)) → List Named → List Obligation
 w1_from before [] = []
-w1_from before (n ∷ ns) = w1_entry before n ∷ w1_from (before ++ n.name ∷ []) ns
+w1_from before (n ∷ ns) = w1_obligation before n ∷ w1_from (before ++ n.name ∷ []) ns
 
 -- the text of a name, by its number
 abbrev pub text_of : Parsed → ℕ → List ℕ
@@ -58,11 +58,11 @@ lock_names p = map (λ l. l.name) p.locks
 abbrev pub is_declared : Parsed → NameUse → Bool
 is_declared p u = is_among (if u.lock then lock_names p else var_names p) (text_of p u.name)
 
-abbrev pub use_entry : Parsed → NameUse → Entry
-use_entry p u = declared_entry W2 u.at (One (text_of p u.name)) (is_declared p u)
+abbrev pub use_obligation : Parsed → NameUse → Obligation
+use_obligation p u = declared_obligation W2 u.at (One (text_of p u.name)) (is_declared p u)
 
-abbrev pub name_obligations : Parsed → List Entry
-name_obligations p = w1_from [] (declared_names p) ++ map (use_entry p) p.uses
+abbrev pub name_obligations : Parsed → List Obligation
+name_obligations p = w1_from [] (declared_names p) ++ map (use_obligation p) p.uses
 
 -- what a call answers about obligations, without the value that it gives where all hold
 abbrev pub without_value : {X : Type 0} → Result X CheckFault → Result (Unit {0}) CheckFault

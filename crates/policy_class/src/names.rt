@@ -97,7 +97,7 @@ fn table_of(alloc: Global, declarations: &[Declared]) -> Result<NameTable, Check
 /// text there is none that is declared.
 fn declare(table: &mut NameTable, declared: &Declared) -> Result<(), CheckFault>
     requires { length table.old < 4294967295 }
-    ensures decided { Decides (spec.w1_entry table.old (named declared.now) ∷ []) result }
+    ensures decided { Decides (spec.w1_obligation table.old (named declared.now) ∷ []) result }
     ensures added { OnOk result (table.new ≡ table.old ++ declared.now.name ∷ []) }
     ensures text { IsName declared.now.name }
 {

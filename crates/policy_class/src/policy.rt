@@ -47,7 +47,7 @@ fn is_low(class: &Class) -> bool
 fn check_classes(p: &Program, low: &NumberSet) -> Result<(), CheckFault>
     requires formed { IsWellFormed (view.program p.now) }
     requires low { low.now ≡ table (length p.now.vars) (declared.is_plain_low (plain (view.program p.now))) }
-    ensures { Decides (flat_map (spec.control_entries (view.program p.now)) (map view.var p.now.vars)) result }
+    ensures { Decides (flat_map (spec.control_obligations (view.program p.now)) (map view.var p.now.vars)) result }
 {
     for var in p.vars.as_slice() {
         if let Err(fault) = check_class(p, var, low) {
@@ -60,7 +60,7 @@ fn check_classes(p: &Program, low: &NumberSet) -> Result<(), CheckFault>
 fn check_class(p: &Program, var: &VarDecl, low: &NumberSet) -> Result<(), CheckFault>
     requires range { HasVarsBelow (class_term (view.class var.now.class)) (length p.now.vars) }
     requires low { low.now ≡ table (length p.now.vars) (declared.is_plain_low (plain (view.program p.now))) }
-    ensures { Decides (spec.control_entries (view.program p.now) (view.var var.now)) result }
+    ensures { Decides (spec.control_obligations (view.program p.now) (view.var var.now)) result }
 {
     let Class::When(e) = &var.class else {
         return Ok(());

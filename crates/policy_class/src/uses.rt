@@ -11,7 +11,7 @@ use cov_ast::{CheckFault, Detail, NameUse, Parsed, Rule, refused};
 pub fn check_uses(p: &Parsed, places: &Places) -> Result<(), CheckFault>
     requires places { ArePlacesOf (view.parsed p.now) places.now }
     requires range { All (λ u. u.name < length p.now.names) p.now.uses }
-    ensures { Decides (map (spec.use_entry (view.parsed p.now)) p.now.uses) result }
+    ensures { Decides (map (spec.use_obligation (view.parsed p.now)) p.now.uses) result }
 {
     for used in p.uses.as_slice() {
         if let Err(fault) = check_use(p, places, used) {
@@ -24,7 +24,7 @@ pub fn check_uses(p: &Parsed, places: &Places) -> Result<(), CheckFault>
 fn check_use(p: &Parsed, places: &Places, used: &NameUse) -> Result<(), CheckFault>
     requires places { ArePlacesOf (view.parsed p.now) places.now }
     requires range { used.now.name < length p.now.names }
-    ensures { Decides (spec.use_entry (view.parsed p.now) used.now ∷ []) result }
+    ensures { Decides (spec.use_obligation (view.parsed p.now) used.now ∷ []) result }
 {
     if places.has(used) {
         return Ok(());

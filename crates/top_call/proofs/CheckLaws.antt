@@ -4,7 +4,7 @@ use Rattle.std.specs.Prelude.{MatchResult}
 use Rattle.std.proofs.lemmas.Bool.{and_parts}
 use Rattle.std.proofs.lemmas.List.Folds.{list_all-append}
 use Rattle.cov_ast.specs.Syntax.{Parsed, Program}
-use Rattle.cov_ast.specs.Obligations.{Entry, all_hold, first_false, Decides}
+use Rattle.cov_ast.specs.Obligations.{Obligation, all_hold, first_false, Decides}
 use Rattle.cov_ast.specs.declared.refusal.CheckFault.{CheckFault}
 use Rattle.cov_ast.specs.declared.refusal.Refusal.{Refusal}
 use Rattle.cov_ast.proofs.ObligationLaws.{append_refused, append_decided}
@@ -28,10 +28,10 @@ use Rattle.top_call.proofs.TextLaws.{one_tree, one_shown, tree_or_shown}
 
 -- Obligations --------------------------------------------------------------------------------------------------
 
-both_hold : (a b : List Entry) → IsTrue (all_hold (a ++ b)) → IsTrue (all_hold a) × IsTrue (all_hold b)
+both_hold : (a b : List Obligation) → IsTrue (all_hold (a ++ b)) → IsTrue (all_hold a) × IsTrue (all_hold b)
 both_hold a b h = and_parts (all_hold a) (all_hold b) (sym (list_all-append (λ e. e.holds) a b) ∙ h)
 
-all_true : (es : List Entry) → first_false es ≡ None → all_hold es ≡ true
+all_true : (es : List Obligation) → first_false es ≡ None → all_hold es ≡ true
 all_true [] h = refl
 all_true (e ∷ es) h = go (all_true es) e.holds h
   where
@@ -104,7 +104,7 @@ judged_no_fault name bytes (accepted threads statements entailments) judged e = 
 judged_no_fault name bytes (spelled text) judged e = judged
 
 -- Where all obligations hold, none is the first that doesn't.
-none_false : (es : List Entry) (refusal : Refusal) → IsTrue (all_hold es) → first_false es ≡ Some refusal → ⊥
+none_false : (es : List Obligation) (refusal : Refusal) → IsTrue (all_hold es) → first_false es ≡ Some refusal → ⊥
 none_false [] refusal h first = let e : None ≡ Some refusal = first in cc
 none_false (e ∷ es) refusal h first = go (none_false es refusal) e.holds h first
   where

@@ -4,7 +4,7 @@ use Rattle.cov_grammar.specs.Trees as trees
 use Rattle.cov_parse.specs.Text.{program_of}
 use Rattle.cov_ast.specs.Syntax.{Parsed}
 use Rattle.cov_ast.specs.Plain.{Plain, plain}
-use Rattle.cov_ast.specs.Obligations.{Entry, all_hold, first_false}
+use Rattle.cov_ast.specs.Obligations.{Obligation, all_hold, first_false}
 use Rattle.cov_ast.specs.declared.refusal.Refusal.{Refusal}
 use Rattle.flow_model.specs.Secure.{IsSecure}
 use Rattle.policy_class.specs.Resolved.{name_obligations, resolved}
@@ -15,7 +15,7 @@ use Rattle.top_call.specs.Replies.{Reply, malformed, refused, accepted}
 
 -- the obligations of what a text spells: those of its names (W1, W2), and, where these hold, those of the program that it
 -- stands for (W3 to W9, V1 to V16)
-abbrev pub obligations : Parsed → List Entry
+abbrev pub obligations : Parsed → List Obligation
 obligations p = name_obligations p ++ (if all_hold (name_obligations p) then program_obligations (resolved p) else [])
 
 -- Each name is declared once, and is used as what it is declared.

@@ -14,19 +14,19 @@ use Rattle.cov_ast.specs.Obligations.{all_hold}
 use Rattle.cov_ast.specs.Plain.{plain}
 use Rattle.cov_ast.specs.Syntax.{Lock, Program, State, Proof, Stm, skip, assign, lock, unlock, branch, loop, note, Block, done, more}
 use Rattle.cov_ast.specs.WellFormed.{IsWellFormed, IsStmInRange, IsBlockInRange, places, places_within, types_size, state_size, stm_size, block_size}
-use Rattle.lock_spec.specs.Locks.{listing_entries, w4_from, invariant_entries, lock_obligations}
+use Rattle.lock_spec.specs.Locks.{listing_obligations, w4_from, invariant_obligations, lock_obligations}
 use Rattle.policy_class.specs.Policy.{policy_obligations}
 use Rattle.mode_compat.specs.Compatible.{mode_obligations}
 use Rattle.mode_compat.specs.Declared.{declaration_obligations}
 use Rattle.mode_state.specs.Sets.{is_hidden}
 use Rattle.typing_state.specs.Point.{Point, vars_of}
 use Rattle.typing_state.specs.After.{with_guard, meet}
-use Rattle.typing_rules.specs.Answers.{entailment_count}
+use Rattle.typing_rules.specs.Counts.{entailment_count}
 use Rattle.typing_rules.specs.Blocks.{value_type, after_stm, after_block}
 use Rattle.typing_rules.specs.Entailments.{Entailment, from_preds, from_one_more, type_follows, state_follows, guard_follows, written_type, shown_value, shown_controlled, controlled_follows, controlled_values, retype_follows, assign_entailments, freed_value, unlock_entailments}
-use Rattle.typing_rules.specs.Obligations.{flat, stm_parts, block_entries}
+use Rattle.typing_rules.specs.Obligations.{flat, stm_parts, block_obligations}
 use Rattle.typing_rules.proofs.Counting.{count_skip, count_assign, count_lock, count_unlock, count_note, count_branch, count_loop, count_more}
-use Rattle.typing_rules.proofs.Soundness.FromEntries.{AllTrue, all_true, true_left, true_right}
+use Rattle.typing_rules.proofs.Soundness.FromObligations.{AllTrue, all_true, true_left, true_right}
 use Rattle.typing_rules.proofs.Soundness.Lists.{has_left, has_right}
 use Rattle.typing_rules.proofs.Soundness.Static.{clash, cond_is}
 
@@ -70,13 +70,13 @@ mutual
   few_places done = omega arith
   few_places (more at s proofs b) = omega (arith, length-append (places_within s) (places b), few_places_within s, few_places b)
 
--- The claims of a state ----------------------------------------------------------------------------------------
+-- The entailments of a state ----------------------------------------------------------------------------------------
 
 length-le-types_size : (ts : List (ℕ × Term)) → length ts ≤ types_size ts
 length-le-types_size ts = length-le-sum_by (λ t. nodes t.1 + 1) ts (λ t. omega arith)
 
-pub few_claims_state : (a : Point) (j : State) → length (state_follows a j) ≤ state_size j
-few_claims_state a j =
+pub few_entailments_state : (a : Point) (j : State) → length (state_follows a j) ≤ state_size j
+few_entailments_state a j =
     omega (
       arith,
       length-append (map (from_preds a.preds) j.preds) (map (type_follows a) j.types),
@@ -90,14 +90,14 @@ few_claims_state a j =
 
 module _ (p : Program) where
   -- what was named before isn't named again
-  apart : (l : Lock) (before xs : List ℕ) (x : ℕ) → AllTrue (listing_entries p l before xs) → has_number before x ≡ true → AllByRecursion (λ y. eqb x y ≡ false) xs
+  apart : (l : Lock) (before xs : List ℕ) (x : ℕ) → AllTrue (listing_obligations p l before xs) → has_number before x ≡ true → AllByRecursion (λ y. eqb x y ≡ false) xs
   apart l before [] x h b = tt
   apart l before (y ∷ ys) x h b = (
     false_from_ne_true (eqb x y) (λ e. clash (has_number before y) (subst (λ z. has_number before z ≡ true) (eqb-true x y e) b) (not-true (has_number before y) h.0)),
     apart l (before ++ y ∷ []) ys x h.1 (has_left before (y ∷ []) x b),
   )
 
-  listed_once : (l : Lock) (before xs : List ℕ) → AllTrue (listing_entries p l before xs) → IsDistinct eqb xs
+  listed_once : (l : Lock) (before xs : List ℕ) → AllTrue (listing_obligations p l before xs) → IsDistinct eqb xs
   unfolding IsDistinct
   listed_once l before [] h = tt
   listed_once l before (x ∷ xs) h = (
@@ -109,15 +109,15 @@ module _ (p : Program) where
   hidden_once before [] l lt h = absurd (omega arith)
   hidden_once before (k ∷ ls) zero lt h =
       let names = k.nowrite ++ k.hide in
-      distinct_right k.nowrite k.hide (listed_once k before names (true_left (listing_entries p k before names) (w4_from p (before ++ names) ls) h))
+      distinct_right k.nowrite k.hide (listed_once k before names (true_left (listing_obligations p k before names) (w4_from p (before ++ names) ls) h))
   hidden_once before (k ∷ ls) (suc l) lt h =
       let names = k.nowrite ++ k.hide in
-      hidden_once (before ++ names) ls l (omega arith) (true_right (listing_entries p k before names) (w4_from p (before ++ names) ls) h)
+      hidden_once (before ++ names) ls l (omega arith) (true_right (listing_obligations p k before names) (w4_from p (before ++ names) ls) h)
 
   few_hidden : IsWellFormed p → IsTrue (all_hold (declaration_obligations p)) → (l : ℕ) → l < length p.locks → length (lock_at (plain p) l).hide ≤ 256
   few_hidden fine h l lt =
       let hidden = (lock_at (plain p) l).hide in
-      let of_locks = true_left (w4_from p [] p.locks) (flat_map (invariant_entries p) p.locks)
+      let of_locks = true_left (w4_from p [] p.locks) (flat_map (invariant_obligations p) p.locks)
       (true_right (policy_obligations p) (lock_obligations p) (true_left (policy_obligations p ++ lock_obligations p) (mode_obligations p) (all_true (declaration_obligations p) h))) in
       let in_range : All (λ x. x < length p.vars) hidden = (fine.ids.of_locks l no_lock lt).hide in
       omega (
@@ -127,7 +127,7 @@ module _ (p : Program) where
         fine.limits.variables,
       )
 
--- Claims of statements -----------------------------------------------------------------------------------------
+-- Entailments of statements -----------------------------------------------------------------------------------------
 
 module _ (p : Program) (t : ℕ) where
   one_written : (a : Point) (e : Term) (q : Option Term) → length (written_type (plain p) t a e q) ≤ 1
@@ -153,8 +153,8 @@ module _ (p : Program) (t : ℕ) where
 
   -- of a program with true declarations
   module _ (fine : IsWellFormed p) (h : IsTrue (all_hold (declaration_obligations p))) where
-    pub few_claims_unlock : (a : Point) (l : ℕ) → l < length p.locks → length (unlock_entailments (plain p) t a l) ≤ 1024
-    few_claims_unlock a l lt =
+    pub few_entailments_unlock : (a : Point) (l : ℕ) → l < length p.locks → length (unlock_entailments (plain p) t a l) ≤ 1024
+    few_entailments_unlock a l lt =
         let k = lock_at (plain p) l in
         let freed = filter (λ x. not (is_control (plain p) x)) k.hide in
         omega (
@@ -167,9 +167,9 @@ module _ (p : Program) (t : ℕ) where
           few_hidden p fine h l lt,
         )
 
-    pub few_claims_assign : (a : Point) (x : ℕ) (e : Term) (q : Option Term) (retypes : List (ℕ × Term))
+    pub few_entailments_assign : (a : Point) (x : ℕ) (e : Term) (q : Option Term) (retypes : List (ℕ × Term))
         → length (assign_entailments (plain p) t a x e q retypes) ≤ 1024 * (1 + stm_size (assign x e q retypes))
-    few_claims_assign a x e q retypes =
+    few_entailments_assign a x e q retypes =
         let written = written_type (plain p) t a e q in
         let shown = shown_value (plain p) t a x (value_type (plain p) t a q e) in
         let controlled = controlled_values (plain p) t a x e in
@@ -192,9 +192,9 @@ module _ (p : Program) (t : ℕ) where
           → entailment_count (flat (stm_parts (plain p) t s at proofs a)) ≤ 1024 * (1 + stm_size s)
       few_entailments_of skip at proofs a r = omega (arith, count_skip (plain p) t at proofs a)
       few_entailments_of (assign x e q retypes) at proofs a r =
-          omega (arith, count_assign (plain p) t at proofs a x e q retypes, few_claims_assign a x e q retypes)
+          omega (arith, count_assign (plain p) t at proofs a x e q retypes, few_entailments_assign a x e q retypes)
       few_entailments_of (lock l) at proofs a r = omega (arith, count_lock (plain p) t at proofs a l)
-      few_entailments_of (unlock l) at proofs a r = omega (arith, count_unlock (plain p) t at proofs a l, few_claims_unlock a l r)
+      few_entailments_of (unlock l) at proofs a r = omega (arith, count_unlock (plain p) t at proofs a l, few_entailments_unlock a l r)
       few_entailments_of (branch e yes_block no_block join) at proofs a r =
           let yes_start = with_guard (plain p) t a e in
           let no_start = with_guard (plain p) t a (neg e) in
@@ -206,8 +206,8 @@ module _ (p : Program) (t : ℕ) where
             few_entailments yes_block yes_start r.1,
             few_entailments no_block no_start r.2,
             length-append (state_follows yes_end join) (state_follows no_end join),
-            few_claims_state yes_end join,
-            few_claims_state no_end join,
+            few_entailments_state yes_end join,
+            few_entailments_state no_end join,
           )
       few_entailments_of (loop e inv b) at proofs a r =
           let head = meet (plain p) t a inv in
@@ -217,14 +217,14 @@ module _ (p : Program) (t : ℕ) where
             arith,
             count_loop (plain p) t at proofs a e inv b,
             length-append (state_follows a inv) (guard_follows (plain p) t head e ∷ []),
-            few_claims_state a inv,
+            few_entailments_state a inv,
             few_entailments b start r.2,
-            few_claims_state end inv,
+            few_entailments_state end inv,
           )
-      few_entailments_of (note j) at proofs a r = omega (arith, count_note (plain p) t at proofs a j, few_claims_state a j)
+      few_entailments_of (note j) at proofs a r = omega (arith, count_note (plain p) t at proofs a j, few_entailments_state a j)
 
       pub few_entailments : (b : Block) (a : Point) → IsBlockInRange (length p.vars) (length p.locks) b
-          → entailment_count (block_entries (plain p) t b a) ≤ 1024 * block_size b
+          → entailment_count (block_obligations (plain p) t b a) ≤ 1024 * block_size b
       few_entailments done a r = omega arith
       few_entailments (more at s proofs b) a r =
           omega (arith, count_more (plain p) t at s proofs b a, few_entailments_of s at proofs a r.0, few_entailments b (after_stm (plain p) t s a) r.2)

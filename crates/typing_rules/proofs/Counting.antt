@@ -4,7 +4,7 @@ use Rattle.std.proofs.lemmas.List.Sums.{sum_by-append}
 use Rattle.cov_expr.specs.Term.{Term, neg}
 use Rattle.cov_expr.specs.Trees.{vars}
 use Rattle.cov_ast.specs.Declarations.{is_control}
-use Rattle.cov_ast.specs.Obligations.{Entry}
+use Rattle.cov_ast.specs.Obligations.{Obligation}
 use Rattle.cov_ast.specs.Plain.{Plain}
 use Rattle.cov_ast.specs.Syntax.{State, Proof, Stm, skip, assign, lock, unlock, branch, loop, note, Block, more}
 use Rattle.cov_ast.specs.declared.refusal.Rule.TheVariants.{V5, V9}
@@ -12,31 +12,30 @@ use Rattle.cov_ast.specs.declared.refusal.Detail.TheVariants.{Number}
 use Rattle.mode_state.specs.Sets.{is_stable}
 use Rattle.typing_state.specs.Point.{Point, is_tracked}
 use Rattle.typing_state.specs.After.{with_guard, meet}
-use Rattle.typing_rules.specs.Answers.{entailment_count}
+use Rattle.typing_rules.specs.Counts.{entailment_count, is_entailment}
 use Rattle.typing_rules.specs.Blocks.{after_stm, after_block}
-use Rattle.typing_rules.specs.Counts.{is_entailment}
 use Rattle.typing_rules.specs.Entailments.{Entailment, is_proved, guard_follows, state_follows, assign_entailments, unlock_entailments}
-use Rattle.typing_rules.specs.Obligations.{flat, entry, one_unstable, narrow, of_var, reads, over_stable, type_entries, state_entries, guard_entries, proved, numbers, stm_parts, block_entries}
+use Rattle.typing_rules.specs.Obligations.{flat, obligation, one_unstable, narrow, of_var, reads, over_stable, type_obligations, state_obligations, guard_obligations, proved, numbers, stm_parts, block_obligations}
 
 -- Lists --------------------------------------------------------------------------------------------------------
 
-pub count_append : (a b : List Entry) → entailment_count (a ++ b) ≡ entailment_count a + entailment_count b
+pub count_append : (a b : List Obligation) → entailment_count (a ++ b) ≡ entailment_count a + entailment_count b
 count_append a b = sum_by-append _ a b
 
-pub count_cons : (e : Entry) (es : List Entry) → entailment_count (e ∷ es) ≡ entailment_count (e ∷ []) + entailment_count es
+pub count_cons : (e : Obligation) (es : List Obligation) → entailment_count (e ∷ es) ≡ entailment_count (e ∷ []) + entailment_count es
 count_cons e es = count_append (e ∷ []) es
 
 -- the counts of parts, together
-abbrev part_counts : List (List Entry) → ℕ
+abbrev part_counts : List (List Obligation) → ℕ
 part_counts [] = 0
 part_counts (es ∷ ess) = entailment_count es + part_counts ess
 
-count_flat : (ess : List (List Entry)) → entailment_count (flat ess) ≡ part_counts ess
+count_flat : (ess : List (List Obligation)) → entailment_count (flat ess) ≡ part_counts ess
 count_flat [] = refl
 count_flat (es ∷ ess) = count_append es (flat ess) ∙ ap (λ n. entailment_count es + n) (count_flat ess)
 
--- entries of which none is an entailment
-none_mapped : {X : Type 0} (f : X → Entry) (xs : List X) → ((x : X) → is_entailment (f x).refusal.rule ≡ false) → entailment_count (map f xs) ≡ 0
+-- obligations of which none is an entailment
+none_mapped : {X : Type 0} (f : X → Obligation) (xs : List X) → ((x : X) → is_entailment (f x).refusal.rule ≡ false) → entailment_count (map f xs) ≡ 0
 none_mapped f [] h = refl
 none_mapped f (x ∷ xs) h =
     let here : entailment_count (f x ∷ []) ≡ 0 = ap (λ s. 0 + cond s 1 0) (h x) in
@@ -48,7 +47,7 @@ module _ (p : Plain) (t at : ℕ) where
   pub count_proved : (proofs : List Proof) (n : ℕ) (gs : List Entailment) → entailment_count (proved p t at proofs n gs) ≡ length gs
   count_proved proofs n [] = refl
   count_proved proofs n (g ∷ gs) =
-      omega (arith, count_cons (entry p t at V9 (Number n) (is_proved proofs n g)) (proved p t at proofs (suc n) gs), count_proved proofs (suc n) gs)
+      omega (arith, count_cons (obligation p t at V9 (Number n) (is_proved proofs n g)) (proved p t at proofs (suc n) gs), count_proved proofs (suc n) gs)
 
   pub count_numbers : (count : ℕ) (proofs : List Proof) → entailment_count (numbers p t at count proofs) ≡ 0
   count_numbers count proofs = none_mapped _ proofs (λ q. refl)
@@ -57,20 +56,20 @@ module _ (p : Plain) (t at : ℕ) where
   count_reads held e = none_mapped _ (vars e) (λ x. refl)
 
   pub count_types : (test : ℕ → Bool) (held : List Bool) (before : List ℕ) (types : List (ℕ × Term))
-      → entailment_count (type_entries p t at test held before types) ≡ 0
+      → entailment_count (type_obligations p t at test held before types) ≡ 0
   count_types test held before [] = refl
   count_types test held before (r ∷ rs) = count_types test held (r.0 ∷ before) rs
 
-  pub count_state : (held : List Bool) (j : State) → entailment_count (state_entries p t at held j) ≡ 0
+  pub count_state : (held : List Bool) (j : State) → entailment_count (state_obligations p t at held j) ≡ 0
   count_state held j =
       omega (
         arith,
-        count_append (map (over_stable p t at held) j.preds) (type_entries p t at (is_tracked p t held) held [] j.types),
+        count_append (map (over_stable p t at held) j.preds) (type_obligations p t at (is_tracked p t held) held [] j.types),
         none_mapped (over_stable p t at held) j.preds (λ e. refl),
         count_types (is_tracked p t held) held [] j.types,
       )
 
-  pub count_guard : (held : List Bool) (e : Term) → entailment_count (guard_entries p t at held e) ≡ 0
+  pub count_guard : (held : List Bool) (e : Term) → entailment_count (guard_obligations p t at held e) ≡ 0
   count_guard held e = omega (
     arith,
     count_append (reads p t at held e ++ one_unstable p t at held e) (narrow p t at e),
@@ -119,7 +118,7 @@ module _ (p : Plain) (t at : ℕ) (proofs : List Proof) (a : Point) where
   -- that of the guard, those of both blocks, and those of the join
   pub count_branch : (e : Term) (yes_block no_block : Block) (join : State)
       → entailment_count (flat (stm_parts p t (branch e yes_block no_block join) at proofs a))
-      ≡ 1 + entailment_count (block_entries p t yes_block (with_guard p t a e)) + entailment_count (block_entries p t no_block (with_guard p t a (neg e)))
+      ≡ 1 + entailment_count (block_obligations p t yes_block (with_guard p t a e)) + entailment_count (block_obligations p t no_block (with_guard p t a (neg e)))
       + length (state_follows (after_block p t yes_block (with_guard p t a e)) join ++ state_follows (after_block p t no_block (with_guard p t a (neg e))) join)
   count_branch e yes_block no_block join =
       let yes_end = after_block p t yes_block (with_guard p t a e) in
@@ -136,10 +135,10 @@ module _ (p : Plain) (t at : ℕ) (proofs : List Proof) (a : Point) where
         count_numbers p t at (length gs + length hs) proofs,
       )
 
-  -- those of the entry and of the guard, those of the body, and those of its end
+  -- those of the obligation and of the guard, those of the body, and those of its end
   pub count_loop : (e : Term) (inv : State) (b : Block)
       → entailment_count (flat (stm_parts p t (loop e inv b) at proofs a))
-      ≡ length (state_follows a inv ++ guard_follows p t (meet p t a inv) e ∷ []) + entailment_count (block_entries p t b (with_guard p t (meet p t a inv) e))
+      ≡ length (state_follows a inv ++ guard_follows p t (meet p t a inv) e ∷ []) + entailment_count (block_obligations p t b (with_guard p t (meet p t a inv) e))
       + length (state_follows (after_block p t b (with_guard p t (meet p t a inv) e)) inv)
   count_loop e inv b =
       let head = meet p t a inv in
@@ -157,6 +156,6 @@ module _ (p : Plain) (t at : ℕ) (proofs : List Proof) (a : Point) where
 
 -- those of a statement and of the statements behind it
 pub count_more : (p : Plain) (t at : ℕ) (s : Stm) (proofs : List Proof) (b : Block) (a : Point)
-    → entailment_count (block_entries p t (more at s proofs b) a)
-    ≡ entailment_count (flat (stm_parts p t s at proofs a)) + entailment_count (block_entries p t b (after_stm p t s a))
-count_more p t at s proofs b a = count_append (flat (stm_parts p t s at proofs a)) (block_entries p t b (after_stm p t s a))
+    → entailment_count (block_obligations p t (more at s proofs b) a)
+    ≡ entailment_count (flat (stm_parts p t s at proofs a)) + entailment_count (block_obligations p t b (after_stm p t s a))
+count_more p t at s proofs b a = count_append (flat (stm_parts p t s at proofs a)) (block_obligations p t b (after_stm p t s a))

@@ -7,16 +7,16 @@ use Rattle.std.proofs.lemmas.List.Sums.{sum_by-append}
 use Rattle.cov_expr.specs.declared.expr.Op.{Op}
 use Rattle.cov_expr.specs.Term.{Term, var, bin}
 use Rattle.cov_expr.specs.Trees.{occurrences, vars}
-use Rattle.cov_ast.specs.Obligations.{Entry, Decides, first_false}
+use Rattle.cov_ast.specs.Obligations.{Obligation, Decides, first_false}
 use Rattle.cov_ast.specs.declared.refusal.CheckFault.{CheckFault}
 use Rattle.cov_ast.specs.declared.refusal.Rule.{Rule}
 use Rattle.cov_ast.specs.declared.refusal.Detail.{Detail}
 use Rattle.cov_ast.proofs.ObligationLaws.{append_decided, append_refused, same_decided, distinct_map_same}
-use Rattle.typing_rules.specs.Obligations.{thread_entry}
+use Rattle.typing_rules.specs.Obligations.{thread_obligation}
 
 -- Obligations of each occurrence of a variable ----------------------------------------------------------------
 
-module _ (f : ℕ → Entry) where
+module _ (f : ℕ → Obligation) where
   pub at_var : (e : Term) (x : ℕ) (r : Result (Unit {0}) CheckFault) → e ≡ var x → Decides (f x ∷ []) r → Decides (map f (occurrences e)) r
   at_var e x r is h = subst (λ u. Decides (map f (occurrences u)) r) (sym is) h
 
@@ -37,9 +37,9 @@ module _ (f : ℕ → Entry) where
 
 -- an obligation whose truth value is another's
 pub same_test : (t place : ℕ) (rule : Rule) (shown name : Detail) (b d : Bool) (r : Result (Unit {0}) CheckFault) → shown ≡ name → b ≡ d
-    → Decides (thread_entry t place rule shown b ∷ []) r → Decides (thread_entry t place rule name d ∷ []) r
-same_test t place rule shown name b d r same test h = same_decided (thread_entry t place rule shown b ∷ []) (thread_entry t place rule name d ∷ []) r
-    (λ i. first_false (thread_entry t place rule (same i) (test i) ∷ [])) h
+    → Decides (thread_obligation t place rule shown b ∷ []) r → Decides (thread_obligation t place rule name d ∷ []) r
+same_test t place rule shown name b d r same test h = same_decided (thread_obligation t place rule shown b ∷ []) (thread_obligation t place rule name d ∷ []) r
+    (λ i. first_false (thread_obligation t place rule (same i) (test i) ∷ [])) h
 
 -- Counts -------------------------------------------------------------------------------------------------------
 

@@ -1,10 +1,10 @@
 pub mod Soundness
-mod Rows
+mod Examples
 mod GuardLaws
 mod StateLaws
 mod TryLaws
 mod Threads
-mod ClaimLaws
+mod ListedLaws
 mod LargeTypes
 mod ReadTypes
 pub mod Statements

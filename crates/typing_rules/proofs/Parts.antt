@@ -3,7 +3,7 @@ use Rattle.std.proofs.Common.{◌≡◌, ℕ, suc, ◌+◌, ◌&&◌, List, [], 
 use Rattle.std.specs.List.{list_all}
 use Rattle.std.proofs.lemmas.Bool.{and_parts}
 use Rattle.std.proofs.lemmas.List.{append-nil}
-use Rattle.cov_ast.specs.Obligations.{Decides, Entry, first_false}
+use Rattle.cov_ast.specs.Obligations.{Decides, Obligation, first_false}
 use Rattle.cov_ast.specs.Plain.{Plain}
 use Rattle.cov_ast.specs.Syntax.{Proof}
 use Rattle.cov_ast.specs.declared.refusal.CheckFault.{CheckFault}
@@ -13,36 +13,36 @@ use Rattle.cov_ast.specs.declared.refusal.Detail.TheVariants.{Nothing}
 use Rattle.cov_ast.proofs.ObligationLaws.{append_decided, append_held, append_refused}
 use Rattle.typing_rules.specs.Entailments.{Entailment, is_small_entailment}
 use Rattle.typing_state.specs.Point.{Point, has_small_types}
-use Rattle.typing_rules.specs.Obligations.{entry, flat, numbers, proved, small_terms}
-use Rattle.typing_rules.specs.Walking.{Tries, last_parts}
-use Rattle.typing_rules.specs.declared.tried.Tried.{Tried}
+use Rattle.typing_rules.specs.Obligations.{obligation, flat, numbers, proved, small_terms}
+use Rattle.typing_rules.specs.Inside.Walking.{Tries, last_parts}
+use Rattle.typing_rules.specs.declared.entailments_tried.Tried.{Tried}
 
 -- The verdict on parts --------------------------------------------------------------------------------------------
 
-pub padded : (a : List Entry) (r : Result (Unit {0}) CheckFault) → Decides a r → Decides (a ++ []) r
+pub padded : (a : List Obligation) (r : Result (Unit {0}) CheckFault) → Decides a r → Decides (a ++ []) r
 padded a r h = subst (λ b. Decides b r) (sym (append-nil a)) h
 
-pub flat-append : (ess fss : List (List Entry)) → flat (ess ++ fss) ≡ flat ess ++ flat fss
+pub flat-append : (ess fss : List (List Obligation)) → flat (ess ++ fss) ≡ flat ess ++ flat fss
 flat-append [] fss = refl
 flat-append (es ∷ ess) fss = ap (λ b. es ++ b) (flat-append ess fss) ∙ sym (append_assoc es (flat ess) (flat fss))
 
 -- what refuses the first parts refuses the rule
-pub parts_refused : (ess fss : List (List Entry)) (fault : CheckFault) → Decides (flat ess) (Err fault) → Decides (flat (ess ++ fss)) (Err fault)
+pub parts_refused : (ess fss : List (List Obligation)) (fault : CheckFault) → Decides (flat ess) (Err fault) → Decides (flat (ess ++ fss)) (Err fault)
 parts_refused ess fss fault h =
     subst (λ b. Decides b (Err fault)) (sym (flat-append ess fss)) (append_refused (flat ess) (flat fss) fault h)
 
 -- where the first parts hold, the others decide
-pub parts_decided : (ess fss : List (List Entry)) (r : Result (Unit {0}) CheckFault) → first_false (flat ess) ≡ None → Decides (flat fss) r
+pub parts_decided : (ess fss : List (List Obligation)) (r : Result (Unit {0}) CheckFault) → first_false (flat ess) ≡ None → Decides (flat fss) r
     → Decides (flat (ess ++ fss)) r
 parts_decided ess fss r e h = subst (λ b. Decides b r) (sym (flat-append ess fss)) (append_decided (flat ess) (flat fss) r e h)
 
 -- a part that refuses, behind parts that hold
-pub part_refused : (ess : List (List Entry)) (es : List Entry) (fss : List (List Entry)) (fault : CheckFault) → first_false (flat ess) ≡ None
+pub part_refused : (ess : List (List Obligation)) (es : List Obligation) (fss : List (List Obligation)) (fault : CheckFault) → first_false (flat ess) ≡ None
     → Decides es (Err fault) → Decides (flat (ess ++ es ∷ fss)) (Err fault)
 part_refused ess es fss fault e h = parts_decided ess (es ∷ fss) (Err fault) e (append_refused es (flat fss) fault h)
 
 -- one more part that holds
-pub part_held : (ess : List (List Entry)) (es : List Entry) → first_false (flat ess) ≡ None → first_false es ≡ None → first_false (flat (ess ++ es ∷ [])) ≡ None
+pub part_held : (ess : List (List Obligation)) (es : List Obligation) → first_false (flat ess) ≡ None → first_false es ≡ None → first_false (flat (ess ++ es ∷ [])) ≡ None
 part_held ess es h k =
     ap first_false (flat-append ess (es ∷ [])) ∙ append_held (flat ess) (es ++ []) h ∙ ap first_false (append-nil es) ∙ k
 
@@ -50,7 +50,7 @@ some_none : (r : Refusal) → Some r ≡ None → ⊥
 some_none r h = cc
 
 -- where all hold, those of each part do
-pub append_none : (a b : List Entry) → first_false (a ++ b) ≡ None → (first_false a ≡ None) × (first_false b ≡ None)
+pub append_none : (a b : List Obligation) → first_false (a ++ b) ≡ None → (first_false a ≡ None) × (first_false b ≡ None)
 append_none [] b h = (refl, h)
 append_none (e ∷ es) b h =
     elim e.holds as (λ v. cond v (first_false (es ++ b)) (Some e.refusal) ≡ None → (cond v (first_false es) (Some e.refusal) ≡ None) × (first_false b ≡ None)) [
@@ -61,7 +61,7 @@ append_none (e ∷ es) b h =
 -- Entailments ----------------------------------------------------------------------------------------------------
 
 -- what holds where an obligation does
-pub held_is : (p : Plain) (t at : ℕ) (b : Bool) → first_false (entry p t at V16 Nothing b ∷ []) ≡ None → b ≡ true
+pub held_is : (p : Plain) (t at : ℕ) (b : Bool) → first_false (obligation p t at V16 Nothing b ∷ []) ≡ None → b ≡ true
 held_is p t at true h = refl
 held_is p t at false h = cc
 
@@ -78,7 +78,7 @@ proved-append p t at proofs n (g ∷ gs) hs =
     (proved-append p t at proofs (suc n) gs hs ∙ ap (λ m. proved p t at proofs (suc n) gs ++ proved p t at proofs m hs) e)
 
 -- where the obligations that come last hold, each entailment was counted
-pub all_counted : (p : Plain) (t at : ℕ) (proofs : List Proof) (n count : ℕ) (gs : List Entailment) (points : List Point) (tried : Tried) (front : List Entry)
+pub all_counted : (p : Plain) (t at : ℕ) (proofs : List Proof) (n count : ℕ) (gs : List Entailment) (points : List Point) (tried : Tried) (front : List Obligation)
     → Tries p t at proofs n gs tried → first_false (front ++ flat (last_parts p t at proofs n count gs points)) ≡ None → tried.count ≡ length gs
 all_counted p t at proofs n count gs points tried front h held =
     let last = append_none front (flat (last_parts p t at proofs n count gs points)) held in

@@ -1,6 +1,6 @@
 -- Soundness of the rules: a thread of which every obligation holds is secure. `Whole` says how the proof is laid out.
 -- It speaks of definitions alone. Lemmas on what the code does stand beside this folder, and take laws of sets, lists and
--- entries from it.
+-- obligations from it.
 pub mod Fits
 pub mod Play
 pub mod Static
@@ -10,7 +10,7 @@ pub mod Conditions
 pub mod Assign
 pub mod Others
 pub mod Sound
-pub mod FromEntries
+pub mod FromObligations
 pub mod FromDeclarations
 pub mod Whole
 pub mod Words

@@ -11,13 +11,13 @@ use Rattle.cov_ast.specs.Plain.{Plain}
 use Rattle.cov_ast.specs.Declarations.{lock_at, name_of, no_lock}
 use Rattle.cov_ast.specs.View as view
 use Rattle.cov_ast.specs.declared.decl.LockDecl.{LockDecl}
-use Rattle.cov_ast.specs.Obligations.{Entry, Decides, first_false}
+use Rattle.cov_ast.specs.Obligations.{Obligation, Decides, first_false}
 use Rattle.cov_ast.specs.declared.refusal.CheckFault.{CheckFault}
 use Rattle.cov_ast.specs.declared.refusal.CheckFault.TheVariants.{Refused}
 use Rattle.cov_ast.specs.declared.refusal.Detail.TheVariants.{One}
 use Rattle.cov_ast.specs.declared.refusal.Rule.TheVariants.{V11, V14}
 use Rattle.cov_ast.proofs.ObligationLaws.{loop_refused, loop_more}
-use Rattle.typing_rules.specs.Obligations.{agree, entry, over_controls, type_entries, thread_entry, end_entry, first_held, lock_detail}
+use Rattle.typing_rules.specs.Obligations.{agree, obligation, over_controls, type_obligations, thread_obligation, end_obligation, first_held, lock_detail}
 
 -- The first number that passes a test --------------------------------------------------------------------------
 
@@ -43,11 +43,11 @@ other_agree false false h = sym h
 
 -- One obligation -----------------------------------------------------------------------------------------------
 
-pub entry_refused : (e : Entry) (fault : CheckFault) → e.holds ≡ false → fault ≡ Refused e.refusal → Decides (e ∷ []) (Err fault)
-entry_refused e fault h is = subst (λ f. Decides (e ∷ []) (Err f)) (sym is) (ap (λ b. cond b None (Some e.refusal)) h)
+pub obligation_refused : (e : Obligation) (fault : CheckFault) → e.holds ≡ false → fault ≡ Refused e.refusal → Decides (e ∷ []) (Err fault)
+obligation_refused e fault h is = subst (λ f. Decides (e ∷ []) (Err f)) (sym is) (ap (λ b. cond b None (Some e.refusal)) h)
 
-pub entry_held : (e : Entry) → e.holds ≡ true → first_false (e ∷ []) ≡ None
-entry_held e h = ap (λ b. cond b None (Some e.refusal)) h
+pub obligation_held : (e : Obligation) → e.holds ≡ true → first_false (e ∷ []) ≡ None
+obligation_held e h = ap (λ b. cond b None (Some e.refusal)) h
 
 -- Locks --------------------------------------------------------------------------------------------------------
 
@@ -56,15 +56,15 @@ lock_name locks l lock inside is = ap (λ k. k.name) is ∙ sym (ap (λ k. k.nam
 
 -- a lock that is held at the end
 pub end_refused : (p : Plain) (t place l : ℕ) (held : List Bool) (name : List ℕ) (fault : CheckFault) → first_held p held ≡ Some l → name ≡ (lock_at p l).name
-    → fault ≡ Refused (thread_entry t place V11 (One name) false).refusal → Decides (end_entry p t place held ∷ []) (Err fault)
+    → fault ≡ Refused (thread_obligation t place V11 (One name) false).refusal → Decides (end_obligation p t place held ∷ []) (Err fault)
 end_refused p t place l held name fault found named is =
-    subst (λ f. Decides (end_entry p t place held ∷ []) (Err f)) (sym is)
-    ((λ i. first_false (thread_entry t place V11 (lock_detail p (found i)) (is_none (found i)) ∷ []))
-    ∙ ap (λ n. Some (thread_entry t place V11 (One n) false).refusal) (sym named))
+    subst (λ f. Decides (end_obligation p t place held ∷ []) (Err f)) (sym is)
+    ((λ i. first_false (thread_obligation t place V11 (lock_detail p (found i)) (is_none (found i)) ∷ []))
+    ∙ ap (λ n. Some (thread_obligation t place V11 (One n) false).refusal) (sym named))
 
 -- no lock is held at the end
-pub end_held : (p : Plain) (t place : ℕ) (held : List Bool) → first_held p held ≡ None → first_false (end_entry p t place held ∷ []) ≡ None
-end_held p t place held none = ap (λ l. first_false (thread_entry t place V11 (lock_detail p l) (is_none l) ∷ [])) none
+pub end_held : (p : Plain) (t place : ℕ) (held : List Bool) → first_held p held ≡ None → first_false (end_obligation p t place held ∷ []) ≡ None
+end_held p t place held none = ap (λ l. first_false (thread_obligation t place V11 (lock_detail p l) (is_none l) ∷ [])) none
 
 -- Types that are listed ----------------------------------------------------------------------------------------
 
@@ -93,8 +93,8 @@ has-reverse (x ∷ xs) z =
     ∙ ap (λ b. b || ((x == z) || false)) (has-reverse xs z) ∙ or_swap (has_number xs z) (x == z)
 
 -- the obligations of one type that is listed
-abbrev pub one_type : Plain → (t at : ℕ) → (held : List Bool) → (fit : Bool) → ℕ × Term → List Entry
-one_type p t at held fit r = entry p t at V14 (One (name_of p r.0)) fit ∷ over_controls p t at held r.1 ∷ []
+abbrev pub one_type : Plain → (t at : ℕ) → (held : List Bool) → (fit : Bool) → ℕ × Term → List Obligation
+one_type p t at held fit r = obligation p t at V14 (One (name_of p r.0)) fit ∷ over_controls p t at held r.1 ∷ []
 
 module _ {X : Type 0} (g : X → ℕ × Term) (xs : List X) (i : ℕ) (x : X) (inside : i < length xs) (is : x ≡ get_or xs i x) where
   -- with the next item
@@ -107,11 +107,11 @@ module _ {X : Type 0} (g : X → ℕ × Term) (xs : List X) (i : ℕ) (x : X) (i
 
   module _ (p : Plain) (t at : ℕ) (test : ℕ → Bool) (held : List Bool) (named_before : Bool)
       (tells : named_before ≡ list_any (λ y. (g y).0 == (g x).0) (take i xs))
-      (kept : first_false (type_entries p t at test held (reverse (names g (take i xs))) (map g (drop i xs))) ≡ first_false (type_entries p t at test held [] (map g xs))) where
+      (kept : first_false (type_obligations p t at test held (reverse (names g (take i xs))) (map g (drop i xs))) ≡ first_false (type_obligations p t at test held [] (map g xs))) where
     before : List ℕ
     before = reverse (names g (take i xs))
 
-    here : Bool → List Entry
+    here : Bool → List Obligation
     here named_here = one_type p t at held (test (g x).0 && not named_here) (g x)
 
     same : here named_before ≡ here (has_number before (g x).0)
@@ -119,16 +119,16 @@ module _ {X : Type 0} (g : X → ℕ × Term) (xs : List X) (i : ℕ) (x : X) (i
     same = ap here (tells ∙ sym (has-reverse (names g (take i xs)) (g x).0 ∙ named g (take i xs) (g x).0))
 
     pub type_refused : (fault : CheckFault) → Decides (one_type p t at held (test (g x).0 && not named_before) (g x)) (Err fault)
-        → Decides (type_entries p t at test held [] (map g xs)) (Err fault)
+        → Decides (type_obligations p t at test held [] (map g xs)) (Err fault)
     unfolding before here
     type_refused fault h =
-        loop_refused (λ ys. type_entries p t at test held before (map g ys)) (λ ys. type_entries p t at test held ((g x).0 ∷ before) (map g ys))
-        (here (has_number before (g x).0)) (type_entries p t at test held [] (map g xs)) xs i x inside is (λ ys. refl) kept fault (subst (λ es. Decides es (Err fault)) same h)
+        loop_refused (λ ys. type_obligations p t at test held before (map g ys)) (λ ys. type_obligations p t at test held ((g x).0 ∷ before) (map g ys))
+        (here (has_number before (g x).0)) (type_obligations p t at test held [] (map g xs)) xs i x inside is (λ ys. refl) kept fault (subst (λ es. Decides es (Err fault)) same h)
 
     pub type_more : first_false (one_type p t at held (test (g x).0 && not named_before) (g x)) ≡ None
-        → first_false (type_entries p t at test held (reverse (names g (take (i + 1) xs))) (map g (drop (i + 1) xs))) ≡ first_false (type_entries p t at test held [] (map g xs))
+        → first_false (type_obligations p t at test held (reverse (names g (take (i + 1) xs))) (map g (drop (i + 1) xs))) ≡ first_false (type_obligations p t at test held [] (map g xs))
     unfolding before here
     type_more h =
-        ap (λ ns. first_false (type_entries p t at test held ns (map g (drop (i + 1) xs)))) names_more
-        ∙ loop_more (λ ys. type_entries p t at test held before (map g ys)) (λ ys. type_entries p t at test held ((g x).0 ∷ before) (map g ys))
-        (here (has_number before (g x).0)) (type_entries p t at test held [] (map g xs)) xs i x inside is (λ ys. refl) kept (sym (ap first_false same) ∙ h)
+        ap (λ ns. first_false (type_obligations p t at test held ns (map g (drop (i + 1) xs)))) names_more
+        ∙ loop_more (λ ys. type_obligations p t at test held before (map g ys)) (λ ys. type_obligations p t at test held ((g x).0 ∷ before) (map g ys))
+        (here (has_number before (g x).0)) (type_obligations p t at test held [] (map g xs)) xs i x inside is (λ ys. refl) kept (sym (ap first_false same) ∙ h)

@@ -1,7 +1,7 @@
 -- A thread of a program as the code has it, and its obligations as a walk decides them.
 use Rattle.std.proofs.Common.{◌≡◌, ℕ, ◌^◌, ◌<◌, ◌++◌, ◌&&◌, List, [], ◌∷◌, length, get_or, refl, sym, ap, ◌∙◌, subst, arith, Bool, true, false, cond, Some, None, Err, IsTrue}
 use Rattle.std.proofs.lemmas.List.{get_or-map}
-use Rattle.cov_ast.specs.Obligations.{Decides, Entry, all_hold, first_false}
+use Rattle.cov_ast.specs.Obligations.{Decides, Obligation, all_hold, first_false}
 use Rattle.cov_ast.specs.Plain.{plain}
 use Rattle.cov_ast.specs.Syntax.{Program, Block}
 use Rattle.cov_ast.specs.View as view
@@ -14,17 +14,16 @@ use Rattle.cov_ast.proofs.WellFormedLaws.{seen_item, thread_in_range}
 use Rattle.mode_compat.specs.Compatible.{no_thread, numbered}
 use Rattle.mode_compat.specs.Declared.{declaration_obligations}
 use Rattle.typing_state.specs.After.{start}
-use Rattle.typing_rules.specs.Answers.{entailment_count}
+use Rattle.typing_rules.specs.Counts.{counts, entailment_count}
 use Rattle.typing_rules.specs.Blocks.{after_block}
-use Rattle.typing_rules.specs.Counts.{counts}
-use Rattle.typing_rules.specs.Obligations.{block_entries, end_entry, thread_obligations}
+use Rattle.typing_rules.specs.Obligations.{block_obligations, end_obligation, thread_obligations}
 use Rattle.typing_rules.proofs.Bounds.{few_entailments, few_places}
 use Rattle.typing_rules.proofs.Counting.{count_append}
 
 -- Obligations ----------------------------------------------------------------------------------------------------
 
 -- where none is refused, all hold
-pub none_refused : (es : List Entry) → first_false es ≡ None → IsTrue (all_hold es)
+pub none_refused : (es : List Obligation) → first_false es ≡ None → IsTrue (all_hold es)
 none_refused [] h = refl
 none_refused (e ∷ es) h = go (none_refused es) e.holds h
   where
@@ -34,32 +33,32 @@ none_refused (e ∷ es) h = go (none_refused es) e.holds h
 
 -- a body and a place that are those of the numbered thread
 module _ (p : Program) (t : ℕ) (b : Block) (place : ℕ) (body : b ≡ (numbered p t).body) (end : place ≡ (numbered p t).end) where
-  abbrev entries : List Entry
-  entries = block_entries (plain p) t b (start (plain p) t)
+  abbrev obligations : List Obligation
+  obligations = block_obligations (plain p) t b (start (plain p) t)
 
-  abbrev last : List Entry
-  last = end_entry (plain p) t place (after_block (plain p) t b (start (plain p) t)).held ∷ []
+  abbrev last : List Obligation
+  last = end_obligation (plain p) t place (after_block (plain p) t b (start (plain p) t)).held ∷ []
 
-  whole : entries ++ last ≡ thread_obligations p t
-  whole i = block_entries (plain p) t (body i) (start (plain p) t) ++ end_entry (plain p) t (end i) (after_block (plain p) t (body i) (start (plain p) t)).held ∷ []
+  whole : obligations ++ last ≡ thread_obligations p t
+  whole i = block_obligations (plain p) t (body i) (start (plain p) t) ++ end_obligation (plain p) t (end i) (after_block (plain p) t (body i) (start (plain p) t)).held ∷ []
 
-  pub body_refused : (fault : CheckFault) → Decides (block_entries (plain p) t b (start (plain p) t)) (Err fault)
+  pub body_refused : (fault : CheckFault) → Decides (block_obligations (plain p) t b (start (plain p) t)) (Err fault)
       → Decides (thread_obligations p t) (Err fault)
-  body_refused fault h = subst (λ es. Decides es (Err fault)) whole (append_refused entries last fault h)
+  body_refused fault h = subst (λ es. Decides es (Err fault)) whole (append_refused obligations last fault h)
 
-  module _ (none : first_false (block_entries (plain p) t b (start (plain p) t)) ≡ None) where
-    pub end_refused : (fault : CheckFault) → Decides (end_entry (plain p) t place (after_block (plain p) t b (start (plain p) t)).held ∷ []) (Err fault)
+  module _ (none : first_false (block_obligations (plain p) t b (start (plain p) t)) ≡ None) where
+    pub end_refused : (fault : CheckFault) → Decides (end_obligation (plain p) t place (after_block (plain p) t b (start (plain p) t)).held ∷ []) (Err fault)
         → Decides (thread_obligations p t) (Err fault)
-    end_refused fault h = subst (λ es. Decides es (Err fault)) whole (append_decided entries last (Err fault) none h)
+    end_refused fault h = subst (λ es. Decides es (Err fault)) whole (append_decided obligations last (Err fault) none h)
 
-    pub thread_held : first_false (end_entry (plain p) t place (after_block (plain p) t b (start (plain p) t)).held ∷ []) ≡ None
+    pub thread_held : first_false (end_obligation (plain p) t place (after_block (plain p) t b (start (plain p) t)).held ∷ []) ≡ None
         → first_false (thread_obligations p t) ≡ None
-    thread_held h = subst (λ es. first_false es ≡ None) whole (append_held entries last none ∙ h)
+    thread_held h = subst (λ es. first_false es ≡ None) whole (append_held obligations last none ∙ h)
 
   -- the end asks for no entailment
-  pub thread_counted : (n : ℕ) → n ≡ entailment_count (block_entries (plain p) t b (start (plain p) t)) → n ≡ (counts p t).entailments
+  pub thread_counted : (n : ℕ) → n ≡ entailment_count (block_obligations (plain p) t b (start (plain p) t)) → n ≡ (counts p t).entailments
   thread_counted n h =
-      let same : n ≡ entailment_count (entries ++ last) = omega (arith, count_append entries last, h) in
+      let same : n ≡ entailment_count (obligations ++ last) = omega (arith, count_append obligations last, h) in
       subst (λ es. n ≡ entailment_count es) whole same
 
 -- Threads of the code ----------------------------------------------------------------------------------------------
@@ -88,7 +87,7 @@ module _ (p : Program) (fine : IsWellFormed p) (t : ℕ) (inside : t < length p.
       let body = (numbered p t).body in
       omega (
         arith,
-        thread_counted p t body (numbered p t).end refl refl (entailment_count (block_entries (plain p) t body (start (plain p) t))) refl,
+        thread_counted p t body (numbered p t).end refl refl (entailment_count (block_obligations (plain p) t body (start (plain p) t))) refl,
         few_entailments p t fine h body (start (plain p) t) (fine.ids.of_threads t no_thread inside).body,
         small,
       )

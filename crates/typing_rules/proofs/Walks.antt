@@ -16,9 +16,10 @@ use Rattle.cov_ast.proofs.ObligationLaws.{append_held, append_refused, same_deci
 use Rattle.typing_state.specs.Kept.{Keeps}
 use Rattle.typing_state.specs.Point.{Point}
 use Rattle.typing_state.specs.declared.point.Point as declared
-use Rattle.typing_rules.specs.Answers.{Walks, entailment_count}
+use Rattle.typing_rules.specs.Counts.{entailment_count}
+use Rattle.typing_rules.specs.Inside.Walking.{Walks}
 use Rattle.typing_rules.specs.Blocks.{after_block, after_stm}
-use Rattle.typing_rules.specs.Obligations.{block_entries, flat, stm_parts}
+use Rattle.typing_rules.specs.Obligations.{block_obligations, flat, stm_parts}
 use Rattle.typing_rules.specs.declared.walk.Walked.{Walked}
 use Rattle.typing_rules.proofs.Counting.{count_more}
 use Rattle.typing_rules.proofs.Statements.{branch_is}
@@ -34,9 +35,9 @@ one_point p t a b kept h k =
 -- What is left of a block, at the point that was reached, decides like the whole and leads to the same end; so many
 -- entailments were counted.
 pub record Reaches (p : Plain) (t : ℕ) (whole : Block) (a : Point) (rest : Block) (b : Point) (counted : ℕ) : Type 0 where
-  pub verdict : first_false (block_entries p t rest b) ≡ first_false (block_entries p t whole a)
+  pub verdict : first_false (block_obligations p t rest b) ≡ first_false (block_obligations p t whole a)
   pub after : after_block p t rest b ≡ after_block p t whole a
-  pub count : counted + entailment_count (block_entries p t rest b) ≡ entailment_count (block_entries p t whole a)
+  pub count : counted + entailment_count (block_obligations p t rest b) ≡ entailment_count (block_obligations p t whole a)
 
 module _ (p : Plain) (t : ℕ) (whole : Block) (a : Point) where
   pub reaches_start : Reaches p t whole a whole a 0
@@ -44,25 +45,25 @@ module _ (p : Plain) (t : ℕ) (whole : Block) (a : Point) where
 
   module _ (at : ℕ) (s : Stm) (proofs : List Proof) (rest : Block) (b : Point) (counted : ℕ) (h : Reaches p t whole a (more at s proofs rest) b counted) where
     -- the statement has no more entailments than are left
-    pub reaches_few : counted + entailment_count (flat (stm_parts p t s at proofs b)) ≤ entailment_count (block_entries p t whole a)
+    pub reaches_few : counted + entailment_count (flat (stm_parts p t s at proofs b)) ≤ entailment_count (block_obligations p t whole a)
     reaches_few = omega (arith, h.count, count_more p t at s proofs rest b)
 
     pub reaches_more : (next : Walked) → Walks p t (flat (stm_parts p t s at proofs b)) (after_stm p t s b) (entailment_count (flat (stm_parts p t s at proofs b))) (Ok next)
         → Reaches p t whole a rest (after_stm p t s b) (counted + next.entailments)
     reaches_more next w = record {
-      verdict = sym (append_held (flat (stm_parts p t s at proofs b)) (block_entries p t rest (after_stm p t s b)) w.0) ∙ h.verdict;
+      verdict = sym (append_held (flat (stm_parts p t s at proofs b)) (block_obligations p t rest (after_stm p t s b)) w.0) ∙ h.verdict;
       after = h.after;
       count = omega (arith, h.count, w.2, count_more p t at s proofs rest b);
     }
 
-    pub reaches_refused : (fault : CheckFault) → Decides (flat (stm_parts p t s at proofs b)) (Err fault) → Decides (block_entries p t whole a) (Err fault)
+    pub reaches_refused : (fault : CheckFault) → Decides (flat (stm_parts p t s at proofs b)) (Err fault) → Decides (block_obligations p t whole a) (Err fault)
     reaches_refused fault d =
-        same_decided (block_entries p t (more at s proofs rest) b) (block_entries p t whole a) (Err fault) h.verdict
-        (append_refused (flat (stm_parts p t s at proofs b)) (block_entries p t rest (after_stm p t s b)) fault d)
+        same_decided (block_obligations p t (more at s proofs rest) b) (block_obligations p t whole a) (Err fault) h.verdict
+        (append_refused (flat (stm_parts p t s at proofs b)) (block_obligations p t rest (after_stm p t s b)) fault d)
 
   pub reaches_end : (b : Point) (walked : Walked) → Reaches p t whole a done b walked.entailments → Keeps p t b walked.point
-      → Walks p t (block_entries p t whole a) (after_block p t whole a) (entailment_count (block_entries p t whole a)) (Ok walked)
-  reaches_end b walked h k = (sym h.verdict, subst (λ q. Keeps p t q walked.point) h.after k, (let e : walked.entailments ≡ entailment_count (block_entries p t whole a) = omega (arith, h.count) in e))
+      → Walks p t (block_obligations p t whole a) (after_block p t whole a) (entailment_count (block_obligations p t whole a)) (Ok walked)
+  reaches_end b walked h k = (sym h.verdict, subst (λ q. Keeps p t q walked.point) h.after k, (let e : walked.entailments ≡ entailment_count (block_obligations p t whole a) = omega (arith, h.count) in e))
 
 -- Views of statements ---------------------------------------------------------------------------------------------
 

@@ -10,7 +10,7 @@ use Rattle.cov_ast.specs.Syntax.{State, Proof, Stm, skip, assign, lock, unlock, 
 use Rattle.cov_ast.specs.Plain.{Plain, plain}
 use Rattle.cov_ast.specs.Declarations.{name_of, lock_at, is_control}
 use Rattle.cov_ast.specs.Tables.{has}
-use Rattle.cov_ast.specs.Obligations.{Entry}
+use Rattle.cov_ast.specs.Obligations.{Obligation}
 use Rattle.cov_ast.specs.declared.refusal.Rule.{Rule}
 use Rattle.cov_ast.specs.declared.refusal.Rule.TheVariants.{V1, V2, V3, V4, V5, V6, V7, V8, V9, V10, V11, V12, V13, V14, V15, V16}
 use Rattle.cov_ast.specs.declared.refusal.Detail.{Detail}
@@ -23,12 +23,12 @@ use Rattle.typing_rules.specs.Blocks.{value_type, after_stm, after_block}
 use Rattle.typing_rules.specs.Entailments.{Entailment, is_proved, is_small_entailment, state_follows, guard_follows, assign_entailments, unlock_entailments}
 
 -- an obligation of a thread, at the place of a statement
-abbrev pub thread_entry : (t place : ℕ) → Rule → Detail → Bool → Entry
-thread_entry t place rule detail holds =
+abbrev pub thread_obligation : (t place : ℕ) → Rule → Detail → Bool → Obligation
+thread_obligation t place rule detail holds =
     record { refusal = record { rule = rule; thread = Some t; place = place; detail = detail }; holds = holds }
 
 -- the lists one after another
-abbrev pub flat : List (List Entry) → List Entry
+abbrev pub flat : List (List Obligation) → List Obligation
 flat [] = []
 flat (es ∷ ess) = es ++ flat ess
 
@@ -53,74 +53,74 @@ is_number count proofs n = nat_le 1 n && nat_le n count && count_by (λ q. q.num
 
 -- for a thread of a program, at the place of a statement
 module _ (p : Plain) (t at : ℕ) where
-  abbrev pub entry : Rule → Detail → Bool → Entry
-  entry rule detail holds = thread_entry t at rule detail holds
+  abbrev pub obligation : Rule → Detail → Bool → Obligation
+  obligation rule detail holds = thread_obligation t at rule detail holds
 
-  abbrev pub of_var : Rule → (ℕ → Bool) → ℕ → Entry
-  of_var rule test x = entry rule (One (name_of p x)) (test x)
+  abbrev pub of_var : Rule → (ℕ → Bool) → ℕ → Obligation
+  of_var rule test x = obligation rule (One (name_of p x)) (test x)
 
-  abbrev pub of_lock : Rule → (l : ℕ) → Bool → Entry
-  of_lock rule l holds = entry rule (One (lock_at p l).name) holds
+  abbrev pub of_lock : Rule → (l : ℕ) → Bool → Obligation
+  of_lock rule l holds = obligation rule (One (lock_at p l).name) holds
 
   -- V1: each variable of an expression may be read
-  abbrev pub reads : List Bool → Term → List Entry
+  abbrev pub reads : List Bool → Term → List Obligation
   reads held e = map (of_var V1 (may_read p t held)) (vars e)
 
   -- V3: another thread may write at most one of what an evaluation reads
-  abbrev pub one_unstable : List Bool → Term → List Entry
-  one_unstable held e = entry V3 Nothing (nat_le (count_by (λ x. not (is_stable p t held x)) (occurrences e)) 1) ∷ []
+  abbrev pub one_unstable : List Bool → Term → List Obligation
+  one_unstable held e = obligation V3 Nothing (nat_le (count_by (λ x. not (is_stable p t held x)) (occurrences e)) 1) ∷ []
 
   -- V10: so many registers are enough
-  abbrev pub narrow : Term → List Entry
-  narrow e = entry V10 Nothing (nat_le (width e) 7) ∷ []
+  abbrev pub narrow : Term → List Obligation
+  narrow e = obligation V10 Nothing (nat_le (width e) 7) ∷ []
 
   -- V1, V3 and V10 of a guard
-  abbrev pub guard_entries : List Bool → Term → List Entry
-  guard_entries held e = reads held e ++ one_unstable held e ++ narrow e
+  abbrev pub guard_obligations : List Bool → Term → List Obligation
+  guard_obligations held e = reads held e ++ one_unstable held e ++ narrow e
 
   -- V4: a type is over stable controls
-  abbrev pub over_controls : List Bool → Term → Entry
-  over_controls held q = entry V4 Nothing (is_over_controls p t held q)
+  abbrev pub over_controls : List Bool → Term → Obligation
+  over_controls held q = obligation V4 Nothing (is_over_controls p t held q)
 
   -- V12: a predicate is over stable variables
-  abbrev pub over_stable : List Bool → Term → Entry
-  over_stable held e = entry V12 Nothing (is_over_stable p t held e)
+  abbrev pub over_stable : List Bool → Term → Obligation
+  over_stable held e = obligation V12 Nothing (is_over_stable p t held e)
 
   -- V14 and V4: the variable passes a test and isn't named before, and its type is over stable controls
-  abbrev pub type_entries : (ℕ → Bool) → List Bool → (before : List ℕ) → List (ℕ × Term) → List Entry
-  type_entries test held before [] = []
-  type_entries test held before (r ∷ rs) =
-      of_var V14 (λ z. test z && not (has_number before z)) r.0 ∷ over_controls held r.1 ∷ type_entries test held (r.0 ∷ before) rs
+  abbrev pub type_obligations : (ℕ → Bool) → List Bool → (before : List ℕ) → List (ℕ × Term) → List Obligation
+  type_obligations test held before [] = []
+  type_obligations test held before (r ∷ rs) =
+      of_var V14 (λ z. test z && not (has_number before z)) r.0 ∷ over_controls held r.1 ∷ type_obligations test held (r.0 ∷ before) rs
 
   -- V12, V14 and V4 of a state
-  abbrev pub state_entries : List Bool → State → List Entry
-  state_entries held j = map (over_stable held) j.preds ++ type_entries (is_tracked p t held) held [] j.types
+  abbrev pub state_obligations : List Bool → State → List Obligation
+  state_obligations held j = map (over_stable held) j.preds ++ type_obligations (is_tracked p t held) held [] j.types
 
   -- V8: the same locks are held
-  abbrev pub same_locks : (held other : List Bool) → List Entry
-  same_locks held other = entry V8 Nothing (same_held p held other) ∷ []
+  abbrev pub same_locks : (held other : List Bool) → List Obligation
+  same_locks held other = obligation V8 Nothing (same_held p held other) ∷ []
 
   -- V15: no point has too many predicates
-  abbrev pub few_preds : List Point → List Entry
-  few_preds points = entry V15 Nothing (list_all has_few_preds points) ∷ []
+  abbrev pub few_preds : List Point → List Obligation
+  few_preds points = obligation V15 Nothing (list_all has_few_preds points) ∷ []
 
   -- V16: no hypothesis, no goal, and no type of a point has too many nodes
-  abbrev pub small_terms : List Entailment → List Point → List Entry
-  small_terms entailments points = entry V16 Nothing (list_all is_small_entailment entailments && list_all has_small_types points) ∷ []
+  abbrev pub small_terms : List Entailment → List Point → List Obligation
+  small_terms entailments points = obligation V16 Nothing (list_all is_small_entailment entailments && list_all has_small_types points) ∷ []
 
   -- V9: each entailment, numbered from a number on, has a valid certificate
-  abbrev pub proved : List Proof → (n : ℕ) → List Entailment → List Entry
+  abbrev pub proved : List Proof → (n : ℕ) → List Entailment → List Obligation
   proved proofs n [] = []
-  proved proofs n (g ∷ gs) = entry V9 (Number n) (is_proved proofs n g) ∷ proved proofs (suc n) gs
+  proved proofs n (g ∷ gs) = obligation V9 (Number n) (is_proved proofs n g) ∷ proved proofs (suc n) gs
 
   -- V13: each number that is given is that of one of so many entailments, and is given once
-  abbrev pub numbers : (count : ℕ) → List Proof → List Entry
-  numbers count proofs = map (λ q. entry V13 (Number q.number) (is_number count proofs q.number)) proofs
+  abbrev pub numbers : (count : ℕ) → List Proof → List Obligation
+  numbers count proofs = map (λ q. obligation V13 (Number q.number) (is_number count proofs q.number)) proofs
 
 -- Statements -----------------------------------------------------------------------------------------------------
 
 module _ (p : Plain) (t : ℕ) where
-  abbrev pub assign_parts : (at : ℕ) → Point → (x : ℕ) → Term → Option Term → (retypes : List (ℕ × Term)) → List Proof → List (List Entry)
+  abbrev pub assign_parts : (at : ℕ) → Point → (x : ℕ) → Term → Option Term → (retypes : List (ℕ × Term)) → List Proof → List (List Obligation)
   assign_parts at a x e q retypes proofs =
       let after = after_assign p t a x e (value_type p t a q e) retypes in
       let gs = assign_entailments p t a x e q retypes in
@@ -130,19 +130,19 @@ module _ (p : Plain) (t : ℕ) where
       ∷ narrow p t at e
       ∷ (over_controls p t at a.held (value_type p t a q e) ∷ [])
       ∷ (if is_control p x then map (of_var p t at V5 (is_stable p t a.held)) (vars e) else [])
-      ∷ type_entries p t at (λ z. is_control p x && is_tracked p t a.held z) a.held [] retypes
+      ∷ type_obligations p t at (λ z. is_control p x && is_tracked p t a.held z) a.held [] retypes
       ∷ few_preds p t at (after ∷ [])
       ∷ small_terms p t at gs (after ∷ [])
       ∷ proved p t at proofs 1 gs
       ∷ numbers p t at (length gs) proofs
       ∷ []
 
-  abbrev pub lock_parts : (at : ℕ) → Point → (l : ℕ) → List (List Entry)
+  abbrev pub lock_parts : (at : ℕ) → Point → (l : ℕ) → List (List Obligation)
   lock_parts at a l =
       let after = after_lock p t a l in
       (of_lock p t at V6 l (not (has a.held l)) ∷ []) ∷ few_preds p t at (after ∷ []) ∷ small_terms p t at [] (after ∷ []) ∷ []
 
-  abbrev pub unlock_parts : (at : ℕ) → Point → (l : ℕ) → List Proof → List (List Entry)
+  abbrev pub unlock_parts : (at : ℕ) → Point → (l : ℕ) → List Proof → List (List Obligation)
   unlock_parts at a l proofs =
       let gs = unlock_entailments p t a l in
       (of_lock p t at V7 l (has a.held l) ∷ [])
@@ -151,10 +151,10 @@ module _ (p : Plain) (t : ℕ) where
       ∷ numbers p t at (length gs) proofs
       ∷ []
 
-  abbrev pub note_parts : (at : ℕ) → Point → State → List Proof → List (List Entry)
+  abbrev pub note_parts : (at : ℕ) → Point → State → List Proof → List (List Obligation)
   note_parts at a j proofs =
       let gs = state_follows a j in
-      state_entries p t at a.held j
+      state_obligations p t at a.held j
       ∷ small_terms p t at gs (noted a j ∷ [])
       ∷ proved p t at proofs 1 gs
       ∷ numbers p t at (length gs) proofs
@@ -162,7 +162,7 @@ module _ (p : Plain) (t : ℕ) where
 
   abbrev mutual
     -- the parts of a rule, in order
-    pub stm_parts : Stm → (at : ℕ) → List Proof → Point → List (List Entry)
+    pub stm_parts : Stm → (at : ℕ) → List Proof → Point → List (List Obligation)
     stm_parts skip at proofs a = numbers p t at 0 proofs ∷ []
     stm_parts (assign x e q retypes) at proofs a = assign_parts at a x e q retypes proofs
     stm_parts (lock l) at proofs a = lock_parts at a l
@@ -174,14 +174,14 @@ module _ (p : Plain) (t : ℕ) where
         let no_end = after_block p t no_block no_start in
         let gs = guard_follows p t a e ∷ [] in
         let hs = state_follows yes_end join ++ state_follows no_end join in
-        guard_entries p t at a.held e
+        guard_obligations p t at a.held e
         ∷ few_preds p t at (yes_start ∷ no_start ∷ [])
         ∷ small_terms p t at gs []
         ∷ proved p t at proofs 1 gs
-        ∷ block_entries yes_block yes_start
-        ∷ block_entries no_block no_start
+        ∷ block_obligations yes_block yes_start
+        ∷ block_obligations no_block no_start
         ∷ same_locks p t at yes_end.held no_end.held
-        ∷ state_entries p t at yes_end.held join
+        ∷ state_obligations p t at yes_end.held join
         ∷ small_terms p t at hs (meet p t yes_end join ∷ [])
         ∷ proved p t at proofs (suc (length gs)) hs
         ∷ numbers p t at (length gs + length hs) proofs
@@ -193,12 +193,12 @@ module _ (p : Plain) (t : ℕ) where
         let after = with_guard p t head (neg e) in
         let gs = state_follows a inv ++ guard_follows p t head e ∷ [] in
         let hs = state_follows body_end inv in
-        state_entries p t at a.held inv
-        ∷ guard_entries p t at a.held e
+        state_obligations p t at a.held inv
+        ∷ guard_obligations p t at a.held e
         ∷ few_preds p t at (body_start ∷ after ∷ [])
         ∷ small_terms p t at gs []
         ∷ proved p t at proofs 1 gs
-        ∷ block_entries b body_start
+        ∷ block_obligations b body_start
         ∷ same_locks p t at body_end.held a.held
         ∷ small_terms p t at hs (after ∷ [])
         ∷ proved p t at proofs (suc (length gs)) hs
@@ -206,9 +206,9 @@ module _ (p : Plain) (t : ℕ) where
         ∷ []
     stm_parts (note j) at proofs a = note_parts at a j proofs
 
-    pub block_entries : Block → Point → List Entry
-    block_entries done a = []
-    block_entries (more at s proofs b) a = flat (stm_parts s at proofs a) ++ block_entries b (after_stm p t s a)
+    pub block_obligations : Block → Point → List Obligation
+    block_obligations done a = []
+    block_obligations (more at s proofs b) a = flat (stm_parts s at proofs a) ++ block_obligations b (after_stm p t s a)
 
 -- Threads --------------------------------------------------------------------------------------------------------
 
@@ -221,14 +221,14 @@ lock_detail p None = Nothing
 lock_detail p (Some l) = One (lock_at p l).name
 
 -- V11: at the end of a thread no lock is held
-abbrev pub end_entry : Plain → (t place : ℕ) → List Bool → Entry
-end_entry p t place held = thread_entry t place V11 (lock_detail p (first_held p held)) (is_none (first_held p held))
+abbrev pub end_obligation : Plain → (t place : ℕ) → List Bool → Obligation
+end_obligation p t place held = thread_obligation t place V11 (lock_detail p (first_held p held)) (is_none (first_held p held))
 
 -- the point at the end of a thread
 abbrev pub end_point : Program → (t : ℕ) → Point
 end_point p t = after_block (plain p) t (numbered p t).body (start (plain p) t)
 
 -- The obligations of a thread: those of its statements, in their order, and then that of its end.
-abbrev pub thread_obligations : Program → (t : ℕ) → List Entry
+abbrev pub thread_obligations : Program → (t : ℕ) → List Obligation
 thread_obligations p t =
-    block_entries (plain p) t (numbered p t).body (start (plain p) t) ++ end_entry (plain p) t (numbered p t).end (end_point p t).held ∷ []
+    block_obligations (plain p) t (numbered p t).body (start (plain p) t) ++ end_obligation (plain p) t (numbered p t).end (end_point p t).held ∷ []

@@ -4,20 +4,21 @@ ghost use Rattle.std.specs.Prelude.{◌≡◌, ◌<◌, ◌+◌, ◌*◌, ◌^�
 ghost use Rattle.cov_expr.specs.Term.{neg};
 ghost use Rattle.cov_expr.specs.View.{term};
 ghost use Rattle.cov_expr.specs.Words.{HasVarsBelow};
-ghost use Rattle.cov_ast.specs.Obligations.{Decides, Entry};
+ghost use Rattle.cov_ast.specs.Obligations.{Decides, Obligation};
 ghost use Rattle.cov_ast.specs.Syntax as syntax;
 ghost use Rattle.cov_ast.specs.View as view;
 ghost use Rattle.cov_ast.specs.WellFormed.{IsStateInRange, state_size};
 ghost use Rattle.typing_state.specs.After.{meet, with_guard};
 ghost use Rattle.typing_state.specs.Kept.{Keeps};
-ghost use Rattle.typing_rules.specs.Answers.{Walks};
 ghost use Rattle.typing_rules.specs.Entailments.{Entailment, guard_follows, state_follows};
-ghost use Rattle.typing_rules.specs.Obligations.{flat, same_locks, state_entries};
-ghost use Rattle.typing_rules.specs.Walking.{Guards, GuardsAt, IsWalk, Stands, TriesAt, Wherever, first_parts, fork_parts, head_parts, join_parts, plain_of, starts_of, turn_parts};
+ghost use Rattle.typing_rules.specs.Obligations.{flat, same_locks, state_obligations};
+ghost use Rattle.typing_rules.specs.Inside.Walking.{Guards, GuardsAt, IsWalk, Stands, TriesAt, Walks, Wherever, first_parts, fork_parts, head_parts, join_parts, plain_of, starts_of, turn_parts};
 
-use crate::guards::check_guard;
-use crate::states::{check_both_few_preds, check_same_locks, check_state, require_small};
-use crate::tried::Tried;
+use crate::entailments_tried::Tried;
+use crate::evaluation::check_guard;
+use crate::locks::check_same_locks;
+use crate::sizes::{check_both_few_preds, require_small};
+use crate::types::check_state;
 use crate::walk::{Guarded, Walk, Walked, both, finish};
 use cov_ast::{CheckFault, Proof, State};
 use cov_expr::{Expr, NoMemory, boxed, copy};
@@ -84,7 +85,7 @@ impl Walk<'_> {
         requires guard { HasVarsBelow (term e.now) (length self.now.program.now.vars) }
         requires point { Stands self.now point }
         requires few { entered.count < 4294967294 }
-        ensures { Wherever self.now point (λ a. (front : List Entry) → (gs : List Entailment)
+        ensures { Wherever self.now point (λ a. (front : List Obligation) → (gs : List Entailment)
             → Decides front before → TriesAt self.now at (map view.proof proofs.now) 1 gs entered
             → GuardsAt self.now
             (front ++ flat (first_parts (plain_of self.now) self.now.thread at (map view.proof proofs.now)
@@ -127,7 +128,7 @@ impl Walk<'_> {
         holds: Point,
         fails: Point,
     ) -> Result<Guarded, CheckFault>
-        ensures { Wherever self.now holds (λ a. Wherever self.now fails (λ b. (front : List Entry) → (proofs : List syntax.Proof) → (gs : List Entailment)
+        ensures { Wherever self.now holds (λ a. Wherever self.now fails (λ b. (front : List Obligation) → (proofs : List syntax.Proof) → (gs : List Entailment)
             → Decides front before → TriesAt self.now at proofs 1 gs tried
             → Guards (plain_of self.now) self.now.thread (front ++ flat (first_parts (plain_of self.now) self.now.thread at proofs gs (a ∷ b ∷ []))) a b (length gs) result)) }
     {
@@ -180,7 +181,7 @@ impl Walk<'_> {
         requires walk { IsWalk self.now }
         requires range { IsStateInRange (length self.now.program.now.vars) (length self.now.program.now.locks) (view.state join.now) }
         ensures { Wherever self.now yes.now (λ a. Wherever self.now no.now (λ b. Decides
-            (same_locks (plain_of self.now) self.now.thread at a.held b.held ++ state_entries (plain_of self.now) self.now.thread at a.held (view.state join.now)) result)) }
+            (same_locks (plain_of self.now) self.now.thread at a.held b.held ++ state_obligations (plain_of self.now) self.now.thread at a.held (view.state join.now)) result)) }
     {
         let site = self.site(at);
         let same = check_same_locks(self.program, site, yes.modes(), no.modes());

@@ -3,33 +3,60 @@
 //! The definitions stand in `specs/`: `Blocks` has the point after a statement, `Entailments` what has to follow from the
 //! predicates of a point and by which certificate, and `Obligations` every obligation of a thread (V1 to V16) in the order
 //! in which they are tried, with what is refused where it fails. `WordThreads` says which threads have words alone.
-//! `proofs/Rows.antt` computes worked rows.
+//! `proofs/Examples.antt` computes worked examples.
 //!
 //! - [`check_thread`]: whether every obligation of a thread holds, else the first that doesn't; and then the thread is secure.
 //!   [`Count`]: how many statements and entailments it has.
 //! - [`threads_are_of_words`]: each number of a thread is a word of 32 bits, which the soundness of the rules asks.
 //! - [`threads_end_without_locks`], [`true_declarations_are_declared`], [`true_obligations_are_secure`]: laws, without a body. The
 //!   last is the soundness of the rules.
+//!
+//! `Walk` of `walk.rt` goes over the statements: those without blocks stand in `statements.rt`, branches and loops in
+//! `branches.rt`. Where each rule is tried:
+//!
+//! | rule | function | file |
+//! | --- | --- | --- |
+//! | V1 | `check_reads` | `evaluation.rt` |
+//! | V2 | `check_write` | `writes.rt` |
+//! | V3 | `check_one_unstable` | `evaluation.rt` |
+//! | V4 | `check_over_controls` | `types.rt` |
+//! | V5 | `check_stable_if` | `writes.rt` |
+//! | V6 | `Walk::lock` | `statements.rt` |
+//! | V7 | `Walk::unlock` | `statements.rt` |
+//! | V8 | `check_same_locks` | `locks.rt` |
+//! | V9 | `check_entailments` | `certificates.rt` |
+//! | V10 | `check_narrow` | `evaluation.rt` |
+//! | V11 | `check_end` | `locks.rt` |
+//! | V12 | `check_preds` | `types.rt` |
+//! | V13 | `check_numbers` | `certificates.rt` |
+//! | V14 | `check_retypes`, `check_types` | `types.rt` |
+//! | V15 | `check_few_preds` | `sizes.rt` |
+//! | V16 | `require_small` | `sizes.rt` |
+//!
+//! What a statement asks to follow is collected by `entailments.rt` (its parts by `entailments_of_states.rt` and
+//! `entailments_of_assignments.rt`) and tried by `entailments_tried.rt`.
 #![tactic(auto)]
 
-mod adds;
-mod assigned;
 mod branches;
-mod claims;
+mod certificates;
 mod count;
-mod guards;
-mod held;
+mod entailment_parts;
+mod entailments;
+mod entailments_of_assignments;
+mod entailments_of_states;
+mod entailments_tried;
+mod evaluation;
 mod large;
 mod laws;
+mod locks;
 mod site;
 mod sizes;
-mod states;
-mod straight;
+mod statements;
 mod thread;
-mod tried;
-mod tries;
+mod types;
 mod walk;
 mod word_threads;
+mod writes;
 
 pub use count::Count;
 pub use laws::{

@@ -1,7 +1,7 @@
 ghost use Rattle.std.specs.Prelude.{◌≡◌, [], ◌∷◌, false};
 ghost use Rattle.cov_ast.specs.Obligations.{Decides};
 ghost use Rattle.cov_ast.specs.declared.refusal.CheckFault.TheVariants as faults;
-ghost use Rattle.typing_rules.specs.Obligations.{thread_entry};
+ghost use Rattle.typing_rules.specs.Obligations.{thread_obligation};
 
 use cov_ast::{CheckFault, Detail, Refusal, Rule};
 
@@ -14,7 +14,7 @@ pub struct Site {
 
 /// Refuses for a rule, unless what it asks holds.
 pub fn require_at(site: Site, holds: bool, rule: Rule, detail: Detail) -> Result<(), CheckFault>
-    ensures { Decides (thread_entry site.thread site.place rule detail holds ∷ []) result }
+    ensures { Decides (thread_obligation site.thread site.place rule detail holds ∷ []) result }
 {
     if holds {
         return Ok(());
@@ -24,7 +24,7 @@ pub fn require_at(site: Site, holds: bool, rule: Rule, detail: Detail) -> Result
 
 /// The refusal for a rule.
 pub fn refused_at(site: Site, rule: Rule, detail: Detail) -> CheckFault
-    ensures { result ≡ faults.Refused (thread_entry site.thread site.place rule detail false).refusal }
+    ensures { result ≡ faults.Refused (thread_obligation site.thread site.place rule detail false).refusal }
 {
     CheckFault::Refused(Refusal {
         rule,

@@ -5,14 +5,13 @@ ghost use Rattle.cov_ast.specs.View as view;
 ghost use Rattle.cov_ast.specs.WellFormed.{IsWellFormed};
 ghost use Rattle.flow_model.specs.Game.{IsSecureThread};
 ghost use Rattle.mode_compat.specs.Declared.{declaration_obligations};
-ghost use Rattle.typing_rules.specs.Answers.{DecidesWith};
-ghost use Rattle.typing_rules.specs.Counts.{counts};
+ghost use Rattle.typing_rules.specs.Counts.{DecidesWith, counts};
 ghost use Rattle.typing_rules.specs.Obligations.{thread_obligations};
 
 use crate::count::{Count, statements};
 use crate::laws::true_obligations_are_secure;
+use crate::locks::check_end;
 use crate::site::Site;
-use crate::states::check_end;
 use crate::walk::Walk;
 use crate::word_threads::threads_are_of_words;
 use cov_ast::{CheckFault, Program};

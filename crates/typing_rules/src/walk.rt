@@ -1,14 +1,13 @@
 ghost use Rattle.std.specs.Prelude.{◌≡◌, ◌<◌, ◌++◌, ℕ, List, map, length, None};
 ghost use Rattle.cov_expr.specs.View.{term};
-ghost use Rattle.cov_ast.specs.Obligations.{Decides, Entry, first_false};
+ghost use Rattle.cov_ast.specs.Obligations.{Decides, Obligation, first_false};
 ghost use Rattle.cov_ast.specs.Plain.{Plain};
 ghost use Rattle.cov_ast.specs.Syntax as syntax;
 ghost use Rattle.cov_ast.specs.View as view;
 ghost use Rattle.cov_ast.specs.WellFormed.{IsBlockInRange, IsStmInRange, block_size, stm_size};
 ghost use Rattle.typing_state.specs.Kept.{Keeps};
 ghost use Rattle.typing_state.specs.Point as typing;
-ghost use Rattle.typing_rules.specs.Answers.{Walks};
-ghost use Rattle.typing_rules.specs.Walking.{IsWalk, Stands, WalksBlock, WalksStm};
+ghost use Rattle.typing_rules.specs.Inside.Walking.{IsWalk, Stands, Walks, WalksBlock, WalksStm};
 
 use crate::site::Site;
 use cov_ast::{CheckFault, Program, Proof, State, Stmt, StmtKind};
@@ -41,7 +40,7 @@ pub struct Guarded {
 
 /// The verdict on obligations and then on others.
 pub fn both(first: Result<(), CheckFault>, second: Result<(), CheckFault>) -> Result<(), CheckFault>
-    ensures { (a b : List Entry) → Decides a first → (first_false a ≡ None → Decides b second) → Decides (a ++ b) result }
+    ensures { (a b : List Obligation) → Decides a first → (first_false a ≡ None → Decides b second) → Decides (a ++ b) result }
 {
     match first {
         Ok(()) => second,
@@ -55,8 +54,8 @@ pub fn finish(
     entailments: u64,
     verdict: Result<(), CheckFault>,
 ) -> Result<Walked, CheckFault>
-    ensures { (p : Plain) → (t : ℕ) → (entries : List Entry) → (a : typing.Point) → (counted : ℕ) → Keeps p t a point → Decides entries verdict
-        → (first_false entries ≡ None → entailments ≡ counted) → Walks p t entries a counted result }
+    ensures { (p : Plain) → (t : ℕ) → (obligations : List Obligation) → (a : typing.Point) → (counted : ℕ) → Keeps p t a point → Decides obligations verdict
+        → (first_false obligations ≡ None → entailments ≡ counted) → Walks p t obligations a counted result }
 {
     match verdict {
         Ok(()) => Ok(Walked { point, entailments }),

@@ -25,7 +25,7 @@ use Rattle.mode_compat.specs.Compatible.{numbered}
 use Rattle.mode_compat.specs.Compatible as rules
 use Rattle.mode_compat.specs.HeldSets.{AreHeldBy, AreSetsOf}
 use Rattle.typing_state.specs.After.{start}
-use Rattle.typing_rules.specs.Obligations.{thread_obligations, block_entries, end_entry, end_point}
+use Rattle.typing_rules.specs.Obligations.{thread_obligations, block_obligations, end_obligation, end_point}
 use Rattle.verify.specs.Accepted.{IsAccepted}
 use Rattle.verify.specs.Disciplined.{held_at, held_in_front_of, evaluated, IsEvaluable, IsDisciplinedAt, IsDisciplined}
 use Rattle.verify.proofs.Parts.{both_hold, thread_holds}
@@ -310,7 +310,7 @@ module _ (p : Program) (formed : IsWellFormed p) (accepted : IsAccepted p)
       let body = (numbered p t).body in
       placed_block (plain p) t (held_at p t) body (start (plain p) t) (length-replicate (length p.locks) false)
       (formed.ids.of_threads t rules.no_thread inside).body
-      (both_hold (block_entries (plain p) t body (start (plain p) t)) (end_entry (plain p) t (numbered p t).end (end_point p t).held ∷ [])
+      (both_hold (block_obligations (plain p) t body (start (plain p) t)) (end_obligation (plain p) t (numbered p t).end (end_point p t).held ∷ [])
       (thread_holds p accepted t inside)).0
       (places_found p formed t inside)
 

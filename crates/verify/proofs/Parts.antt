@@ -4,17 +4,17 @@ use Rattle.std.specs.List.{flat_map, range_with_len}
 use Rattle.std.proofs.lemmas.Bool.{and_parts}
 use Rattle.std.proofs.lemmas.List.Folds.{list_all-append}
 use Rattle.cov_ast.specs.Syntax.{Program}
-use Rattle.cov_ast.specs.Obligations.{Entry, all_hold, first_false}
+use Rattle.cov_ast.specs.Obligations.{Obligation, all_hold, first_false}
 use Rattle.mode_compat.specs.Compatible.{threads_of}
 use Rattle.mode_compat.specs.Declared.{declaration_obligations}
 use Rattle.typing_rules.specs.Obligations.{thread_obligations}
 use Rattle.verify.specs.Accepted.{IsAccepted}
 
-pub both_hold : (a b : List Entry) → IsTrue (all_hold (a ++ b)) → IsTrue (all_hold a) × IsTrue (all_hold b)
+pub both_hold : (a b : List Obligation) → IsTrue (all_hold (a ++ b)) → IsTrue (all_hold a) × IsTrue (all_hold b)
 both_hold a b h = and_parts (all_hold a) (all_hold b) (sym (list_all-append (λ e. e.holds) a b) ∙ h)
 
 -- nothing is refused
-pub none_refused : (es : List Entry) → first_false es ≡ None → IsTrue (all_hold es)
+pub none_refused : (es : List Obligation) → first_false es ≡ None → IsTrue (all_hold es)
 none_refused [] h = refl
 none_refused (e ∷ es) h = at (λ k. none_refused es k) e.holds h
   where
@@ -23,7 +23,7 @@ none_refused (e ∷ es) h = at (λ k. none_refused es k) e.holds h
     at rest false k = cc
 
 -- of one of the numbers from another on
-numbered_hold : (g : ℕ → List Entry) (from n i : ℕ) → i < n → IsTrue (all_hold (flat_map g (range_with_len from n))) → IsTrue (all_hold (g (from + i)))
+numbered_hold : (g : ℕ → List Obligation) (from n i : ℕ) → i < n → IsTrue (all_hold (flat_map g (range_with_len from n))) → IsTrue (all_hold (g (from + i)))
 numbered_hold g from zero i inside h = let no : ⊥ = omega arith in absurd no
 numbered_hold g from (suc n) zero inside h =
     let same : from ≡ from + 0 = omega arith in

@@ -6,7 +6,7 @@ use Rattle.std.proofs.lemmas.Bool.{and_parts, cases_lt}
 use Rattle.std.proofs.lemmas.List.{ext_get_or}
 use Rattle.cov_expr.specs.Term.{Term, neg}
 use Rattle.cov_expr.specs.Trees.{occurrences, width}
-use Rattle.cov_ast.specs.Obligations.{Entry, all_hold}
+use Rattle.cov_ast.specs.Obligations.{Obligation, all_hold}
 use Rattle.cov_ast.specs.Plain.{Cmd, Cmds, none, next, Plain, plain_stm, plain_block}
 use Rattle.cov_ast.specs.Plain as code
 use Rattle.cov_ast.specs.Syntax.{Proof, Stm, skip, assign, lock, unlock, branch, loop, note, Block, done, more}
@@ -16,7 +16,7 @@ use Rattle.mode_state.specs.Sets.{is_stable, may_write}
 use Rattle.typing_state.specs.Point.{Point}
 use Rattle.typing_state.specs.After.{with_guard, meet}
 use Rattle.typing_rules.specs.Blocks.{after_stm, after_block}
-use Rattle.typing_rules.specs.Obligations.{flat, agree, same_held, reads, one_unstable, narrow, assign_parts, unlock_parts, stm_parts, block_entries}
+use Rattle.typing_rules.specs.Obligations.{flat, agree, same_held, reads, one_unstable, narrow, assign_parts, unlock_parts, stm_parts, block_obligations}
 use Rattle.verify.specs.Disciplined.{points_within, points}
 use Rattle.verify.proofs.Parts.{both_hold}
 
@@ -43,15 +43,15 @@ module _ (p : Plain) (t : ℕ) where
 
 -- Obligations ----------------------------------------------------------------------------------------------------
 
-abbrev AllHold : List (List Entry) → Type 0
+abbrev AllHold : List (List Obligation) → Type 0
 AllHold [] = Unit {0}
 AllHold (es ∷ ess) = IsTrue (all_hold es) × AllHold ess
 
-parts : (ess : List (List Entry)) → IsTrue (all_hold (flat ess)) → AllHold ess
+parts : (ess : List (List Obligation)) → IsTrue (all_hold (flat ess)) → AllHold ess
 parts [] h = tt
 parts (es ∷ ess) h = let both = both_hold es (flat ess) h in (both.0, parts ess both.1)
 
-one_holds : (e : Entry) → IsTrue (all_hold (e ∷ [])) → IsTrue e.holds
+one_holds : (e : Obligation) → IsTrue (all_hold (e ∷ [])) → IsTrue e.holds
 one_holds e h = (and_parts e.holds true h).0
 
 -- Held locks -----------------------------------------------------------------------------------------------------
@@ -164,11 +164,11 @@ module _ (p : Plain) (t : ℕ) where
       placed_stm (note j) at proofs rest a K n r h e f k = k
 
       pub placed_block : (b : Block) (a : Point) → length a.held ≡ length p.locks → IsBlockInRange (length p.vars) (length p.locks) b
-          → IsTrue (all_hold (block_entries p t b a)) → AreFound at_place (points p t b a)
+          → IsTrue (all_hold (block_obligations p t b a)) → AreFound at_place (points p t b a)
           → Placed p t at_place (plain_block b) a.held (after_block p t b a).held
       placed_block done a n r h f = refl
       placed_block (more at s proofs b) a n r h f =
-          let both = both_hold (flat (stm_parts p t s at proofs a)) (block_entries p t b (after_stm p t s a)) h in
+          let both = both_hold (flat (stm_parts p t s at proofs a)) (block_obligations p t b (after_stm p t s a)) h in
           placed_stm s at proofs (plain_block b) a (after_block p t b (after_stm p t s a)).held n r.0 both.0 f.0
           (found_left at_place (points_within p t s a) (points p t b (after_stm p t s a)) f.1)
           (placed_block b (after_stm p t s a) (stm_sized s a ∙ n) r.2 both.1 (found_right at_place (points_within p t s a) (points p t b (after_stm p t s a)) f.1))

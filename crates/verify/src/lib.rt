@@ -2,7 +2,7 @@
 //!
 //! The definitions stand in `specs/`: `Accepted` has the obligations of a program (W3 to W9, and V1 to V16 of each thread),
 //! `Verdicts` how many statements and entailments it has, and `Disciplined` what every run of an accepted program keeps, from
-//! any memory. `proofs/Rows.antt` computes worked rows.
+//! any memory. `proofs/Examples.antt` computes worked rows.
 //!
 //! - [`check_program`]: the first obligation that fails, or a [`Verdict`]. [`check_declared`] looks at declarations alone.
 //! - [`accepted_is_secure`], [`accepted_is_disciplined`]: laws, without code of their own.

@@ -6,9 +6,9 @@ use Rattle.std.proofs.lemmas.Bool.{cases_eq}
 use Rattle.cov_ast.specs.Syntax.{Program}
 use Rattle.cov_ast.specs.Plain.{plain}
 use Rattle.cov_ast.specs.Tables.{has}
-use Rattle.cov_ast.specs.Obligations.{Entry, all_hold}
+use Rattle.cov_ast.specs.Obligations.{Obligation, all_hold}
 use Rattle.typing_state.specs.After.{start}
-use Rattle.typing_rules.specs.Obligations.{thread_obligations, block_entries, end_entry, end_point}
+use Rattle.typing_rules.specs.Obligations.{thread_obligations, block_obligations, end_obligation, end_point}
 use Rattle.mode_compat.specs.Compatible.{numbered}
 
 -- of two tests that both pass, the second passes
@@ -17,7 +17,7 @@ second true b h = h
 second false b h = cc
 
 -- the last of obligations that all hold
-last_holds : (es : List Entry) (e : Entry) → IsTrue (all_hold (es ++ e ∷ [])) → IsTrue e.holds
+last_holds : (es : List Obligation) (e : Obligation) → IsTrue (all_hold (es ++ e ∷ [])) → IsTrue e.holds
 last_holds [] e h = first e.holds h
   where
     first : (b : Bool) → IsTrue (b && true) → IsTrue b
@@ -42,4 +42,4 @@ not_found f a (suc n) l from to h =
 pub none_held : (p : Program) (t : ℕ) → IsTrue (all_hold (thread_obligations p t)) → (l : ℕ) → l < length p.locks → has (end_point p t).held l ≡ false
 none_held p t h l lt =
     not_found (has (end_point p t).held) 0 (length p.locks) l (omega arith) (omega arith)
-    (last_holds (block_entries (plain p) t (numbered p t).body (start (plain p) t)) (end_entry (plain p) t (numbered p t).end (end_point p t).held) h)
+    (last_holds (block_obligations (plain p) t (numbered p t).body (start (plain p) t)) (end_obligation (plain p) t (numbered p t).end (end_point p t).held) h)

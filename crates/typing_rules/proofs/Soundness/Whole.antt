@@ -2,7 +2,7 @@
 --
 -- The proof has three layers. `Fits` and `Play` know no rule: they say what each statement owes between two points, and that
 -- a thread whose statements give it is secure. `Assign`, `Others` and `Sound` show that each rule, as `Conditions` has it,
--- gives what is owed; `Static`, `Lists` and `Exprs` have what they share. `FromEntries` and `FromDeclarations` read the
+-- gives what is owed; `Static`, `Lists` and `Exprs` have what they share. `FromObligations` and `FromDeclarations` read the
 -- conditions off the truth of obligations.
 use Rattle.std.proofs.Common.{◌≡◌, ℕ, ◌<◌, [], ◌∷◌, length, ap, arith, IsTrue}
 use Rattle.std.proofs.lemmas.List.{get_or-map, length-map}
@@ -16,10 +16,10 @@ use Rattle.mode_compat.specs.Compatible.{numbered}
 use Rattle.mode_compat.specs.Compatible as rules
 use Rattle.mode_compat.specs.Declared.{declaration_obligations}
 use Rattle.typing_state.specs.After.{start}
-use Rattle.typing_rules.specs.Obligations.{thread_obligations, block_entries, end_entry, end_point}
+use Rattle.typing_rules.specs.Obligations.{thread_obligations, block_obligations, end_obligation, end_point}
 use Rattle.typing_rules.specs.WordThreads.{HasWordThreads}
 use Rattle.typing_rules.proofs.Soundness.FromDeclarations.{declared}
-use Rattle.typing_rules.proofs.Soundness.FromEntries.{all_true, true_left, block_of}
+use Rattle.typing_rules.proofs.Soundness.FromObligations.{all_true, true_left, block_of}
 use Rattle.typing_rules.proofs.Soundness.Sound.{thread_secure}
 
 body_is : (p : Program) (t : ℕ) → t < length p.threads → (thread_at (plain p) t).body ≡ plain_block (numbered p t).body
@@ -30,8 +30,8 @@ pub true_is_secure : (p : Program) → IsWellFormed p → HasWordThreads p → I
     → IsTrue (all_hold (thread_obligations p t)) → IsSecureThread (plain p) t
 true_is_secure p fine words h t t_in k =
     let body = (numbered p t).body in
-    let entries = block_entries (plain p) t body (start (plain p) t) in
-    let end = end_entry (plain p) t (numbered p t).end (end_point p t).held in
+    let obligations = block_obligations (plain p) t body (start (plain p) t) in
+    let end = end_obligation (plain p) t (numbered p t).end (end_point p t).held in
     thread_secure (plain p) (declared p h) t (omega (arith, t_in, length-map p.threads plain_thread)) body (body_is p t t_in)
     (block_of (plain p) t body (start (plain p) t) (fine.ids.of_threads t rules.no_thread t_in).body (words t)
-    (true_left entries (end ∷ []) (all_true (thread_obligations p t) k)))
+    (true_left obligations (end ∷ []) (all_true (thread_obligations p t) k)))

@@ -6,7 +6,7 @@ use Rattle.cov_ast.specs.Tables.{has}
 use Rattle.cov_ast.specs.View as view
 use Rattle.cov_ast.proofs.WellFormedLaws.{class_in_range}
 use Rattle.flow_model.specs.FirstDifference.{is_low_in, is_true_in}
-use Rattle.flow_model.specs.Marks.{is_marked_apart}
+use Rattle.flow_model.specs.Inside.{is_marked_apart}
 use Rattle.flow_model.proofs.Apart.{class_seen, apart, words_same, passed_over}
 use Rattle.flow_model.proofs.Firsts.{found, none_found}
 use Rattle.flow_model.proofs.agreement.marked_apart.Goals as goal

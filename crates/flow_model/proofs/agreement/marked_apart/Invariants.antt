@@ -1,7 +1,7 @@
 use Rattle.std.proofs.Common.{◌≡◌, ℕ, ◌<◌, false}
 use Rattle.cov_ast.specs.Plain.{plain}
 use Rattle.cov_ast.specs.View as view
-use Rattle.flow_model.specs.Marks.{is_marked_apart}
+use Rattle.flow_model.specs.Inside.{is_marked_apart}
 use Rattle.flow_model.proofs.agreement.marked_apart.Given as goal
 
 abbrev pub invariant-loop-x : goal.invariant-loop-x

@@ -2,7 +2,7 @@ use Rattle.std.proofs.Common.{◌∙◌, ap}
 use Rattle.cov_ast.specs.Plain.{plain}
 use Rattle.cov_ast.specs.View as view
 use Rattle.flow_model.specs.FirstDifference.{holders_of}
-use Rattle.flow_model.specs.Marks.{with_assumed}
+use Rattle.flow_model.specs.Inside.{with_assumed}
 use Rattle.flow_model.proofs.Marking.{compared_marked}
 use Rattle.flow_model.proofs.agreement.var_apart.Goals as goal
 

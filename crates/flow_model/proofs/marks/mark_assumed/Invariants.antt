@@ -1,7 +1,7 @@
 use Rattle.std.proofs.Common.{◌≡◌, drop, map}
 use Rattle.cov_ast.specs.View as view
 use Rattle.cov_ast.specs.Plain.{plain_thread}
-use Rattle.flow_model.specs.Marks.{with_assumed}
+use Rattle.flow_model.specs.Inside.{with_assumed}
 use Rattle.flow_model.proofs.marks.mark_assumed.Given as goal
 
 abbrev pub invariant-loop-thread : goal.invariant-loop-thread

@@ -1,6 +1,6 @@
 use Rattle.std.proofs.Common.{◌≡◌, drop, map}
 use Rattle.cov_ast.specs.View as view
-use Rattle.flow_model.specs.Marks.{with_controls}
+use Rattle.flow_model.specs.Inside.{with_controls}
 use Rattle.flow_model.proofs.marks.mark_controls.Given as goal
 
 abbrev pub invariant-loop-var : goal.invariant-loop-var

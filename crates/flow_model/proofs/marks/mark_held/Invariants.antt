@@ -1,7 +1,7 @@
 use Rattle.std.proofs.Common.{◌≡◌, drop, map}
 use Rattle.cov_ast.specs.View as view
 use Rattle.flow_model.specs.FirstDifference.{holders_of}
-use Rattle.flow_model.specs.Marks.{with_held}
+use Rattle.flow_model.specs.Inside.{with_held}
 use Rattle.flow_model.proofs.marks.mark_held.Given as goal
 
 abbrev pub invariant-loop-l : goal.invariant-loop-l

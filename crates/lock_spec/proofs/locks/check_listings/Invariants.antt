@@ -1,7 +1,7 @@
 use Rattle.std.proofs.Common.{◌≡◌, drop, map}
 use Rattle.cov_ast.specs.View as view
 use Rattle.cov_ast.specs.Obligations.{first_false}
-use Rattle.lock_spec.specs.Marked.{marked_from}
+use Rattle.lock_spec.specs.Inside.{marked_from}
 use Rattle.lock_spec.proofs.locks.check_listings.Given as goal
 
 abbrev pub invariant-loop-lock : goal.invariant-loop-lock

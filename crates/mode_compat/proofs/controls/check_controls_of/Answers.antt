@@ -7,7 +7,7 @@ use Rattle.cov_ast.proofs.ObligationLaws.{marked_found, outside_below, refused_a
 use Rattle.cov_ast.proofs.WellFormedLaws.{class_at}
 use Rattle.cov_ast.specs.Tables.{first_outside}
 use Rattle.cov_expr.specs.Trees.{occurrences}
-use Rattle.mode_compat.specs.Marked.{kept_entry}
+use Rattle.mode_compat.specs.Inside.{kept_obligation}
 use Rattle.mode_compat.proofs.controls.check_controls_of.Goals as goal
 
 pub var_name-requires-in-Some : goal.var_name-requires-in-Some
@@ -22,13 +22,13 @@ pub returns-in-None : goal.returns-in-None
 returns-in-None c =
     let p = view.program c.args.p.now in
     let same : class_of (plain p) c.args.x ≡ term c.in-When.e = ap class_term (sym c.class_of.ensures) ∙ ap (λ k. class_term (view.class k)) c.in-When.is in
-    marked_found c.args.kept.now (λ y. (kept_entry p c.args.rule c.args.place c.args.kept.now c.args.x y).refusal) (class_of (plain p) c.args.x) (term c.in-When.e) same
-    ∙ sym (ap (refused_at (λ y. (kept_entry p c.args.rule c.args.place c.args.kept.now c.args.x y).refusal)) c.in-None.ensures)
+    marked_found c.args.kept.now (λ y. (kept_obligation p c.args.rule c.args.place c.args.kept.now c.args.x y).refusal) (class_of (plain p) c.args.x) (term c.in-When.e) same
+    ∙ sym (ap (refused_at (λ y. (kept_obligation p c.args.rule c.args.place c.args.kept.now c.args.x y).refusal)) c.in-None.ensures)
 
 pub returns-in-Some : goal.returns-in-Some
 returns-in-Some c =
     let p = view.program c.args.p.now in
     let same : class_of (plain p) c.args.x ≡ term c.in-When.e = ap class_term (sym c.class_of.ensures) ∙ ap (λ k. class_term (view.class k)) c.in-When.is in
     rw (c.refused.ensures, c.var_name.ensures, c.var_name-in-Some.ensures)
-    (marked_found c.args.kept.now (λ y. (kept_entry p c.args.rule c.args.place c.args.kept.now c.args.x y).refusal) (class_of (plain p) c.args.x) (term c.in-When.e) same
-    ∙ sym (ap (refused_at (λ y. (kept_entry p c.args.rule c.args.place c.args.kept.now c.args.x y).refusal)) c.in-Some.ensures))
+    (marked_found c.args.kept.now (λ y. (kept_obligation p c.args.rule c.args.place c.args.kept.now c.args.x y).refusal) (class_of (plain p) c.args.x) (term c.in-When.e) same
+    ∙ sym (ap (refused_at (λ y. (kept_obligation p c.args.rule c.args.place c.args.kept.now c.args.x y).refusal)) c.in-Some.ensures))

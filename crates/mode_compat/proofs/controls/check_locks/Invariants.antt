@@ -2,10 +2,10 @@ use Rattle.std.proofs.Common.{◌≡◌, drop, map}
 use Rattle.std.specs.List.{flat_map}
 use Rattle.cov_ast.specs.View as view
 use Rattle.cov_ast.specs.Obligations.{first_false}
-use Rattle.mode_compat.specs.Compatible.{w7_entries}
+use Rattle.mode_compat.specs.Compatible.{w7_obligations}
 use Rattle.mode_compat.proofs.controls.check_locks.Given as goal
 
 abbrev pub invariant-loop-lock : goal.invariant-loop-lock
 invariant-loop-lock l =
-    first_false (flat_map (w7_entries (view.program l.p)) (map view.lock (drop l.lock-index l.p.locks)))
-    ≡ first_false (flat_map (w7_entries (view.program l.p)) (map view.lock l.p.locks))
+    first_false (flat_map (w7_obligations (view.program l.p)) (map view.lock (drop l.lock-index l.p.locks)))
+    ≡ first_false (flat_map (w7_obligations (view.program l.p)) (map view.lock l.p.locks))

@@ -1,6 +1,6 @@
 use Rattle.std.proofs.Common.{◌≡◌, drop, map}
 use Rattle.cov_ast.specs.View as view
-use Rattle.mode_compat.specs.Marked.{with_locks}
+use Rattle.mode_compat.specs.Inside.{with_locks}
 use Rattle.mode_compat.proofs.locked.add_locks.Given as goal
 
 abbrev pub invariant-loop-lock : goal.invariant-loop-lock

@@ -2,10 +2,10 @@ use Rattle.std.proofs.Common.{List, map, refl}
 use Rattle.std.specs.List.{flat_map}
 use Rattle.cov_ast.specs.View as view
 use Rattle.cov_ast.specs.declared.decl.ThreadDecl.{ThreadDecl}
-use Rattle.cov_ast.specs.Obligations.{Entry}
+use Rattle.cov_ast.specs.Obligations.{Obligation}
 use Rattle.cov_ast.proofs.ObligationLaws.{loop_refused, loop_more}
 use Rattle.cov_ast.proofs.WellFormedLaws.{thread_in_range}
-use Rattle.mode_compat.specs.Compatible.{w6_entries}
+use Rattle.mode_compat.specs.Compatible.{w6_obligations}
 use Rattle.mode_compat.proofs.locked.check_threads.Goals as goal
 
 pub check_thread-requires-clause-range : goal.check_thread-requires-clause-range
@@ -15,16 +15,16 @@ check_thread-requires-clause-range c =
 
 pub returns-in-Err : goal.returns-in-Err
 returns-in-Err c =
-    let F : List ThreadDecl → List Entry = λ ys. flat_map (w6_entries (view.program c.args.p.now)) (map view.thread ys) in
-    loop_refused F F (w6_entries (view.program c.args.p.now) (view.thread c.thread-item.result)) (F c.args.p.now.threads) c.args.p.now.threads
+    let F : List ThreadDecl → List Obligation = λ ys. flat_map (w6_obligations (view.program c.args.p.now)) (map view.thread ys) in
+    loop_refused F F (w6_obligations (view.program c.args.p.now) (view.thread c.thread-item.result)) (F c.args.p.now.threads) c.args.p.now.threads
     c.loop-thread.thread-index c.thread-item.result
     (rw c.as_slice-thread-items.ensures at c.loop-thread-test.true) (rw c.as_slice-thread-items.ensures at c.thread-item.is) (λ ys. refl)
     c.loop-thread.invariant c.in-Err.fault c.in-Err.ensures
 
 pub loop-thread-preserved : goal.loop-thread-preserved
 loop-thread-preserved c =
-    let F : List ThreadDecl → List Entry = λ ys. flat_map (w6_entries (view.program c.args.p.now)) (map view.thread ys) in
-    loop_more F F (w6_entries (view.program c.args.p.now) (view.thread c.thread-item.result)) (F c.args.p.now.threads) c.args.p.now.threads
+    let F : List ThreadDecl → List Obligation = λ ys. flat_map (w6_obligations (view.program c.args.p.now)) (map view.thread ys) in
+    loop_more F F (w6_obligations (view.program c.args.p.now) (view.thread c.thread-item.result)) (F c.args.p.now.threads) c.args.p.now.threads
     c.loop-thread.thread-index c.thread-item.result
     (rw c.as_slice-thread-items.ensures at c.loop-thread-test.true) (rw c.as_slice-thread-items.ensures at c.thread-item.is) (λ ys. refl)
     c.loop-thread.invariant c.in_default.ensures

@@ -1,5 +1,5 @@
 use Rattle.std.proofs.Common.{◌≡◌, ◌++◌, drop, map, length}
-use Rattle.mode_compat.specs.Marked.{guaranteed_by}
+use Rattle.mode_compat.specs.Inside.{guaranteed_by}
 use Rattle.mode_compat.proofs.pairs.guaranteed_sets.Given as goal
 
 abbrev pub invariant-loop-thread : goal.invariant-loop-thread

@@ -1,7 +1,7 @@
 use Rattle.std.proofs.Common.{◌∙◌, [], ap, sym, get_or, length, replicate, false}
 use Rattle.std.proofs.lemmas.List.{length-replicate}
 use Rattle.cov_ast.specs.Tables.{has}
-use Rattle.mode_state.specs.Held.{marked_if, set_at}
+use Rattle.mode_state.specs.Inside.{marked_if, set_at}
 use Rattle.mode_state.proofs.HeldLaws.{set_read}
 use Rattle.mode_state.proofs.TurnedLaws.{row_none, row_more, rows_all}
 use Rattle.mode_state.proofs.sets.turned_sets.Goals as goal

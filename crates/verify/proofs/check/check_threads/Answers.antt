@@ -2,7 +2,7 @@ use Rattle.std.proofs.Common.{ℕ, ◌<◌, ◌≤◌, ◌∙◌, List, length, 
 use Rattle.std.specs.List.{flat_map}
 use Rattle.std.proofs.lemmas.List.{drop_all}
 use Rattle.cov_ast.specs.View as view
-use Rattle.cov_ast.specs.Obligations.{Entry, first_false}
+use Rattle.cov_ast.specs.Obligations.{Obligation, first_false}
 use Rattle.cov_ast.proofs.ObligationLaws.{loop_refused, loop_more}
 use Rattle.mode_compat.specs.Compatible.{threads_of}
 use Rattle.typing_rules.specs.Counts as thread
@@ -13,8 +13,8 @@ use Rattle.verify.proofs.check.check_threads.Goals as goal
 pub returns-in-Err : goal.returns-in-Err
 returns-in-Err c =
     let p = c.args.p.now in
-    let g : ℕ → List Entry = thread_obligations (view.program p) in
-    let F : List ℕ → List Entry = λ ys. flat_map g ys in
+    let g : ℕ → List Obligation = thread_obligations (view.program p) in
+    let F : List ℕ → List Obligation = λ ys. flat_map g ys in
     let inside : c.loop-t.t < length p.threads = omega (arith, c.loop-t-test.true, c.len-t-end.ensures) in
     loop_refused F F (g c.loop-t.t) (F (threads_of (view.program p))) (threads_of (view.program p)) c.loop-t.t c.loop-t.t
     (omega (arith, inside, thread_count p)) (sym (thread_is p c.loop-t.t inside)) (λ ys. refl) c.loop-t.invariant.decides c.in-Err.fault
@@ -24,8 +24,8 @@ pub loop-t-preserved : goal.loop-t-preserved
 loop-t-preserved c =
     let p = c.args.p.now in
     let t = c.loop-t.t in
-    let g : ℕ → List Entry = thread_obligations (view.program p) in
-    let F : List ℕ → List Entry = λ ys. flat_map g ys in
+    let g : ℕ → List Obligation = thread_obligations (view.program p) in
+    let F : List ℕ → List Obligation = λ ys. flat_map g ys in
     let inside : c.loop-t.t < length p.threads = omega (arith, c.loop-t-test.true, c.len-t-end.ensures) in
     let same = c.in-Ok.ensures.answer.1 in
     let few = c.in-Ok.ensures.bounded in

@@ -1,5 +1,5 @@
 use Rattle.std.proofs.Common.{◌∙◌, rules}
-use Rattle.mode_state.specs.Held.{cover}
+use Rattle.mode_state.specs.Inside.{cover}
 use Rattle.mode_state.proofs.LockSetLaws.{covers_is}
 use Rattle.mode_state.proofs.lock_set.LockSet.covers.Goals as goal
 

@@ -1,5 +1,5 @@
 use Rattle.std.proofs.Common.{◌∙◌, rules}
-use Rattle.mode_state.specs.Held.{meet}
+use Rattle.mode_state.specs.Inside.{meet}
 use Rattle.mode_state.proofs.LockSetLaws.{meets_is}
 use Rattle.mode_state.proofs.lock_set.LockSet.meets.Goals as goal
 

@@ -9,13 +9,13 @@ use Rattle.cov_ast.specs.WellFormed.{IsBlockInRange, IsStmInRange, block_size, s
 use Rattle.cov_ast.specs.declared.decl.Program as decl
 use Rattle.typing_state.specs.After.{meet, with_guard}
 use Rattle.typing_state.specs.Point.{Point}
-use Rattle.typing_rules.specs.Answers.{entailment_count}
+use Rattle.typing_rules.specs.Counts.{entailment_count}
 use Rattle.typing_rules.specs.Blocks.{after_block, after_stm}
 use Rattle.typing_rules.specs.Entailments.{guard_follows, state_follows}
-use Rattle.typing_rules.specs.Obligations.{block_entries, flat, stm_parts}
-use Rattle.typing_rules.specs.Walking.{HasTypesBelow, IsWalk, WalksStm, plain_of}
+use Rattle.typing_rules.specs.Obligations.{block_obligations, flat, stm_parts}
+use Rattle.typing_rules.specs.Inside.Walking.{HasTypesBelow, IsWalk, WalksStm, plain_of}
 use Rattle.typing_rules.specs.declared.walk.Walk.{Walk}
-use Rattle.typing_rules.proofs.Bounds.{few_claims_state, few_entailments}
+use Rattle.typing_rules.proofs.Bounds.{few_entailments_state, few_entailments}
 use Rattle.typing_rules.proofs.Counting.{count_branch, count_loop}
 use Rattle.typing_rules.proofs.Ranges.{block_below, classes_below, meet_below, stm_below}
 use Rattle.typing_rules.proofs.Splits.{branch_walks, first_refused, fork_refused, head_refused, loop_walks, second_refused, turn_refused}
@@ -292,7 +292,7 @@ branch-join-requires-clause-no t c =
 
 -- a block has few entailments
 few_of : (w : Walk) → IsWalk w → (b : Block) (a : Point) → IsBlockInRange (length w.program.now.vars) (length w.program.now.locks) b
-    → entailment_count (block_entries (plain_of w) w.thread b a) ≤ 1024 * block_size b
+    → entailment_count (block_obligations (plain_of w) w.thread b a) ≤ 1024 * block_size b
 few_of w is b a range = few_entailments (view.program w.program.now) w.thread is.formed is.declared b a (seen_range w.program.now b range)
 
 pub branch-join-requires-clause-few : goal.branch-join-requires-clause-few
@@ -415,7 +415,7 @@ while_loop-turn-requires-clause-few t c =
       head.3,
       (c.in_ok-end.ensures (with_guard p w.thread top e) head.1).2,
       c.requires.small,
-      few_claims_state a j,
+      few_entailments_state a j,
       length-append (state_follows a j) (guard_follows p w.thread top e ∷ []),
       few_of w c.requires.walk body (with_guard p w.thread top e) c.requires.range.2,
     )

@@ -5,7 +5,7 @@ use Rattle.cov_ast.specs.View as view
 use Rattle.cov_ast.specs.WellFormed.{IsBlockInRange, block_size, stm_size}
 use Rattle.typing_state.specs.Kept.{Keeps}
 use Rattle.typing_state.specs.Point.{Point}
-use Rattle.typing_rules.specs.Walking.{HasTypesBelow, plain_of}
+use Rattle.typing_rules.specs.Inside.Walking.{HasTypesBelow, plain_of}
 use Rattle.typing_rules.proofs.Walks.{Reaches}
 use Rattle.typing_rules.proofs.walk.Walk.+walk.Given as goal
 

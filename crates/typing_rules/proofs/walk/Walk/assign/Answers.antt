@@ -6,12 +6,12 @@ use Rattle.cov_ast.specs.Syntax as syntax
 use Rattle.cov_ast.specs.View as view
 use Rattle.typing_state.specs.After.{after_assign}
 use Rattle.typing_state.specs.Kept.{Keeps}
-use Rattle.typing_rules.specs.Answers.{entailment_count}
+use Rattle.typing_rules.specs.Counts.{entailment_count}
 use Rattle.typing_rules.specs.Blocks.{value_type}
 use Rattle.typing_rules.specs.Entailments.{assign_entailments}
 use Rattle.typing_rules.specs.Obligations.{few_preds, flat, stm_parts}
 use Rattle.typing_state.specs.Point.{has_small_types}
-use Rattle.typing_rules.specs.Walking.{last_parts, plain_of, value_parts}
+use Rattle.typing_rules.specs.Inside.Walking.{last_parts, plain_of, value_parts}
 use Rattle.typing_rules.proofs.Counting.{count_assign}
 use Rattle.typing_rules.proofs.Parts.{all_counted, and_true, append_none, flat-append, parts_decided, parts_refused}
 use Rattle.typing_rules.proofs.Ranges.{classes_below, value_below}

@@ -6,9 +6,9 @@ use Rattle.cov_ast.specs.View as view
 use Rattle.cov_ast.specs.declared.refusal.Rule.TheVariants.{V16}
 use Rattle.cov_ast.specs.declared.refusal.Detail.TheVariants.{Nothing}
 use Rattle.typing_rules.specs.Entailments.{is_small_entailment}
-use Rattle.typing_rules.specs.Obligations.{entry, numbers, proved, small_terms}
+use Rattle.typing_rules.specs.Obligations.{obligation, numbers, proved, small_terms}
 use Rattle.typing_state.specs.Point.{has_small_types}
-use Rattle.typing_rules.specs.Walking.{plain_of}
+use Rattle.typing_rules.specs.Inside.Walking.{plain_of}
 use Rattle.typing_rules.proofs.Parts.{held_is, padded}
 use Rattle.typing_rules.proofs.walk.Walk.check_last.Goals as goal
 use Rattle.typing_rules.proofs.walk.Walk.check_last.Goals.{then-tried, else-tried}
@@ -26,12 +26,12 @@ returns c gs points count h types sum =
     ] in
     let is : c.if-tried.require_small ≡ small = asked ∙ (λ i. h.small i && types i) in
     let sizes : Decides (small_terms p w.thread c.args.at gs points) c.require_small-sizes.result =
-    subst (λ b. Decides (entry p w.thread c.args.at V16 Nothing b ∷ []) c.require_small-sizes.result) is
+    subst (λ b. Decides (obligation p w.thread c.args.at V16 Nothing b ∷ []) c.require_small-sizes.result) is
     (rw c.site-site.ensures at c.require_small-sizes.ensures) in
-    let claims = proved p w.thread c.args.at proofs (suc c.args.before) gs in
+    let entailments = proved p w.thread c.args.at proofs (suc c.args.before) gs in
     let last = numbers p w.thread c.args.at count proofs in
-    c.both-2.ensures (small_terms p w.thread c.args.at gs points) (claims ++ (last ++ [])) sizes
+    c.both-2.ensures (small_terms p w.thread c.args.at gs points) (entailments ++ (last ++ [])) sizes
     (λ held. let decided = h.decided (h.small ∙ (and_parts (list_all is_small_entailment gs) (list_all has_small_types points) (held_is p w.thread c.args.at small held)).0) in
-    c.both.ensures claims (last ++ []) decided.1 (λ _. padded last c.check_numbers-numbers.result
+    c.both.ensures entailments (last ++ []) decided.1 (λ _. padded last c.check_numbers-numbers.result
     (subst (λ m. Decides (numbers p w.thread c.args.at m proofs) c.check_numbers-numbers.result) (ap (λ m. c.args.before + m) decided.0 ∙ sum)
     (rw c.site-site.ensures at c.check_numbers-numbers.ensures))))

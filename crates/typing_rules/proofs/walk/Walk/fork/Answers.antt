@@ -1,8 +1,8 @@
 use Rattle.std.proofs.Common.{[], map}
 use Rattle.cov_expr.specs.View.{term}
 use Rattle.cov_ast.specs.View as view
-use Rattle.typing_rules.specs.Obligations.{guard_entries}
-use Rattle.typing_rules.specs.Walking.{plain_of}
+use Rattle.typing_rules.specs.Obligations.{guard_obligations}
+use Rattle.typing_rules.specs.Inside.Walking.{plain_of}
 use Rattle.typing_rules.proofs.walk.Walk.fork.Goals as goal
 
 pub returns : goal.returns
@@ -10,5 +10,5 @@ returns c a k =
     let w = c.args.self.now in
     let p = plain_of w in
     let evaluated = (rw c.site.ensures at c.check_guard-evaluated.ensures) a.held (c.modes.ensures p w.thread a k) in
-    c.guard.ensures a k (guard_entries p w.thread c.args.at a.held (term c.args.e.now)) [] evaluated
+    c.guard.ensures a k (guard_obligations p w.thread c.args.at a.held (term c.args.e.now)) [] evaluated
     (c.none.ensures.tried p w.thread c.args.at (map view.proof c.args.proofs.now) 1)

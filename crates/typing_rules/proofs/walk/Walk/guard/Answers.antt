@@ -4,7 +4,7 @@ use Rattle.cov_expr.specs.View.{term}
 use Rattle.cov_ast.specs.View as view
 use Rattle.typing_state.specs.After.{with_guard}
 use Rattle.typing_rules.specs.Entailments.{guard_follows}
-use Rattle.typing_rules.specs.Walking.{plain_of}
+use Rattle.typing_rules.specs.Inside.Walking.{plain_of}
 use Rattle.typing_rules.proofs.walk.Walk.guard.Goals as goal
 
 pub and-all-requires : goal.and-all-requires

@@ -4,8 +4,8 @@ use Rattle.cov_ast.specs.Obligations.{Decides}
 use Rattle.cov_ast.specs.declared.refusal.Rule.TheVariants.{V16}
 use Rattle.cov_ast.specs.declared.refusal.Detail.TheVariants.{Nothing}
 use Rattle.typing_rules.specs.Entailments.{is_small_entailment}
-use Rattle.typing_rules.specs.Obligations.{entry, few_preds, proved, small_terms}
-use Rattle.typing_rules.specs.Walking.{plain_of}
+use Rattle.typing_rules.specs.Obligations.{obligation, few_preds, proved, small_terms}
+use Rattle.typing_rules.specs.Inside.Walking.{plain_of}
 use Rattle.typing_rules.proofs.Parts.{and_true, append_none, held_is, padded}
 use Rattle.typing_rules.proofs.walk.Walk.guarded.Goals as goal
 
@@ -17,18 +17,18 @@ returns-in-Ok c a k b kb front proofs gs before tries =
     let at = c.args.at in
     let few = few_preds p t at (a ∷ b ∷ []) in
     let small = small_terms p t at gs [] in
-    let claims = proved p t at proofs 1 gs in
+    let entailments = proved p t at proofs 1 gs in
     let is = tries.small ∙ sym (and_true (list_all is_small_entailment gs)) in
     let few_ok : Decides few c.check_both_few_preds-few.result = (rw c.site.ensures at c.check_both_few_preds-few.ensures) a k b kb in
     let small_ok : Decides small c.require_small-small.result =
-    subst (λ v. Decides (entry p t at V16 Nothing v ∷ []) c.require_small-small.result) is (rw c.site-2.ensures at c.require_small-small.ensures) in
+    subst (λ v. Decides (obligation p t at V16 Nothing v ∷ []) c.require_small-small.result) is (rw c.site-2.ensures at c.require_small-small.ensures) in
     let counted = λ (h : _). tries.decided (is ∙ held_is p t at _ h) in
-    let verdict = c.both-3.ensures front (few ++ (small ++ (claims ++ []))) before
-    (λ _. c.both-2.ensures few (small ++ (claims ++ [])) few_ok
-    (λ _. c.both.ensures small (claims ++ []) small_ok (λ h. padded claims c.args.tried.proved (counted h).1))) in
-    let held = subst (λ r. Decides (front ++ (few ++ (small ++ (claims ++ [])))) r) c.in-Ok.is verdict in
-    let last = append_none few (small ++ (claims ++ [])) (append_none front (few ++ (small ++ (claims ++ []))) held).1 in
-    (held, k, kb, (counted (append_none small (claims ++ []) last.1).0).0)
+    let verdict = c.both-3.ensures front (few ++ (small ++ (entailments ++ []))) before
+    (λ _. c.both-2.ensures few (small ++ (entailments ++ [])) few_ok
+    (λ _. c.both.ensures small (entailments ++ []) small_ok (λ h. padded entailments c.args.tried.proved (counted h).1))) in
+    let held = subst (λ r. Decides (front ++ (few ++ (small ++ (entailments ++ [])))) r) c.in-Ok.is verdict in
+    let last = append_none few (small ++ (entailments ++ [])) (append_none front (few ++ (small ++ (entailments ++ []))) held).1 in
+    (held, k, kb, (counted (append_none small (entailments ++ []) last.1).0).0)
 
 pub returns-in-Err : goal.returns-in-Err
 returns-in-Err c a k b kb front proofs gs before tries =
@@ -38,12 +38,12 @@ returns-in-Err c a k b kb front proofs gs before tries =
     let at = c.args.at in
     let few = few_preds p t at (a ∷ b ∷ []) in
     let small = small_terms p t at gs [] in
-    let claims = proved p t at proofs 1 gs in
+    let entailments = proved p t at proofs 1 gs in
     let is = tries.small ∙ sym (and_true (list_all is_small_entailment gs)) in
     let few_ok : Decides few c.check_both_few_preds-few.result = (rw c.site.ensures at c.check_both_few_preds-few.ensures) a k b kb in
     let small_ok : Decides small c.require_small-small.result =
-    subst (λ v. Decides (entry p t at V16 Nothing v ∷ []) c.require_small-small.result) is (rw c.site-2.ensures at c.require_small-small.ensures) in
-    let verdict = c.both-3.ensures front (few ++ (small ++ (claims ++ []))) before
-    (λ _. c.both-2.ensures few (small ++ (claims ++ [])) few_ok
-    (λ _. c.both.ensures small (claims ++ []) small_ok (λ h. padded claims c.args.tried.proved (tries.decided (is ∙ held_is p t at _ h)).1))) in
-    subst (λ r. Decides (front ++ (few ++ (small ++ (claims ++ [])))) r) c.in-Err.is verdict
+    subst (λ v. Decides (obligation p t at V16 Nothing v ∷ []) c.require_small-small.result) is (rw c.site-2.ensures at c.require_small-small.ensures) in
+    let verdict = c.both-3.ensures front (few ++ (small ++ (entailments ++ []))) before
+    (λ _. c.both-2.ensures few (small ++ (entailments ++ [])) few_ok
+    (λ _. c.both.ensures small (entailments ++ []) small_ok (λ h. padded entailments c.args.tried.proved (tries.decided (is ∙ held_is p t at _ h)).1))) in
+    subst (λ r. Decides (front ++ (few ++ (small ++ (entailments ++ [])))) r) c.in-Err.is verdict

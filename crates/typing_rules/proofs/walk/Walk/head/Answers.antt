@@ -3,9 +3,9 @@ use Rattle.cov_expr.specs.View.{term}
 use Rattle.cov_ast.specs.View as view
 use Rattle.typing_state.specs.After.{meet}
 use Rattle.typing_rules.specs.Entailments.{guard_follows, state_follows}
-use Rattle.typing_rules.specs.Obligations.{flat, guard_entries, state_entries}
-use Rattle.typing_rules.specs.Walking.{GuardsAt, first_parts, plain_of, starts_of}
-use Rattle.typing_rules.proofs.Bounds.{few_claims_state}
+use Rattle.typing_rules.specs.Obligations.{flat, guard_obligations, state_obligations}
+use Rattle.typing_rules.specs.Inside.Walking.{GuardsAt, first_parts, plain_of, starts_of}
+use Rattle.typing_rules.proofs.Bounds.{few_entailments_state}
 use Rattle.typing_rules.proofs.Ranges.{classes_below, meet_below}
 use Rattle.typing_rules.proofs.walk.Walk.head.Goals as goal
 
@@ -25,7 +25,7 @@ guard-requires-clause-point c =
 pub guard-requires-clause-few : goal.guard-requires-clause-few
 guard-requires-clause-few c =
     let a = c.requires.point.at in
-    omega (arith, (c.in_ok-entered.ensures a c.requires.point.keeps).few, few_claims_state a (view.state c.args.inv.now), c.requires.small)
+    omega (arith, (c.in_ok-entered.ensures a c.requires.point.keeps).few, few_entailments_state a (view.state c.args.inv.now), c.requires.small)
 
 pub returns : goal.returns
 returns c a k =
@@ -37,8 +37,8 @@ returns c a k =
     let j = view.state c.args.inv.now in
     let proofs = map view.proof c.args.proofs.now in
     let top = meet p t a j in
-    let first = state_entries p t at a.held j in
-    let second = guard_entries p t at a.held e in
+    let first = state_obligations p t at a.held j in
+    let second = guard_obligations p t at a.held e in
     let gs = state_follows a j in
     let hs = guard_follows p t top e ∷ [] in
     let stated = (rw c.site-site.ensures at c.check_state-stated.ensures) a k in

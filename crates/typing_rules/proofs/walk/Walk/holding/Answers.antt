@@ -4,7 +4,7 @@ use Rattle.std.proofs.lemmas.Result.{IfOk-weaker}
 use Rattle.cov_expr.specs.View.{term}
 use Rattle.cov_expr.specs.Words.{HasVarsBelow}
 use Rattle.cov_ast.specs.View as view
-use Rattle.typing_rules.specs.Walking.{plain_of}
+use Rattle.typing_rules.specs.Inside.Walking.{plain_of}
 use Rattle.typing_rules.proofs.walk.Walk.holding.Goals as goal
 
 pub returns : goal.returns

@@ -3,9 +3,9 @@ use Rattle.cov_ast.specs.Obligations.{Decides, first_false}
 use Rattle.cov_ast.specs.View as view
 use Rattle.typing_state.specs.After.{meet}
 use Rattle.typing_rules.specs.Entailments.{state_follows}
-use Rattle.typing_rules.specs.Obligations.{flat, same_locks, state_entries}
+use Rattle.typing_rules.specs.Obligations.{flat, same_locks, state_obligations}
 use Rattle.typing_state.specs.Point.{has_small_types}
-use Rattle.typing_rules.specs.Walking.{TriesAt, last_parts, plain_of}
+use Rattle.typing_rules.specs.Inside.Walking.{TriesAt, last_parts, plain_of}
 use Rattle.typing_rules.proofs.Parts.{all_counted, and_true}
 use Rattle.typing_rules.proofs.walk.Walk.join.Goals as goal
 
@@ -24,12 +24,12 @@ returns c a k b kb =
     let tries = subst (λ n. TriesAt w at proofs n gs c.in_ok-tried.tried) n (c.in_ok-tried.ensures a k b kb) in
     let after = meet p t a j in
     let keeps = c.in_ok-after.ensures t a k in
-    let met = same_locks p t at a.held b.held ++ state_entries p t at a.held j in
+    let met = same_locks p t at a.held b.held ++ state_obligations p t at a.held j in
     let rest = flat (last_parts p t at proofs (suc before) count gs (after ∷ [])) in
     let last = c.check_last-last.ensures gs (after ∷ []) count tries (c.has_small_types.ensures p t after keeps ∙ sym (and_true (has_small_types after))) refl in
-    c.finish.ensures p t (same_locks p t at a.held b.held ++ (state_entries p t at a.held j ++ rest)) after (before + c.args.yes.entailments + c.args.no.entailments + length gs) keeps
-    (subst (λ es. Decides es c.both.result) (append_assoc (same_locks p t at a.held b.held) (state_entries p t at a.held j) rest)
+    c.finish.ensures p t (same_locks p t at a.held b.held ++ (state_obligations p t at a.held j ++ rest)) after (before + c.args.yes.entailments + c.args.no.entailments + length gs) keeps
+    (subst (λ es. Decides es c.both.result) (append_assoc (same_locks p t at a.held b.held) (state_obligations p t at a.held j) rest)
     (c.both.ensures met rest (c.check_ends-met.ensures a k b kb) (λ _. last)))
     (λ held. let counted = all_counted p t at proofs (suc before) count gs (after ∷ []) c.in_ok-tried.tried met tries
-    (subst (λ es. first_false es ≡ None) (sym (append_assoc (same_locks p t at a.held b.held) (state_entries p t at a.held j) rest)) held) in
+    (subst (λ es. first_false es ≡ None) (sym (append_assoc (same_locks p t at a.held b.held) (state_obligations p t at a.held j) rest)) held) in
     omega (arith, counted, c.from.ensures, c.from-2.ensures))

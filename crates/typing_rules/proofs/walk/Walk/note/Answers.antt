@@ -2,11 +2,11 @@ use Rattle.std.proofs.Common.{[], ◌∷◌, ◌++◌, length, map, sym, ◌∙�
 use Rattle.cov_ast.specs.Obligations.{Decides}
 use Rattle.cov_ast.specs.View as view
 use Rattle.typing_state.specs.After.{noted}
-use Rattle.typing_rules.specs.Answers.{entailment_count}
+use Rattle.typing_rules.specs.Counts.{entailment_count}
 use Rattle.typing_rules.specs.Entailments.{state_follows}
-use Rattle.typing_rules.specs.Obligations.{flat, state_entries}
+use Rattle.typing_rules.specs.Obligations.{flat, state_obligations}
 use Rattle.typing_state.specs.Point.{has_small_types}
-use Rattle.typing_rules.specs.Walking.{plain_of, last_parts}
+use Rattle.typing_rules.specs.Inside.Walking.{plain_of, last_parts}
 use Rattle.typing_rules.proofs.Counting.{count_note}
 use Rattle.typing_rules.proofs.Parts.{all_counted, and_true}
 use Rattle.typing_rules.proofs.walk.Walk.note.Goals as goal
@@ -23,7 +23,7 @@ returns c a k =
     let after = noted a j in
     let keeps = c.in_ok-after.ensures p t a k in
     let tries = c.in_ok-tried.ensures a k in
-    let first = state_entries p t at a.held j in
+    let first = state_obligations p t at a.held j in
     let stated : Decides first c.check_state-stated.result = (rw c.site.ensures at c.check_state-stated.ensures) a k in
     let rest = flat (last_parts p t at proofs 1 (length gs) gs (after ∷ [])) in
     let last = c.check_last-last.ensures gs (after ∷ []) (length gs) tries (c.has_small_types.ensures p t after keeps ∙ sym (and_true (has_small_types after))) (zero-add (length gs)) in

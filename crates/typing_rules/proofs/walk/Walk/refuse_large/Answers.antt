@@ -9,11 +9,11 @@ use Rattle.cov_ast.specs.declared.refusal.Detail.TheVariants.{Nothing}
 use Rattle.typing_state.specs.After.{after_assign}
 use Rattle.typing_state.specs.Point.{ty, has_small_types}
 use Rattle.typing_rules.specs.Entailments.{assign_entailments, is_small_entailment}
-use Rattle.typing_rules.specs.Obligations.{entry, few_preds, numbers, proved, small_terms, thread_entry}
-use Rattle.typing_rules.specs.Walking.{plain_of, value_parts}
+use Rattle.typing_rules.specs.Obligations.{obligation, few_preds, numbers, proved, small_terms, thread_obligation}
+use Rattle.typing_rules.specs.Inside.Walking.{plain_of, value_parts}
 use Rattle.typing_rules.proofs.LargeTypes.{large_type, large_value}
 use Rattle.typing_rules.proofs.Parts.{part_refused, parts_refused}
-use Rattle.typing_rules.proofs.StateLaws.{entry_refused}
+use Rattle.typing_rules.proofs.StateLaws.{obligation_refused}
 use Rattle.typing_rules.proofs.walk.Walk.refuse_large.Goals as goal
 
 pub returns-in-Ok : goal.returns-in-Ok
@@ -33,8 +33,8 @@ returns-in-Ok c proofs a k many =
     part_refused (value_parts p t at a x e (ty p t a e) retypes ++ few_preds p t at (after ∷ []) ∷ []) (small_terms p t at gs (after ∷ []))
     (proved p t at proofs 1 gs ∷ numbers p t at (length gs) proofs ∷ []) c.refused_at.result
     (c.in-Ok.ensures a k)
-    (entry_refused (entry p t at V16 Nothing small) c.refused_at.result large
-    (c.refused_at.ensures ∙ ap (λ s. Refused (thread_entry s.thread s.place V16 Nothing false).refusal) c.site.ensures))
+    (obligation_refused (obligation p t at V16 Nothing small) c.refused_at.result large
+    (c.refused_at.ensures ∙ ap (λ s. Refused (thread_obligation s.thread s.place V16 Nothing false).refusal) c.site.ensures))
 
 pub returns-in-Err : goal.returns-in-Err
 returns-in-Err c proofs a k many =

@@ -3,34 +3,34 @@ use Rattle.std.proofs.lemmas.List.{length-map}
 use Rattle.cov_expr.specs.Term.{Term}
 use Rattle.cov_expr.specs.View.{term}
 use Rattle.cov_ast.specs.View as view
-use Rattle.typing_rules.specs.Claims.{Claimed, entailment}
+use Rattle.typing_rules.specs.Inside.Listed.{AreListed, entailment_of}
 use Rattle.typing_rules.specs.Entailments.{Entailment, assign_entailments}
-use Rattle.typing_rules.specs.Walking.{plain_of}
-use Rattle.typing_rules.specs.declared.claims.Claim.{Claim}
-use Rattle.typing_rules.proofs.Bounds.{few_claims_assign}
+use Rattle.typing_rules.specs.Inside.Walking.{plain_of}
+use Rattle.typing_rules.specs.declared.entailments.Entailment as kept
+use Rattle.typing_rules.proofs.Bounds.{few_entailments_assign}
 use Rattle.typing_rules.proofs.walk.Walk.try_assign.Goals as goal
 
-few_made : (preds : List Term) (gs : List Entailment) (n : ℕ) (made : Option (List Claim)) → Claimed preds gs made → 1 + length gs < n
-    → MatchOption made (Unit {0}) (λ claims. 1 + length claims < n)
+few_made : (preds : List Term) (gs : List Entailment) (n : ℕ) (made : Option (List kept.Entailment)) → AreListed preds gs made → 1 + length gs < n
+    → MatchOption made (Unit {0}) (λ entailments. 1 + length entailments < n)
 few_made preds gs n None is few = tt
-few_made preds gs n (Some claims) is few = omega (arith, ap length is, length-map claims (entailment preds), few)
+few_made preds gs n (Some entailments) is few = omega (arith, ap length is, length-map entailments (entailment_of preds), few)
 
-pub try_claimed-requires : goal.try_claimed-requires
-try_claimed-requires c =
+pub try_listed-requires : goal.try_listed-requires
+try_listed-requires c =
     let w = c.args.self.now in
     let a = c.requires.point.at in
     let k = c.requires.point.keeps in
     let e = term c.args.e.now in
     let q = option_map term c.args.written.now in
     let retypes = map view.retype c.args.retypes.now in
-    few_made a.preds (assign_entailments (plain_of w) w.thread a c.args.x e q retypes) 4294967296 c.in_ok-claims.claims
-    (c.in_ok-claims.ensures w.thread a k (c.requires.typed a k))
-    (omega (arith, c.requires.small, few_claims_assign (view.program w.program.now) w.thread c.requires.walk.formed c.requires.walk.declared a c.args.x e q retypes))
+    few_made a.preds (assign_entailments (plain_of w) w.thread a c.args.x e q retypes) 4294967296 c.in_ok-entailments.entailments
+    (c.in_ok-entailments.ensures w.thread a k (c.requires.typed a k))
+    (omega (arith, c.requires.small, few_entailments_assign (view.program w.program.now) w.thread c.requires.walk.formed c.requires.walk.declared a c.args.x e q retypes))
 
 pub returns : goal.returns
 returns c a k =
     let w = c.args.self.now in
     let e = term c.args.e.now in
     let q = option_map term c.args.written.now in
-    c.try_claimed.ensures a k (assign_entailments (plain_of w) w.thread a c.args.x e q (map view.retype c.args.retypes.now))
-    (c.in_ok-claims.ensures w.thread a k (c.requires.typed a k))
+    c.try_listed.ensures a k (assign_entailments (plain_of w) w.thread a c.args.x e q (map view.retype c.args.retypes.now))
+    (c.in_ok-entailments.ensures w.thread a k (c.requires.typed a k))

@@ -1,19 +1,19 @@
 use Rattle.std.proofs.Common.{map, arith}
 use Rattle.cov_ast.specs.View as view
 use Rattle.typing_rules.specs.Entailments.{state_follows}
-use Rattle.typing_rules.specs.Walking.{plain_of}
-use Rattle.typing_rules.proofs.Bounds.{few_claims_state}
+use Rattle.typing_rules.specs.Inside.Walking.{plain_of}
+use Rattle.typing_rules.proofs.Bounds.{few_entailments_state}
 use Rattle.typing_rules.proofs.walk.Walk.try_both.Goals as goal
 
 pub try_state-requires-2-clause-few : goal.try_state-requires-2-clause-few
 try_state-requires-2-clause-few c =
     let a = c.requires.yes.at in
-    omega (arith, (c.in_ok-first.ensures a c.requires.yes.keeps).few, few_claims_state a (view.state c.args.join.now), c.requires.few)
+    omega (arith, (c.in_ok-first.ensures a c.requires.yes.keeps).few, few_entailments_state a (view.state c.args.join.now), c.requires.few)
 
 pub overflow_add-from : goal.overflow_add-from
 overflow_add-from c =
     let a = c.requires.yes.at in
-    omega (arith, (c.in_ok-first.ensures a c.requires.yes.keeps).few, few_claims_state a (view.state c.args.join.now), c.requires.few)
+    omega (arith, (c.in_ok-first.ensures a c.requires.yes.keeps).few, few_entailments_state a (view.state c.args.join.now), c.requires.few)
 
 pub and-requires : goal.and-requires
 and-requires c =
@@ -23,9 +23,9 @@ and-requires c =
     omega (
       arith,
       (c.in_ok-first.ensures a c.requires.yes.keeps).few,
-      few_claims_state a j,
+      few_entailments_state a j,
       (c.in_ok-second.ensures b c.requires.no.keeps).few,
-      few_claims_state b j,
+      few_entailments_state b j,
       c.requires.few,
     )
 

@@ -1,26 +1,26 @@
 use Rattle.std.proofs.Common.{length, map, ap, ◌∙◌, subst, arith}
 use Rattle.std.proofs.lemmas.List.{length-map}
 use Rattle.cov_ast.specs.View as view
-use Rattle.typing_rules.specs.Claims.{entailment, entailments}
-use Rattle.typing_rules.specs.Walking.{TriesAt, plain_of}
-use Rattle.typing_rules.proofs.Bounds.{few_claims_state}
+use Rattle.typing_rules.specs.Inside.Listed.{entailment_of, entailments_of}
+use Rattle.typing_rules.specs.Inside.Walking.{TriesAt, plain_of}
+use Rattle.typing_rules.proofs.Bounds.{few_entailments_state}
 use Rattle.typing_rules.proofs.walk.Walk.try_state.Goals as goal
 
-pub try_claims-requires : goal.try_claims-requires
-try_claims-requires c =
+pub try_entailments-requires : goal.try_entailments-requires
+try_entailments-requires c =
     let w = c.args.self.now in
     let a = c.requires.point.at in
-    let is = ap (entailments a.preds) c.as_slice.ensures ∙ c.in_ok-claims.ensures (plain_of w) w.thread a c.requires.point.keeps in
+    let is = ap (entailments_of a.preds) c.as_slice.ensures ∙ c.in_ok-entailments.ensures (plain_of w) w.thread a c.requires.point.keeps in
     omega (
       arith,
       ap length is,
-      length-map c.as_slice.result.now (entailment a.preds),
-      few_claims_state a (view.state c.args.s.now),
+      length-map c.as_slice.result.now (entailment_of a.preds),
+      few_entailments_state a (view.state c.args.s.now),
       c.requires.few,
     )
 
 pub returns : goal.returns
 returns c a k =
     let w = c.args.self.now in
-    subst (λ gs. TriesAt w c.args.at (map view.proof c.args.proofs.now) c.args.from gs c.try_claims.result)
-    (ap (entailments a.preds) c.as_slice.ensures ∙ c.in_ok-claims.ensures (plain_of w) w.thread a k) (c.try_claims.ensures a k)
+    subst (λ gs. TriesAt w c.args.at (map view.proof c.args.proofs.now) c.args.from gs c.try_entailments.result)
+    (ap (entailments_of a.preds) c.as_slice.ensures ∙ c.in_ok-entailments.ensures (plain_of w) w.thread a k) (c.try_entailments.ensures a k)

@@ -1,20 +1,20 @@
 use Rattle.std.proofs.Common.{length, map, ap, ◌∙◌, arith, ◌<◌}
 use Rattle.std.proofs.lemmas.List.{length-map}
 use Rattle.cov_ast.specs.View as view
-use Rattle.typing_rules.specs.Claims.{entailment, entailments}
-use Rattle.typing_rules.proofs.Bounds.{few_claims_unlock}
+use Rattle.typing_rules.specs.Inside.Listed.{entailment_of, entailments_of}
+use Rattle.typing_rules.proofs.Bounds.{few_entailments_unlock}
 use Rattle.typing_rules.proofs.walk.Walk.try_unlock.Goals as goal
 
-pub try_claims-requires : goal.try_claims-requires
-try_claims-requires c =
+pub try_entailments-requires : goal.try_entailments-requires
+try_entailments-requires c =
     let w = c.args.self.now in
     let program = w.program.now in
     let a = c.requires.point.at in
-    let is = ap (entailments a.preds) c.as_slice.ensures ∙ c.in_ok-claims.ensures w.thread a c.requires.point.keeps in
+    let is = ap (entailments_of a.preds) c.as_slice.ensures ∙ c.in_ok-entailments.ensures w.thread a c.requires.point.keeps in
     let inside : c.args.l < length (map view.lock program.locks) = omega (arith, length-map program.locks view.lock, c.requires.lock) in
     omega (
       arith,
       ap length is,
-      length-map c.as_slice.result.now (entailment a.preds),
-      few_claims_unlock (view.program program) w.thread c.requires.walk.formed c.requires.walk.declared a c.args.l inside,
+      length-map c.as_slice.result.now (entailment_of a.preds),
+      few_entailments_unlock (view.program program) w.thread c.requires.walk.formed c.requires.walk.declared a c.args.l inside,
     )

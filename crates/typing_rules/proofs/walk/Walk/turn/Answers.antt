@@ -3,7 +3,7 @@ use Rattle.cov_ast.specs.View as view
 use Rattle.typing_rules.specs.Entailments.{state_follows}
 use Rattle.typing_rules.specs.Obligations.{flat, same_locks}
 use Rattle.typing_state.specs.Point.{has_small_types}
-use Rattle.typing_rules.specs.Walking.{TriesAt, last_parts, plain_of}
+use Rattle.typing_rules.specs.Inside.Walking.{TriesAt, last_parts, plain_of}
 use Rattle.typing_rules.proofs.Parts.{all_counted, and_true}
 use Rattle.typing_rules.proofs.walk.Walk.turn.Goals as goal
 

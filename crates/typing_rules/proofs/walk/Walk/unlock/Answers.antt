@@ -5,11 +5,11 @@ use Rattle.cov_ast.specs.View as view
 use Rattle.cov_ast.specs.declared.refusal.Rule.TheVariants.{V7}
 use Rattle.cov_ast.specs.declared.refusal.Detail.TheVariants.{One}
 use Rattle.typing_state.specs.After.{after_unlock}
-use Rattle.typing_rules.specs.Answers.{entailment_count}
+use Rattle.typing_rules.specs.Counts.{entailment_count}
 use Rattle.typing_rules.specs.Entailments.{unlock_entailments}
-use Rattle.typing_rules.specs.Obligations.{flat, of_lock, thread_entry}
+use Rattle.typing_rules.specs.Obligations.{flat, of_lock, thread_obligation}
 use Rattle.typing_state.specs.Point.{has_small_types}
-use Rattle.typing_rules.specs.Walking.{plain_of, last_parts}
+use Rattle.typing_rules.specs.Inside.Walking.{plain_of, last_parts}
 use Rattle.typing_rules.proofs.Counting.{count_unlock}
 use Rattle.typing_rules.proofs.Parts.{all_counted, and_true}
 use Rattle.typing_rules.proofs.walk.Walk.unlock.Goals as goal
@@ -29,8 +29,8 @@ returns c a k =
     let held : c.holds-held.result ≡ has a.held l = c.holds-held.ensures ∙ ap (λ m. has m.held l) (c.modes.ensures p t a k) in
     let first = of_lock p t at V7 l (has a.held l) ∷ [] in
     let taken : Decides first c.require_at-taken.result =
-    subst (λ n. Decides (thread_entry t at V7 (One n) (has a.held l) ∷ []) c.require_at-taken.result) c.lock_name.ensures
-    (subst (λ b. Decides (thread_entry t at V7 (One c.lock_name.result) b ∷ []) c.require_at-taken.result) held
+    subst (λ n. Decides (thread_obligation t at V7 (One n) (has a.held l) ∷ []) c.require_at-taken.result) c.lock_name.ensures
+    (subst (λ b. Decides (thread_obligation t at V7 (One c.lock_name.result) b ∷ []) c.require_at-taken.result) held
     (rw c.site.ensures at c.require_at-taken.ensures)) in
     let rest = flat (last_parts p t at proofs 1 (length gs) gs (after ∷ [])) in
     let last = c.check_last-last.ensures gs (after ∷ []) (length gs) tries (c.has_small_types.ensures p t after keeps ∙ sym (and_true (has_small_types after))) (zero-add (length gs)) in

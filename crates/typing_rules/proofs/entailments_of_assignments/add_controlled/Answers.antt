@@ -1,0 +1,50 @@
+use Rattle.std.proofs.Common.{◌≡◌, ◌<◌, ◌+◌, ◌++◌, ◌∙◌, ap, sym, length, map, arith}
+use Rattle.std.specs.Prelude.{filter}
+use Rattle.std.specs.List.{range_with_len}
+use Rattle.std.proofs.lemmas.List.{length-map}
+use Rattle.cov_expr.specs.View.{term}
+use Rattle.cov_ast.specs.Declarations.{is_control}
+use Rattle.cov_ast.specs.Plain.{plain}
+use Rattle.cov_ast.specs.View as view
+use Rattle.typing_rules.specs.Inside.Listed.{entailments_of, is_shown_controlled}
+use Rattle.typing_rules.specs.Entailments.{controlled_follows, shown_controlled}
+use Rattle.typing_rules.proofs.ListedLaws.{added_none, added_if, large_if, large_between, range_more}
+use Rattle.typing_rules.proofs.entailments_of_assignments.add_controlled.Goals as goal
+
+pub returns-then-not-is_control : goal.returns-then-not-is_control
+returns-then-not-is_control c t a kept =
+    let p = plain (view.program c.args.p.now) in
+    let x = c.args.x in
+    let inside : x < length (map view.var c.args.p.now.vars) = omega (arith, c.requires.variable, length-map c.args.p.now.vars view.var) in
+    added_none (is_control p x) (entailments_of a.preds c.args.entailments.now) (map (controlled_follows p t a x (term c.args.e.now)) (shown_controlled p t a x))
+    (sym (c.is_control.ensures p t a kept inside) ∙ c.if-not-is_control.true)
+
+pub returns-then-not-branch : goal.returns-then-not-branch
+returns-then-not-branch c t a kept =
+    let p = plain (view.program c.args.p.now) in
+    let x = c.args.x in
+    let y = c.loop-y.y in
+    let asked = controlled_follows p t a x (term c.args.e.now) in
+    let inside : x < length (map view.var c.args.p.now.vars) = omega (arith, c.requires.variable, length-map c.args.p.now.vars view.var) in
+    let below : y < 0 + length (map view.var c.args.p.now.vars) = omega (arith, length-map c.args.p.now.vars view.var) in
+    large_if (is_control p x) (map asked (shown_controlled p t a x)) (sym (c.is_control.ensures p t a kept inside) ∙ c.if-not-is_control.false)
+    (large_between asked (is_shown_controlled p t a x) 0 (length p.vars) y (omega arith) below
+    (rw c.if-not-branch.true at (c.in_ok-add_controlled_by.ensures t a kept)))
+
+pub loop-y-preserved : goal.loop-y-preserved
+loop-y-preserved c t a kept =
+    let p = plain (view.program c.args.p.now) in
+    range_more (controlled_follows p t a c.args.x (term c.args.e.now)) (is_shown_controlled p t a c.args.x) (entailments_of a.preds c.args.entailments.now)
+    (entailments_of a.preds c.loop-y.entailments) (entailments_of a.preds c.add_controlled_by.new.entailments) c.loop-y.y (c.loop-y.invariant t a kept)
+    (rw c.if-not-branch.false at (c.in_ok-add_controlled_by.ensures t a kept))
+
+pub returns : goal.returns
+returns c t a kept =
+    let p = plain (view.program c.args.p.now) in
+    let x = c.args.x in
+    let asked = controlled_follows p t a x (term c.args.e.now) in
+    let inside : x < length (map view.var c.args.p.now.vars) = omega (arith, c.requires.variable, length-map c.args.p.now.vars view.var) in
+    let all : c.loop-y.y ≡ length (map view.var c.args.p.now.vars) = omega (arith, length-map c.args.p.now.vars view.var) in
+    added_if (is_control p x) (entailments_of a.preds c.args.entailments.now) (entailments_of a.preds c.loop-y.entailments) (map asked (shown_controlled p t a x))
+    (sym (c.is_control.ensures p t a kept inside) ∙ c.if-not-is_control.false)
+    (c.loop-y.invariant t a kept ∙ ap (λ n. entailments_of a.preds c.args.entailments.now ++ map asked (filter (is_shown_controlled p t a x) (range_with_len 0 n))) all)

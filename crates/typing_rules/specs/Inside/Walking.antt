@@ -1,0 +1,163 @@
+-- What a walk over the statements of a thread rests on, and what its parts answer.
+use Rattle.std.specs.Prelude.{◌≡◌, ℕ, suc, ◌+◌, ◌<◌, ◌≤◌, ◌&&◌, List, [], ◌∷◌, ◌++◌, length, map, Bool, true, if◌then◌else◌, None, Result, Ok, Err, IsTrue}
+use Rattle.std.specs.List.{list_all}
+use Rattle.cov_expr.specs.Term.{Term, neg}
+use Rattle.cov_expr.specs.Trees.{vars}
+use Rattle.cov_expr.specs.Words.{HasVarsBelow}
+use Rattle.cov_ast.specs.Declarations.{is_control}
+use Rattle.cov_ast.specs.Obligations.{all_hold, Decides, Obligation, first_false}
+use Rattle.cov_ast.specs.Plain.{Plain, plain}
+use Rattle.cov_ast.specs.Syntax.{State, Proof, Stm, Block}
+use Rattle.cov_ast.specs.View as view
+use Rattle.cov_ast.specs.WellFormed.{IsWellFormed}
+use Rattle.cov_ast.specs.declared.refusal.CheckFault.{CheckFault}
+use Rattle.cov_ast.specs.declared.refusal.Rule.TheVariants.{V2, V5}
+use Rattle.mode_compat.specs.Declared.{declaration_obligations}
+use Rattle.mode_state.specs.Sets.{Sets, is_stable, may_write, modes_at}
+use Rattle.typing_state.specs.After.{meet, with_guard}
+use Rattle.typing_state.specs.Kept.{Keeps}
+use Rattle.typing_state.specs.Point as spec
+use Rattle.typing_state.specs.Point.{is_tracked}
+use Rattle.typing_state.specs.declared.point.Point.{Point}
+use Rattle.typing_rules.specs.Counts.{entailment_count}
+use Rattle.typing_rules.specs.Blocks.{after_block, after_stm}
+use Rattle.typing_rules.specs.Entailments.{Entailment, is_small_entailment, guard_follows, state_follows}
+use Rattle.typing_rules.specs.Obligations.{block_obligations, few_preds, flat, guard_obligations, narrow, numbers, of_var, one_unstable, over_controls, proved, reads, same_locks, small_terms, state_obligations, stm_parts, type_obligations}
+use Rattle.typing_rules.specs.declared.entailments_tried.Tried.{Tried}
+use Rattle.typing_rules.specs.declared.walk.Guarded.{Guarded}
+use Rattle.typing_rules.specs.declared.walk.Walk.{Walk}
+use Rattle.typing_rules.specs.declared.walk.Walked.{Walked}
+
+-- whichever locks the thread holds for which these are its sets
+abbrev pub AtHeld : Plain → (t : ℕ) → Sets → (List Bool → Type 0) → Type 0
+AtHeld p t sets P = (held : List Bool) → sets ≡ modes_at p t held → P held
+
+-- whatever point of the thread this is kept of
+abbrev pub AtPoint : Plain → (t : ℕ) → Point → (spec.Point → Type 0) → Type 0
+AtPoint p t kept P = (a : spec.Point) → Keeps p t a kept → P a
+
+-- All obligations hold, and this is the point after them, with how many entailments were counted; or this is the first
+-- obligation that doesn't hold, unless memory ran out.
+abbrev pub Walks : Plain → (t : ℕ) → List Obligation → (after : spec.Point) → (counted : ℕ) → Result Walked CheckFault → Type 0
+Walks p t obligations after counted (Ok walked) =
+    (first_false obligations ≡ None) × Keeps p t after walked.point × (walked.entailments ≡ counted)
+Walks p t obligations after counted (Err fault) = Decides obligations (Err fault)
+
+-- The program is well formed, its declarations keep the rules, and it has the thread.
+pub record IsWalk (w : Walk) : Type 0 where
+  pub formed : IsWellFormed (view.program w.program.now)
+  pub declared : IsTrue (all_hold (declaration_obligations (view.program w.program.now)))
+  pub thread : w.thread < length w.program.now.threads
+
+-- the program of a walk, without its annotations
+abbrev pub plain_of : Walk → Plain
+plain_of w = plain (view.program w.program.now)
+
+-- each type of a point is over variables below a bound
+abbrev pub HasTypesBelow : spec.Point → ℕ → Type 0
+HasTypesBelow a n = (z : ℕ) → HasVarsBelow (spec.type_at a z) n
+
+-- This is kept of some point of the thread, whose types are over variables of the program.
+pub record Stands (w : Walk) (kept : Point) : Type 0 where
+  pub at : spec.Point
+  pub keeps : Keeps (plain_of w) w.thread at kept
+  pub types : HasTypesBelow at (length w.program.now.vars)
+
+-- whatever point of the thread this is kept of
+abbrev pub Wherever : Walk → Point → (spec.Point → Type 0) → Type 0
+Wherever w kept P = AtPoint (plain_of w) w.thread kept P
+
+-- Statements and blocks ------------------------------------------------------------------------------------------
+
+-- the answer about a statement
+abbrev pub WalksStm : Walk → (at : ℕ) → Stm → List Proof → Point → Result Walked CheckFault → Type 0
+WalksStm w at s proofs kept result =
+    Wherever w kept (λ a. let obligations = flat (stm_parts (plain_of w) w.thread s at proofs a) in
+    Walks (plain_of w) w.thread obligations (after_stm (plain_of w) w.thread s a) (entailment_count obligations) result)
+
+-- the answer about a block
+abbrev pub WalksBlock : Walk → Block → Point → Result Walked CheckFault → Type 0
+WalksBlock w b kept result =
+    Wherever w kept (λ a. let obligations = block_obligations (plain_of w) w.thread b a in
+    Walks (plain_of w) w.thread obligations (after_block (plain_of w) w.thread b a) (entailment_count obligations) result)
+
+-- Entailments ----------------------------------------------------------------------------------------------------
+
+-- What came of entailments that are numbered from a number on: whether they are small, and, if so, how many there are and
+-- the verdict on their certificates.
+pub record Tries (p : Plain) (t at : ℕ) (proofs : List Proof) (n : ℕ) (gs : List Entailment) (tried : Tried) : Type 0 where
+  pub few : tried.count ≤ length gs
+  pub small : tried.small ≡ list_all is_small_entailment gs
+  pub decided : tried.small ≡ true → (tried.count ≡ length gs) × Decides (proved p t at proofs n gs) tried.proved
+
+-- the same in a walk
+abbrev pub TriesAt : Walk → (at : ℕ) → List Proof → (n : ℕ) → List Entailment → Tried → Type 0
+TriesAt w at proofs n gs tried = Tries (plain_of w) w.thread at proofs n gs tried
+
+-- Parts of branches and loops ------------------------------------------------------------------------------------
+
+module _ (p : Plain) (t at : ℕ) where
+  -- of an assignment of a value of a type, what is asked of the type and of those that are retyped
+  abbrev pub type_parts : spec.Point → (x : ℕ) → (e q : Term) → (retypes : List (ℕ × Term)) → List (List Obligation)
+  type_parts a x e q retypes =
+      (over_controls p t at a.held q ∷ [])
+      ∷ (if is_control p x then map (of_var p t at V5 (is_stable p t a.held)) (vars e) else [])
+      ∷ type_obligations p t at (λ z. is_control p x && is_tracked p t a.held z) a.held [] retypes
+      ∷ []
+
+  -- of an assignment of a value of a type, what is asked before it
+  abbrev pub value_parts : spec.Point → (x : ℕ) → (e q : Term) → (retypes : List (ℕ × Term)) → List (List Obligation)
+  value_parts a x e q retypes =
+      reads p t at a.held e
+      ∷ (of_var p t at V2 (may_write p t a.held) x ∷ [])
+      ∷ one_unstable p t at a.held e
+      ∷ narrow p t at e
+      ∷ type_parts a x e q retypes
+
+  -- V16, V9 and V13 of entailments that are numbered from a number on, and of the points after them, where a statement has
+  -- so many
+  abbrev pub last_parts : List Proof → (n count : ℕ) → List Entailment → List spec.Point → List (List Obligation)
+  last_parts proofs n count gs points = small_terms p t at gs points ∷ proved p t at proofs n gs ∷ numbers p t at count proofs ∷ []
+
+  -- V15, V16 and V9 before a block is entered
+  abbrev pub first_parts : List Proof → List Entailment → List spec.Point → List (List Obligation)
+  first_parts proofs gs points = few_preds p t at points ∷ small_terms p t at gs [] ∷ proved p t at proofs 1 gs ∷ []
+
+  -- of a branch, before its blocks
+  abbrev pub fork_parts : List Proof → spec.Point → Term → (points : List spec.Point) → List (List Obligation)
+  fork_parts proofs a e points = guard_obligations p t at a.held e ∷ first_parts proofs (guard_follows p t a e ∷ []) points
+
+  -- of a branch, after its blocks
+  abbrev pub join_parts : List Proof → (before : ℕ) → State → (first second : spec.Point) → List (List Obligation)
+  join_parts proofs before join first second =
+      same_locks p t at first.held second.held ∷ state_obligations p t at first.held join
+      ∷ (let hs = state_follows first join ++ state_follows second join in
+      last_parts proofs (suc before) (before + length hs) hs (meet p t first join ∷ []))
+
+  -- of a loop, before its block
+  abbrev pub head_parts : List Proof → spec.Point → State → Term → (points : List spec.Point) → List (List Obligation)
+  head_parts proofs a inv e points =
+      state_obligations p t at a.held inv ∷ guard_obligations p t at a.held e
+      ∷ first_parts proofs (state_follows a inv ++ guard_follows p t (meet p t a inv) e ∷ []) points
+
+  -- of a loop, after its block
+  abbrev pub turn_parts : List Proof → (before : ℕ) → State → (end after : spec.Point) → List (List Obligation)
+  turn_parts proofs before inv end after =
+      same_locks p t at end.held after.held
+      ∷ last_parts proofs (suc before) (before + length (state_follows end inv)) (state_follows end inv) (after ∷ [])
+
+-- All obligations hold, and these are the points where a guard holds and where it doesn't, with how many entailments were
+-- counted; or this is the first obligation that doesn't hold, unless memory ran out.
+abbrev pub Guards : Plain → (t : ℕ) → List Obligation → (holds fails : spec.Point) → (counted : ℕ) → Result Guarded CheckFault → Type 0
+Guards p t obligations holds fails counted (Ok guarded) =
+    (first_false obligations ≡ None) × Keeps p t holds guarded.holds × Keeps p t fails guarded.fails × (guarded.count ≡ counted)
+Guards p t obligations holds fails counted (Err fault) = Decides obligations (Err fault)
+
+-- the points where a guard holds and where it doesn't
+abbrev pub starts_of : Walk → spec.Point → Term → List spec.Point
+starts_of w a e = with_guard (plain_of w) w.thread a e ∷ with_guard (plain_of w) w.thread a (neg e) ∷ []
+
+-- the answer about what stands before a guard that is tried at a point
+abbrev pub GuardsAt : Walk → List Obligation → spec.Point → Term → (counted : ℕ) → Result Guarded CheckFault → Type 0
+GuardsAt w obligations a e counted result =
+    Guards (plain_of w) w.thread obligations (with_guard (plain_of w) w.thread a e) (with_guard (plain_of w) w.thread a (neg e)) counted result

@@ -1,0 +1,193 @@
+//! Whether entailments are small, whether each has a valid certificate (V9), and whether the numbers of proofs are theirs (V13).
+
+ghost use Rattle.std.specs.Prelude.{◌≡◌, ◌<◌, ◌+◌, ◌^◌, ◌==◌, ℕ, [], ◌∷◌, length, map, count_by};
+ghost use Rattle.std.specs.List.{list_all};
+ghost use Rattle.cov_expr.specs.View.{term};
+ghost use Rattle.cov_ast.specs.Obligations.{Decides};
+ghost use Rattle.cov_ast.specs.Plain.{Plain, plain};
+ghost use Rattle.cov_ast.specs.Syntax.{auto};
+ghost use Rattle.cov_ast.specs.View as view;
+ghost use Rattle.cov_ast.specs.declared.refusal.Detail.TheVariants.{Number};
+ghost use Rattle.cov_ast.specs.declared.refusal.Rule.TheVariants.{V9};
+ghost use Rattle.entail_cert.specs.Answers.{Answers};
+ghost use Rattle.entail_cert.specs.Valid.{first_bad};
+ghost use Rattle.typing_state.specs.Terms.{is_small};
+ghost use Rattle.typing_rules.specs.Inside.Walking.{AtPoint};
+ghost use Rattle.typing_rules.specs.Inside.Listed.{entailment_of, entailments_of, held_term};
+ghost use Rattle.typing_rules.specs.Entailments as spec;
+ghost use Rattle.typing_rules.specs.Obligations as rule;
+
+use crate::entailments::{Entailment, Held};
+use crate::site::{Site, refused_at};
+use cov_ast::{Cert, CheckFault, Detail, Program, Proof, Rule};
+use cov_expr::{Expr, nodes_at_most};
+use entail_cert::{CertFault, check_cert, check_cert_with};
+use std::alloc::Global;
+use typing_state::Point;
+
+/// Whether no entailment has a hypothesis or a goal of more than 1,000 nodes.
+pub fn are_small(point: &Point, entailments: &[Entailment<'_>]) -> bool
+    ensures { (p : Plain) → (t : ℕ) → AtPoint p t point.now (λ a. result ≡ list_all spec.is_small_entailment (entailments_of a.preds entailments.now)) }
+{
+    if entailments.is_empty() {
+        return true;
+    }
+    are_small_exprs(point.preds().as_slice()) && are_small_entailments(entailments)
+}
+
+/// Whether each expression has at most 1,000 nodes.
+fn are_small_exprs(es: &[Expr]) -> bool
+    ensures { result ≡ list_all (λ e. is_small (term e)) es.now }
+{
+    es.iter().all(|e| nodes_at_most(e, 1000))
+}
+
+/// Whether what entailments have beside predicates is small.
+fn are_small_entailments(entailments: &[Entailment<'_>]) -> bool
+    ensures { result ≡ list_all (λ c. spec.is_small_entailment (entailment_of [] c)) entailments.now }
+{
+    entailments.iter().all(is_small)
+}
+
+/// Whether what an entailment has beside predicates is small.
+fn is_small(entailment: &Entailment<'_>) -> bool
+    ensures { result ≡ spec.is_small_entailment (entailment_of [] entailment.now) }
+{
+    let small_more = match &entailment.more {
+        Some(more) => nodes_at_most(held_expr(more), 1000),
+        None => true,
+    };
+    small_more && nodes_at_most(held_expr(&entailment.goal), 1000)
+}
+
+/// Each entailment has a valid certificate (V9). They are numbered from a number on.
+pub fn check_entailments(
+    alloc: Global,
+    p: &Program,
+    site: Site,
+    point: &Point,
+    proofs: &[Proof],
+    from: u32,
+    entailments: &[Entailment<'_>],
+) -> Result<(), CheckFault>
+    requires { from + length entailments.now < 2 ^ 32 }
+    ensures { AtPoint (plain (view.program p.now)) site.thread point.now (λ a. Decides
+        (rule.proved (plain (view.program p.now)) site.thread site.place (map view.proof proofs.now) from (entailments_of a.preds entailments.now)) result) }
+{
+    let mut number = from;
+    for entailment in entailments {
+        if let Err(fault) = check_entailment(alloc, p, site, point, proofs, number, entailment) {
+            return Err(fault);
+        }
+        number += 1;
+    }
+    Ok(())
+}
+
+/// An entailment has a valid certificate (V9).
+fn check_entailment(
+    alloc: Global,
+    p: &Program,
+    site: Site,
+    point: &Point,
+    proofs: &[Proof],
+    number: u32,
+    entailment: &Entailment<'_>,
+) -> Result<(), CheckFault>
+    ensures { AtPoint (plain (view.program p.now)) site.thread point.now (λ a. Decides
+        (rule.obligation (plain (view.program p.now)) site.thread site.place V9 (Number number)
+        (spec.is_proved (map view.proof proofs.now) number (entailment_of a.preds entailment.now)) ∷ [])
+        result) }
+{
+    match try_proof(alloc, point, proofs, number, entailment) {
+        Ok(()) => Ok(()),
+        Err(CertFault::Invalid(_)) => Err(refused_at(site, Rule::V9, Detail::Number(number))),
+        Err(CertFault::NoMemory) => Err(CheckFault::NoMemory),
+    }
+}
+
+/// Tries the certificate that is given for the number of an entailment, else `auto`.
+fn try_proof(
+    alloc: Global,
+    point: &Point,
+    proofs: &[Proof],
+    number: u32,
+    entailment: &Entailment<'_>,
+) -> Result<(), CertFault>
+    ensures { (p : Plain) → (t : ℕ) → AtPoint p t point.now (λ a. Answers
+        (first_bad (entailment_of a.preds entailment.now).hyps (entailment_of a.preds entailment.now).goal (spec.cert_for (map view.proof proofs.now) number)) result) }
+{
+    let auto = Cert::Auto;
+    try_entailment(alloc, point, entailment, cert_for(proofs, number, &auto))
+}
+
+/// Tries a certificate for an entailment.
+fn try_entailment(
+    alloc: Global,
+    point: &Point,
+    entailment: &Entailment<'_>,
+    cert: &Cert,
+) -> Result<(), CertFault>
+    ensures { (p : Plain) → (t : ℕ) → AtPoint p t point.now (λ a.
+        Answers (first_bad (entailment_of a.preds entailment.now).hyps (entailment_of a.preds entailment.now).goal (view.cert cert.now)) result) }
+{
+    let goal = held_expr(&entailment.goal);
+    match &entailment.more {
+        Some(more) => check_cert_with(alloc, point.preds(), held_expr(more), goal, cert),
+        None => check_cert(alloc, point.preds(), goal, cert),
+    }
+}
+
+/// The expression that is lent or made.
+fn held_expr<'a>(held: &'a Held<'_>) -> &'a Expr
+    ensures { term result.now ≡ held_term held.now }
+{
+    match held {
+        Held::Lent(e) => e,
+        Held::Made(e) => e,
+    }
+}
+
+/// The first certificate that is given for a number, else the one that is handed in.
+fn cert_for<'a>(proofs: &'a [Proof], number: u32, other: &'a Cert) -> &'a Cert
+    requires { view.cert other.now ≡ auto }
+    ensures { view.cert result.now ≡ spec.cert_for (map view.proof proofs.now) number }
+{
+    for proof in proofs {
+        if proof.number == number {
+            return &proof.cert;
+        }
+    }
+    other
+}
+
+/// Each number of a proof is that of one of so many entailments, and no other proof has it (V13).
+pub fn check_numbers(
+    p: &Program,
+    site: Site,
+    count: usize,
+    proofs: &[Proof],
+) -> Result<(), CheckFault>
+    ensures { Decides (rule.numbers (plain (view.program p.now)) site.thread site.place count (map view.proof proofs.now)) result }
+{
+    for proof in proofs {
+        if !is_number(count, proofs, proof.number) {
+            return Err(refused_at(site, Rule::V13, Detail::Number(proof.number)));
+        }
+    }
+    Ok(())
+}
+
+/// Whether a number is that of one of so many entailments, and one proof has it.
+fn is_number(count: usize, proofs: &[Proof], number: u32) -> bool
+    ensures { result ≡ rule.is_number count (map view.proof proofs.now) number }
+{
+    1 <= number && number as usize <= count && times_given(proofs, number) == 1
+}
+
+/// How many proofs have a number.
+fn times_given(proofs: &[Proof], number: u32) -> usize
+    ensures { result ≡ count_by (λ q. q.number == number) proofs.now }
+{
+    proofs.iter().filter(|q| q.number == number).count()
+}

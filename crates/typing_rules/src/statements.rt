@@ -1,0 +1,156 @@
+//! Statements without blocks.
+
+ghost use Rattle.std.specs.Prelude.{◌≡◌, ◌<◌, ℕ, List, length, map, option_map, IfOk};
+ghost use Rattle.cov_expr.specs.View.{term};
+ghost use Rattle.cov_expr.specs.Words.{HasVarsBelow};
+ghost use Rattle.cov_ast.specs.Declarations.{lock_at};
+ghost use Rattle.cov_ast.specs.Obligations.{Decides};
+ghost use Rattle.cov_ast.specs.Plain.{plain};
+ghost use Rattle.cov_ast.specs.Syntax as syntax;
+ghost use Rattle.cov_ast.specs.View as view;
+ghost use Rattle.cov_ast.specs.WellFormed.{AreTypesInRange, IsStateInRange, IsStmInRange, IsTypeInRange, state_size, stm_size};
+ghost use Rattle.typing_rules.specs.Obligations.{flat};
+ghost use Rattle.typing_rules.specs.Inside.Walking.{IsWalk, Stands, WalksStm, Wherever, plain_of, value_parts};
+
+use crate::certificates::check_numbers;
+use crate::site::require_at;
+use crate::sizes::{check_few_preds, require_small};
+use crate::types::check_state;
+use crate::walk::{Walk, Walked, both, finish};
+use cov_ast::{CheckFault, Detail, Program, Proof, Retype, Rule, State};
+use cov_expr::{Expr, List, Name};
+use typing_state::Point;
+
+impl Walk<'_> {
+    /// Checks a skip.
+    pub fn skip(&self, at: u32, proofs: &[Proof], point: Point) -> Result<Walked, CheckFault>
+        ensures { WalksStm self.now at syntax.skip (map view.proof proofs.now) point result }
+    {
+        finish(
+            point,
+            0,
+            check_numbers(self.program, self.site(at), 0, proofs),
+        )
+    }
+
+    /// Checks that a lock is taken.
+    pub fn lock(&self, at: u32, l: u32, point: Point) -> Result<Walked, CheckFault>
+        requires walk { IsWalk self.now }
+        requires lock { l < length self.now.program.now.locks }
+        ensures { (proofs : List syntax.Proof) → WalksStm self.now at (syntax.lock l) proofs point result }
+    {
+        let (p, site) = (self.program, self.site(at));
+        let held = point.modes().holds(l);
+        let free = require_at(site, !held, Rule::V6, Detail::One(lock_name(p, l)));
+        let after = point.after_lock(self.alloc, p, l)?;
+        let few = check_few_preds(p, site, &after);
+        let small = require_small(p, site, after.has_small_types());
+        finish(after, 0, both(free, both(few, small)))
+    }
+
+    /// Checks that a lock is given back.
+    pub fn unlock(
+        &self,
+        at: u32,
+        l: u32,
+        proofs: &[Proof],
+        point: Point,
+    ) -> Result<Walked, CheckFault>
+        requires walk { IsWalk self.now }
+        requires lock { l < length self.now.program.now.locks }
+        requires point { Stands self.now point }
+        ensures { WalksStm self.now at (syntax.unlock l) (map view.proof proofs.now) point result }
+    {
+        let p = self.program;
+        let held = point.modes().holds(l);
+        let taken = require_at(self.site(at), held, Rule::V7, Detail::One(lock_name(p, l)));
+        let tried = self.try_unlock(at, &point, l, proofs)?;
+        let entailments = u64::from(tried.count);
+        let after = point.after_unlock(self.alloc, p, l)?;
+        let last = self.check_last(at, proofs, 0, tried, after.has_small_types());
+        finish(after, entailments, both(taken, last))
+    }
+
+    /// Checks a note.
+    pub fn note(
+        &self,
+        at: u32,
+        j: &State,
+        proofs: &[Proof],
+        point: Point,
+    ) -> Result<Walked, CheckFault>
+        requires range { IsStateInRange (length self.now.program.now.vars) (length self.now.program.now.locks) (view.state j.now) }
+        requires small { state_size (view.state j.now) < 2097152 }
+        requires point { Stands self.now point }
+        ensures { WalksStm self.now at (syntax.note (view.state j.now)) (map view.proof proofs.now) point result }
+    {
+        let stated = check_state(self.program, self.site(at), &point, j);
+        let tried = self.try_state(at, &point, j, proofs, 1)?;
+        let entailments = u64::from(tried.count);
+        let after = point.noted(self.alloc, j)?;
+        let last = self.check_last(at, proofs, 0, tried, after.has_small_types());
+        finish(after, entailments, both(stated, last))
+    }
+
+    /// Checks an assignment.
+    pub fn assign(
+        &self,
+        at: u32,
+        x: u32,
+        e: &Expr,
+        written: &Option<Expr>,
+        retypes: &List<Retype>,
+        proofs: &[Proof],
+        point: Point,
+    ) -> Result<Walked, CheckFault>
+        requires walk { IsWalk self.now }
+        requires range { IsStmInRange (length self.now.program.now.vars) (length self.now.program.now.locks)
+            (syntax.assign x (term e.now) (option_map term written.now) (map view.retype retypes.now)) }
+        requires small { stm_size (syntax.assign x (term e.now) (option_map term written.now) (map view.retype retypes.now)) < 2097152 }
+        requires point { Stands self.now point }
+        ensures { WalksStm self.now at (syntax.assign x (term e.now) (option_map term written.now) (map view.retype retypes.now)) (map view.proof proofs.now) point result }
+    {
+        let Some(q) = self.value_type(e, written, &point)? else {
+            return Err(self.refuse_large(at, x, e, retypes, point));
+        };
+        let items = retypes.as_slice();
+        if let Err(fault) = self.check_value(at, x, e, &q, items, &point) {
+            return Err(fault);
+        }
+        let tried = self.try_assign(at, &point, x, e, written, &q, items, proofs)?;
+        let entailments = u64::from(tried.count);
+        let after = point.after_assign(self.alloc, self.program, x, e, q, retypes)?;
+        let few = check_few_preds(self.program, self.site(at), &after);
+        let last = self.check_last(at, proofs, 0, tried, after.has_small_types());
+        finish(after, entailments, both(few, last))
+    }
+
+    /// Checks what is asked before a value of a type is assigned.
+    fn check_value(
+        &self,
+        at: u32,
+        x: u32,
+        e: &Expr,
+        q: &Expr,
+        retypes: &[Retype],
+        point: &Point,
+    ) -> Result<(), CheckFault>
+        requires variable { x < length self.now.program.now.vars }
+        requires value { HasVarsBelow (term e.now) (length self.now.program.now.vars) }
+        requires typed { HasVarsBelow (term q.now) (length self.now.program.now.vars) }
+        requires range { AreTypesInRange (length self.now.program.now.vars) (length self.now.program.now.locks) (map view.retype retypes.now) }
+        ensures { Wherever self.now point.now (λ a. Decides
+            (flat (value_parts (plain_of self.now) self.now.thread at a x (term e.now) (term q.now) (map view.retype retypes.now))) result) }
+    {
+        let over = point.is_over_controls(q);
+        self.check_before(at, x, e, over, retypes, point)
+    }
+}
+
+/// The name of a lock.
+fn lock_name(p: &Program, l: u32) -> Name
+    requires { l < length p.now.locks }
+    ensures { result ≡ (lock_at (plain (view.program p.now)) l).name }
+{
+    p.locks.as_slice()[l as usize].name
+}
