@@ -1,7 +1,7 @@
 use cov_expr::{Expr, List};
 
 /// A certificate: why a goal follows from hypotheses. Hypotheses are numbered from 1.
-#[derive(Debug, Drop)]
+#[derive(Drop)]
 pub enum Cert {
     /// A closed hypothesis is 0, or each conjunct of the goal is closed and not 0, or is a conjunct of a hypothesis.
     Auto,
@@ -46,7 +46,7 @@ pub enum Cert {
 }
 
 /// The certificate of an entailment of a statement. Entailments are numbered from 1 in the order in which they arise.
-#[derive(Debug, Drop)]
+#[derive(Drop)]
 pub struct Proof {
     pub number: u32,
     pub cert: Cert,

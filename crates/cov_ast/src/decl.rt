@@ -10,7 +10,7 @@ use cov_expr::{Expr, List, Name, NoMemory};
 use std::alloc::Global;
 
 /// What an observer may learn of a variable (value-dependent classification, as in COVERN).
-#[derive(Debug, Drop)]
+#[derive(Drop)]
 pub enum Class {
     /// Its word: two runs are compared on it.
     Low,
@@ -21,7 +21,7 @@ pub enum Class {
 }
 
 /// A variable: its name, the byte offset of the name, and its class.
-#[derive(Debug, Drop)]
+#[derive(Drop)]
 pub struct VarDecl {
     pub name: Name,
     pub at: u32,
@@ -29,7 +29,7 @@ pub struct VarDecl {
 }
 
 /// A lock, with what it stands for.
-#[derive(Debug, Drop)]
+#[derive(Drop)]
 pub struct LockDecl {
     pub name: Name,
     pub at: u32,
@@ -43,7 +43,7 @@ pub struct LockDecl {
 
 /// What a thread assumes of the others and guarantees to them, for its whole life (the modes of Mantel, Sands and
 /// Sudbrock; `hide`, as in COVERN, is about reading and writing).
-#[derive(Debug, Drop)]
+#[derive(Drop)]
 pub struct Modes {
     /// Others don't write these.
     pub assume_nowrite: List<u32>,
@@ -56,7 +56,7 @@ pub struct Modes {
 }
 
 /// A thread: its name with the byte offset, its modes, its statements, and the byte offset of its closing brace.
-#[derive(Debug, Drop)]
+#[derive(Drop)]
 pub struct ThreadDecl {
     pub name: Name,
     pub at: u32,
@@ -66,7 +66,7 @@ pub struct ThreadDecl {
 }
 
 /// A program, in which variables, locks and threads are named by their place in these lists.
-#[derive(Debug, Drop)]
+#[derive(Drop)]
 pub struct Program {
     pub vars: List<VarDecl>,
     pub locks: List<LockDecl>,

@@ -12,7 +12,7 @@ use std::marker::Model;
 ///
 /// Names are looked up by hashing. The hash has a fixed seed, so somebody who picks names can make look-ups slow;
 /// what they answer stays the same.
-#[derive(Debug, Drop)]
+#[derive(Drop)]
 pub struct NameTable {
     names: IndexSet<Name>,
 }

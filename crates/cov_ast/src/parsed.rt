@@ -12,7 +12,7 @@ pub struct NameUse {
 
 /// What a text spells. Each variable and each lock is named by the number of its name in the name table, since which
 /// declaration it means, if any, isn't known yet.
-#[derive(Debug, Drop)]
+#[derive(Drop)]
 pub struct Parsed {
     pub names: NameTable,
     /// Every use of a name, in the order of the text.

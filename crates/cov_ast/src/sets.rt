@@ -10,7 +10,7 @@ use std::alloc::Global;
 use std::marker::Model;
 
 /// A set of numbers below a bound, which keeps a truth value for each. Contracts see the list of these.
-#[derive(Debug, Drop)]
+#[derive(Drop)]
 pub struct NumberSet {
     marks: List<bool>,
 }

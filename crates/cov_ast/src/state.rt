@@ -1,7 +1,7 @@
 use cov_expr::{Expr, List};
 
 /// What a join, a loop or a note states. A missing join and an empty one are the same: nothing is stated.
-#[derive(Debug, Drop)]
+#[derive(Drop)]
 pub struct State {
     /// What holds there.
     pub preds: List<Expr>,

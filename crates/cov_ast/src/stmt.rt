@@ -3,7 +3,7 @@ use crate::state::State;
 use cov_expr::{Expr, List};
 
 /// A statement with the byte offset of its first token and the proofs of its entailments.
-#[derive(Debug, Drop)]
+#[derive(Drop)]
 #[cycle(stmt)]
 pub struct Stmt {
     pub at: u32,
@@ -12,7 +12,7 @@ pub struct Stmt {
 }
 
 /// What a statement does. A variable and a lock are named by number.
-#[derive(Debug, Drop)]
+#[derive(Drop)]
 #[cycle(stmt)]
 pub enum StmtKind {
     /// Nothing, in one step.
@@ -33,7 +33,7 @@ pub enum StmtKind {
 }
 
 /// A new type of a tracked variable, given where a control is assigned.
-#[derive(Debug, Drop)]
+#[derive(Drop)]
 pub struct Retype {
     pub var: u32,
     pub class: Expr,

@@ -34,7 +34,7 @@ pub enum Op {
 }
 
 /// An expression over variables, which are named by number.
-#[derive(Debug, Drop)]
+#[derive(Drop)]
 pub enum Expr {
     /// A number.
     Const(u32),

@@ -12,7 +12,7 @@ use std::marker::Model;
 /// Files in memory. It tells them, and it is sure exactly where no call is to fail.
 ///
 /// Contracts see it as its files, the numbers of the calls that fail, how many calls there were, and its two counts.
-#[derive(Debug, Drop)]
+#[derive(Drop)]
 pub struct MemShelf {
     files: List<(Name, Blob)>,
     fails: List<u64>,

@@ -14,7 +14,7 @@ use std::marker::Model;
 ///
 /// Contracts see it as its bytes, how many there is room for, how many a put takes at most, the numbers of the puts
 /// that fail, how many puts there were, and its count.
-#[derive(Debug, Drop)]
+#[derive(Drop)]
 pub struct MemSink {
     bytes: Vec<u8>,
     room: usize,

@@ -25,7 +25,7 @@ pub trait Shelf {
 }
 
 /// What was fetched.
-#[derive(Debug, Drop)]
+#[derive(Drop)]
 pub enum Fetched {
     /// All the bytes under the name.
     Whole(Blob),

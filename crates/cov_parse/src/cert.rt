@@ -2,14 +2,14 @@ use crate::written::Written;
 use cov_expr::List;
 
 /// An expression of the text, with the place of its first token.
-#[derive(Debug, Drop)]
+#[derive(Drop)]
 pub struct Whole {
     pub at: u32,
     pub expr: Written,
 }
 
 /// A certificate.
-#[derive(Debug, Drop)]
+#[derive(Drop)]
 pub enum Cert {
     Auto,
     Calc,

@@ -2,21 +2,21 @@ use crate::cert::Whole;
 use crate::stmt::{Braces, Stmt};
 use cov_expr::List;
 
-#[derive(Debug, Drop)]
+#[derive(Drop)]
 pub enum ClassDecl {
     Low,
     High,
     When(Whole),
 }
 
-#[derive(Debug, Drop)]
+#[derive(Drop)]
 pub struct Variable {
     pub name: u32,
     pub at: u32,
     pub class: ClassDecl,
 }
 
-#[derive(Debug, Drop)]
+#[derive(Drop)]
 pub struct Lock {
     pub name: u32,
     pub at: u32,
@@ -26,13 +26,13 @@ pub struct Lock {
 }
 
 /// Two lists of names.
-#[derive(Debug, Drop)]
+#[derive(Drop)]
 pub struct Pair {
     pub nowrite: List<u32>,
     pub hide: List<u32>,
 }
 
-#[derive(Debug, Drop)]
+#[derive(Drop)]
 pub struct Thread {
     pub name: u32,
     pub at: u32,
@@ -43,7 +43,7 @@ pub struct Thread {
 }
 
 /// A program with its places.
-#[derive(Debug, Drop)]
+#[derive(Drop)]
 pub struct PlacedProgram {
     pub vars: List<Variable>,
     pub locks: List<Lock>,

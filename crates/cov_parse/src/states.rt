@@ -14,14 +14,14 @@ use cov_grammar::{Kind, Stop, TokenReader};
 use std::alloc::Global;
 
 /// A variable and an expression.
-#[derive(Debug, Drop)]
+#[derive(Drop)]
 pub struct Typed {
     pub name: u32,
     pub class: Whole,
 }
 
 /// What a join, a loop or a note states.
-#[derive(Debug, Drop)]
+#[derive(Drop)]
 pub struct State {
     pub at: u32,
     pub preds: List<Whole>,
@@ -29,7 +29,7 @@ pub struct State {
 }
 
 /// A proof of the entailment of a number.
-#[derive(Debug, Drop)]
+#[derive(Drop)]
 pub struct Proof {
     pub number: u32,
     pub at: u32,

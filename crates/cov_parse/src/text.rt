@@ -32,7 +32,7 @@ use cov_lex::lex;
 use std::alloc::Global;
 
 /// What a text spells that is one expression.
-#[derive(Debug, Drop)]
+#[derive(Drop)]
 pub struct ParsedExpr {
     pub names: NameTable,
     /// Every use of a name, in the order of the text.

@@ -2,7 +2,7 @@ use cov_expr::{List, Op};
 
 /// An expression as it is written. The operators of one level are in one list, and marks are counted, so that it nests no
 /// deeper than its brackets do, however long it is.
-#[derive(Debug, Drop)]
+#[derive(Drop)]
 #[cycle(written)]
 pub enum Written {
     Const(u32),
@@ -14,7 +14,7 @@ pub enum Written {
 }
 
 /// An operator and the operand behind it.
-#[derive(Debug, Drop)]
+#[derive(Drop)]
 #[cycle(written)]
 pub struct Tail {
     pub op: Op,

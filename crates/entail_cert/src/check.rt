@@ -13,7 +13,7 @@ use cov_expr::{Expr, List, NoMemory};
 use std::alloc::Global;
 
 /// Why a certificate isn't accepted.
-#[derive(Debug, Drop)]
+#[derive(Drop)]
 pub enum CertFault {
     /// The own condition of a node fails, the first such node in pre-order. The path to it has the numbers of the children, from 1,
     /// that lead there from the root.

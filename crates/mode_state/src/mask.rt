@@ -7,7 +7,7 @@ use crate::bits::{has_bit, next_bit, with_bit};
 use std::marker::Model;
 
 /// A set of numbers below a bound of at most 256, as four words.
-#[derive(Debug, Drop)]
+#[derive(Drop)]
 pub struct Mask {
     words: [u64; 4],
     bound: u32,

@@ -13,7 +13,7 @@ use cov_expr::{List, Name, NoMemory};
 use std::alloc::Global;
 
 /// A declared name and its byte offset.
-#[derive(Debug, Drop)]
+#[derive(Drop)]
 pub struct Declared {
     pub name: Name,
     pub at: u32,

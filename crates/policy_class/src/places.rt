@@ -14,7 +14,7 @@ use std::alloc::Global;
 
 /// Where names are declared, by the number of the name: its place among the variables, and its place among the locks.
 /// Where none is declared, that is their count.
-#[derive(Debug, Drop)]
+#[derive(Drop)]
 pub struct Places {
     pub vars: List<u32>,
     pub locks: List<u32>,

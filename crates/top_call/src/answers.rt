@@ -59,7 +59,7 @@ pub struct Fault {
 }
 
 /// What a call answers, the want of memory and a failed write aside. Names are words of the command line.
-#[derive(Debug, Drop)]
+#[derive(Drop)]
 pub enum Answer<'w> {
     Usage,
     ReadFault(&'w str),
@@ -73,7 +73,7 @@ pub enum Answer<'w> {
 }
 
 /// Why a step of a command gives no value.
-#[derive(Debug, Drop)]
+#[derive(Drop)]
 pub enum Stop<'w> {
     /// This is what the call answers.
     Answer(Answer<'w>),

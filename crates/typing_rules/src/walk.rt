@@ -24,14 +24,14 @@ pub struct Walk<'p> {
 }
 
 /// Where a walk has come: the point after what it has checked, and how many entailments that had.
-#[derive(Debug, Drop)]
+#[derive(Drop)]
 pub struct Walked {
     pub point: Point,
     pub entailments: u64,
 }
 
 /// The points after a guard, where it holds and where it doesn't, and how many entailments were tried so far.
-#[derive(Debug, Drop)]
+#[derive(Drop)]
 pub struct Guarded {
     pub holds: Point,
     pub fails: Point,

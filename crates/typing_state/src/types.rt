@@ -18,7 +18,7 @@ use std::rc::Rc;
 const MOST_NODES: u32 = 1000;
 
 /// A type of a variable, whether it is small, and whether it mentions no variable. Contracts see it as its expression.
-#[derive(Debug, Drop)]
+#[derive(Drop)]
 pub struct Type {
     expr: Expr,
     small: bool,
@@ -79,7 +79,7 @@ impl Type {
 
 /// Of each variable its type, if it has one, and how many of them are large. Copies share the types. Contracts see the list of
 /// the types.
-#[derive(Debug, Drop)]
+#[derive(Drop)]
 pub struct Types {
     known: List<Option<Rc<Type, Global>>>,
     large: usize,

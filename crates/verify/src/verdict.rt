@@ -11,7 +11,7 @@ use cov_ast::Program;
 use typing_rules::Count;
 
 /// That a program is accepted, and what follows: it is secure and disciplined. It keeps how much was checked.
-#[derive(Debug, Drop)]
+#[derive(Drop)]
 pub struct Verdict<'p> {
     pub(crate) program: &'p Program,
     pub(crate) count: Count,
