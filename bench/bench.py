@@ -5,7 +5,8 @@ usage: bench/bench.py [PROGRAM [PARTS]]    (the built programs; without them, th
                                            `rt run` or `rt ci` left in crates/covern_cases/out)
 
 A time is the least processor time (user and system) of several runs, less that of a run on the empty text. The peak memory
-is what the system counts as the most that was resident. Where rustc is on the path, the same texts are given to programs in plain
+is what the system counts as the most that was resident. Where valgrind is on the path, callgrind counts the instructions of one run
+of each text, a count that is the same whatever else the machine does. Where rustc is on the path, the same texts are given to programs in plain
 Rust that do the same work: bench/plain/check.rs for `check`, bench/plain/main.rs for the rest. It wants Linux.
 
 A time of a check of a certificate is the difference of two runs of PARTS that differ in how often they check, over how often
@@ -134,6 +135,27 @@ def time_of(words, runs=RUNS):
             usage = ended(started(words, nowhere.fileno()))
             times.append(usage.ru_utime + usage.ru_stime)
     return min(times)
+
+
+def instructions_of(words):
+    """How many instructions a run takes, where there is a valgrind to count them."""
+    if not shutil.which("valgrind"):
+        return None
+    counting = ["valgrind", "--tool=callgrind", "--callgrind-out-file=/dev/null"]
+    done = subprocess.run(counting + words, stdout=subprocess.DEVNULL, stderr=subprocess.PIPE, check=False)
+    return int(re.search(rb"Collected : (\d+)", done.stderr).group(1))
+
+
+def counted_cells(program, plain, empty, row):
+    """The millions of instructions of a text and their ratio to those of the plain program, less what the empty text takes."""
+    counts = [[instructions_of([made, row.command, path]) for path in (row.path, empty.path)] if made else [None] for made in (program, plain)]
+    if counts[0][0] is None:
+        return ["", ""]
+    ours, theirs = (count[0] - count[1] if count[0] else None for count in counts)
+    return [f"{ours / 1e6:.1f}", f"{ours / theirs:.2f}" if theirs else ""]
+
+
+COUNTED_HEAD = ["million instructions", "of plain's"]
 
 
 def peak_of(program, command, path):
@@ -275,7 +297,7 @@ def formatted(folder):
 def table(program, plain, empty, rows):
     """Prints the table, and gives the criteria that fail."""
     counted = empty.command == "fmt"
-    head = ["text", "bytes", "ms", "growth", "memory/token" if counted else "memory/byte"] + (["of plain"] if plain else [])
+    head = ["text", "bytes", "ms", "growth", "memory/token" if counted else "memory/byte"] + (["of plain"] if plain else []) + COUNTED_HEAD
     print("| " + " | ".join(head) + " |")
     print("|" + " --- |" * len(head))
     for row in rows:
@@ -286,7 +308,7 @@ def table(program, plain, empty, rows):
         cells = [row.name, f"{row.size:,}", f"{seconds * 1000:.1f}", f"{growth:.2f}" if growth else "", f"{memory:.0f}" if row.half or not counted else ""]
         if plain:
             cells.append(f"{seconds / (row.plain_seconds - empty.plain_seconds):.2f}")
-        print("| " + " | ".join(cells) + " |")
+        print("| " + " | ".join(cells + counted_cells(program, plain, empty, row)) + " |")
         if growth and growth > MOST_GROWTH:
             yield f"{row.name}: {growth:.2f} times the time of half the text"
         if peak > MOST_MEMORY * row.size:
@@ -325,7 +347,7 @@ def main():
         failures = []
         for rows in tables:
             print(f"`{rows[0].command}`:\n")
-            failures += table(program, plain, rows[0], rows[1:])
+            failures += table(program, checker if rows[0].command == "check" else plain, rows[0], rows[1:])
             least = peak_of(program, rows[0].command, rows[0].path) / 2**20
             print(f"\n{rows[0].name} text: {rows[0].seconds * 1000:.1f} ms, {least:.1f} MiB\n")
         failures += certificate_table([parts, "--times", "certificates"], [plain, "certs"] if plain else None, certificate_texts)

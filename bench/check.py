@@ -3,7 +3,7 @@
 
 usage: bench/check.py [PROGRAM]    (the built program; without it, the one that the launcher built)
 
-It times as bench/bench.py does. The plain checker is bench/plain/check.rs, where rustc is on the path; both have to print the
+It times and counts instructions as bench/bench.py does. The plain checker is bench/plain/check.rs, where rustc is on the path; both have to print the
 same line for each text, which is an acceptance.
 
 The status is 1 where a criterion fails: twice the statements take at most 2.3 times the time, memory stays under 100 bytes per byte of
@@ -15,7 +15,7 @@ import subprocess
 import sys
 import tempfile
 
-from bench import MOST_GROWTH, TOP, Row, built_plain, peak_of
+from bench import COUNTED_HEAD, MOST_GROWTH, TOP, Row, built_plain, counted_cells, peak_of
 
 ROUNDS = 4
 MOST_MEMORY = 100
@@ -196,7 +196,7 @@ def line_of(program, row):
 
 def table(program, plain, empty, rows):
     """Prints the table, and gives the criteria that fail."""
-    head = ["program", "bytes", "ms", "growth", "memory/byte"] + (["of plain"] if plain else [])
+    head = ["program", "bytes", "ms", "growth", "memory/byte"] + (["of plain"] if plain else []) + COUNTED_HEAD
     print("| " + " | ".join(head) + " |")
     print("|" + " --- |" * len(head))
     least = peak_of(program, empty.command, empty.path)
@@ -206,7 +206,8 @@ def table(program, plain, empty, rows):
         memory = (peak_of(program, row.command, row.path) - least) / row.size
         cells = [row.name, f"{row.size:,}", f"{seconds * 1000:.1f}", f"{growth:.2f}" if growth else "", f"{memory:.0f}"]
         of_plain = seconds / (row.plain_seconds - empty.plain_seconds) if plain else 0
-        print("| " + " | ".join(cells + ([f"{of_plain:.2f}"] if plain else [])) + " |")
+        cells += [f"{of_plain:.2f}"] if plain else []
+        print("| " + " | ".join(cells + counted_cells(program, plain, empty, row)) + " |")
         if growth and growth > MOST_GROWTH:
             yield f"{row.name}: {growth:.2f} times the time of half the statements"
         if memory > MOST_MEMORY:

@@ -1,11 +1,13 @@
 -- A well formed program is well formed without its annotations: it has the same declarations, and of the places and the
 -- counted things of each thread a part.
-use Rattle.std.proofs.Common.{◌≡◌, ◌⊎◌, inl, inr, ℕ, ◌+◌, ◌≤◌, ◌<◌, ◌==◌, ◌&&◌, ◌||◌, List, [], ◌∷◌, ◌++◌, length, map, Bool, true, false, not, refl, sym, ap, subst, arith, IsTrue, None}
+use Rattle.std.proofs.Common.{◌≡◌, ◌⊎◌, inl, inr, ℕ, ◌+◌, ◌≤◌, ◌<◌, ◌==◌, ◌||◌, List, [], ◌∷◌, ◌++◌, length, map, Bool, true, false, not, refl, sym, ap, subst, arith, IsTrue, None}
 use Rattle.std.specs.List.{list_any}
 use Rattle.std.specs.Str.{bytes_eq}
 use Rattle.std.proofs.lemmas.List.{length-map}
 use Rattle.std.proofs.lemmas.List.Elements.{All-nil, All-map}
+use Rattle.std.proofs.lemmas.Bool.{and_from}
 use Rattle.cov_expr.specs.Term.{Term}
+use Rattle.cov_expr.proofs.Tests.{left_true, right_true}
 use Rattle.cov_ast.specs.Syntax.{Var, Lock, Proof, Stm, Block, done, more, Thread, Program}
 use Rattle.cov_ast.specs.Syntax as annotated
 use Rattle.cov_ast.specs.Plain.{no_state, in_front, bare_kind, bare_block, bare_thread, bare}
@@ -33,18 +35,6 @@ part_append (x ∷ xs) [] cs ds h k = absurd h
 part_append (x ∷ xs) (y ∷ ys) cs ds (inl h) k = inl (h.0, part_append xs ys cs ds h.1 k)
 part_append (x ∷ xs) (y ∷ ys) cs ds (inr h) k = inr (part_append (x ∷ xs) ys cs ds h k)
 
-both_true : (a b : Bool) → a ≡ true → b ≡ true → (a && b) ≡ true
-both_true true b h k = k
-both_true false b h k = h
-
-first_true : (a b : Bool) → (a && b) ≡ true → a ≡ true
-first_true true b h = refl
-first_true false b h = h
-
-second_true : (a b : Bool) → (a && b) ≡ true → b ≡ true
-second_true true b h = h
-second_true false b h = let e : false ≡ true = h in cc
-
 neither : (a b : Bool) → not a ≡ true → not b ≡ true → not (a || b) ≡ true
 neither true b h k = h
 neither false b h k = k
@@ -71,10 +61,10 @@ part_distinct : (xs ys : List ℕ) → IsPart xs ys → are_distinct (◌==◌) 
 part_distinct [] ys h k = refl
 part_distinct (x ∷ xs) [] h k = absurd h
 part_distinct (x ∷ xs) (y ∷ ys) (inl h) k =
-    both_true (not (list_any (◌==◌ x) xs)) (are_distinct (◌==◌) xs)
-    (part_none x xs ys h.1 (subst (λ z. not (list_any (◌==◌ z) ys) ≡ true) (sym h.0) (first_true (not (list_any (◌==◌ y) ys)) (are_distinct (◌==◌) ys) k)))
-    (part_distinct xs ys h.1 (second_true (not (list_any (◌==◌ y) ys)) (are_distinct (◌==◌) ys) k))
-part_distinct (x ∷ xs) (y ∷ ys) (inr h) k = part_distinct (x ∷ xs) ys h (second_true (not (list_any (◌==◌ y) ys)) (are_distinct (◌==◌) ys) k)
+    and_from (not (list_any (◌==◌ x) xs)) (are_distinct (◌==◌) xs)
+    (part_none x xs ys h.1 (subst (λ z. not (list_any (◌==◌ z) ys) ≡ true) (sym h.0) (left_true (not (list_any (◌==◌ y) ys)) (are_distinct (◌==◌) ys) k)))
+    (part_distinct xs ys h.1 (right_true (not (list_any (◌==◌ y) ys)) (are_distinct (◌==◌) ys) k))
+part_distinct (x ∷ xs) (y ∷ ys) (inr h) k = part_distinct (x ∷ xs) ys h (right_true (not (list_any (◌==◌ y) ys)) (are_distinct (◌==◌) ys) k)
 
 -- Places -------------------------------------------------------------------------------------------------------
 

@@ -1,15 +1,16 @@
 -- Laws of lists of obligations: the first false one of parts, of lists without repeats, and at a step of a loop.
-use Rattle.std.proofs.Common.{◌≡◌, ℕ, ◌+◌, ◌<◌, ◌==◌, List, [], ◌∷◌, ◌++◌, Bool, true, false, length, map, get_or, drop, refl, sym, ap, ◌∙◌, Option, Some, None, Result, Ok, Err, inl, inr, cond, append_assoc, subst}
+use Rattle.std.proofs.Common.{◌≡◌, ℕ, ◌+◌, ◌<◌, ◌==◌, List, [], ◌∷◌, ◌++◌, Bool, true, false, ◌&&◌, IsTrue, length, map, get_or, drop, refl, sym, ap, ◌∙◌, Option, Some, None, Result, Ok, Err, inl, inr, cond, append_assoc, subst}
 use Rattle.std.specs.List.{flat_map}
 use Rattle.std.specs.Option.{option_or}
 use Rattle.std.proofs.lemmas.List.{append-nil, at_drop_more}
 use Rattle.std.proofs.lemmas.List.Concat.{flat_map-append, flat_map_single}
-use Rattle.std.proofs.lemmas.Bool.{eqb-true, or_cases}
+use Rattle.std.proofs.lemmas.Bool.{and_parts, eqb-true, or_cases}
+use Rattle.std.proofs.lemmas.List.Folds.{list_all-append}
 use Rattle.cov_expr.specs.Term.{Term, const, var, neg, bin}
 use Rattle.cov_expr.specs.Trees.{add_new, has_number, occurrences, vars}
 use Rattle.cov_expr.specs.Words.{HasVarsBelow}
 use Rattle.cov_ast.specs.Tables.{table, has, first_outside}
-use Rattle.cov_ast.specs.Obligations.{Obligation, first_false, Decides, distinct}
+use Rattle.cov_ast.specs.Obligations.{Obligation, all_hold, first_false, Decides, distinct}
 use Rattle.cov_ast.specs.declared.refusal.CheckFault.{CheckFault}
 use Rattle.cov_ast.specs.declared.refusal.CheckFault.TheVariants.{Refused, NoMemory}
 use Rattle.cov_ast.specs.declared.refusal.Refusal.{Refusal}
@@ -192,3 +193,16 @@ module _ (n : ℕ) (test : ℕ → Bool) (r : ℕ → Refusal) where
 
     pub outside_in_range : (c : ℕ) → Some c ≡ first_outside marks (occurrences seen) → c < n
     outside_in_range c some = outside_below n marks e c below (some ∙ ap (λ t. first_outside marks (occurrences t)) (sym same))
+
+-- All obligations ----------------------------------------------------------------------------------------------
+
+pub none_refused : (es : List Obligation) → first_false es ≡ None → IsTrue (all_hold es)
+none_refused [] h = refl
+none_refused (e ∷ es) h = go (none_refused es) e.holds h
+  where
+    go : (first_false es ≡ None → IsTrue (all_hold es)) → (b : Bool) → cond b (first_false es) (Some e.refusal) ≡ None → IsTrue (b && all_hold es)
+    go rest true h = rest h
+    go rest false h = cc
+
+pub both_hold : (a b : List Obligation) → IsTrue (all_hold (a ++ b)) → IsTrue (all_hold a) × IsTrue (all_hold b)
+both_hold a b h = and_parts (all_hold a) (all_hold b) (sym (list_all-append (λ e. e.holds) a b) ∙ h)

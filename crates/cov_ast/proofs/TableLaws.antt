@@ -6,7 +6,9 @@ use Rattle.std.proofs.lemmas.List.FromFn.{get_or-map-range_with_len, length-map-
 use Rattle.std.proofs.lemmas.Bool.{cases_eq, eq-eqb, ne_eqb}
 use Rattle.std.specs.Prelude.{set}
 use Rattle.std.specs.List.{range_with_len}
+use Rattle.std.proofs.Math.Bool.{or-true, or-false}
 use Rattle.cov_expr.specs.Trees.{has_number}
+use Rattle.cov_expr.proofs.Tests.{or_regrouped}
 use Rattle.cov_ast.specs.Tables.{table, has, with_all, first_outside}
 
 -- what a table says below its bound
@@ -23,18 +25,6 @@ table_same n f g h =
     (λ k d b. let lt : k < n = omega (arith, table_length n f) in
     get_or-map-range_with_len f 0 n k k d lt (omega arith) ∙ h k lt ∙ sym (get_or-map-range_with_len g 0 n k k d lt (omega arith)))
 
-pub or_assoc : (a b c : Bool) → (a || (b || c)) ≡ ((a || b) || c)
-or_assoc true b c = refl
-or_assoc false b c = refl
-
-pub or_true : (a : Bool) → (a || true) ≡ true
-or_true true = refl
-or_true false = refl
-
-pub or_false : (a : Bool) → (a || false) ≡ a
-or_false true = refl
-or_false false = refl
-
 pub set_table : (n : ℕ) (f : ℕ → Bool) (x : ℕ) → set (table n f) x true ≡ table n (λ y. f y || x == y)
 set_table n f x =
     same_lists (set (table n f) x true) (table n (λ y. f y || x == y))
@@ -45,16 +35,16 @@ set_table n f x =
     at k d lt (inl e) =
         let inside : x < length (table n f) = omega (arith, table_length n f) in
         ap (λ i. get_or (set (table n f) x true) i d) (sym e) ∙ get_or-set_same (table n f) x true d inside
-        ∙ sym (get_or-map-range_with_len (λ y. f y || x == y) 0 n k k d lt (omega arith) ∙ ap (λ b. f k || b) (eq-eqb x k e) ∙ or_true (f k))
+        ∙ sym (get_or-map-range_with_len (λ y. f y || x == y) 0 n k k d lt (omega arith) ∙ ap (λ b. f k || b) (eq-eqb x k e) ∙ or-true (f k))
     at k d lt (inr ne) =
         get_or-set_other (table n f) x k true d (λ e. ne (sym e)) ∙ get_or-map-range_with_len f 0 n k k d lt (omega arith)
-        ∙ sym (get_or-map-range_with_len (λ y. f y || x == y) 0 n k k d lt (omega arith) ∙ ap (λ b. f k || b) (ne_eqb x k ne) ∙ or_false (f k))
+        ∙ sym (get_or-map-range_with_len (λ y. f y || x == y) 0 n k k d lt (omega arith) ∙ ap (λ b. f k || b) (ne_eqb x k ne) ∙ or-false (f k))
 
 pub with_all_table : (n : ℕ) (f : ℕ → Bool) (xs : List ℕ) → with_all (table n f) xs ≡ table n (λ y. f y || has_number xs y)
-with_all_table n f [] = table_same n f (λ y. f y || false) (λ x h. sym (or_false (f x)))
+with_all_table n f [] = table_same n f (λ y. f y || false) (λ x h. sym (or-false (f x)))
 with_all_table n f (x ∷ xs) =
     ap (λ m. with_all m xs) (set_table n f x) ∙ with_all_table n (λ y. f y || x == y) xs
-    ∙ table_same n (λ y. (f y || x == y) || has_number xs y) (λ y. f y || has_number (x ∷ xs) y) (λ y h. sym (or_assoc (f y) (x == y) (has_number xs y)))
+    ∙ table_same n (λ y. (f y || x == y) || has_number xs y) (λ y. f y || has_number (x ∷ xs) y) (λ y h. sym (or_regrouped (f y) (x == y) (has_number xs y)))
 
 pub none_table : (n : ℕ) → replicate n false ≡ table n (λ y. false)
 none_table n =
@@ -81,3 +71,7 @@ by_number f xs d =
     (length-map xs f ∙ sym (length-map-range_with_len (λ k. f (get_or xs k d)) 0 (length xs)))
     (λ k e lt. let inside : k < length xs = omega (arith, length-map xs f) in
     get_or-map f xs k d e inside ∙ sym (get_or-map-range_with_len (λ k. f (get_or xs k d)) 0 (length xs) k k e inside (omega arith)))
+
+pub with_all_append : (marks : List Bool) (xs ys : List ℕ) → with_all marks (xs ++ ys) ≡ with_all (with_all marks xs) ys
+with_all_append marks [] ys = refl
+with_all_append marks (x ∷ xs) ys = with_all_append (set marks x true) xs ys

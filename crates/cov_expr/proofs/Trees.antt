@@ -1,25 +1,15 @@
 -- What the tests on trees say.
 use Rattle.std.proofs.Common.{◌≡◌, ℕ, zero, suc, ◌==◌, ◌&&◌, ◌||◌, List, [], ◌∷◌, ◌++◌, Bool, true, false, refl, sym, ◌∙◌, ap}
-use Rattle.std.proofs.lemmas.Bool.{eqb-true, eq-eqb}
+use Rattle.std.proofs.Math.Bool.{or-false}
+use Rattle.std.proofs.lemmas.Bool.{eqb-true, eq-eqb, and_from}
 use Rattle.std.proofs.lemmas.List.Folds.{list_any-append}
 use Rattle.cov_expr.specs.declared.expr.Op.{Op}
 use Rattle.cov_expr.specs.declared.expr.Op.TheVariants.{Add, Sub, Mul, And, Or, Xor, Eq, Ne, Lt, Le, Both, Either}
 use Rattle.cov_expr.specs.Term.{Term, const, var, neg, bin}
-use Rattle.cov_expr.specs.Trees.{op_number, same, has_term, add_new}
+use Rattle.cov_expr.specs.Trees.{op_number, same, has_term, has_number, add_new, mentions, occurrences}
+use Rattle.cov_expr.proofs.Tests.{or_regrouped, left_true, right_true}
 
 -- Numbers and truth values -------------------------------------------------------------------------------------
-
-pub and_true : (a b : Bool) → a ≡ true → b ≡ true → (a && b) ≡ true
-and_true true b h k = k
-and_true false b h k = h
-
-pub and_left : (a b : Bool) → (a && b) ≡ true → a ≡ true
-and_left true b h = refl
-and_left false b h = h
-
-pub and_right : (a b : Bool) → (a && b) ≡ true → b ≡ true
-and_right true b h = h
-and_right false b h = let e : false ≡ true = h in cc
 
 -- Equal trees --------------------------------------------------------------------------------------------------
 
@@ -60,10 +50,10 @@ same_is (const j) (const k) h = ap const (eqb-true j k h)
 same_is (var x) (var y) h = ap var (eqb-true x y h)
 same_is (neg a) (neg b) h = ap neg (same_is a b h)
 same_is (bin o a b) (bin q c d) h =
-    let i = and_left ((op_number o == op_number q) && same a c) (same b d) h in
-    let n = op_is o q (eqb-true (op_number o) (op_number q) (and_left (op_number o == op_number q) (same a c) i)) in
-    let x = same_is a c (and_right (op_number o == op_number q) (same a c) i) in
-    let y = same_is b d (and_right ((op_number o == op_number q) && same a c) (same b d) h) in
+    let i = left_true ((op_number o == op_number q) && same a c) (same b d) h in
+    let n = op_is o q (eqb-true (op_number o) (op_number q) (left_true (op_number o == op_number q) (same a c) i)) in
+    let x = same_is a c (right_true (op_number o == op_number q) (same a c) i) in
+    let y = same_is b d (right_true ((op_number o == op_number q) && same a c) (same b d) h) in
     cc
 same_is _ _ h = let e : false ≡ true = h in cc
 
@@ -72,8 +62,8 @@ same_refl (const k) = eq-eqb k k refl
 same_refl (var x) = eq-eqb x x refl
 same_refl (neg a) = same_refl a
 same_refl (bin o a b) =
-    and_true ((op_number o == op_number o) && same a a) (same b b)
-    (and_true (op_number o == op_number o) (same a a) (eq-eqb (op_number o) (op_number o) refl) (same_refl a))
+    and_from ((op_number o == op_number o) && same a a) (same b b)
+    (and_from (op_number o == op_number o) (same a a) (eq-eqb (op_number o) (op_number o) refl) (same_refl a))
     (same_refl b)
 
 -- Parts --------------------------------------------------------------------------------------------------------
@@ -87,3 +77,15 @@ add_new-append (y ∷ ys) zs xs = add_new-append ys zs _
 
 pub add_new-both : (xs mid new ys zs : List ℕ) → mid ≡ add_new xs ys → new ≡ add_new mid zs → new ≡ add_new xs (ys ++ zs)
 add_new-both xs mid new ys zs e f = f ∙ ap (λ found. add_new found zs) e ∙ sym (add_new-append ys zs xs)
+
+-- Occurrences --------------------------------------------------------------------------------------------------
+
+pub has_number-append : (xs ys : List ℕ) (c : ℕ) → has_number (xs ++ ys) c ≡ (has_number xs c || has_number ys c)
+has_number-append [] ys c = refl
+has_number-append (x ∷ xs) ys c = ap (λ b. x == c || b) (has_number-append xs ys c) ∙ or_regrouped (x == c) (has_number xs c) (has_number ys c)
+
+pub occurs : (e : Term) (c : ℕ) → has_number (occurrences e) c ≡ mentions e c
+occurs (const k) c = refl
+occurs (var x) c = or-false (x == c)
+occurs (neg e) c = occurs e c
+occurs (bin op a b) c = has_number-append (occurrences a) (occurrences b) c ∙ (λ i. occurs a c i || occurs b c i)

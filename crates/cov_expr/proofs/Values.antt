@@ -1,6 +1,7 @@
 -- What the value of an expression depends on.
-use Rattle.std.proofs.Common.{◌≡◌, ℕ, zero, suc, ◌+◌, ◌-◌, ◌*◌, ◌%◌, ◌^◌, ◌<◌, ◌==◌, nat_lt, nat_le, ◌&&◌, ◌||◌, not, arith, lit<, List, [], ◌∷◌, length, get_or, set, Bool, true, false, refl, sym, ◌∙◌, ap, if◌then◌else◌, get_or-set_same, get_or-set_other}
-use Rattle.std.proofs.lemmas.Bool.{eqb-true, eq-eqb}
+use Rattle.std.proofs.Common.{◌≡◌, ℕ, zero, suc, ◌+◌, ◌-◌, ◌*◌, ◌%◌, ◌^◌, ◌<◌, ◌≤◌, ◌≢◌, ◌==◌, nat_lt, nat_le, ◌&&◌, ◌||◌, not, arith, lit<, List, [], ◌∷◌, length, get_or, set, Bool, true, false, refl, sym, ◌∙◌, ap, if◌then◌else◌, get_or-set_same, get_or-set_other}
+use Rattle.std.proofs.lemmas.Bool.{eqb-true, eq-eqb, or_left, or_right, or_from}
+use Rattle.std.proofs.lemmas.Bool.Decides.{nat_tests}
 use Rattle.std.proofs.lemmas.Nat.{or_lt, xor_lt}
 use Rattle.std.specs.Int.Bits.{and_lt}
 use Rattle.cov_expr.specs.declared.expr.Op.{Op}
@@ -8,19 +9,7 @@ use Rattle.cov_expr.specs.declared.expr.Op.TheVariants.{Add, Sub, Mul, And, Or, 
 use Rattle.cov_expr.specs.Term.{Term, const, var, neg, bin, value, apply, flag, is_set}
 use Rattle.cov_expr.specs.Words.{IsWord, AreWords, HasWords}
 use Rattle.cov_expr.specs.Trees.{mentions, is_closed, subst}
-use Rattle.cov_expr.proofs.Trees.{and_left, and_right}
-
-or_left : (a b : Bool) → a ≡ true → (a || b) ≡ true
-or_left true b h = refl
-or_left false b h = let e : false ≡ true = h in cc
-
-or_right : (a b : Bool) → b ≡ true → (a || b) ≡ true
-or_right true b h = refl
-or_right false b h = h
-
-or_false : (a b : Bool) → a ≡ false → b ≡ false → (a || b) ≡ false
-or_false true b h k = h
-or_false false b h k = k
+use Rattle.cov_expr.proofs.Tests.{left_true, right_true}
 
 ap-both : (op : _) (a b c d : ℕ) → a ≡ c → b ≡ d → apply op a b ≡ apply op c d
 ap-both op a b c d h k = ap (λ x. apply op x b) h ∙ ap (λ x. apply op c x) k
@@ -39,9 +28,9 @@ closed_mentions (const k) x h = refl
 closed_mentions (var y) x h = let e : false ≡ true = h in cc
 closed_mentions (neg e) x h = closed_mentions e x h
 closed_mentions (bin op a b) x h =
-    or_false (mentions a x) (mentions b x)
-    (closed_mentions a x (and_left (is_closed a) (is_closed b) h))
-    (closed_mentions b x (and_right (is_closed a) (is_closed b) h))
+    or_from (mentions a x) (mentions b x)
+    (closed_mentions a x (left_true (is_closed a) (is_closed b) h))
+    (closed_mentions b x (right_true (is_closed a) (is_closed b) h))
 
 pub value-closed : (e : Term) (m n : List ℕ) → is_closed e ≡ true → value e m ≡ value e n
 value-closed e m n h = value_mentioned e m n (λ x i. let k = closed_mentions e x h in let c : true ≡ false = sym i ∙ k in cc)
@@ -91,3 +80,18 @@ value_word (const k) m h w = h
 value_word (var x) m h w = word_at m x w
 value_word (neg e) m h w = flag_word (not (is_set (value e m)))
 value_word (bin op a b) m h w = apply_word op (value a m) (value b m) (value_word a m h.0 w) (value_word b m h.1 w)
+
+-- Values of comparisons ----------------------------------------------------------------------------------------
+
+pub set_holds : (n : ℕ) → is_set n ≡ true → n ≢ 0
+set_holds zero h = absurd cc
+set_holds (suc n) h = λ e. omega (arith, e)
+
+pub equal_values : (x y : ℕ) → x ≡ y → apply Eq x y ≢ 0
+equal_values x y h = grind (arith, nat_tests)
+
+pub values_equal : (x y : ℕ) → apply Eq x y ≢ 0 → x ≡ y
+values_equal x y h = grind (arith, nat_tests)
+
+pub at_most_holds : (x y : ℕ) → x ≤ y → apply Le x y ≢ 0
+at_most_holds x y h = grind (arith, nat_tests)

@@ -1,11 +1,13 @@
 -- Small laws of kinds, lists of kinds, first tokens and truth values.
 use Rattle.std.proofs.Common.{◌≡◌, List, [], ◌∷◌, ◌++◌, Bool, true, false, not, ◌&&◌, ◌||◌, Option, Some, None, refl, sym, ap, subst, ◌∙◌}
+use Rattle.std.proofs.lemmas.Bool.{not-true}
 use denote.Enum.Bare.{same_true, true_same}
 use Rattle.cov_grammar.specs.declared.token.Kind.{Kind}
 use Rattle.cov_grammar.specs.declared.token.Token.{Token}
 use Rattle.cov_grammar.specs.contracts.token.Kind as kind
 use Rattle.cov_grammar.specs.Shapes.{head}
 use Rattle.cov_grammar.specs.LookAhead.{kind_is, has, starts, apart, within}
+use Rattle.cov_expr.proofs.Tests.{left_true, right_true, or_regrouped}
 
 pub kind_one : (a b : Kind) → kind_is a b ≡ true → a ≡ b
 unfolding kind_is
@@ -24,13 +26,9 @@ pub headless : (x : List Token) → head x ≡ None → x ≡ []
 headless [] h = refl
 headless (t ∷ ts) h = cc
 
-or_assoc : (a b c : Bool) → (a || (b || c)) ≡ ((a || b) || c)
-or_assoc true b c = refl
-or_assoc false b c = refl
-
 pub has_append : (xs ys : List Kind) (k : Kind) → has (xs ++ ys) k ≡ (has xs k || has ys k)
 has_append [] ys k = refl
-has_append (x ∷ xs) ys k = ap (λ b. kind_is x k || b) (has_append xs ys k) ∙ or_assoc (kind_is x k) (has xs k) (has ys k)
+has_append (x ∷ xs) ys k = ap (λ b. kind_is x k || b) (has_append xs ys k) ∙ or_regrouped (kind_is x k) (has xs k) (has ys k)
 
 pub or_left : (a b : Bool) → (a || b) ≡ false → a ≡ false
 or_left true b h = h
@@ -40,26 +38,6 @@ pub or_right : (a b : Bool) → (a || b) ≡ false → b ≡ false
 or_right true b h = cc
 or_right false b h = h
 
-pub or_true : (a b : Bool) → a ≡ true → (a || b) ≡ true
-or_true true b h = refl
-or_true false b h = cc
-
-pub or_true_right : (a b : Bool) → b ≡ true → (a || b) ≡ true
-or_true_right true b h = refl
-or_true_right false b h = h
-
-pub and_left : (a b : Bool) → (a && b) ≡ true → a ≡ true
-and_left true b h = refl
-and_left false b h = h
-
-pub and_right : (a b : Bool) → (a && b) ≡ true → b ≡ true
-and_right true b h = h
-and_right false b h = cc
-
-pub not_true : (a : Bool) → not a ≡ true → a ≡ false
-not_true true h = cc
-not_true false h = refl
-
 pub true_false : {A : Type 0} (b : Bool) → b ≡ true → b ≡ false → A
 true_false true h e = cc
 true_false false h e = cc
@@ -67,20 +45,20 @@ true_false false h e = cc
 -- what is among kinds that are apart from others isn't among these
 pub apart_not : (xs ys : List Kind) (k : Kind) → apart xs ys ≡ true → has ys k ≡ true → has xs k ≡ false
 apart_not [] ys k h e = refl
-apart_not (x ∷ xs) ys k h e = by (kind_is x k) refl (apart_not xs ys k (and_right _ _ h) e)
+apart_not (x ∷ xs) ys k h e = by (kind_is x k) refl (apart_not xs ys k (right_true _ _ h) e)
   where
     by : (b : Bool) → kind_is x k ≡ b → has xs k ≡ false → has (x ∷ xs) k ≡ false
     by true f r =
-        let no : has ys k ≡ false = subst (λ j. has ys j ≡ false) (kind_one x k f) (not_true (has ys x) (and_left _ _ h)) in
+        let no : has ys k ≡ false = subst (λ j. has ys j ≡ false) (kind_one x k f) (not-true (has ys x) (left_true _ _ h)) in
         true_false (has ys k) e no
     by false f r = ap (λ b. b || has xs k) f ∙ r
 
 pub within_has : (xs ys : List Kind) (k : Kind) → within xs ys ≡ true → has xs k ≡ true → has ys k ≡ true
 within_has [] ys k h e = cc
-within_has (x ∷ xs) ys k h e = by (kind_is x k) refl (within_has xs ys k (and_right _ _ h))
+within_has (x ∷ xs) ys k h e = by (kind_is x k) refl (within_has xs ys k (right_true _ _ h))
   where
     by : (b : Bool) → kind_is x k ≡ b → (has xs k ≡ true → has ys k ≡ true) → has ys k ≡ true
-    by true f r = subst (λ j. has ys j ≡ true) (kind_one x k f) (and_left _ _ h)
+    by true f r = subst (λ j. has ys j ≡ true) (kind_one x k f) (left_true _ _ h)
     by false f r = r (sym (ap (λ b. b || has xs k) f) ∙ e)
 
 -- no start among more kinds is none among fewer

@@ -1,5 +1,6 @@
 -- What is spelled is read, in front of a token that doesn't go on it.
 use Rattle.std.proofs.Common.{◌≡◌, List, [], ◌∷◌, ◌++◌, true, false, not, ◌||◌, if◌then◌else◌, Option, Some, None, refl, sym, ap, subst, ◌∙◌, append_assoc, inl, inr}
+use Rattle.std.proofs.lemmas.Bool.{not-true}
 use Rattle.cov_grammar.specs.declared.token.Kind.{Kind}
 use Rattle.cov_grammar.specs.declared.token.Token.{Token}
 use Rattle.cov_grammar.specs.Trees.{Rule, Meaning}
@@ -7,12 +8,13 @@ use Rattle.cov_grammar.specs.Shapes.{Shape, token, rule, seq, alt, opt, many, ac
 use Rattle.cov_grammar.specs.LookAhead.{kind_is, has, starts, nullable, firsts, apart, fine, more}
 use Rattle.cov_grammar.specs.Tables.{first_of, more_of}
 use Rattle.cov_grammar.specs.Reading.{got, stopped, ◌>>=◌, Reader, Inner, take_kind, read}
-use Rattle.cov_grammar.proofs.Basics.{kind_itself, has_append, or_left, or_right, and_left, and_right, not_true, true_false, apart_not}
+use Rattle.cov_grammar.proofs.Basics.{kind_itself, has_append, or_left, or_right, true_false, apart_not}
 use Rattle.cov_grammar.proofs.Honest.{Honest, made, both_of}
 use Rattle.cov_grammar.proofs.Many.{Shrinks, many_of, many_is, cons_of}
 use Rattle.cov_grammar.proofs.Senses.{AtSome, nullable_ok}
 use Rattle.cov_grammar.proofs.Samples.{Begins, first_ok, first_each}
 use Rattle.cov_grammar.proofs.Shapely.{honest, shrinks_of}
+use Rattle.cov_expr.proofs.Tests.{left_true, right_true}
 
 starts_left : (xs ys : List Kind) (o : Option Kind) → starts (xs ++ ys) o ≡ false → starts xs o ≡ false
 starts_left xs ys None h = refl
@@ -75,37 +77,37 @@ module _ (S : Sense) (full : (r : Rule) (v : Meaning r) → S r v [] → ⊥) (f
       ap (λ ts. take_kind k (ts ++ w)) h.1 ∙ ap (λ b. if b then got v w else stopped (v ∷ w)) (ap (λ j. kind_is k j) h.0 ∙ kind_itself k)
   complete (rule r) f v us w h g = ci r v us w h g
   complete (seq a b) f v us w h g =
-      let fb = and_right (fine first_of more_of a) _ f in
-      let free = and_right (fine first_of more_of b) _ fb in
+      let fb = right_true (fine first_of more_of a) _ f in
+      let free = right_true (fine first_of more_of b) _ fb in
       let ahead = ahead_false (M a) (F b) h.1 w free (first_ok S full first b v.1 h.1 h.3) (λ e. seq_more a b w (nullable_ok S full b v.1 h.1 e h.3) g) in
       ap (R (seq a b)) (ap (λ xs. xs ++ w) h.4 ∙ append_assoc h.0 h.1 w)
-      ∙ ap (λ o. o >>= λ x rest. R b rest >>= λ y last. got (x, y) last) (complete a (and_left _ _ f) v.0 h.0 (h.1 ++ w) h.2 ahead)
-      ∙ ap (λ o. o >>= λ y last. got (v.0, y) last) (complete b (and_left _ _ fb) v.1 h.1 w h.3 (starts_left (M b) (if nullable b then M a else []) (head w) g))
+      ∙ ap (λ o. o >>= λ x rest. R b rest >>= λ y last. got (x, y) last) (complete a (left_true _ _ f) v.0 h.0 (h.1 ++ w) h.2 ahead)
+      ∙ ap (λ o. o >>= λ y last. got (v.0, y) last) (complete b (left_true _ _ fb) v.1 h.1 w h.3 (starts_left (M b) (if nullable b then M a else []) (head w) g))
   complete (alt a b) f v us w (inl h) g =
-      let fb = and_right (fine first_of more_of a) _ f in
-      let full_both = not_true (nullable a || nullable b) (and_right (apart (F a) (F b)) _ (and_right (fine first_of more_of b) _ fb)) in
+      let fb = right_true (fine first_of more_of a) _ f in
+      let full_both = not-true (nullable a || nullable b) (right_true (apart (F a) (F b)) _ (right_true (fine first_of more_of b) _ fb)) in
       ap (λ c. if c then R a (us ++ w) else R b (us ++ w)) (ahead_true (F a) us w (solid a (or_left (nullable a) (nullable b) full_both) v us h) (first_ok S full first a v us h))
-      ∙ complete a (and_left _ _ f) v us w h (starts_left (M a) (M b) (head w) g)
+      ∙ complete a (left_true _ _ f) v us w h (starts_left (M a) (M b) (head w) g)
   complete (alt a b) f v us w (inr h) g =
-      let fb = and_right (fine first_of more_of a) _ f in
-      let free = and_left (apart (F a) (F b)) _ (and_right (fine first_of more_of b) _ fb) in
-      let full_both = not_true (nullable a || nullable b) (and_right (apart (F a) (F b)) _ (and_right (fine first_of more_of b) _ fb)) in
+      let fb = right_true (fine first_of more_of a) _ f in
+      let free = left_true (apart (F a) (F b)) _ (right_true (fine first_of more_of b) _ fb) in
+      let full_both = not-true (nullable a || nullable b) (right_true (apart (F a) (F b)) _ (right_true (fine first_of more_of b) _ fb)) in
       let some = solid b (or_right (nullable a) (nullable b) full_both) v us h in
       ap (λ c. if c then R a (us ++ w) else R b (us ++ w)) (ahead_false (F a) (F b) us w free (first_ok S full first b v us h) (λ e. absurd (some e)))
-      ∙ complete b (and_left _ _ fb) v us w h (starts_right (M a) (M b) (head w) g)
+      ∙ complete b (left_true _ _ fb) v us w h (starts_right (M a) (M b) (head w) g)
   complete (opt a) f None us w h g =
       ap (λ ts. R (opt a) (ts ++ w)) h ∙ ap (λ c. if c then (R a w >>= λ v rest. got (Some v) rest) else got None w) (starts_left (F a) (M a) (head w) g)
   complete (opt a) f (Some v) us w h g =
-      let full_a = not_true (nullable a) (and_right (fine first_of more_of a) _ f) in
+      let full_a = not-true (nullable a) (right_true (fine first_of more_of a) _ f) in
       ap (λ c. if c then (R a (us ++ w) >>= λ v rest. got (Some v) rest) else got None (us ++ w)) (ahead_true (F a) us w (solid a full_a v us h) (first_ok S full first a v us h))
-      ∙ ap (λ o. o >>= λ v rest. got (Some v) rest) (complete a (and_left _ _ f) v us w h (starts_right (F a) (M a) (head w) g))
+      ∙ ap (λ o. o >>= λ v rest. got (Some v) rest) (complete a (left_true _ _ f) v us w h (starts_right (F a) (M a) (head w) g))
   complete (many a) f vs us w h g =
-      let fa = and_left _ _ f in
-      let rest = and_right (fine first_of more_of a) _ f in
-      let full_a = not_true (nullable a) (and_left _ _ rest) in
-      many_complete a full_a (and_right (not (nullable a)) _ rest) (shrinks_of a (R a) full_a (honest inner hi a fa)) (complete a fa) vs us w h g
+      let fa = left_true _ _ f in
+      let rest = right_true (fine first_of more_of a) _ f in
+      let full_a = not-true (nullable a) (left_true _ _ rest) in
+      many_complete a full_a (right_true (not (nullable a)) _ rest) (shrinks_of a (R a) full_a (honest inner hi a fa)) (complete a fa) vs us w h g
   complete (act k a) f v us w h g = ap (λ o. o >>= λ v rest. got (k v) rest) (complete a f h.0 us w h.2 g) ∙ ap (λ x. got x w) h.1
   complete (placed a) f v us w h g =
-      let full_a = not_true (nullable a) (and_right (fine first_of more_of a) _ f) in
-      ap (λ o. o >>= λ v rest. got (place (us ++ w), v) rest) (complete a (and_left _ _ f) v.1 us w h.1 g)
+      let full_a = not-true (nullable a) (right_true (fine first_of more_of a) _ f) in
+      ap (λ o. o >>= λ v rest. got (place (us ++ w), v) rest) (complete a (left_true _ _ f) v.1 us w h.1 g)
       ∙ ap (λ p. got (p, v.1) w) (place_front us w (solid a full_a v.1 us h.1) ∙ sym h.0)

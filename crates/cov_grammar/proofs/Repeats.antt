@@ -2,6 +2,7 @@
 --
 -- The loop of such code keeps `pushed (items so far) (reading (many a) (tokens left)) ≡ reading (many a) (tokens at first)`.
 use Rattle.std.proofs.Common.{◌≡◌, List, [], ◌∷◌, ◌++◌, map, Bool, true, false, if◌then◌else◌, refl, sym, ap, ◌∙◌, append_assoc, append-nil}
+use Rattle.std.proofs.lemmas.List.{map-append}
 use Rattle.cov_grammar.specs.declared.token.Token.{Token}
 use Rattle.cov_grammar.specs.declared.token.Kind.{Kind}
 use Rattle.cov_grammar.specs.Shapes.{Shape, many, head}
@@ -52,10 +53,6 @@ module _ {A : Type 0} (a : Shape A) (f : fine first_of more_of a ≡ true) (n : 
   pub rep_breaks : (xs : List A) (ts rest : List Token) → starts (firsts first_of a) (head ts) ≡ true → reading a ts ≡ stopped rest → pushed xs (reading (many a) ts) ≡ stopped rest
   rep_breaks xs ts rest e h = turn xs ts true e ∙ ap (λ o. pushed xs (consed (o >>= λ v rest. pair v (reading (many a) rest)))) h
 
-map_append : {X A : Type 0} (f : X → A) (xs ys : List X) → map f (xs ++ ys) ≡ map f xs ++ map f ys
-map_append f [] ys = refl
-map_append f (x ∷ xs) ys = ap (λ zs. f x ∷ zs) (map_append f xs ys)
-
 -- Items by the kinds that they begin with ----------------------------------------------------------------------
 
 -- A right side that can be repeated, and the kinds that it begins with.
@@ -71,7 +68,7 @@ module _ {X A : Type 0} (view : X → A) (a : Shape A) (ks : List Kind) (i : Ite
   -- one more item
   pub item_goes : (xs ys : List X) (x : X) (ts rest : List Token) → starts ks (head ts) ≡ true → reading a ts ≡ got (view x) rest → ys ≡ xs ++ x ∷ [] → pushed (map view ys) (reading (many a) rest) ≡ pushed (map view xs) (reading (many a) ts)
   item_goes xs ys x ts rest e h g =
-      ap (λ zs. pushed zs (reading (many a) rest)) (ap (map view) g ∙ map_append view xs (x ∷ [])) ∙ rep_goes a i.fine i.full (map view xs) (view x) ts rest (ahead ts true e) h
+      ap (λ zs. pushed zs (reading (many a) rest)) (ap (map view) g ∙ map-append view xs (x ∷ [])) ∙ rep_goes a i.fine i.full (map view xs) (view x) ts rest (ahead ts true e) h
 
   -- no more items
   pub item_ends : (xs : List X) (ts : List Token) → starts ks (head ts) ≡ false → pushed (map view xs) (reading (many a) ts) ≡ got (map view xs) ts

@@ -1,5 +1,6 @@
 -- Each right side spells something, and what it spells begins with one of its first kinds.
 use Rattle.std.proofs.Common.{◌≡◌, ℕ, zero, suc, List, [], ◌∷◌, ◌++◌, Bool, true, false, ◌&&◌, if◌then◌else◌, Some, None, refl, sym, subst, ◌∙◌, inl, inr}
+use Rattle.std.proofs.lemmas.Bool.{or_right, or_left}
 use Rattle.cov_grammar.specs.declared.token.Token.{Token}
 use Rattle.cov_grammar.specs.declared.token.Kind.{Kind}
 use Rattle.cov_grammar.specs.Trees.{Rule, Meaning, expr, template, cert, block}
@@ -8,9 +9,10 @@ use Rattle.cov_grammar.specs.Grammar.{atom, template_atom, unary, prod, sum, ban
 use Rattle.cov_grammar.specs.Spelling.{Within}
 use Rattle.cov_grammar.specs.LookAhead.{nullable, firsts, has, kind_is, within}
 use Rattle.cov_grammar.specs.Tables.{first_of}
-use Rattle.cov_grammar.proofs.Basics.{kind_itself, has_append, or_true, or_true_right, within_has, and_left, and_right}
+use Rattle.cov_grammar.proofs.Basics.{kind_itself, has_append, within_has}
 use Rattle.cov_grammar.proofs.TableLaws.{firsts_body}
 use Rattle.cov_grammar.proofs.Senses.{nullable_ok, full_at, AtSome}
+use Rattle.cov_expr.proofs.Tests.{left_true, right_true}
 
 -- whether the leftmost choices lead through no rule
 abbrev pub direct : {A : Type 0} → Shape A → Bool
@@ -38,8 +40,8 @@ some_direct : (S : Sense) {A : Type 0} (a : Shape A) → direct a ≡ true → S
 some_direct S (token k) h = let t : Token = record { kind = k; at = 0; value = 0 } in (t, t ∷ [], (refl, refl))
 some_direct S (rule r) h = cc
 some_direct S (seq a b) h =
-    let x = some_direct S a (and_left (direct a) (direct b) h) in
-    let y = some_direct S b (and_right (direct a) (direct b) h) in
+    let x = some_direct S a (left_true (direct a) (direct b) h) in
+    let y = some_direct S b (right_true (direct a) (direct b) h) in
     ((x.0, y.0), x.1 ++ y.1, (x.1, y.1, x.2, y.2, refl))
 some_direct S (alt a b) h = let x = some_direct S a h in (x.0, x.1, inl x.2)
 some_direct S (opt a) h = (None, [], refl)
@@ -67,11 +69,11 @@ Begins ks (t ∷ ts) = has ks t.kind ≡ true
 
 begins_append_left : (xs ys : List Kind) (ts : List Token) → Begins xs ts → Begins (xs ++ ys) ts
 begins_append_left xs ys [] h = tt
-begins_append_left xs ys (t ∷ ts) h = has_append xs ys t.kind ∙ or_true (has xs t.kind) (has ys t.kind) h
+begins_append_left xs ys (t ∷ ts) h = has_append xs ys t.kind ∙ or_left (has xs t.kind) (has ys t.kind) h
 
 begins_append_right : (xs ys : List Kind) (ts : List Token) → Begins ys ts → Begins (xs ++ ys) ts
 begins_append_right xs ys [] h = tt
-begins_append_right xs ys (t ∷ ts) h = has_append xs ys t.kind ∙ or_true_right (has xs t.kind) (has ys t.kind) h
+begins_append_right xs ys (t ∷ ts) h = has_append xs ys t.kind ∙ or_right (has xs t.kind) (has ys t.kind) h
 
 begins_within : (xs ys : List Kind) (ts : List Token) → within xs ys ≡ true → Begins xs ts → Begins ys ts
 begins_within xs ys [] w h = tt
@@ -88,7 +90,7 @@ module _ (S : Sense) (full : (r : Rule) (v : Meaning r) → S r v [] → ⊥) (f
       by (u ∷ us) x y = x
 
   pub first_ok : {A : Type 0} (a : Shape A) (v : A) (ts : List Token) → Spells S a v ts → Begins (firsts first_of a) ts
-  first_ok (token k) v ts h = subst (Begins (k ∷ [])) (sym h.1) (or_true (kind_is k v.kind) false (subst (λ j. kind_is k j ≡ true) (sym h.0) (kind_itself k)))
+  first_ok (token k) v ts h = subst (Begins (k ∷ [])) (sym h.1) (or_left (kind_is k v.kind) false (subst (λ j. kind_is k j ≡ true) (sym h.0) (kind_itself k)))
   first_ok (rule r) v ts h = first r v ts h
   first_ok (seq a b) v ts h =
       subst (Begins (firsts first_of (seq a b))) (sym h.4) (by h.0 (nullable_ok S full a v.0 h.0) (first_ok a v.0 h.0 h.2) (first_ok b v.1 h.1 h.3) h.2)

@@ -1,12 +1,12 @@
 -- What rules spell, at every depth: deeper spells no less, and one depth is enough for all parts.
 use Rattle.std.proofs.Common.{◌≡◌, ℕ, zero, suc, List, [], ◌∷◌, ◌++◌, true, false, ◌&&◌, Some, None, refl, sym, ap, subst, ◌∙◌, inl, inr}
+use Rattle.std.proofs.lemmas.Bool.{or_right, or_left}
 use Rattle.cov_grammar.specs.declared.token.Token.{Token}
 use Rattle.cov_grammar.specs.Trees.{Rule, Meaning}
 use Rattle.cov_grammar.specs.Shapes.{Shape, token, rule, seq, alt, opt, many, act, placed, Each, Sense, Spells}
 use Rattle.cov_grammar.specs.Grammar.{body}
 use Rattle.cov_grammar.specs.Spelling.{Within, Is}
 use Rattle.cov_grammar.specs.LookAhead.{nullable}
-use Rattle.cov_grammar.proofs.Basics.{or_true, or_true_right}
 use Rattle.cov_grammar.proofs.TableLaws.{full_body}
 
 -- what the first says is spelled, the second does
@@ -104,8 +104,8 @@ module _ (S : Sense) (full : (r : Rule) (v : Meaning r) → S r v [] → ⊥) wh
   nullable_ok (seq a b) v ts e h =
       let p = nil_parts h.0 h.1 (sym e ∙ h.4) in
       ap (λ c. c && nullable b) (nullable_ok a v.0 h.0 p.0 h.2) ∙ nullable_ok b v.1 h.1 p.1 h.3
-  nullable_ok (alt a b) v ts e (inl h) = or_true (nullable a) (nullable b) (nullable_ok a v ts e h)
-  nullable_ok (alt a b) v ts e (inr h) = or_true_right (nullable a) (nullable b) (nullable_ok b v ts e h)
+  nullable_ok (alt a b) v ts e (inl h) = or_left (nullable a) (nullable b) (nullable_ok a v ts e h)
+  nullable_ok (alt a b) v ts e (inr h) = or_right (nullable a) (nullable b) (nullable_ok b v ts e h)
   nullable_ok (opt a) v ts e h = refl
   nullable_ok (many a) v ts e h = refl
   nullable_ok (act g a) v ts e h = nullable_ok a h.0 ts e h.2

@@ -1,5 +1,6 @@
 -- Reading a right side is honest, where the next token decides its choices and the readers of rules are honest.
 use Rattle.std.proofs.Common.{◌≡◌, ℕ, zero, suc, ◌<◌, List, [], ◌∷◌, ◌++◌, length, Bool, true, false, if◌then◌else◌, Some, None, refl, sym, ap, subst, ◌∙◌, append-nil, arith, length-append, inl, inr}
+use Rattle.std.proofs.lemmas.Bool.{not-true}
 use Rattle.cov_grammar.specs.declared.token.Kind.{Kind}
 use Rattle.cov_grammar.specs.declared.token.Token.{Token}
 use Rattle.cov_grammar.specs.Trees.{Rule}
@@ -8,12 +9,13 @@ use Rattle.cov_grammar.specs.Grammar.{body}
 use Rattle.cov_grammar.specs.LookAhead.{kind_is, nullable, firsts, fine}
 use Rattle.cov_grammar.specs.Tables.{first_of, more_of}
 use Rattle.cov_grammar.specs.Reading.{Reading, got, stopped, spent, ◌>>=◌, Reader, Inner, take_kind, read, reads}
-use Rattle.cov_grammar.proofs.Basics.{kind_one, headless, and_left, and_right, not_true, true_false}
+use Rattle.cov_grammar.proofs.Basics.{kind_one, headless, true_false}
 use Rattle.cov_grammar.proofs.TableLaws.{fine_body}
 use Rattle.cov_grammar.proofs.Honest.{Fact, Honest, made, made_honest, either_fact, both_fact}
 use Rattle.cov_grammar.proofs.Many.{Shrinks, many_honest}
 use Rattle.cov_grammar.proofs.Senses.{Implies, AtSome, OfShape, close, nullable_ok, full_some}
 use Rattle.cov_grammar.proofs.Samples.{some_of}
+use Rattle.cov_expr.proofs.Tests.{left_true, right_true}
 
 weaken_fact : {A : Type 0} (P Q : A → List Token → Type 0) (R : Reader A) → Implies P Q → (ts : List Token) (out : Reading A) → Fact P R ts out → Fact Q R ts out
 weaken_fact P Q R f ts (got v rest) h = record { front = h.front; split = h.split; is = f v h.front h.is; local = h.local }
@@ -113,28 +115,28 @@ module _ (inner : Inner) (hi : (r : Rule) → Honest (AtSome r) (inner r)) where
   honest (rule r) f = hi r
   honest (seq a b) f =
       let s = some_of b in
-      let g = honest a (and_left _ _ f) in
-      let h = honest b (and_left _ _ (and_right (fine first_of more_of a) _ f)) in
+      let g = honest a (left_true _ _ f) in
+      let h = honest b (left_true _ _ (right_true (fine first_of more_of a) _ f)) in
       λ ts. both_fact (OfShape a) (OfShape b) (read first_of inner a) (read first_of inner b) s.0 s.1 s.2 ts (read first_of inner a ts) refl (g ts) (λ v rest e. h rest)
   honest (alt a b) f =
-      let g = honest a (and_left _ _ f) in
-      let h = honest b (and_left _ _ (and_right (fine first_of more_of a) _ f)) in
+      let g = honest a (left_true _ _ f) in
+      let h = honest b (left_true _ _ (right_true (fine first_of more_of a) _ f)) in
       λ ts. either_fact (OfShape (alt a b)) (firsts first_of a) (read first_of inner a) (read first_of inner b) ts
       (weaken_fact (OfShape a) (OfShape (alt a b)) (read first_of inner a) (λ v us p. inl p) ts (read first_of inner a ts) (g ts))
       (weaken_fact (OfShape b) (OfShape (alt a b)) (read first_of inner b) (λ v us p. inr p) ts (read first_of inner b ts) (h ts))
   honest (opt a) f =
-      let g = honest a (and_left _ _ f) in
+      let g = honest a (left_true _ _ f) in
       λ ts. either_fact (OfShape (opt a)) (firsts first_of a) (made Some (read first_of inner a)) (λ us. got None us) ts
       (made_honest (OfShape a) (OfShape (opt a)) (read first_of inner a) Some (λ v us p. p) g ts)
       (none_fact a ts)
   honest (many a) f =
-      let g = honest a (and_left _ _ f) in
-      let full = not_true (nullable a) (and_left _ _ (and_right (fine first_of more_of a) _ f)) in
+      let g = honest a (left_true _ _ f) in
+      let full = not-true (nullable a) (left_true _ _ (right_true (fine first_of more_of a) _ f)) in
       many_honest (OfShape a) (firsts first_of a) (read first_of inner a) (shrinks_of a (read first_of inner a) full g) g
   honest (act h a) f = made_honest (OfShape a) (OfShape (act h a)) (read first_of inner a) h (λ v us p. (v, refl, p)) (honest a f)
   honest (placed a) f =
-      let g = honest a (and_left _ _ f) in
-      let full = not_true (nullable a) (and_right (fine first_of more_of a) _ f) in
+      let g = honest a (left_true _ _ f) in
+      let full = not-true (nullable a) (right_true (fine first_of more_of a) _ f) in
       λ ts. placed_fact (OfShape a) (read first_of inner a) (no_empty a full) ts (read first_of inner a ts) (g ts)
 
 pub rules_honest : (d : ℕ) (r : Rule) → Honest (AtSome r) (reads d r)

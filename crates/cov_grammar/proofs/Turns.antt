@@ -9,7 +9,6 @@ use Rattle.cov_grammar.specs.Spelling.{Within}
 use Rattle.cov_grammar.specs.LookAhead.{kind_is, starts, nullable, firsts, fine, more}
 use Rattle.cov_grammar.specs.Tables.{first_of, more_of}
 use Rattle.cov_grammar.specs.Reading.{Reading, got, stopped, spent, ◌>>=◌, Reader, Inner, read_many, read, reads, rule_of}
-use Rattle.cov_grammar.proofs.Basics.{and_left, and_right}
 use Rattle.cov_grammar.proofs.TableLaws.{fine_body, more_body}
 use Rattle.cov_grammar.proofs.Honest.{Fact, Honest}
 use Rattle.cov_grammar.proofs.Senses.{AtSome, OfShape, top, full_at}
@@ -17,6 +16,7 @@ use Rattle.cov_grammar.proofs.Samples.{first_at}
 use Rattle.cov_grammar.proofs.Shapely.{honest, shrinks_of, rules_honest}
 use Rattle.cov_grammar.proofs.Complete.{complete}
 use Rattle.cov_grammar.proofs.Basics.{starts_less, within_not}
+use Rattle.cov_expr.proofs.Tests.{left_true, right_true}
 
 -- More turns change nothing ------------------------------------------------------------------------------------
 
@@ -163,34 +163,34 @@ module _ (d : ℕ) (inner : Inner) (hi : (r : Rule) → Honest (AtSome r) (inner
       by false e = cc
   cost_of (rule r) f ts h = costs r ts h
   cost_of {A} (seq {A = B} a b) f ts h = by (bind_spent (read first_of inner a ts) (λ v rest. pairs v (read first_of inner b rest)) h)
-      (cost_of a (and_left _ _ f) ts) (cost_of b (and_left _ _ (and_right (fine first_of more_of a) _ f)))
+      (cost_of a (left_true _ _ f) ts) (cost_of b (left_true _ _ (right_true (fine first_of more_of a) _ f)))
     where
       by : (read first_of inner a ts ≡ spent) ⊎ ((v : B) × (rest : List Token) × (read first_of inner a ts ≡ got v rest) × (pairs v (read first_of inner b rest) ≡ spent))
           → (read first_of inner a ts ≡ spent → cost (guarded a) d ≤ length ts) → ((rest : List Token) → read first_of inner b rest ≡ spent → cost (guarded b) d ≤ length rest)
           → cost (guarded (seq a b)) d ≤ length ts
       by (inl e) x y = omega (arith, x e, cost_and_left (guarded a) (not (nullable a) || guarded b) d)
       by (inr q) x y =
-          let ha = honest inner hi a (and_left _ _ f) in
+          let ha = honest inner hi a (left_true _ _ f) in
           cost_behind (guarded a) (nullable a) (guarded b) d (length ts) (length q.1) (λ n. shrinks_of a (read first_of inner a) n ha ts q.0 q.1 q.2)
           (no_longer (OfShape a) (read first_of inner a) ts q.0 q.1 (read first_of inner a ts) q.2 (ha ts))
           (y q.1 (got_spent (read first_of inner b q.1) (λ w last. (q.0, w)) q.3))
-  cost_of (alt a b) f ts h = by (starts (firsts first_of a) (head ts)) h (cost_of a (and_left _ _ f) ts) (cost_of b (and_left _ _ (and_right (fine first_of more_of a) _ f)) ts)
+  cost_of (alt a b) f ts h = by (starts (firsts first_of a) (head ts)) h (cost_of a (left_true _ _ f) ts) (cost_of b (left_true _ _ (right_true (fine first_of more_of a) _ f)) ts)
     where
       by : (c : Bool) → (if c then read first_of inner a ts else read first_of inner b ts) ≡ spent → (read first_of inner a ts ≡ spent → cost (guarded a) d ≤ length ts) → (read first_of inner b ts ≡ spent → cost (guarded b) d ≤ length ts)
           → cost (guarded a && guarded b) d ≤ length ts
       by true e x y = omega (arith, x e, cost_and_left (guarded a) (guarded b) d)
       by false e x y = omega (arith, y e, cost_and_right (guarded a) (guarded b) d)
-  cost_of (opt a) f ts h = by (starts (firsts first_of a) (head ts)) h (cost_of a (and_left _ _ f) ts)
+  cost_of (opt a) f ts h = by (starts (firsts first_of a) (head ts)) h (cost_of a (left_true _ _ f) ts)
     where
       by : (c : Bool) → (if c then (read first_of inner a ts >>= λ v rest. got (Some v) rest) else got None ts) ≡ spent → (read first_of inner a ts ≡ spent → cost (guarded a) d ≤ length ts) → cost (guarded a) d ≤ length ts
       by true e x = x (got_spent (read first_of inner a ts) (λ v rest. Some v) e)
       by false e x = cc
   cost_of (many a) f ts h =
-      let ha = honest inner hi a (and_left _ _ f) in
-      many_cost (firsts first_of a) (read first_of inner a) (cost (guarded a) d) (cost_of a (and_left _ _ f))
+      let ha = honest inner hi a (left_true _ _ f) in
+      many_cost (firsts first_of a) (read first_of inner a) (cost (guarded a) d) (cost_of a (left_true _ _ f))
       (λ us v rest e. no_longer (OfShape a) (read first_of inner a) us v rest (read first_of inner a us) e (ha us)) (length ts) ts h
   cost_of (act k a) f ts h = cost_of a f ts (got_spent (read first_of inner a ts) (λ v rest. k v) h)
-  cost_of (placed a) f ts h = cost_of a (and_left _ _ f) ts (got_spent (read first_of inner a ts) (λ v rest. (place ts, v)) h)
+  cost_of (placed a) f ts h = cost_of a (left_true _ _ f) ts (got_spent (read first_of inner a ts) (λ v rest. (place ts, v)) h)
 
 turns_cost : (d : ℕ) (r : Rule) (ts : List Token) → reads d r ts ≡ spent → d ≤ length ts
 turns_cost zero r ts h = omega arith

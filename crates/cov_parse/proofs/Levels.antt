@@ -1,5 +1,6 @@
 -- Steps of the reader of expressions.
 use Rattle.std.proofs.Common.{◌≡◌, ℕ, zero, suc, ◌<◌, List, [], ◌∷◌, ◌++◌, length, Bool, true, false, ◌&&◌, ◌||◌, if◌then◌else◌, Option, Some, None, refl, sym, ap, subst, ◌∙◌, arith, append-nil}
+use Rattle.std.proofs.lemmas.Bool.{or_left}
 use Rattle.cov_expr.specs.Term.{Term, neg, bin}
 use Rattle.cov_expr.specs.declared.expr.Op.{Op}
 use Rattle.cov_expr.specs.declared.expr.Op.TheVariants as ops
@@ -17,7 +18,6 @@ use Rattle.cov_grammar.specs.Grammar.{signs, grouped, compared, negated, chain, 
 use Rattle.cov_grammar.specs.Reading.{reading}
 use Rattle.cov_parse.specs.Levels.{first_sign, other_signs, level, operand, atom_of, rule_for, SignOf, comparisons, tail}
 use Rattle.cov_grammar.proofs.Repeats.{Item}
-use Rattle.cov_grammar.proofs.Basics.{or_true}
 use Rattle.cov_grammar.proofs.Many.{Shrinks, many_of, many_is}
 use Rattle.cov_grammar.proofs.Turns.{rule_is}
 
@@ -50,7 +50,7 @@ sign_here_last x ts rest t h e = (h, ap (λ o. o >>= λ v us. got x.1 us) e)
 
 pub sign_here : (x y : Kind × Op) (ys : List (Kind × Op)) (ts rest : List Token) (t : Token) → starts (x.0 ∷ []) (head ts) ≡ true → take_kind x.0 ts ≡ got t rest → SignOf x (y ∷ ys) ts (Some x.1) rest
 sign_here x y ys ts rest t h e = (
-  starts_cons x.0 (firsts first_of (signs y ys)) (head ts) ∙ or_true _ _ h,
+  starts_cons x.0 (firsts first_of (signs y ys)) (head ts) ∙ or_left _ _ h,
   ap (λ b. if b then (take_kind x.0 ts >>= λ v us. got x.1 us) else reading (signs y ys) ts) h ∙ ap (λ o. o >>= λ v us. got x.1 us) e,
 )
 

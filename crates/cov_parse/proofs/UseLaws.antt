@@ -1,5 +1,6 @@
 -- The uses of names in a text, token by token.
 use Rattle.std.proofs.Common.{◌≡◌, List, [], ◌∷◌, ◌++◌, map, Bool, true, false, if◌then◌else◌, ◌||◌, refl, ap, ◌∙◌}
+use Rattle.std.proofs.Math.Bool.{or-true, or-false}
 use Rattle.cov_grammar.specs.declared.token.Kind.{Kind}
 use Rattle.cov_grammar.specs.declared.token.Kind.TheVariants as k
 use Rattle.cov_grammar.specs.declared.token.Token.{Token}
@@ -31,14 +32,6 @@ plain_silent j p = or_right (kind_is k.Name j) (has loud j) p
 abbrev token_uses : (b name thread lock declared : Bool) → Token → (Bool → List Use) → List Use
 token_uses b name thread lock declared t rest =
     map ready.use_of (if name then (if declared then [] else record { name = t.value; lock = lock; at = t.at } ∷ []) else []) ++ rest (b || thread)
-
-or_false : (a : Bool) → (a || false) ≡ a
-or_false true = refl
-or_false false = refl
-
-or_true : (a : Bool) → (a || true) ≡ true
-or_true true = refl
-or_true false = refl
 
 map_if : (name declared lock : Bool) (t : Token) (us : List Rattle.cov_ast.specs.declared.parsed.NameUse.NameUse) (b : Bool) → map ready.use_of ((if name then (if declared then [] else record { name = t.value; lock = lock; at = t.at } ∷ []) else []) ++ us) ≡ token_uses b name false lock declared t (λ c. map ready.use_of us)
 map_if true true lock t us b = refl
@@ -74,14 +67,14 @@ no_lock false false false false h = refl
 pub uses_at_sign : (b : Bool) (before : Kind) (t : Token) (ts : List Token) → kind_is k.Name t.kind ≡ false → kind_is k.Thread t.kind ≡ false → uses_from b before (t ∷ ts) ≡ uses_from b t.kind ts
 uses_at_sign b before t ts n h =
     uses_at_token b before t ts false false (is_lock before) (declares b before) n h refl refl
-    ∙ ap (λ c. uses_from c t.kind ts) (or_false b)
+    ∙ ap (λ c. uses_from c t.kind ts) (or-false b)
 
 -- a token that begins a thread
 pub uses_at_thread : (b : Bool) (before : Kind) (t : Token) (ts : List Token) → t.kind ≡ k.Thread → uses_from b before (t ∷ ts) ≡ uses_from true k.Thread ts
 unfolding kind_is
 uses_at_thread b before t ts e =
     uses_at_token b before t ts false true (is_lock before) (declares b before) (ap (kind_is k.Name) e) (ap (kind_is k.Thread) e) refl refl
-    ∙ ap (λ c. uses_from c t.kind ts) (or_true b) ∙ ap (λ j. uses_from true j ts) e
+    ∙ ap (λ c. uses_from c t.kind ts) (or-true b) ∙ ap (λ j. uses_from true j ts) e
 
 name_is : (t : Token) → t.kind ≡ k.Name → kind_is k.Name t.kind ≡ true
 name_is t e = ap (kind_is k.Name) e ∙ kind_itself k.Name
@@ -96,14 +89,14 @@ uses_at_variable b before t ts s e =
     uses_at_token b before t ts true false false false (name_is t e) (no_thread t e)
     (no_lock (kind_is k.Var before) (kind_is k.Thread before) (kind_is k.Lock before) (kind_is k.Unlock before) s)
     (no_declare (kind_is k.Var before) (kind_is k.Thread before) (kind_is k.Lock before) (kind_is k.Unlock before) b s)
-    ∙ ap (λ c. as_variable t.value ++ uses_from c t.kind ts) (or_false b) ∙ ap (λ j. as_variable t.value ++ uses_from b j ts) e
+    ∙ ap (λ c. as_variable t.value ++ uses_from c t.kind ts) (or-false b) ∙ ap (λ j. as_variable t.value ++ uses_from b j ts) e
 
 pub uses_at_declared : (b : Bool) (before : Kind) (t : Token) (ts : List Token) → declares b before ≡ true → t.kind ≡ k.Name → uses_from b before (t ∷ ts) ≡ uses_from b k.Name ts
 uses_at_declared b before t ts d e =
     uses_at_token b before t ts true false (is_lock before) true (name_is t e) (no_thread t e) refl d
-    ∙ ap (λ c. uses_from c t.kind ts) (or_false b) ∙ ap (λ j. uses_from b j ts) e
+    ∙ ap (λ c. uses_from c t.kind ts) (or-false b) ∙ ap (λ j. uses_from b j ts) e
 
 pub uses_at_lock : (b : Bool) (before : Kind) (t : Token) (ts : List Token) → declares b before ≡ false → is_lock before ≡ true → t.kind ≡ k.Name → uses_from b before (t ∷ ts) ≡ as_lock t.value ++ uses_from b k.Name ts
 uses_at_lock b before t ts d l e =
     uses_at_token b before t ts true false true false (name_is t e) (no_thread t e) l d
-    ∙ ap (λ c. as_lock t.value ++ uses_from c t.kind ts) (or_false b) ∙ ap (λ j. as_lock t.value ++ uses_from b j ts) e
+    ∙ ap (λ c. as_lock t.value ++ uses_from c t.kind ts) (or-false b) ∙ ap (λ j. as_lock t.value ++ uses_from b j ts) e

@@ -8,6 +8,7 @@ use Rattle.std.proofs.lemmas.List.Elements.{recursion_from_All}
 use Rattle.cov_expr.specs.Names.{is_keyword}
 use Rattle.cov_expr.specs.declared.name.TheConstants.{KEYWORDS}
 use Rattle.cov_expr.specs.declared.expr.TheConstants.{HOLE}
+use Rattle.cov_expr.proofs.Tests.{left_true, right_true}
 use Rattle.cov_lex.specs.declared.token.Token as lexed
 use Rattle.cov_lex.specs.declared.token.TokenKind.{TokenKind}
 use Rattle.cov_lex.specs.declared.token.TokenKind.TheVariants as raw
@@ -22,7 +23,7 @@ use Rattle.cov_grammar.specs.declared.token.Kind.TheVariants as k
 use Rattle.cov_grammar.specs.LookAhead.{kind_is}
 use Rattle.cov_grammar.specs.Words as grammar
 use Rattle.cov_grammar.specs.Words.{keyword_kinds, sign_kinds}
-use Rattle.cov_grammar.proofs.Basics.{and_left, and_right, kind_itself}
+use Rattle.cov_grammar.proofs.Basics.{kind_itself}
 use Rattle.cov_ast.specs.Names.{number_of, with_name}
 use Rattle.cov_parse.specs.Words.{with_word, with_token, names_onto, value_of, word_of, kind_of}
 use Rattle.cov_parse.specs.Text.{words_of, names_of, lexed_of}
@@ -74,10 +75,10 @@ no_name word = not (kind_is k.Name (grammar.kind_of word))
 
 no_name_among : (ws : List (List ℕ)) (word : List ℕ) → list_all no_name ws ≡ true → list_any (bytes_eq word) ws ≡ true → no_name word ≡ true
 no_name_among [] word h e = cc
-no_name_among (w ∷ ws) word h e = by (bytes_eq word w) refl (no_name_among ws word (and_right (no_name w) (list_all no_name ws) h))
+no_name_among (w ∷ ws) word h e = by (bytes_eq word w) refl (no_name_among ws word (right_true (no_name w) (list_all no_name ws) h))
   where
     by : (b : Bool) → bytes_eq word w ≡ b → (list_any (bytes_eq word) ws ≡ true → no_name word ≡ true) → no_name word ≡ true
-    by true is rest = subst (λ v. no_name v ≡ true) (sym ((bytes_eq-Decides word w).0 is)) (and_left (no_name w) (list_all no_name ws) h)
+    by true is rest = subst (λ v. no_name v ≡ true) (sym ((bytes_eq-Decides word w).0 is)) (left_true (no_name w) (list_all no_name ws) h)
     by false is rest = rest (sym (ap (λ b. b || list_any (bytes_eq word) ws) is) ∙ e)
 
 keywords_no_names : list_all no_name (map (λ word. word.now) KEYWORDS) ≡ true

@@ -1,5 +1,6 @@
 -- The names of a text are those of its tree, in order; a text with the same names in order numbers them alike.
 use Rattle.std.proofs.Common.{◌≡◌, ℕ, ◌<◌, ◌≤◌, nat_lt, List, [], ◌∷◌, ◌++◌, length, map, Bool, true, false, if◌then◌else◌, codes, Ok, refl, sym, ap, ◌∙◌, arith, true≢false, length-append}
+use Rattle.std.proofs.lemmas.List.{map-append}
 use Rattle.cov_expr.specs.Names.{IsName}
 use Rattle.cov_expr.specs.declared.expr.TheConstants.{HOLE}
 use Rattle.cov_lex.specs.declared.token.Token as lexed
@@ -76,10 +77,6 @@ kept_append known (x ∷ xs) ys = by (known x) (kept_append known xs ys)
     by true e = ap (λ l. x ∷ l) e
     by false e = e
 
-map_append : {A B : Type 0} (f : A → B) (xs ys : List A) → map f (xs ++ ys) ≡ map f xs ++ map f ys
-map_append f [] ys = refl
-map_append f (x ∷ xs) ys = ap (λ l. f x ∷ l) (map_append f xs ys)
-
 kept_one : (known : ℕ → Bool) (x : ℕ) (b : Bool) → known x ≡ b → kept known (x ∷ []) ≡ (if b then x ∷ [] else [])
 kept_one known x b e = ap (λ c. if c then x ∷ [] else []) e
 
@@ -89,7 +86,7 @@ module _ (all : List (List ℕ)) where
   spelled xs = map (spec.name all) (kept (known all) xs)
 
   spelled_append : (xs ys : List ℕ) → spelled (xs ++ ys) ≡ spelled xs ++ spelled ys
-  spelled_append xs ys = ap (map (spec.name all)) (kept_append (known all) xs ys) ∙ map_append (spec.name all) (kept (known all) xs) (kept (known all) ys)
+  spelled_append xs ys = ap (map (spec.name all)) (kept_append (known all) xs ys) ∙ map-append (spec.name all) (kept (known all) xs) (kept (known all) ys)
 
   spelled_one : (x : ℕ) → known all x ≡ true → spelled (x ∷ []) ≡ spec.name all x ∷ []
   spelled_one x e = ap (map (spec.name all)) (kept_one (known all) x true e)

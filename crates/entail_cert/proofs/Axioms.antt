@@ -7,16 +7,10 @@ use Rattle.cov_expr.specs.declared.expr.Op.TheVariants.{Add, Sub, And, Or, Xor, 
 use Rattle.cov_expr.specs.Term.{apply, flag, is_set}
 use Rattle.cov_expr.specs.Words.{IsWord, AreWords}
 use Rattle.cov_expr.specs.Entailment.{AllHold}
-use Rattle.cov_expr.proofs.Values.{word_at}
+use Rattle.cov_expr.proofs.Values.{word_at, equal_values, at_most_holds}
 use Rattle.entail_cert.specs.Axioms.{axioms}
 
 -- Truth values as words ----------------------------------------------------------------------------------------
-
-equal : (x y : ℕ) → x ≡ y → apply Eq x y ≢ 0
-equal x y h = grind (arith, nat_tests)
-
-at_most : (x y : ℕ) → x ≤ y → apply Le x y ≢ 0
-at_most x y h = grind (arith, nat_tests)
 
 -- Sums of words ------------------------------------------------------------------------------------------------
 
@@ -67,34 +61,34 @@ module _ (x y z : ℕ) where
   axiom_13 = grind (arith, nat_tests)
 
   axiom_14 : apply Le 0 x ≢ 0
-  axiom_14 = at_most 0 x (omega arith)
+  axiom_14 = at_most_holds 0 x (omega arith)
 
   axiom_15 : IsWord x → apply Le x 4294967295 ≢ 0
-  axiom_15 h = at_most x 4294967295 (omega arith)
+  axiom_15 h = at_most_holds x 4294967295 (omega arith)
 
   axiom_16 : apply Eq (apply Add x y) (apply Add y x) ≢ 0
-  axiom_16 = equal _ _ (omega arith)
+  axiom_16 = equal_values _ _ (omega arith)
 
   axiom_17 : IsWord x → IsWord y → apply Eq (apply Sub (apply Add x y) y) x ≢ 0
-  axiom_17 h k = equal _ _ (sum_less x y h k)
+  axiom_17 h k = equal_values _ _ (sum_less x y h k)
 
   axiom_18 : IsWord x → apply Eq (apply Sub x x) 0 ≢ 0
-  axiom_18 h = equal _ _ (less_itself x h)
+  axiom_18 h = equal_values _ _ (less_itself x h)
 
   axiom_19 : apply Eq (apply Xor x x) 0 ≢ 0
-  axiom_19 = equal _ _ (xor_self x)
+  axiom_19 = equal_values _ _ (xor_self x)
 
   axiom_20 : apply Le (apply And x y) x ≢ 0
-  axiom_20 = at_most _ _ (and_le_l x y)
+  axiom_20 = at_most_holds _ _ (and_le_l x y)
 
   axiom_21 : apply Le x (apply Or x y) ≢ 0
-  axiom_21 = at_most _ _ (le_or_l x y)
+  axiom_21 = at_most_holds _ _ (le_or_l x y)
 
   axiom_22 : apply Either (apply Eq x 0) (apply Lt 0 x) ≢ 0
   axiom_22 = grind (arith, nat_tests)
 
   axiom_23 : apply Eq (apply And x y) (apply And y x) ≢ 0
-  axiom_23 = equal _ _ (and_comm x y)
+  axiom_23 = equal_values _ _ (and_comm x y)
 
   axiom_24 : apply Either (flag (not (is_set x))) (apply Ne x 0) ≢ 0
   axiom_24 = grind (arith, nat_tests)

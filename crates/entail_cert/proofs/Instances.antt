@@ -1,6 +1,6 @@
 -- Instances of axioms hold, where they are made of words.
 use Rattle.std.proofs.Common.{◌≡◌, ◌≢◌, ℕ, zero, suc, ◌<◌, ◌==◌, ◌&&◌, not, List, [], ◌∷◌, length, map, get_or, slice_get, Bool, true, false, Option, Some, None, IfSome, refl, sym, ◌∙◌, ap, subst, if◌then◌else◌, inl, inr, arith, lit<}
-use Rattle.std.proofs.lemmas.Bool.{eqb-true}
+use Rattle.std.proofs.lemmas.Bool.{eqb-true, or_cases}
 use Rattle.std.proofs.lemmas.Bool.Decides.{eqb_tells}
 use Rattle.std.specs.List.{list_all}
 use Rattle.cov_expr.specs.Term.{Term, const, var, neg, bin, value, apply, flag, is_set}
@@ -14,8 +14,9 @@ use Rattle.entail_cert.specs.Valid.{first_bad, is_valid}
 use Rattle.entail_cert.specs.Walks.{InstancesHaveWords}
 use Rattle.entail_cert.specs.Words.{HaveWords, CertHasWords, is_of_words}
 use Rattle.cov_expr.proofs.Values.{value_word}
+use Rattle.cov_expr.proofs.Tests.{left_true, right_true}
 use Rattle.entail_cert.proofs.Axioms.{axioms_hold}
-use Rattle.entail_cert.proofs.Truth.{and_left, and_right, or_cases, numbered_holds, words_of}
+use Rattle.entail_cert.proofs.Truth.{numbered_holds, words_of}
 use Rattle.entail_cert.proofs.Sound.{InstancesHold, none_is, cert_sound}
 
 -- Instances ----------------------------------------------------------------------------------------------------
@@ -57,8 +58,8 @@ mentioned : (t : Term) (n i : ℕ) → mentions_below t n ≡ true → i < n →
 mentioned t zero i h k = absurd (omega arith)
 mentioned t (suc n) i h k =
     elim (eqb_tells i n) [
-      | inl e ↦ subst (λ j. mentions t j ≡ true) (sym e.1) (and_left (mentions t n) (mentions_below t n) h)
-      | inr e ↦ mentioned t n i (and_right (mentions t n) (mentions_below t n) h) (let d : i ≢ n = e.1 in omega arith)
+      | inl e ↦ subst (λ j. mentions t j ≡ true) (sym e.1) (left_true (mentions t n) (mentions_below t n) h)
+      | inr e ↦ mentioned t n i (right_true (mentions t n) (mentions_below t n) h) (let d : i ≢ n = e.1 in omega arith)
     ]
 
 -- the letters of an axiom are the first ones
@@ -67,8 +68,8 @@ letters_first t = mentions_below t (length (vars t))
 
 pub all_at : (test : Term → Bool) (es : List Term) (i : ℕ) (t : Term) → list_all test es ≡ true → slice_get es i ≡ Some t → test t ≡ true
 all_at test [] i t h k = let c : ◌≡◌ {A = Option Term} None (Some t) = k in cc
-all_at test (e ∷ es) zero t h k = let i : e ≡ t = cc in subst (λ e. test e ≡ true) i (and_left (test e) (list_all test es) h)
-all_at test (e ∷ es) (suc i) t h k = all_at test es i t (and_right (test e) (list_all test es) h) k
+all_at test (e ∷ es) zero t h k = let i : e ≡ t = cc in subst (λ e. test e ≡ true) i (left_true (test e) (list_all test es) h)
+all_at test (e ∷ es) (suc i) t h k = all_at test es i t (right_true (test e) (list_all test es) h) k
 
 axiom_letters : (k : ℕ) (t : Term) → numbered axioms k ≡ Some t → letters_first t ≡ true
 unfolding letters_first

@@ -6,6 +6,8 @@ use Rattle.cov_expr.specs.Trees.{same}
 use Rattle.cov_expr.specs.Words.{AreWords, HasWords}
 use Rattle.cov_expr.specs.Entailment.{Holds, AllHold}
 use Rattle.cov_expr.proofs.Trees.{same_is}
+use Rattle.cov_expr.proofs.Tests.{left_true, right_true}
+use Rattle.cov_expr.proofs.Values.{equal_values, values_equal}
 use Rattle.cov_ast.specs.Syntax.{Cert}
 use Rattle.cov_ast.specs.Syntax as by
 use Rattle.entail_range.specs.Range.{range_valid}
@@ -14,7 +16,7 @@ use Rattle.entail_ring.proofs.Sound.{ring_equal_sound}
 use Rattle.entail_cert.specs.Axioms.{numbered, axiom_for}
 use Rattle.entail_cert.specs.Words.{is_of_words}
 use Rattle.entail_cert.specs.Valid.{is_plain, is_true, is_false, is_some_and, is_negation, is_reflexive, operands, operands_of, negated, are_ring_equal, is_ring, is_range, filled, only_if, only_with, one, two, first_bad}
-use Rattle.entail_cert.proofs.Truth.{operands_is, operands_of_is, negated_is, both_of, both_left, both_right, either_left, either_right, either_cases, neg_fails, either_way, and_left, and_right, words_of, equal_values, values_equal, true_holds, false_fails, all_both, numbered_holds, plain_holds, filled_same}
+use Rattle.entail_cert.proofs.Truth.{operands_is, operands_of_is, negated_is, both_of, both_left, both_right, either_left, either_right, either_cases, neg_fails, either_way, words_of, true_holds, false_fails, all_both, numbered_holds, plain_holds, filled_same}
 
 -- Where no node fails ------------------------------------------------------------------------------------------
 
@@ -96,13 +98,13 @@ module _ (m : List ℕ) (m_words : AreWords m) where
       subst (λ g. Holds g m) (sym (k p refl)) (equal_values (value p.0 m) (value p.1 m) (ap (λ e. value e m) (same_is p.0 p.1 h)))
 
   ring_holds : (goal : Term) → is_ring goal ≡ true → Holds goal m
-  ring_holds goal h = at (operands Eq goal) refl (and_left (are_ring_equal (operands Eq goal)) (is_of_words goal) h)
+  ring_holds goal h = at (operands Eq goal) refl (left_true (are_ring_equal (operands Eq goal)) (is_of_words goal) h)
     where
       at : (o : Option (Term × Term)) → operands Eq goal ≡ o → are_ring_equal o ≡ true → Holds goal m
       at None i j = let c : false ≡ true = j in cc
       at (Some p) i j =
           let s = operands_is Eq goal p i in
-          let w : HasWords (bin Eq p.0 p.1) = subst HasWords s (words_of goal (and_right (are_ring_equal (operands Eq goal)) (is_of_words goal) h)) in
+          let w : HasWords (bin Eq p.0 p.1) = subst HasWords s (words_of goal (right_true (are_ring_equal (operands Eq goal)) (is_of_words goal) h)) in
           subst (λ g. Holds g m) (sym s) (equal_values (value p.0 m) (value p.1 m) (ring_equal_sound p.0 p.1 w.0 w.1 j m m_words))
 
   -- a goal that a template gives of equal expressions
@@ -193,4 +195,4 @@ module _ (m : List ℕ) (m_words : AreWords m) where
   cert_sound by.ring hyps goal h w k = ring_holds goal (only_if_true (is_ring goal) None h)
   cert_sound by.range hyps goal h w k =
       let i = only_if_true (is_range hyps goal) None h in
-      range_sound hyps goal (words_of goal (and_right (range_valid hyps goal) (is_of_words goal) i)) (and_left (range_valid hyps goal) (is_of_words goal) i) m m_words k
+      range_sound hyps goal (words_of goal (right_true (range_valid hyps goal) (is_of_words goal) i)) (left_true (range_valid hyps goal) (is_of_words goal) i) m m_words k

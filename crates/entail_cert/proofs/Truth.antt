@@ -1,6 +1,6 @@
 -- What holds in a memory, part by part.
 use Rattle.std.proofs.Common.{◌≡◌, ◌≢◌, ℕ, zero, suc, ◌==◌, ◌&&◌, ◌||◌, not, List, [], ◌∷◌, ◌++◌, Bool, true, false, Option, Some, None, refl, ◌∙◌, ap, subst, ◌⊎◌, inl, inr, slice_get, if◌then◌else◌, arith, ◌^◌}
-use Rattle.std.proofs.lemmas.Bool.{eqb-true, ltb-true, lt-ltb, and_from}
+use Rattle.std.proofs.lemmas.Bool.{eqb-true, ltb-true, lt-ltb, and_from, not-true, or_cases}
 use Rattle.std.proofs.lemmas.Bool.Decides.{nat_tests}
 use Rattle.std.specs.List.{list_any, list_all}
 use Rattle.cov_expr.specs.declared.expr.Op.{Op}
@@ -11,32 +11,13 @@ use Rattle.cov_expr.specs.Trees.{op_number, same, is_closed, conjuncts, has_term
 use Rattle.cov_expr.specs.Words.{HasVarsBelow, HasWords}
 use Rattle.cov_expr.specs.Entailment.{Holds, AllHold}
 use Rattle.cov_expr.proofs.Trees.{same_is, op_is}
-use Rattle.cov_expr.proofs.Values.{value-closed}
+use Rattle.cov_expr.proofs.Values.{value-closed, set_holds}
+use Rattle.cov_expr.proofs.Tests.{left_true, right_true}
 use Rattle.entail_cert.specs.Axioms.{numbered}
 use Rattle.entail_cert.specs.Words.{is_of_words}
 use Rattle.entail_cert.specs.Valid.{is_true, is_false, is_known, is_plain, operands, operands_of, negated, filled}
 
 -- Truth values -------------------------------------------------------------------------------------------------
-
-pub and_left : (a b : Bool) → (a && b) ≡ true → a ≡ true
-and_left true b h = refl
-and_left false b h = h
-
-pub and_right : (a b : Bool) → (a && b) ≡ true → b ≡ true
-and_right true b h = h
-and_right false b h = let e : false ≡ true = h in cc
-
-pub or_cases : (a b : Bool) → (a || b) ≡ true → (a ≡ true) ⊎ (b ≡ true)
-or_cases true b h = inl refl
-or_cases false b h = inr h
-
-not_true : (a : Bool) → not a ≡ true → a ≡ false
-not_true true h = let e : false ≡ true = h in cc
-not_true false h = refl
-
-set_is : (v : ℕ) → is_set v ≡ true → v ≢ 0
-set_is zero h = let e : false ≡ true = h in cc
-set_is (suc v) h = λ e. cc
 
 unset_is : (v : ℕ) → is_set v ≡ false → v ≡ 0
 unset_is zero h = refl
@@ -79,12 +60,6 @@ pub either_way : (x : ℕ) (A : Type 0) → (x ≢ 0 → A) → (flag (not (is_s
 either_way zero A h k = k (λ e. let c : ◌≡◌ {A = ℕ} 1 0 = e in cc)
 either_way (suc x) A h k = h (λ e. cc)
 
-pub equal_values : (x y : ℕ) → x ≡ y → apply Eq x y ≢ 0
-equal_values x y h = grind (arith, nat_tests)
-
-pub values_equal : (x y : ℕ) → apply Eq x y ≢ 0 → x ≡ y
-values_equal x y h = grind (arith, nat_tests)
-
 -- Parts --------------------------------------------------------------------------------------------------------
 
 pub operands_is : (op : Op) (e : Term) (p : Term × Term) → operands op e ≡ Some p → e ≡ bin op p.0 p.1
@@ -114,14 +89,14 @@ pub closed_below : (e : Term) (n : ℕ) → is_closed e ≡ true → HasVarsBelo
 closed_below (const k) n h = tt
 closed_below (var x) n h = let c : false ≡ true = h in cc
 closed_below (neg e) n h = closed_below e n h
-closed_below (bin op a b) n h = (closed_below a n (and_left (is_closed a) (is_closed b) h), closed_below b n (and_right (is_closed a) (is_closed b) h))
+closed_below (bin op a b) n h = (closed_below a n (left_true (is_closed a) (is_closed b) h), closed_below b n (right_true (is_closed a) (is_closed b) h))
 
 -- words
 pub words_of : (e : Term) → is_of_words e ≡ true → HasWords e
 words_of (const k) h = ltb-true k (2 ^ 32) h
 words_of (var x) h = ltb-true x (2 ^ 32) h
 words_of (neg e) h = words_of e h
-words_of (bin op a b) h = (words_of a (and_left (is_of_words a) (is_of_words b) h), words_of b (and_right (is_of_words a) (is_of_words b) h))
+words_of (bin op a b) h = (words_of a (left_true (is_of_words a) (is_of_words b) h), words_of b (right_true (is_of_words a) (is_of_words b) h))
 
 pub has_words : (e : Term) → HasWords e → is_of_words e ≡ true
 has_words (const k) w = lt-ltb k (2 ^ 32) w
@@ -133,13 +108,13 @@ has_words (bin op a b) w = and_from (is_of_words a) (is_of_words b) (has_words a
 
 module _ (m : List ℕ) where
   pub true_holds : (e : Term) → is_true e ≡ true → Holds e m
-  true_holds e h = λ z. set_is (value e []) (and_right (is_closed e) (is_set (value e [])) h)
-      (value-closed e [] m (and_left (is_closed e) (is_set (value e [])) h) ∙ z)
+  true_holds e h = λ z. set_holds (value e []) (right_true (is_closed e) (is_set (value e [])) h)
+      (value-closed e [] m (left_true (is_closed e) (is_set (value e [])) h) ∙ z)
 
   pub false_fails : (e : Term) → is_false e ≡ true → Holds e m → ⊥
   false_fails e h k =
-      k (value-closed e m [] (and_left (is_closed e) (not (is_set (value e []))) h)
-      ∙ unset_is (value e []) (not_true (is_set (value e [])) (and_right (is_closed e) (not (is_set (value e []))) h)))
+      k (value-closed e m [] (left_true (is_closed e) (not (is_set (value e []))) h)
+      ∙ unset_is (value e []) (not-true (is_set (value e [])) (right_true (is_closed e) (not (is_set (value e []))) h)))
 
   pub all_left : (es fs : List Term) → AllHold (es ++ fs) m → AllHold es m
   all_left [] fs h = tt
@@ -201,11 +176,11 @@ module _ (m : List ℕ) where
   each_holds : (hyps es : List Term) → list_all (λ e. is_true e || is_known hyps e) es ≡ true → AllHold hyps m → AllHold es m
   each_holds hyps [] h k = tt
   each_holds hyps (e ∷ es) h k = (
-    elim (or_cases (is_true e) (is_known hyps e) (and_left (is_true e || is_known hyps e) (list_all (λ e. is_true e || is_known hyps e) es) h)) [
+    elim (or_cases (is_true e) (is_known hyps e) (left_true (is_true e || is_known hyps e) (list_all (λ e. is_true e || is_known hyps e) es) h)) [
       | inl i ↦ true_holds e i
       | inr i ↦ known_holds hyps e i k
     ],
-    each_holds hyps es (and_right (is_true e || is_known hyps e) (list_all (λ e. is_true e || is_known hyps e) es) h) k,
+    each_holds hyps es (right_true (is_true e || is_known hyps e) (list_all (λ e. is_true e || is_known hyps e) es) h) k,
   )
 
   pub plain_holds : (hyps : List Term) (goal : Term) → is_plain hyps goal ≡ true → AllHold hyps m → Holds goal m

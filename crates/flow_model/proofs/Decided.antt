@@ -6,6 +6,7 @@ use Rattle.std.proofs.lemmas.List.{get_or_default, get_or_past, same_lists}
 use Rattle.cov_expr.specs.Entailment.{Holds}
 use Rattle.cov_expr.specs.Term.{Term, value, is_set}
 use Rattle.cov_expr.specs.Trees.{has_number}
+use Rattle.cov_expr.proofs.Values.{set_holds}
 use Rattle.cov_ast.specs.Declarations.{class_of, invariant_of, invariant_term, is_control, no_lock, no_thread, no_var}
 use Rattle.cov_ast.specs.Plain.{Plain, class_term}
 use Rattle.cov_ast.specs.Syntax.{Lock}
@@ -19,10 +20,6 @@ use Rattle.flow_model.proofs.Apart.{passed_over, words_same}
 use Rattle.flow_model.proofs.Firsts.{none_found, none_passes}
 
 -- Tests --------------------------------------------------------------------------------------------------------
-
-set_holds : (n : ℕ) → is_set n ≡ true → n ≢ 0
-set_holds zero h = absurd cc
-set_holds (suc n) h = λ e. omega (arith, e)
 
 holds_set : (n : ℕ) → n ≢ 0 → is_set n ≡ true
 holds_set zero h = absurd (h refl)

@@ -5,3 +5,4 @@ pub mod Firsts
 pub mod Marking
 pub mod Apart
 pub mod Decided
+pub mod Holders

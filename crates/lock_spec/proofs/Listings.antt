@@ -11,14 +11,11 @@ use Rattle.cov_ast.specs.declared.refusal.Detail.TheVariants.{One}
 use Rattle.cov_ast.specs.Plain.{plain}
 use Rattle.cov_ast.specs.Declarations.{name_of}
 use Rattle.std.proofs.lemmas.Grind.{common_steps}
+use Rattle.std.proofs.Math.Bool.{or-false}
 use Rattle.cov_ast.specs.WellFormed.{IsLockInRange}
-use Rattle.cov_ast.proofs.TableLaws.{table_at, table_same, set_table, with_all_table, none_table, or_false}
+use Rattle.cov_ast.proofs.TableLaws.{table_at, table_same, set_table, with_all_table, none_table}
 use Rattle.lock_spec.specs.Locks.{listing_obligations, w4_from}
 use Rattle.lock_spec.specs.Inside.{marked_obligation, marked_obligations, marked_from}
-
-pub with_all_append : (marks : List Bool) (xs ys : List ℕ) → with_all marks (xs ++ ys) ≡ with_all (with_all marks xs) ys
-with_all_append marks [] ys = refl
-with_all_append marks (x ∷ xs) ys = with_all_append (set marks x true) xs ys
 
 module _ (p : Program) where
   pub marked_append : (l : Lock) (marks : List Bool) (xs ys : List ℕ)
@@ -27,7 +24,7 @@ module _ (p : Program) where
   marked_append l marks (x ∷ xs) ys = ap (λ es. marked_obligation p l marks x ∷ es) (marked_append l (set marks x true) xs ys)
 
   has_number_push : (xs : List ℕ) (x y : ℕ) → has_number (xs ++ x ∷ []) y ≡ (has_number xs y || x == y)
-  has_number_push xs x y = list_any-append (λ z. z == y) xs (x ∷ []) ∙ ap (λ b. has_number xs y || b) (or_false (x == y))
+  has_number_push xs x y = list_any-append (λ z. z == y) xs (x ∷ []) ∙ ap (λ b. has_number xs y || b) (or-false (x == y))
 
   one_more : (n : ℕ) (before : List ℕ) (x : ℕ) → set (table n (has_number before)) x true ≡ table n (has_number (before ++ x ∷ []))
   one_more n before x =

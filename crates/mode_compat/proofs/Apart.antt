@@ -4,18 +4,21 @@ use Rattle.std.specs.List.{flat_map, list_any, list_all, range_with_len}
 use Rattle.std.proofs.lemmas.Bool.{true≢false, and_parts, or_cases, eqb-true, eq-eqb, cases_Bool, ne_eqb, cases_lt, and_from, not-true}
 use Rattle.std.proofs.lemmas.List.{get_or-map, length-map, get_or_past, append-nil, append_assoc}
 use Rattle.std.proofs.lemmas.Option.{same_Some}
-use Rattle.cov_ast.proofs.TableLaws.{or_true}
 use Rattle.mode_state.proofs.HeldLaws.{any_from, all_from}
 use Rattle.std.proofs.lemmas.List.Folds.{list_all-append, list_any-append}
+use Rattle.std.proofs.Math.Bool.{or-true}
 use Rattle.cov_expr.specs.Trees.{has_number, add_new}
+use Rattle.cov_expr.proofs.Tests.{passing, each_below}
 use Rattle.cov_ast.specs.Syntax.{Program}
 use Rattle.cov_ast.specs.Plain.{Plain, plain, plain_thread}
 use Rattle.cov_ast.specs.Declarations.{modes_of, no_thread, assumes, assumes_hide, guarantees, guarantees_hide, have_guaranteed, have_assumed, under, lists, no_lock}
 use Rattle.cov_ast.specs.Tables.{has}
 use Rattle.cov_ast.specs.Obligations.{Obligation, all_hold, distinct}
+use Rattle.cov_ast.proofs.ObligationLaws.{both_hold}
 use Rattle.flow_model.specs.Composable.{HasCompatibleModes}
 use Rattle.flow_model.specs.Source.{Holders, holder, is_held_by}
 use Rattle.flow_model.specs.Holdings.{IsStableNow, IsWritableNow}
+use Rattle.flow_model.proofs.Holders.{held_is, is_held}
 use Rattle.mode_state.specs.Sets.{is_stable, may_write, locks_of}
 use Rattle.policy_class.specs.Policy.{policy_obligations}
 use Rattle.lock_spec.specs.Locks.{lock_obligations}
@@ -26,14 +29,11 @@ use Rattle.mode_compat.specs.HeldSets.{AreHeldBy, AreSetsOf}
 
 -- Obligations that all hold ------------------------------------------------------------------------------------
 
-all_parts : (a b : List Obligation) → IsTrue (all_hold (a ++ b)) → IsTrue (all_hold a) × IsTrue (all_hold b)
-all_parts a b h = and_parts (all_hold a) (all_hold b) (sym (list_all-append (λ e. e.holds) a b) ∙ h)
-
 -- of a number that is listed
 number_holds : (g : ℕ → List Obligation) (xs : List ℕ) (x : ℕ) → IsTrue (all_hold (flat_map g xs)) → has_number xs x ≡ true → IsTrue (all_hold (g x))
 number_holds g [] x h k = absurd (true≢false (sym k))
 number_holds g (y ∷ ys) x h k =
-    let parts = all_parts (g y) (flat_map g ys) h in
+    let parts = both_hold (g y) (flat_map g ys) h in
     elim (or_cases (y == x) (has_number ys x) k) [
       | inl e ↦ subst (λ z. IsTrue (all_hold (g z))) (eqb-true y x e) parts.0
       | inr e ↦ number_holds g ys x parts.1 e
@@ -53,7 +53,7 @@ in_range : (a n x : ℕ) → a ≤ x → x < a + n → has_number (range_with_le
 in_range a zero x from to = absurd (omega arith)
 in_range a (suc n) x from to =
     elim (cases_lt a x) [
-      | inl lt ↦ ap (λ b. (a == x) || b) (in_range (a + 1) n x (omega arith) (omega arith)) ∙ or_true (a == x)
+      | inl lt ↦ ap (λ b. (a == x) || b) (in_range (a + 1) n x (omega arith) (omega arith)) ∙ or-true (a == x)
       | inr ge ↦ let e : a ≡ x = omega arith in ap (λ b. b || has_number (range_with_len (a + 1) n) x) (eq-eqb a x e)
     ]
 
@@ -69,7 +69,7 @@ in_added xs (y ∷ ys) x h = go (λ zs k. in_added zs ys x k) (has_number xs y) 
       | inl e ↦ list_any-append (λ z. z == x) xs ys ∙ ap (λ b. b || has_number ys x) e
       | inr e ↦ elim (or_cases (y == x) (has_number ys x) e) [
         | inl f ↦ list_any-append (λ z. z == x) xs ys ∙ ap (λ b. b || has_number ys x) (subst (λ z. has_number xs z ≡ true) (eqb-true y x f) there)
-        | inr f ↦ list_any-append (λ z. z == x) xs ys ∙ ap (λ b. has_number xs x || b) f ∙ or_true (has_number xs x)
+        | inr f ↦ list_any-append (λ z. z == x) xs ys ∙ ap (λ b. has_number xs x || b) f ∙ or-true (has_number xs x)
       ]
     ])
     go rest false new = rest (xs ++ y ∷ []) (subst (λ zs. has_number zs x ≡ true) (sym (append_assoc xs (y ∷ []) ys)) h)
@@ -92,8 +92,8 @@ numbered_modes p t lt = ap (λ th. th.modes) (get_or-map plain_thread p.threads 
 module _ (p : Program) (h : IsTrue (all_hold (declaration_obligations p))) where
   w9 : IsTrue (all_hold (flat_map (w9_obligations p) (threads_of p)))
   w9 =
-      let modes = (all_parts (policy_obligations p ++ lock_obligations p) (mode_obligations p) h).1 in
-      (all_parts (flat_map (w6_obligations p) p.threads ++ flat_map (w7_obligations p) p.locks ++ flat_map (w8_obligations p) p.threads)
+      let modes = (both_hold (policy_obligations p ++ lock_obligations p) (mode_obligations p) h).1 in
+      (both_hold (flat_map (w6_obligations p) p.threads ++ flat_map (w7_obligations p) p.locks ++ flat_map (w8_obligations p) p.threads)
       (flat_map (w9_obligations p) (threads_of p)) modes).1
 
   pair_holds : (t u : ℕ) → t < length p.threads → u < length p.threads → t ≢ u → IsTrue (all_hold (w9_pair p (numbered p t) (numbered p u)))
@@ -108,7 +108,7 @@ module _ (p : Program) (h : IsTrue (all_hold (declaration_obligations p))) where
   met_hide t u x ku ne lt a =
       let e1 : ℕ → Obligation = λ y. w9_obligation p (numbered p t) (numbered p u) y (have_guaranteed (numbered p u).modes y) in
       let e2 : ℕ → Obligation = λ y. w9_obligation p (numbered p t) (numbered p u) y (has_number (numbered p u).modes.guarantee_hide y) in
-      let parts = all_parts (map e1 (distinct (numbered p t).modes.assume_nowrite)) (map e2 (distinct (numbered p t).modes.assume_hide)) (pair_holds t u lt ku ne) in
+      let parts = both_hold (map e1 (distinct (numbered p t).modes.assume_nowrite)) (map e2 (distinct (numbered p t).modes.assume_hide)) (pair_holds t u lt ku ne) in
       ap (λ m. has_number m.guarantee_hide x) (numbered_modes p u ku)
       ∙ obligation_holds e2 (distinct (numbered p t).modes.assume_hide) x parts.1
       (in_distinct (numbered p t).modes.assume_hide x (sym (ap (λ m. has_number m.assume_hide x) (numbered_modes p t lt)) ∙ a))
@@ -117,7 +117,7 @@ module _ (p : Program) (h : IsTrue (all_hold (declaration_obligations p))) where
   met_nowrite t u x ku ne lt a =
       let e1 : ℕ → Obligation = λ y. w9_obligation p (numbered p t) (numbered p u) y (have_guaranteed (numbered p u).modes y) in
       let e2 : ℕ → Obligation = λ y. w9_obligation p (numbered p t) (numbered p u) y (has_number (numbered p u).modes.guarantee_hide y) in
-      let parts = all_parts (map e1 (distinct (numbered p t).modes.assume_nowrite)) (map e2 (distinct (numbered p t).modes.assume_hide)) (pair_holds t u lt ku ne) in
+      let parts = both_hold (map e1 (distinct (numbered p t).modes.assume_nowrite)) (map e2 (distinct (numbered p t).modes.assume_hide)) (pair_holds t u lt ku ne) in
       ap (λ m. have_guaranteed m x) (numbered_modes p u ku)
       ∙ obligation_holds e1 (distinct (numbered p t).modes.assume_nowrite) x parts.0
       (in_distinct (numbered p t).modes.assume_nowrite x (sym (ap (λ m. has_number m.assume_nowrite x) (numbered_modes p t lt)) ∙ a))
@@ -128,7 +128,7 @@ module _ (p : Program) (h : IsTrue (all_hold (declaration_obligations p))) where
       elim (or_cases (has_number (modes_of (plain p) t).assume_nowrite x) (assumes_hide (plain p) t x) a) [
         | inl e ↦ met_nowrite t u x ku ne lt e
         | inr e ↦ ap (λ b. has_number (modes_of (plain p) u).guarantee_nowrite x || b) (met_hide t u x ku ne lt e)
-            ∙ or_true (has_number (modes_of (plain p) u).guarantee_nowrite x)
+            ∙ or-true (has_number (modes_of (plain p) u).guarantee_nowrite x)
       ]
 
   pub disjoint : HasCompatibleModes (plain p)
@@ -141,26 +141,6 @@ module _ (p : Program) (h : IsTrue (all_hold (declaration_obligations p))) where
 
 -- The sets of a thread that holds locks -------------------------------------------------------------------------
 
-held_is : (o : Option ℕ) (t : ℕ) → is_held_by o t ≡ true → o ≡ Some t
-held_is None t h = absurd (true≢false (sym h))
-held_is (Some u) t h = ap Some (eqb-true u t h)
-
-is_held : (o : Option ℕ) (t : ℕ) → o ≡ Some t → is_held_by o t ≡ true
-is_held o t h = ap (λ q. is_held_by q t) h ∙ eq-eqb t t refl
-
-found : (f : ℕ → Bool) (a n : ℕ) → list_any f (range_with_len a n) ≡ true → (l : ℕ) × (f l ≡ true)
-found f a zero h = absurd (true≢false (sym h))
-found f a (suc n) h = elim (or_cases (f a) (list_any f (range_with_len (a + 1) n)) h) [ inl e ↦ (a, e) | inr e ↦ found f (a + 1) n e ]
-
-each : (f : ℕ → Bool) (a n l : ℕ) → a ≤ l → l < a + n → list_all f (range_with_len a n) ≡ true → f l ≡ true
-each f a zero l from to h = absurd (omega arith)
-each f a (suc n) l from to h =
-    let parts = and_parts (f a) (list_all f (range_with_len (a + 1) n)) h in
-    elim (cases_lt a l) [
-      | inl lt ↦ each f (a + 1) n l (omega arith) (omega arith) parts.1
-      | inr ge ↦ let e : a ≡ l = omega arith in subst (λ k. f k ≡ true) e parts.0
-    ]
-
 -- a lock past the end lists nothing
 listing_is_declared : (p : Plain) (l x : ℕ) → IsTrue (under p l x) → l < length p.locks
 listing_is_declared p l x h = elim (cases_lt l (length p.locks)) [
@@ -172,7 +152,7 @@ module _ (p : Plain) (h : Holders) (t : ℕ) (held : List Bool) (fits : AreHeldB
   stable_now : (x : ℕ) → IsTrue (is_stable p t held x) → IsStableNow p h t x
   stable_now x s = elim (or_cases (assumes p t x) (list_any (λ l. has held l && under p l x) (locks_of p)) s) [
     | inl a ↦ inl a
-    | inr e ↦ let lock = found (λ l. has held l && under p l x) 0 (length p.locks) e in
+    | inr e ↦ let lock = passing (λ l. has held l && under p l x) 0 (length p.locks) e in
         let parts = and_parts (has held lock.0) (under p lock.0 x) lock.1 in
         inr (lock.0, held_is (holder h lock.0) t (sym (fits lock.0) ∙ parts.0), parts.1)
   ]
@@ -183,7 +163,7 @@ module _ (p : Plain) (h : Holders) (t : ℕ) (held : List Bool) (fits : AreHeldB
       ap (λ b. assumes p t x || b)
       (any_from (λ l. has held l && under p l x) 0 (length p.locks) s.0 (omega arith) (omega (arith, listing_is_declared p s.0 x s.2))
       (and_from (has held s.0) (under p s.0 x) (fits s.0 ∙ is_held (holder h s.0) t s.1) s.2))
-      ∙ or_true (assumes p t x)
+      ∙ or-true (assumes p t x)
 
   writable_now : (x : ℕ) → IsTrue (may_write p t held x) → IsWritableNow p h t x
   writable_now x w =
@@ -191,7 +171,7 @@ module _ (p : Plain) (h : Holders) (t : ℕ) (held : List Bool) (fits : AreHeldB
       record {
         allowed = not-true (guarantees p t x) parts.0;
         held = λ l u.
-            let here = each (λ l. not (under p l x) || has held l) 0 (length p.locks) l (omega arith) (omega (arith, listing_is_declared p l x u)) parts.1 in
+            let here = each_below (λ l. not (under p l x) || has held l) 0 (length p.locks) l (omega arith) (omega (arith, listing_is_declared p l x u)) parts.1 in
             held_is (holder h l) t (sym (fits l) ∙ sym (ap (λ b. not b || has held l) u) ∙ here);
       }
 

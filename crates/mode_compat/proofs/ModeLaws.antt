@@ -8,6 +8,7 @@ use Rattle.cov_ast.specs.View as view
 use Rattle.cov_ast.specs.declared.decl.Program as decl
 use Rattle.cov_ast.specs.declared.decl.ThreadDecl.{ThreadDecl}
 use Rattle.std.proofs.lemmas.List.Concat.{flat_map-append}
+use Rattle.std.proofs.Math.Bool.{or-false}
 use Rattle.cov_expr.specs.Words.{HasVarsBelow}
 use Rattle.cov_expr.specs.Trees.{has_number}
 use Rattle.cov_ast.specs.Syntax.{Lock, Thread, Program}
@@ -18,7 +19,7 @@ use Rattle.cov_ast.specs.Obligations.{Obligation, declared_obligation, first_fal
 use Rattle.cov_ast.specs.declared.refusal.Rule.{Rule}
 use Rattle.cov_ast.specs.declared.refusal.Rule.TheVariants.{W7, W8}
 use Rattle.cov_ast.specs.declared.refusal.Detail.TheVariants.{Two}
-use Rattle.cov_ast.proofs.TableLaws.{table_at, table_same, none_table, with_all_table, or_false}
+use Rattle.cov_ast.proofs.TableLaws.{table_at, table_same, none_table, with_all_table}
 use Rattle.cov_ast.proofs.ObligationLaws.{first_false-append, distinct_same, distinct_map_same, marked_found, vars_found}
 use Rattle.mode_compat.specs.Compatible.{shown, controls_of, is_locked, all_assume, w6_obligation, w6_obligations, w7_obligation, w7_obligations, w8_obligation, w8_obligations, w9_obligation, w9_pair, threads_of}
 use Rattle.mode_compat.specs.Inside.{with_locks, apart_obligation, kept_obligation, kept_obligations, met_obligation}
@@ -30,7 +31,7 @@ four true a b r = refl
 four false a b r = refl
 
 locks_table : (n : ℕ) (f : ℕ → Bool) (ls : List Lock) → with_locks (table n f) ls ≡ table n (λ y. f y || list_any (λ l. lists l y) ls)
-locks_table n f [] = table_same n f (λ y. f y || false) (λ x h. sym (or_false (f x)))
+locks_table n f [] = table_same n f (λ y. f y || false) (λ x h. sym (or-false (f x)))
 locks_table n f (l ∷ ls) =
     ap (λ m. with_locks (with_all m l.hide) ls) (with_all_table n f l.nowrite)
     ∙ ap (λ m. with_locks m ls) (with_all_table n (λ y. f y || has_number l.nowrite y) l.hide)

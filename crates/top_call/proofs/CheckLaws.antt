@@ -7,7 +7,7 @@ use Rattle.cov_ast.specs.Syntax.{Parsed, Program}
 use Rattle.cov_ast.specs.Obligations.{Obligation, all_hold, first_false, Decides}
 use Rattle.cov_ast.specs.declared.refusal.CheckFault.{CheckFault}
 use Rattle.cov_ast.specs.declared.refusal.Refusal.{Refusal}
-use Rattle.cov_ast.proofs.ObligationLaws.{append_refused, append_decided}
+use Rattle.cov_ast.proofs.ObligationLaws.{append_refused, append_decided, both_hold}
 use Rattle.cov_grammar.specs.Trees as trees
 use Rattle.cov_parse.specs.Text.{program_of}
 use Rattle.flow_model.specs.Secure.{IsSecure}
@@ -27,9 +27,6 @@ use Rattle.top_call.proofs.FileLaws.{gets_onward, gets_fit}
 use Rattle.top_call.proofs.TextLaws.{one_tree, one_shown, tree_or_shown}
 
 -- Obligations --------------------------------------------------------------------------------------------------
-
-both_hold : (a b : List Obligation) → IsTrue (all_hold (a ++ b)) → IsTrue (all_hold a) × IsTrue (all_hold b)
-both_hold a b h = and_parts (all_hold a) (all_hold b) (sym (list_all-append (λ e. e.holds) a b) ∙ h)
 
 all_true : (es : List Obligation) → first_false es ≡ None → all_hold es ≡ true
 all_true [] h = refl

@@ -7,6 +7,7 @@ use Rattle.cov_expr.specs.declared.expr.Op.TheVariants.{Add, Sub, Mul, And, Or, 
 use Rattle.cov_expr.specs.Term.{Term, const, var, neg, bin}
 use Rattle.cov_expr.specs.Trees.{same, nodes, conjuncts, has_term, vars}
 use Rattle.cov_expr.proofs.Trees.{same_is}
+use Rattle.cov_expr.proofs.Tests.{any_more}
 use Rattle.cov_ast.specs.Declarations.{is_control, class_of, assumes, assumes_hide, hides, under}
 use Rattle.cov_ast.specs.Plain.{Plain}
 use Rattle.cov_ast.specs.Tables.{has}
@@ -150,11 +151,6 @@ large_from n (suc k) j change (q ∷ types) g is at h =
     and_right (is_small_type (option_map (change n) q)) (list_all is_small_type (updated_from (suc n) (λ x q. option_map (change x) q) types))
     (large_from (suc n) k j change types g is (omega arith) h)
 
-any_more : (f g : ℕ → Bool) (xs : List ℕ) → ((k : ℕ) → f k ≡ true → g k ≡ true) → list_any f xs ≡ true → list_any g xs ≡ true
-any_more f g [] h e = e
-any_more f g (x ∷ xs) h e = elim (or_cases (f x) (list_any f xs) e) [
-  | inl first ↦ or_left (g x) (list_any g xs) (h x first)
-  | inr rest ↦ or_right (g x) (list_any g xs) (any_more f g xs h rest)
 ]
 
 -- what is hidden is stable

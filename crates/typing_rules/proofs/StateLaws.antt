@@ -7,6 +7,7 @@ use Rattle.std.proofs.lemmas.List.{get_or-map, map-append, reverse-append, take_
 use Rattle.std.proofs.lemmas.List.Folds.{list_any-append}
 use Rattle.cov_expr.specs.Term.{Term}
 use Rattle.cov_expr.specs.Trees.{has_number}
+use Rattle.cov_expr.proofs.Trees.{has_number-append}
 use Rattle.cov_ast.specs.Plain.{Plain}
 use Rattle.cov_ast.specs.Declarations.{lock_at, name_of, no_lock}
 use Rattle.cov_ast.specs.View as view
@@ -76,9 +77,6 @@ named : {X : Type 0} (g : X → ℕ × Term) (xs : List X) (z : ℕ) → has_num
 named g [] z = refl
 named g (x ∷ xs) z = ap (λ b. ((g x).0 == z) || b) (named g xs z)
 
-has-append : (xs ys : List ℕ) (z : ℕ) → has_number (xs ++ ys) z ≡ (has_number xs z || has_number ys z)
-has-append xs ys z = list_any-append (λ y. y == z) xs ys
-
 or_swap : (a b : Bool) → (a || (b || false)) ≡ (b || a)
 or_swap true true = refl
 or_swap true false = refl
@@ -89,7 +87,7 @@ or_swap false false = refl
 has-reverse : (xs : List ℕ) (z : ℕ) → has_number (reverse xs) z ≡ has_number xs z
 has-reverse [] z = refl
 has-reverse (x ∷ xs) z =
-    ap (λ ys. has_number ys z) (reverse-append (x ∷ []) xs) ∙ has-append (reverse xs) (x ∷ []) z
+    ap (λ ys. has_number ys z) (reverse-append (x ∷ []) xs) ∙ has_number-append (reverse xs) (x ∷ []) z
     ∙ ap (λ b. b || ((x == z) || false)) (has-reverse xs z) ∙ or_swap (has_number xs z) (x == z)
 
 -- the obligations of one type that is listed

@@ -22,15 +22,6 @@ use Rattle.typing_rules.proofs.Counting.{count_append}
 
 -- Obligations ----------------------------------------------------------------------------------------------------
 
--- where none is refused, all hold
-pub none_refused : (es : List Obligation) → first_false es ≡ None → IsTrue (all_hold es)
-none_refused [] h = refl
-none_refused (e ∷ es) h = go (none_refused es) e.holds h
-  where
-    go : (first_false es ≡ None → IsTrue (all_hold es)) → (b : Bool) → cond b (first_false es) (Some e.refusal) ≡ None → IsTrue (b && all_hold es)
-    go rest true h = rest h
-    go rest false h = cc
-
 -- a body and a place that are those of the numbered thread
 module _ (p : Program) (t : ℕ) (b : Block) (place : ℕ) (body : b ≡ (numbered p t).body) (end : place ≡ (numbered p t).end) where
   abbrev obligations : List Obligation

@@ -3,14 +3,15 @@ use Rattle.std.proofs.Common.{◌≡◌, ℕ, ◌<◌, ◌&&◌, ◌||◌, List,
 use Rattle.std.specs.List.{list_any}
 use Rattle.std.proofs.lemmas.List.{length-set, get_or-map, get_or-set_same, get_or-set_other}
 use Rattle.std.proofs.lemmas.Bool.{cases_eq, and_parts, not-true}
+use Rattle.std.proofs.Math.Bool.{or-true}
 use Rattle.cov_expr.specs.Term.{Term, const, var, neg, bin}
 use Rattle.cov_expr.specs.Trees.{is_closed}
+use Rattle.cov_expr.proofs.Tests.{any_more}
 use Rattle.cov_ast.specs.Plain.{Plain}
 use Rattle.cov_ast.specs.Declarations.{class_of, is_control, no_lock, under, assumes}
 use Rattle.cov_ast.specs.Tables.{has}
 use Rattle.cov_ast.specs.View as view
 use Rattle.cov_ast.specs.declared.decl.LockDecl.{LockDecl}
-use Rattle.cov_ast.proofs.TableLaws.{or_true}
 use Rattle.mode_state.specs.Sets.{Sets, modes_at, is_stable, locks_of}
 use Rattle.mode_state.proofs.HeldLaws.{any_from}
 use Rattle.typing_state.specs.Point.{Point, is_tracked, given_type, default_type}
@@ -49,7 +50,7 @@ module _ (p : Plain) (t l : ℕ) (held : List Bool) (count : length held ≡ len
   stable_under x h =
       ap (λ b. assumes p t x || b)
       (any_from (λ k. has (set held l true) k && under p k x) 0 (length p.locks) l (omega arith) (omega arith)
-      (ap (λ b. b && under p l x) (get_or-set_same held l true false (omega (arith, count))) ∙ h)) ∙ or_true (assumes p t x)
+      (ap (λ b. b && under p l x) (get_or-set_same held l true false (omega (arith, count))) ∙ h)) ∙ or-true (assumes p t x)
 
   tracked_then : (x : ℕ) (u c : Bool) (q : Option Term) → under p l x ≡ u → is_control p x ≡ c → is_some q ≡ is_tracked p t held x
       → is_some (if u && not c then Some (class_of p x) else q) ≡ (is_stable p t (set held l true) x && not c)
@@ -73,11 +74,6 @@ lock_point p t l a inside h = record {
 
 -- Which variables are stable once it is given back -------------------------------------------------------------
 
-any_more : (f g : ℕ → Bool) (xs : List ℕ) → ((k : ℕ) → f k ≡ true → g k ≡ true) → list_any f xs ≡ true → list_any g xs ≡ true
-any_more f g [] h e = e
-any_more f g (x ∷ xs) h e = elim (either (f x) (list_any f xs) e) [
-  | inl first ↦ ap (λ b. b || list_any g xs) (h x first)
-  | inr rest ↦ ap (λ b. g x || b) (any_more f g xs h rest) ∙ or_true (g x)
 ]
   where
     either : (a b : Bool) → (a || b) ≡ true → (a ≡ true) ⊎ (b ≡ true)

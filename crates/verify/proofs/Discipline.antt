@@ -16,6 +16,7 @@ use Rattle.cov_ast.specs.Syntax.{Program}
 use Rattle.cov_ast.specs.Obligations.{all_hold}
 use Rattle.cov_ast.specs.Tables.{has}
 use Rattle.cov_ast.specs.WellFormed.{IsWellFormed}
+use Rattle.cov_ast.proofs.ObligationLaws.{both_hold}
 use Rattle.flow_model.specs.Source.{Item, run, put, test, Holders, holder, Local, local, items_then, turn, is_held_by, after_lock, after_unlock, Run, items_of, run_from, step, begin, after}
 use Rattle.flow_model.specs.Composable.{HasCompatibleModes}
 use Rattle.flow_model.specs.Holdings.{IsStableNow, IsWritableNow}
@@ -28,7 +29,7 @@ use Rattle.typing_state.specs.After.{start}
 use Rattle.typing_rules.specs.Obligations.{thread_obligations, block_obligations, end_obligation, end_point}
 use Rattle.verify.specs.Accepted.{IsAccepted}
 use Rattle.verify.specs.Disciplined.{held_at, held_in_front_of, evaluated, IsEvaluable, IsDisciplinedAt, IsDisciplined}
-use Rattle.verify.proofs.Parts.{both_hold, thread_holds}
+use Rattle.verify.proofs.Parts.{thread_holds}
 use Rattle.verify.proofs.Placed.{Reads, PlacedCmd, Placed, placed_block, block_sized}
 use Rattle.verify.proofs.Places.{places_found}
 

@@ -5,22 +5,11 @@ use Rattle.std.proofs.lemmas.Bool.{and_parts}
 use Rattle.std.proofs.lemmas.List.Folds.{list_all-append}
 use Rattle.cov_ast.specs.Syntax.{Program}
 use Rattle.cov_ast.specs.Obligations.{Obligation, all_hold, first_false}
+use Rattle.cov_ast.proofs.ObligationLaws.{both_hold}
 use Rattle.mode_compat.specs.Compatible.{threads_of}
 use Rattle.mode_compat.specs.Declared.{declaration_obligations}
 use Rattle.typing_rules.specs.Obligations.{thread_obligations}
 use Rattle.verify.specs.Accepted.{IsAccepted}
-
-pub both_hold : (a b : List Obligation) → IsTrue (all_hold (a ++ b)) → IsTrue (all_hold a) × IsTrue (all_hold b)
-both_hold a b h = and_parts (all_hold a) (all_hold b) (sym (list_all-append (λ e. e.holds) a b) ∙ h)
-
--- nothing is refused
-pub none_refused : (es : List Obligation) → first_false es ≡ None → IsTrue (all_hold es)
-none_refused [] h = refl
-none_refused (e ∷ es) h = at (λ k. none_refused es k) e.holds h
-  where
-    at : (first_false es ≡ None → IsTrue (all_hold es)) → (b : Bool) → cond b (first_false es) (Some e.refusal) ≡ None → IsTrue (b && all_hold es)
-    at rest true k = rest k
-    at rest false k = cc
 
 -- of one of the numbers from another on
 numbered_hold : (g : ℕ → List Obligation) (from n i : ℕ) → i < n → IsTrue (all_hold (flat_map g (range_with_len from n))) → IsTrue (all_hold (g (from + i)))

@@ -6,19 +6,21 @@ use Rattle.std.proofs.lemmas.Bool.{and_parts, cases_lt}
 use Rattle.std.proofs.lemmas.List.{ext_get_or}
 use Rattle.cov_expr.specs.Term.{Term, neg}
 use Rattle.cov_expr.specs.Trees.{occurrences, width}
+use Rattle.cov_expr.proofs.Tests.{each_below}
 use Rattle.cov_ast.specs.Obligations.{Obligation, all_hold}
 use Rattle.cov_ast.specs.Plain.{Cmd, Cmds, none, next, Plain, plain_stm, plain_block}
 use Rattle.cov_ast.specs.Plain as code
 use Rattle.cov_ast.specs.Syntax.{Proof, Stm, skip, assign, lock, unlock, branch, loop, note, Block, done, more}
 use Rattle.cov_ast.specs.Tables.{has}
 use Rattle.cov_ast.specs.WellFormed.{IsStmInRange, IsBlockInRange}
+use Rattle.cov_ast.proofs.ObligationLaws.{both_hold}
 use Rattle.mode_state.specs.Sets.{is_stable, may_write}
 use Rattle.typing_state.specs.Point.{Point}
 use Rattle.typing_state.specs.After.{with_guard, meet}
 use Rattle.typing_rules.specs.Blocks.{after_stm, after_block}
 use Rattle.typing_rules.specs.Obligations.{flat, agree, same_held, reads, one_unstable, narrow, assign_parts, unlock_parts, stm_parts, block_obligations}
+use Rattle.typing_rules.proofs.Soundness.Sound.{agreed}
 use Rattle.verify.specs.Disciplined.{points_within, points}
-use Rattle.verify.proofs.Parts.{both_hold}
 
 module _ (p : Plain) (t : ℕ) where
   -- what the rules ask of an expression that is evaluated
@@ -55,20 +57,6 @@ one_holds : (e : Obligation) → IsTrue (all_hold (e ∷ [])) → IsTrue e.holds
 one_holds e h = (and_parts e.holds true h).0
 
 -- Held locks -----------------------------------------------------------------------------------------------------
-
-agreed : (a b : Bool) → IsTrue (agree a b) → a ≡ b
-agreed true b h = sym h
-agreed false true h = h
-agreed false false h = refl
-
-each_below : (f : ℕ → Bool) (a n l : ℕ) → a ≤ l → l < a + n → list_all f (range_with_len a n) ≡ true → f l ≡ true
-each_below f a zero l from to h = absurd (omega arith)
-each_below f a (suc n) l from to h =
-    let rest = and_parts (f a) (list_all f (range_with_len (a + 1) n)) h in
-    elim (cases_lt a l) [
-      | inl lt ↦ each_below f (a + 1) n l (omega arith) (omega arith) rest.1
-      | inr ge ↦ let e : a ≡ l = omega arith in subst (λ k. f k ≡ true) e rest.0
-    ]
 
 -- where the same locks are held, the lists are the same
 same_lists : (p : Plain) (H K : List Bool) → length H ≡ length p.locks → length K ≡ length p.locks → IsTrue (same_held p H K) → H ≡ K

@@ -65,7 +65,7 @@ fn checks(rt: HostRuntime) -> Result<(), Fail> {
 }
 
 /// How much is checked of the first thread.
-#[tactic(auto, using(crate::proofs::Held::all_held))]
+#[tactic(auto, using(cov_ast::proofs::ObligationLaws::none_refused))]
 fn first_thread(alloc: Global, p: &Program) -> Result<Count, Fail>
     requires { IsWellFormed (view.program p.now) }
 {

@@ -7,8 +7,8 @@ use Rattle.cov_expr.specs.Entailment.{Holds}
 use Rattle.cov_expr.specs.Term.{Term, const, var, bin, value}
 use Rattle.cov_expr.specs.Trees.{mentions}
 use Rattle.cov_expr.specs.Trees as trees
-use Rattle.cov_expr.proofs.Values.{value_mentioned, value-subst}
-use Rattle.entail_cert.proofs.Truth.{and_left, and_right, equal_values}
+use Rattle.cov_expr.proofs.Values.{value_mentioned, value-subst, equal_values}
+use Rattle.cov_expr.proofs.Tests.{left_true, right_true}
 use Rattle.cov_ast.specs.Declarations.{class_of, invariant_of, is_control}
 use Rattle.cov_ast.specs.Plain.{Plain}
 use Rattle.flow_model.specs.Source.{holder}
@@ -226,15 +226,15 @@ module _ (p : Plain) (d : IsDeclared p) (t : ℕ) (t_in : t < length p.threads) 
           x_stable : keeps_value p t a.held x e ≡ true → IsStableNow p w.holders t x
           x_stable i =
               stable_gives p d t t_in w.holders a.held f.held x
-              (and_left (is_stable p t a.held x) (is_over_stable p t a.held e) (and_left stable_test (not (mentions e x)) i))
+              (left_true (is_stable p t a.held x) (is_over_stable p t a.held e) (left_true stable_test (not (mentions e x)) i))
 
           e_all : keeps_value p t a.held x e ≡ true → AllStable p t w.holders e
           e_all i =
               all_stable p d t t_in w.holders a.held f.held e
-              (and_right (is_stable p t a.held x) (is_over_stable p t a.held e) (and_left stable_test (not (mentions e x)) i))
+              (right_true (is_stable p t a.held x) (is_over_stable p t a.held e) (left_true stable_test (not (mentions e x)) i))
 
           e_free : keeps_value p t a.held x e ≡ true → mentions e x ≡ false
-          e_free i = not-true (mentions e x) (and_right stable_test (not (mentions e x)) i)
+          e_free i = not-true (mentions e x) (right_true stable_test (not (mentions e x)) i)
 
   pub assign_ok : AssignOk p t x e a (after_assign p t a x e q retypes)
   assign_ok = record {

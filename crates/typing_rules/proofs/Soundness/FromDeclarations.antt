@@ -4,7 +4,7 @@ use Rattle.std.proofs.lemmas.Bool.{or_cases, or_left, or_right, not-true, false_
 use Rattle.std.specs.List.{flat_map, list_any, list_all}
 use Rattle.std.proofs.lemmas.List.{get_or-map, get_or_past, length-map}
 use Rattle.cov_expr.specs.Trees.{has_number, mentions, vars}
-use Rattle.entail_cert.proofs.Truth.{and_left, and_right}
+use Rattle.cov_expr.proofs.Tests.{left_true, right_true}
 use Rattle.cov_ast.specs.Declarations.{assumes, assumes_hide, class_of, have_assumed, invariant_of, invariant_term, is_plain_low, lists, lock_at, modes_of, no_lock, no_thread, under}
 use Rattle.cov_ast.specs.Obligations.{Obligation, all_hold, distinct}
 use Rattle.cov_ast.specs.Plain.{plain, plain_thread, class_term}
@@ -14,11 +14,11 @@ use Rattle.lock_spec.specs.Locks.{listing_obligations, w4_from, invariant_obliga
 use Rattle.mode_compat.specs.Compatible.{assumed_list, is_locked, controls_of, all_assume, w6_obligation, w6_obligations, w7_obligation, w7_obligations, w8_obligation, w8_obligations, w9_obligations, threads_of, numbered, mode_obligations}
 use Rattle.mode_compat.specs.Compatible as rules
 use Rattle.mode_compat.specs.Declared.{IsDeclared, declaration_obligations}
-use Rattle.mode_compat.proofs.Apart.{in_distinct}
+use Rattle.mode_compat.proofs.Apart.{in_distinct, listing_is_declared}
 use Rattle.mode_compat.proofs.Apart as apart
 use Rattle.typing_rules.proofs.Soundness.FromObligations.{AllTrue, all_true, true_left, true_right, obligation_holds}
 use Rattle.typing_rules.proofs.Soundness.Lists.{has_left, has_right, in_vars}
-use Rattle.typing_rules.proofs.Soundness.Static.{clash, lock_declared}
+use Rattle.typing_rules.proofs.Soundness.Static.{clash}
 
 -- Lists --------------------------------------------------------------------------------------------------------
 
@@ -46,8 +46,8 @@ any_at f (x ∷ xs) (suc i) d lt h = or_right (f x) _ (any_at f xs i d (omega ar
 
 all_at : {X : Type 0} (f : X → Bool) (xs : List X) (i : ℕ) (d : X) → i < length xs → IsTrue (list_all f xs) → IsTrue (f (get_or xs i d))
 all_at f [] i d lt h = absurd (omega arith)
-all_at f (x ∷ xs) zero d lt h = and_left (f x) (list_all f xs) h
-all_at f (x ∷ xs) (suc i) d lt h = all_at f xs i d (omega arith) (and_right (f x) (list_all f xs) h)
+all_at f (x ∷ xs) zero d lt h = left_true (f x) (list_all f xs) h
+all_at f (x ∷ xs) (suc i) d lt h = all_at f xs i d (omega arith) (right_true (f x) (list_all f xs) h)
 
 -- Each variable in one list of one lock ------------------------------------------------------------------------
 
@@ -178,14 +178,14 @@ module _ (p : Program) where
         let free = obligation_holds (w6_obligation p th) (assumed_list th.modes) x
         (item_true (w6_obligations p) p.threads t rules.no_thread (thread_declared t x a) (true_left rule6 rule7 (true_left (rule6 ++ rule7) rule8 of_modes)))
         (in_assumed t x a) in
-        clash (is_locked p x) (any_at (λ l. lists l x) p.locks l no_lock (lock_declared (plain p) l x k) k) (not-true (is_locked p x) free))
+        clash (is_locked p x) (any_at (λ l. lists l x) p.locks l no_lock (listing_is_declared (plain p) l x k) k) (not-true (is_locked p x) free))
 
     lock_controls : (l x c : ℕ) → IsTrue (under (plain p) l x) → IsTrue (mentions (class_of (plain p) x) c)
         → IsTrue (under (plain p) l c) ⊎ ((t : ℕ) → t < length (plain p).threads → IsTrue (assumes (plain p) t c))
     lock_controls l x c k m =
         let lk = lock_at (plain p) l in
         let here = number_true (λ x. map (w7_obligation p lk x) (controls_of p x)) (lk.nowrite ++ lk.hide) x
-        (item_true (w7_obligations p) p.locks l no_lock (lock_declared (plain p) l x k)
+        (item_true (w7_obligations p) p.locks l no_lock (listing_is_declared (plain p) l x k)
         (true_right rule6 rule7 (true_left (rule6 ++ rule7) rule8 of_modes)))
         (listed_of lk x k) in
         ⊎_elim (λ i. inl i)

@@ -7,6 +7,7 @@ use Rattle.cov_expr.specs.Entailment.{Entails}
 use Rattle.cov_expr.specs.Term.{Term, neg}
 use Rattle.cov_expr.specs.Trees.{has_number, mentions, vars}
 use Rattle.cov_expr.specs.Trees as trees
+use Rattle.cov_expr.proofs.Tests.{left_true, right_true}
 use Rattle.cov_ast.specs.Declarations.{class_of, invariant_term, is_control, lock_at, no_var}
 use Rattle.cov_ast.specs.Obligations.{Obligation, all_hold}
 use Rattle.cov_ast.specs.Plain.{Plain, class_term}
@@ -15,7 +16,7 @@ use Rattle.cov_ast.specs.WellFormed.{IsStmInRange, IsBlockInRange}
 use Rattle.cov_ast.specs.declared.refusal.Rule.TheVariants.{V1, V5}
 use Rattle.entail_cert.specs.Words.{CertHasWords}
 use Rattle.entail_cert.proofs.Instances.{valid_entails}
-use Rattle.entail_cert.proofs.Truth.{and_left, and_right, all_both}
+use Rattle.entail_cert.proofs.Truth.{all_both}
 use Rattle.mode_state.specs.Sets.{is_stable, is_hidden, may_read}
 use Rattle.mode_state.proofs.HeldLaws.{any_from}
 use Rattle.typing_state.specs.Point.{Point, type_at, ty, ty_var, vars_of, is_tracked, is_over_stable, is_over_controls}
@@ -37,7 +38,7 @@ AllTrue (e ∷ es) = IsTrue e.holds × AllTrue es
 
 pub all_true : (es : List Obligation) → IsTrue (all_hold es) → AllTrue es
 all_true [] h = tt
-all_true (e ∷ es) h = (and_left e.holds (all_hold es) h, all_true es (and_right e.holds (all_hold es) h))
+all_true (e ∷ es) h = (left_true e.holds (all_hold es) h, all_true es (right_true e.holds (all_hold es) h))
 
 pub true_left : (a b : List Obligation) → AllTrue (a ++ b) → AllTrue a
 true_left [] b h = tt
@@ -149,7 +150,7 @@ module _ (p : Plain) (t : ℕ) where
     types_over : (test : ℕ → Bool) (H : List Bool) (before : List ℕ) (rs : List (ℕ × Term)) → AllTrue (type_obligations p t at test H before rs)
         → EachType rs (λ z r. IsTrue (test z) × IsTrue (is_over_controls p t H r))
     types_over test H before [] h = tt
-    types_over test H before (r ∷ rs) h = ((and_left (test r.0) (not (has_number before r.0)) h.0, h.1.0), types_over test H (r.0 ∷ before) rs h.1.1)
+    types_over test H before (r ∷ rs) h = ((left_true (test r.0) (not (has_number before r.0)) h.0, h.1.0), types_over test H (r.0 ∷ before) rs h.1.1)
 
     state_over : (H : List Bool) (j : State) → AllTrue (state_obligations p t at H j) → StateOver p t H j
     state_over H j h =
@@ -235,7 +236,7 @@ module _ (p : Plain) (t : ℕ) where
           control_over = λ i y n.
               obligation_holds (of_var p t at V5 (is_stable p t a.held)) (vars e) y
               (subst (λ b. AllTrue (cond b (map (of_var p t at V5 (is_stable p t a.held)) (vars e)) [])) i h.1.1.1.1.1.0) (in_vars e y n);
-          retypes_over = each_type _ _ rs (λ z r k. (and_left (is_control p x) (is_tracked p t a.held z) k.0, k.1))
+          retypes_over = each_type _ _ rs (λ z r k. (left_true (is_control p x) (is_tracked p t a.held z) k.0, k.1))
               (types_over (λ z. is_control p x && is_tracked p t a.held z) a.held [] rs h.1.1.1.1.1.1.0);
           typed = typed a x e o rs all;
           shown = shown a x e o rs all;

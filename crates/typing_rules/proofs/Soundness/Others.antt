@@ -5,7 +5,7 @@ use Rattle.std.proofs.Math.Decide.{ℕ_discrete}
 use Rattle.cov_expr.specs.Entailment.{Holds, AllHold, Entails}
 use Rattle.cov_expr.specs.Term.{Term, const, neg, value, flag, is_set}
 use Rattle.cov_expr.specs.Words.{AreWords}
-use Rattle.entail_cert.proofs.Truth.{and_left}
+use Rattle.cov_expr.proofs.Tests.{left_true}
 use Rattle.cov_ast.specs.Declarations.{assumes, class_of, hides, invariant_of, invariant_term, is_control, lock_at, under}
 use Rattle.cov_ast.specs.Plain.{Plain}
 use Rattle.cov_ast.specs.Syntax.{State}
@@ -14,6 +14,7 @@ use Rattle.flow_model.specs.Source.{Holders, holder, is_held_by}
 use Rattle.flow_model.specs.Holdings.{IsStableNow, IsHiddenNow}
 use Rattle.flow_model.specs.Agreement.{IsLow, SameAt}
 use Rattle.flow_model.specs.Game.{FreeInvariantsHold}
+use Rattle.flow_model.proofs.Holders.{is_held}
 use Rattle.mode_state.specs.Sets.{is_hidden}
 use Rattle.mode_compat.specs.Declared.{IsDeclared}
 use Rattle.mode_compat.specs.HeldSets.{AreHeldBy}
@@ -22,7 +23,6 @@ use Rattle.typing_state.specs.Point.{Point, given_type, type_at, default_type, i
 use Rattle.typing_state.specs.After.{after_lock, locked_type, after_unlock, kept_type, unlocked_type, with_guard, meet, noted}
 use Rattle.typing_rules.proofs.Soundness.Conditions.{Each, StateFollows, StateOver, UnlockChecks, GuardChecks}
 use Rattle.typing_rules.proofs.Soundness.Fits.{World, Settled, Fits, IsNotForeign, AllOver, AllStable, OverStableControls, LockOk, UnlockOk, GuardOk, Weaker, holding}
-use Rattle.typing_rules.proofs.Soundness.Play.{is_held}
 use Rattle.typing_rules.proofs.Soundness.Static.{held_gives, over_gives, all_stable, stable_shown, not_foreign_of_shown, class_over, under_hide, clash, cond_is}
 use Rattle.typing_rules.proofs.Soundness.Lists.{distinct_holds, with_holds, listed_is, each_map, updated_is, retyped_is}
 use Rattle.typing_rules.proofs.Soundness.Exprs.{distinct_over, with_over, filter_holds, with_if_holds, with_if_over, filter_over, term_agrees, not_const_zero}
@@ -223,7 +223,7 @@ module _ (p : Plain) (d : IsDeclared p) (t : ℕ) (t_in : t < length p.threads) 
           (λ h. absurd (not_const_zero w.left h))
           (cond_is (λ g. Holds (unwrap_or g (const 0)) w.left → SameAt w.left w.right z) (under p l z && not (is_control p z))
           (Some (class_of p z)) (given_type a z)
-          (λ u h. f.settled.agree.visible z h (lock_shown z (and_left (under p l z) (not (is_control p z)) u)))
+          (λ u h. f.settled.agree.visible z h (lock_shown z (left_true (under p l z) (not (is_control p z)) u)))
           (λ u. f.types z (lock_under z (not_under z n u) s) n o));
       types_over = λ z s n.
           updated_is (λ g. OverStableControls p t taken_h (unwrap_or g (const 0))) (locked_type p l) a.types z (λ y u. cc)

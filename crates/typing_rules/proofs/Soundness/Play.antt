@@ -12,16 +12,9 @@ use Rattle.flow_model.specs.Source.{Item, run, put, test, Holders, holder, local
 use Rattle.flow_model.specs.Holdings.{IsStableNow, IsWritableNow}
 use Rattle.flow_model.specs.Agreement.{AreFitStarts, SameAt, AreAlike, shape}
 use Rattle.flow_model.specs.Game.{AreLawful, after_moves, opening, IsSecureThread, Copies, Move, own, outside, after_move, IsLawfulOutside, MeetsGuarantees, IsSecureMove}
+use Rattle.flow_model.proofs.Holders.{held_is, is_held}
 use Rattle.typing_state.specs.Point.{Point, type_at}
 use Rattle.typing_rules.proofs.Soundness.Fits.{World, AllStable, AllOver, Settled, Fits, stored, holding, Pending, AssignOk, LockOk, UnlockOk, GuardOk, Typed, TypedItems, typed_then, typed_append}
-
--- what is held is held by the holders
-pub held_is : (o : Option ℕ) (t : ℕ) → is_held_by o t ≡ true → o ≡ Some t
-held_is None t h = let e : false ≡ true = h in cc
-held_is (Some u) t h = ap Some (eqb-true u t h)
-
-pub is_held : (o : Option ℕ) (t : ℕ) → o ≡ Some t → is_held_by o t ≡ true
-is_held o t h = ap (λ q. is_held_by q t) h ∙ eq-eqb t t refl
 
 pub same_truth : (a b : Bool) → (IsTrue a → IsTrue b) → (IsTrue b → IsTrue a) → a ≡ b
 same_truth true b h k = sym (h refl)

@@ -6,6 +6,7 @@ use Rattle.std.proofs.lemmas.List.FromFn.{get_or-map-range_with_len, length-map-
 use Rattle.cov_expr.specs.Entailment.{Holds}
 use Rattle.cov_expr.specs.Term.{Term, const, neg}
 use Rattle.cov_expr.specs.Words.{IsMemory}
+use Rattle.cov_expr.proofs.Tests.{each_below}
 use Rattle.cov_ast.specs.Declarations.{class_of, thread_at}
 use Rattle.cov_ast.specs.Plain.{Plain, Cmds, plain_stm, plain_block}
 use Rattle.cov_ast.specs.Syntax.{Stm, skip, assign, lock, unlock, branch, loop, note, Block, done, more}
@@ -22,7 +23,7 @@ use Rattle.typing_rules.specs.Obligations.{agree, same_held}
 use Rattle.typing_rules.proofs.Soundness.Fits.{Fits, Weaker, Typed, OverStableControls, typed_from}
 use Rattle.typing_rules.proofs.Soundness.Play.{world, secure_of}
 use Rattle.typing_rules.proofs.Soundness.Conditions.{Checks, BlockChecks}
-use Rattle.typing_rules.proofs.Soundness.Static.{class_over, class_of_control, each_below, cond_is}
+use Rattle.typing_rules.proofs.Soundness.Static.{class_over, class_of_control, cond_is}
 use Rattle.typing_rules.proofs.Soundness.Exprs.{one_holds, not_const_zero}
 use Rattle.typing_rules.proofs.Soundness.Assign.{assign_ok}
 use Rattle.typing_rules.proofs.Soundness.Others.{met, noted_ok, guard_ok, lock_ok, unlock_ok}

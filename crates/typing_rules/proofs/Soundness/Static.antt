@@ -6,22 +6,22 @@ use Rattle.std.specs.List.{list_any, list_all, range_with_len}
 use Rattle.std.proofs.lemmas.List.{get_or_past}
 use Rattle.cov_expr.specs.Term.{Term, const, var, neg, bin}
 use Rattle.cov_expr.specs.Trees.{mentions}
-use Rattle.entail_cert.proofs.Truth.{and_left, and_right}
+use Rattle.cov_expr.proofs.Tests.{left_true, right_true, passing, each_below}
 use Rattle.cov_ast.specs.Declarations.{assumes, assumes_hide, class_of, guarantees_hide, hides, is_control, is_low, lists, no_lock, no_var, under}
 use Rattle.cov_ast.specs.Plain.{Plain, class_term}
 use Rattle.cov_ast.specs.Syntax.{Class, low, high, when, Var}
 use Rattle.cov_ast.specs.Tables.{has}
 use Rattle.flow_model.specs.Source.{Holders, holder}
 use Rattle.flow_model.specs.Holdings.{IsStableNow, IsWritableNow, IsHiddenNow}
+use Rattle.flow_model.proofs.Holders.{held_is, is_held}
 use Rattle.mode_state.specs.Sets.{is_stable, is_hidden, may_read, may_write}
 use Rattle.mode_state.proofs.HeldLaws.{any_from}
 use Rattle.mode_compat.specs.Declared.{IsDeclared}
 use Rattle.mode_compat.specs.HeldSets.{AreHeldBy}
-use Rattle.mode_compat.proofs.Apart.{sets_of}
+use Rattle.mode_compat.proofs.Apart.{sets_of, listing_is_declared}
 use Rattle.typing_state.specs.Terms.{each_variable}
 use Rattle.typing_state.specs.Point.{is_over_stable, is_over_controls}
 use Rattle.typing_rules.proofs.Soundness.Fits.{IsNotForeign}
-use Rattle.typing_rules.proofs.Soundness.Play.{held_is, is_held}
 
 pub clash {ℓ} : {A : Type ℓ} (b : Bool) → b ≡ true → b ≡ false → A
 clash b h k = absurd (let e : true ≡ false = sym h ∙ k in cc)
@@ -36,23 +36,10 @@ each_gives f (const k) y h n = cc
 each_gives f (var x) y h n = subst (λ z. IsTrue (f z)) (eqb-true x y n) h
 each_gives f (neg e) y h n = each_gives f e y h n
 each_gives f (bin op a b) y h n =
-    ⊎_elim (λ k. each_gives f a y (and_left (each_variable f a) (each_variable f b) h) k)
-    (λ k. each_gives f b y (and_right (each_variable f a) (each_variable f b) h) k) (or_cases (mentions a y) (mentions b y) n)
+    ⊎_elim (λ k. each_gives f a y (left_true (each_variable f a) (each_variable f b) h) k)
+    (λ k. each_gives f b y (right_true (each_variable f a) (each_variable f b) h) k) (or_cases (mentions a y) (mentions b y) n)
 
 -- Numbers below a bound --------------------------------------------------------------------------------------------
-
-pub found : (f : ℕ → Bool) (a n : ℕ) → list_any f (range_with_len a n) ≡ true → (l : ℕ) × (f l ≡ true)
-found f a zero h = absurd (let c : false ≡ true = h in cc)
-found f a (suc n) h = ⊎_elim (λ e. (a, e)) (λ e. found f (a + 1) n e) (or_cases (f a) (list_any f (range_with_len (a + 1) n)) h)
-
-pub each_below : (f : ℕ → Bool) (a n l : ℕ) → a ≤ l → l < a + n → list_all f (range_with_len a n) ≡ true → f l ≡ true
-each_below f a zero l from to h = absurd (omega arith)
-each_below f a (suc n) l from to h =
-    let parts = and_parts (f a) (list_all f (range_with_len (a + 1) n)) h in
-    elim (cases_lt a l) [
-      | inl lt ↦ each_below f (a + 1) n l (omega arith) (omega arith) parts.1
-      | inr ge ↦ let e : a ≡ l = omega arith in subst (λ k. f k ≡ true) e parts.0
-    ]
 
 -- Classes and locks --------------------------------------------------------------------------------------------
 
@@ -73,10 +60,6 @@ low_is (when e) h = absurd (let c : false ≡ true = h in cc)
 pub class_of_control : (p : Plain) → IsDeclared p → (c : ℕ) → IsTrue (is_control p c) → class_of p c ≡ const 1
 class_of_control p d c h = low_is _ (d.controls_low c h)
 
-pub lock_declared : (p : Plain) (l x : ℕ) → IsTrue (under p l x) → l < length p.locks
-lock_declared p l x h = elim (cases_lt l (length p.locks)) [
-  | inl lt ↦ lt
-  | inr past ↦ clash (under p l x) h (ap (λ k. lists k x) (get_or_past p.locks l no_lock past))
 ]
 
 pub under_hide : (p : Plain) (l x : ℕ) → IsTrue (hides p l x) → IsTrue (under p l x)
@@ -86,12 +69,12 @@ under_hide p l x k = or_right _ (hides p l x) k
 
 module _ (p : Plain) (t : ℕ) (H : List Bool) where
   pub read_allowed : (x : ℕ) → IsTrue (may_read p t H x) → guarantees_hide p t x ≡ false
-  read_allowed x r = not-true _ (and_left _ _ r)
+  read_allowed x r = not-true _ (left_true _ _ r)
 
   pub read_held : (x l : ℕ) → IsTrue (may_read p t H x) → IsTrue (hides p l x) → IsTrue (has H l)
   read_held x l r k =
       let here = each_below (λ l. not (hides p l x) || has H l) 0 (length p.locks) l (omega arith)
-      (omega (arith, lock_declared p l x (under_hide p l x k))) (and_right (not (guarantees_hide p t x)) _ r) in
+      (omega (arith, listing_is_declared p l x (under_hide p l x k))) (right_true (not (guarantees_hide p t x)) _ r) in
       sym (ap (λ b. not b || has H l) k) ∙ here
 
 module _ (p : Plain) (d : IsDeclared p) (t : ℕ) (t_in : t < length p.threads) (h : Holders) (H : List Bool) (held : AreHeldBy h t H) where
@@ -113,13 +96,13 @@ module _ (p : Plain) (d : IsDeclared p) (t : ℕ) (t_in : t < length p.threads) 
   hidden_gives : (x : ℕ) → IsTrue (is_hidden p t H x) → IsHiddenNow p h x
   hidden_gives x k =
       ⊎_elim (λ a. inr (t, a))
-      (λ a. let r = found (λ l. has H l && hides p l x) 0 (length p.locks) a in
-      inl (r.0, (t, held_gives r.0 (and_left _ _ r.1)), and_right (has H r.0) _ r.1)) (or_cases (assumes_hide p t x) _ k)
+      (λ a. let r = passing (λ l. has H l && hides p l x) 0 (length p.locks) a in
+      inl (r.0, (t, held_gives r.0 (left_true _ _ r.1)), right_true (has H r.0) _ r.1)) (or_cases (assumes_hide p t x) _ k)
 
   hide_of : (l x : ℕ) → IsTrue (has H l) → IsTrue (hides p l x) → IsTrue (is_hidden p t H x)
   hide_of l x k u =
       or_right (assumes_hide p t x) _
-      (any_from (λ l. has H l && hides p l x) 0 (length p.locks) l (omega arith) (omega (arith, lock_declared p l x (under_hide p l x u)))
+      (any_from (λ l. has H l && hides p l x) 0 (length p.locks) l (omega arith) (omega (arith, listing_is_declared p l x (under_hide p l x u)))
       (and_from (has H l) (hides p l x) k u))
 
   pub shown_of : (x : ℕ) → ¬ IsHiddenNow p h x → is_hidden p t H x ≡ false
@@ -163,7 +146,7 @@ module _ (p : Plain) (d : IsDeclared p) (t : ℕ) (t_in : t < length p.threads) 
   pub over_gives : (q : Term) → IsTrue (is_over_controls p t H q) → (y : ℕ) → IsTrue (mentions q y) → IsStableNow p h t y × IsTrue (is_control p y)
   over_gives q k y n =
       let both = each_gives (λ y. is_stable p t H y && is_control p y) q y k n in
-      (stable_gives y (and_left _ (is_control p y) both), and_right (is_stable p t H y) _ both)
+      (stable_gives y (left_true _ (is_control p y) both), right_true (is_stable p t H y) _ both)
 
   pub all_stable : (e : Term) → IsTrue (is_over_stable p t H e) → (y : ℕ) → IsTrue (mentions e y) → IsStableNow p h t y
   all_stable e k y n = stable_gives y (each_gives (is_stable p t H) e y k n)

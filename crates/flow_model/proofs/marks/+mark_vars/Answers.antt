@@ -3,7 +3,7 @@ use Rattle.cov_expr.specs.Trees.{occurrences}
 use Rattle.cov_expr.specs.View.{term}
 use Rattle.cov_expr.proofs.View.{term-Bin}
 use Rattle.cov_ast.specs.Tables.{with_all}
-use Rattle.flow_model.proofs.Marking.{with_all_append}
+use Rattle.cov_ast.proofs.TableLaws.{with_all_append}
 use Rattle.flow_model.proofs.marks.+mark_vars.Goals as goal
 
 pub returns-in-Bin : goal.returns-in-Bin

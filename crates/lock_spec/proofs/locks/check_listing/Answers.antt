@@ -3,8 +3,9 @@ use Rattle.cov_ast.specs.View as view
 use Rattle.cov_ast.specs.Tables.{with_all}
 use Rattle.cov_ast.specs.Obligations.{first_false, Decides}
 use Rattle.cov_ast.proofs.ObligationLaws.{same_decided, append_decided, append_refused}
+use Rattle.cov_ast.proofs.TableLaws.{with_all_append}
 use Rattle.lock_spec.specs.Inside.{marked_obligations}
-use Rattle.lock_spec.proofs.Listings.{marked_append, with_all_append}
+use Rattle.lock_spec.proofs.Listings.{marked_append}
 use Rattle.lock_spec.proofs.locks.check_listing.Goals as goal
 
 pub returns-in-Ok-clause-decides : goal.returns-in-Ok-clause-decides

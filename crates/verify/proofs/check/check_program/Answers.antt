@@ -2,12 +2,11 @@ use Rattle.std.proofs.Common.{◌≡◌, ◌∙◌, Err, None}
 use Rattle.std.specs.List.{flat_map}
 use Rattle.cov_ast.specs.View as view
 use Rattle.cov_ast.specs.Obligations.{first_false}
-use Rattle.cov_ast.proofs.ObligationLaws.{append_decided, append_refused, append_held}
+use Rattle.cov_ast.proofs.ObligationLaws.{append_decided, append_refused, append_held, none_refused}
 use Rattle.mode_compat.specs.Compatible.{threads_of}
 use Rattle.mode_compat.specs.Declared.{declaration_obligations}
 use Rattle.typing_rules.specs.Obligations.{thread_obligations}
 use Rattle.verify.specs.Accepted.{IsAccepted, program_obligations}
-use Rattle.verify.proofs.Parts.{none_refused}
 use Rattle.verify.proofs.check.check_program.Goals as goal
 
 pub returns-in-Err-clause-answer : goal.returns-in-Err-clause-answer
