@@ -1,9 +1,7 @@
 -- What is marked is what is a control, and what is hidden.
-use Rattle.std.proofs.Common.{◌≡◌, ◌≤◌, ◌<◌, ℕ, length, not, arith, ◌==◌, ◌||◌, ◌&&◌, List, [], ◌∷◌, ◌++◌, Bool, true, false, replicate, is_some, if◌then◌else◌, refl, sym, ◌∙◌, ap, set}
-use Rattle.std.proofs.lemmas.List.Folds.{list_any-append}
+use Rattle.std.proofs.Common.{◌≡◌, ◌≤◌, ◌<◌, ℕ, length, not, arith, ◌||◌, ◌&&◌, List, [], ◌∷◌, Bool, true, false, replicate, is_some, if◌then◌else◌, sym, ◌∙◌, ap}
 use Rattle.std.specs.List.{list_any}
 use Rattle.std.proofs.Math.Bool.{or-false}
-use Rattle.cov_expr.specs.Term.{Term, const, var, neg, bin}
 use Rattle.cov_expr.specs.Trees.{has_number, mentions, occurrences}
 use Rattle.cov_expr.proofs.Tests.{or_regrouped}
 use Rattle.cov_expr.proofs.Trees.{occurs}

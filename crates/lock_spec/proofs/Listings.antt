@@ -1,11 +1,11 @@
 -- Lists of locks, with what was named before as a set and as a list.
-use Rattle.std.proofs.Common.{◌≡◌, ℕ, ◌<◌, ◌==◌, ◌||◌, not, List, [], ◌∷◌, ◌++◌, Bool, true, false, length, replicate, refl, sym, ap, ◌∙◌, All, suc, arith}
+use Rattle.std.proofs.Common.{◌≡◌, ℕ, ◌<◌, ◌==◌, ◌||◌, not, List, [], ◌∷◌, ◌++◌, Bool, true, false, replicate, refl, sym, ap, ◌∙◌, All, suc, arith}
 use Rattle.std.specs.Prelude.{set}
 use Rattle.std.proofs.lemmas.List.Folds.{list_any-append}
 use Rattle.cov_expr.specs.Trees.{has_number}
 use Rattle.cov_ast.specs.Syntax.{Lock, Program}
-use Rattle.cov_ast.specs.Tables.{table, has, with_all}
-use Rattle.cov_ast.specs.Obligations.{Obligation, declared_obligation}
+use Rattle.cov_ast.specs.Tables.{table, with_all}
+use Rattle.cov_ast.specs.Obligations.{declared_obligation}
 use Rattle.cov_ast.specs.declared.refusal.Rule.TheVariants.{W4}
 use Rattle.cov_ast.specs.declared.refusal.Detail.TheVariants.{One}
 use Rattle.cov_ast.specs.Plain.{plain}

@@ -1,6 +1,6 @@
 -- The rules of locks: each variable stands in at most one list of at most one lock (W4), and an invariant speaks of the
 -- variables of its lock alone (W5).
-use Rattle.std.specs.Prelude.{ℕ, ◌||◌, List, [], ◌∷◌, ◌++◌, Bool, not, map}
+use Rattle.std.specs.Prelude.{ℕ, List, [], ◌∷◌, ◌++◌, not, map}
 use Rattle.std.specs.List.{flat_map}
 use Rattle.cov_expr.specs.Trees.{has_number, vars}
 use Rattle.cov_ast.specs.Syntax.{Lock, Program}

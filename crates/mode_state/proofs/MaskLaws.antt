@@ -73,6 +73,13 @@ no_words n = table_same n (in_words (replicate 4 0)) (λ y. false) (λ x lt. ap 
 
 -- Lists of numbers ---------------------------------------------------------------------------------------------
 
+-- (laws of cov_ast again: a function can name those of its own crate alone)
+pub none_with : (n : ℕ) (xs : List ℕ) → with_all (replicate n false) xs ≡ table n (has_number xs)
+none_with n xs = with_all_none n xs
+
+pub none_with_both : (n : ℕ) (xs ys : List ℕ) → with_all (with_all (replicate n false) xs) ys ≡ table n (λ x. has_number xs x || has_number ys x)
+none_with_both n xs ys = with_all_both n xs ys
+
 -- The first number from one on ---------------------------------------------------------------------------------
 
 module _ (n : ℕ) (f : ℕ → Bool) (s : List Bool) (is : table n f ≡ s) (from : ℕ) where

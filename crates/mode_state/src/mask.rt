@@ -38,7 +38,7 @@ impl Mask {
     }
 
     /// The set of these numbers; those past the bound are left out.
-    #[tactic(auto, using(cov_ast::proofs::TableLaws::with_all_none))]
+    #[tactic(auto, using(crate::proofs::MaskLaws::none_with))]
     pub fn of(bound: u32, numbers: &[u32]) -> Self
         requires { bound ≤ 256 }
         ensures { result ≡ table bound (tree.has_number numbers.now) }
@@ -49,7 +49,7 @@ impl Mask {
     }
 
     /// The set of the numbers of two lists; those past the bound are left out.
-    #[tactic(auto, using(cov_ast::proofs::TableLaws::with_all_none_both))]
+    #[tactic(auto, using(crate::proofs::MaskLaws::none_with_both))]
     pub fn of_both(bound: u32, first: &[u32], second: &[u32]) -> Self
         requires { bound ≤ 256 }
         ensures { result ≡ table bound (λ x. tree.has_number first.now x || tree.has_number second.now x) }

@@ -1,11 +1,10 @@
-use Rattle.std.proofs.Common.{◌∙◌, sym, ap, Err}
+use Rattle.std.proofs.Common.{sym, ap}
 use Rattle.std.specs.Prelude.{option_map}
 use Rattle.cov_expr.specs.View.{term}
 use Rattle.cov_ast.specs.View as view
 use Rattle.cov_ast.specs.Declarations.{invariant_term, lists}
-use Rattle.cov_ast.specs.Obligations.{Decides}
 use Rattle.cov_ast.proofs.ObligationLaws.{vars_held, vars_refused, outside_in_range}
-use Rattle.lock_spec.specs.Locks.{invariant_obligation, invariant_obligations}
+use Rattle.lock_spec.specs.Locks.{invariant_obligation}
 use Rattle.lock_spec.proofs.locks.check_invariant.Goals as goal
 
 pub returns-in-None : goal.returns-in-None

@@ -1,4 +1,4 @@
-use Rattle.std.proofs.Common.{◌++◌, List, map, refl}
+use Rattle.std.proofs.Common.{List, map, refl}
 use Rattle.std.specs.List.{flat_map}
 use Rattle.cov_ast.specs.View as view
 use Rattle.cov_ast.specs.declared.decl.LockDecl.{LockDecl}

@@ -1,4 +1,4 @@
-use Rattle.std.proofs.Common.{◌∙◌, sym, ap, Err, ◌++◌, subst}
+use Rattle.std.proofs.Common.{sym, ap, Err, ◌++◌, subst}
 use Rattle.cov_ast.specs.View as view
 use Rattle.cov_ast.specs.Tables.{with_all}
 use Rattle.cov_ast.specs.Obligations.{first_false, Decides}

@@ -1,4 +1,4 @@
-use Rattle.std.proofs.Common.{◌≡◌, ◌∙◌, sym, ap, length, map, [], Err, replicate, false}
+use Rattle.std.proofs.Common.{◌∙◌, sym, ap, length, [], Err, replicate, false}
 use Rattle.std.specs.List.{flat_map}
 use Rattle.cov_ast.specs.View as view
 use Rattle.cov_ast.specs.Obligations.{first_false}
