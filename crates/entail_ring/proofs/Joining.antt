@@ -1,11 +1,10 @@
--- What joining and merging make of polynomials.
+-- What joining makes of terms.
 use Rattle.std.proofs.Common.{◌≡◌, ℕ, ◌+◌, ◌%◌, ◌^◌, ◌<◌, ◌==◌, List, [], ◌∷◌, ◌++◌, Bool, true, false, refl, sym, ◌∙◌, ap, subst, arith, if◌then◌else◌}
 use Rattle.std.proofs.lemmas.Bool.{eqb-true, eqb-false}
 use Rattle.std.specs.Ordering.{is_eq}
 use Rattle.std.specs.declared.cmp.Ordering.{Ordering}
 use Rattle.std.specs.declared.cmp.Ordering.TheVariants.{Less, Equal, Greater}
 use Rattle.entail_ring.specs.declared.monomials.Monomial.{Monomial}
-use Rattle.entail_ring.specs.Inside.{chosen, merged_from, merged}
 use Rattle.entail_ring.specs.Polys.{term_of, order, put, placed, add, joined, IsBefore, IsPoly, coefficient}
 use Rattle.entail_ring.proofs.Order.{order_equal, order_same, order_trans, order_back, is_equal}
 
@@ -15,7 +14,7 @@ pub before_all : (a b : List ℕ) (p : List Monomial) → order a b ≡ Less →
 before_all a b [] h k = tt
 before_all a b (t ∷ p) h k = (order_trans a b t.atoms h k.0, before_all a b p h k.1)
 
-before_put : (a : List ℕ) (c : ℕ) (b : List ℕ) (p : List Monomial) → order a b ≡ Less → IsBefore a p → IsBefore a (put c b p)
+pub before_put : (a : List ℕ) (c : ℕ) (b : List ℕ) (p : List Monomial) → order a b ≡ Less → IsBefore a p → IsBefore a (put c b p)
 before_put a c b p h k = at (c % 2 ^ 32 == 0)
   where
     at : (z : Bool) → IsBefore a (if z then p else term_of (c % 2 ^ 32) b ∷ p)
@@ -55,43 +54,6 @@ add_poly t (u ∷ p) k =
 pub joined_poly : (ts : List Monomial) → IsPoly (joined ts)
 joined_poly [] = tt
 joined_poly (t ∷ ts) = add_poly t (joined ts) (joined_poly ts)
-
--- What is merged is a polynomial ---------------------------------------------------------------------------------
-
-before_chosen : (a : List ℕ) (r : Ordering) (t u : Monomial) (after_t after_both after_u : List Monomial) → order a t.atoms ≡ Less → order a u.atoms ≡ Less
-    → IsBefore a after_t → IsBefore a after_both → IsBefore a after_u → IsBefore a (chosen r t u after_t after_both after_u)
-before_chosen a Less t u after_t after_both after_u h k x y z = (h, x)
-before_chosen a Equal t u after_t after_both after_u h k x y z = before_put a (t.coefficient + u.coefficient) t.atoms after_both h y
-before_chosen a Greater t u after_t after_both after_u h k x y z = (k, z)
-
-before_from : (a : List ℕ) (t : Monomial) (rest : List Monomial → List Monomial) (q : List Monomial) → order a t.atoms ≡ Less
-    → ((s : List Monomial) → IsBefore a s → IsBefore a (rest s)) → IsBefore a q → IsBefore a (merged_from t rest q)
-before_from a t rest [] h f k = (h, f [] tt)
-before_from a t rest (u ∷ q) h f k =
-    before_chosen a (order t.atoms u.atoms) t u (rest (u ∷ q)) (rest q) (merged_from t rest q) h k.0 (f (u ∷ q) k) (f q k.1) (before_from a t rest q h f k.1)
-
-pub before_merged : (a : List ℕ) (p q : List Monomial) → IsBefore a p → IsBefore a q → IsBefore a (merged p q)
-before_merged a [] q h k = k
-before_merged a (t ∷ p) q h k = before_from a t (merged p) q h.0 (λ s i. before_merged a p s h.1 i) k
-
-poly_from : (t : Monomial) (p : List Monomial) → IsPoly (t ∷ p) → ((s : List Monomial) → IsPoly s → IsPoly (merged p s))
-    → (q : List Monomial) → IsPoly q → IsPoly (merged (t ∷ p) q)
-poly_from t p h f [] k = (h.0, (h.1.0, (before_merged t.atoms p [] h.1.1.0 tt, f [] tt)))
-poly_from t p h f (u ∷ q) k = at (order t.atoms u.atoms) refl (poly_from t p h f q k.1.1.1)
-  where
-    at : (r : Ordering) → order t.atoms u.atoms ≡ r → IsPoly (merged (t ∷ p) q) → IsPoly (chosen r t u (merged p (u ∷ q)) (merged p q) (merged (t ∷ p) q))
-    at Less e i =
-        (h.0, (h.1.0, (before_merged t.atoms p (u ∷ q) h.1.1.0 (e, before_all t.atoms u.atoms q e k.1.1.0), f (u ∷ q) k)))
-    at Equal e i =
-        put_poly (t.coefficient + u.coefficient) t.atoms (merged p q)
-        (before_merged t.atoms p q h.1.1.0 (subst (λ a. IsBefore a q) (sym (order_equal t.atoms u.atoms e)) k.1.1.0)) (f q k.1.1.1)
-    at Greater e i =
-        let back = order_back t.atoms u.atoms e in
-        (k.0, (k.1.0, (before_merged u.atoms (t ∷ p) q (back, before_all u.atoms t.atoms p back h.1.1.0) k.1.1.0, i)))
-
-pub merged_poly : (p q : List Monomial) → IsPoly p → IsPoly q → IsPoly (merged p q)
-merged_poly [] q h k = k
-merged_poly (t ∷ p) q h k = poly_from t p h (λ s i. merged_poly p s h.1.1.1 i) q k
 
 -- Coefficients ---------------------------------------------------------------------------------------------------
 
@@ -148,44 +110,6 @@ coefficient_joined (t ∷ ts) a =
 pub coefficient_append : (p q : List Monomial) (a : List ℕ) → coefficient (p ++ q) a ≡ coefficient p a + coefficient q a
 coefficient_append [] q a = omega arith
 coefficient_append (t ∷ p) q a = let h = coefficient_append p q a in omega arith
-
-first_taken : (x more n k : ℕ) → more % 2 ^ 32 ≡ (n + k) % 2 ^ 32 → (x + more) % 2 ^ 32 ≡ ((x + n) + k) % 2 ^ 32
-first_taken x more n k h = omega arith
-
-both_taken : (x y m n k : ℕ) → m % 2 ^ 32 ≡ (x + (y + n)) % 2 ^ 32 → n % 2 ^ 32 ≡ k % 2 ^ 32 → m % 2 ^ 32 ≡ (x + (y + k)) % 2 ^ 32
-both_taken x y m n k h i = omega arith
-
-regroup : (x y n k m : ℕ) → m % 2 ^ 32 ≡ (x + (y + (n + k))) % 2 ^ 32 → m % 2 ^ 32 ≡ ((x + n) + (y + k)) % 2 ^ 32
-regroup x y n k m h = omega arith
-
-second_taken : (x y more n k : ℕ) → more % 2 ^ 32 ≡ ((x + n) + k) % 2 ^ 32 → (y + more) % 2 ^ 32 ≡ ((x + n) + (y + k)) % 2 ^ 32
-second_taken x y more n k h = omega arith
-
-coefficient_from : (a : List ℕ) (n : ℕ) (t : Monomial) (rest : List Monomial → List Monomial)
-    → ((s : List Monomial) → coefficient (rest s) a % 2 ^ 32 ≡ (n + coefficient s a) % 2 ^ 32) → (q : List Monomial)
-    → coefficient (merged_from t rest q) a % 2 ^ 32 ≡ ((share a t.atoms t.coefficient + n) + coefficient q a) % 2 ^ 32
-coefficient_from a n t rest f [] = first_taken (share a t.atoms t.coefficient) (coefficient (rest []) a) n 0 (f [])
-coefficient_from a n t rest f (u ∷ q) = at (order t.atoms u.atoms) refl (coefficient_from a n t rest f q)
-  where
-    at : (r : Ordering) → order t.atoms u.atoms ≡ r
-        → coefficient (merged_from t rest q) a % 2 ^ 32 ≡ ((share a t.atoms t.coefficient + n) + coefficient q a) % 2 ^ 32
-        → coefficient (chosen r t u (rest (u ∷ q)) (rest q) (merged_from t rest q)) a % 2 ^ 32 ≡ ((share a t.atoms t.coefficient + n) + coefficient (u ∷ q) a) % 2 ^ 32
-    at Less e i = first_taken (share a t.atoms t.coefficient) (coefficient (rest (u ∷ q)) a) n (coefficient (u ∷ q) a) (f (u ∷ q))
-    at Equal e i =
-        regroup (share a t.atoms t.coefficient) (share a u.atoms u.coefficient) n (coefficient q a)
-        (coefficient (put (t.coefficient + u.coefficient) t.atoms (rest q)) a)
-        (both_taken (share a t.atoms t.coefficient) (share a u.atoms u.coefficient)
-        (coefficient (put (t.coefficient + u.coefficient) t.atoms (rest q)) a) (coefficient (rest q) a) (n + coefficient q a)
-        (coefficient_put (t.coefficient + u.coefficient) t.atoms (rest q) a
-        ∙ share_both a t.atoms t.coefficient u.coefficient (coefficient (rest q) a)
-        ∙ ap (λ b. (share a t.atoms t.coefficient + (share a b u.coefficient + coefficient (rest q) a)) % 2 ^ 32) (order_equal t.atoms u.atoms e))
-        (f q))
-    at Greater e i =
-        second_taken (share a t.atoms t.coefficient) (share a u.atoms u.coefficient) (coefficient (merged_from t rest q) a) n (coefficient q a) i
-
-pub coefficient_merged : (p q : List Monomial) (a : List ℕ) → coefficient (merged p q) a % 2 ^ 32 ≡ (coefficient p a + coefficient q a) % 2 ^ 32
-coefficient_merged [] q a = omega arith
-coefficient_merged (t ∷ p) q a = coefficient_from a (coefficient p a) t (merged p) (λ s. coefficient_merged p s a) q
 
 -- Polynomials by their coefficients --------------------------------------------------------------------------------
 
@@ -274,15 +198,3 @@ coefficient_joined_is ts a =
 -- a polynomial joins to itself
 pub joined_is : (p : List Monomial) → IsPoly p → joined p ≡ p
 joined_is p h = by_residues (joined p) p (joined_poly p) h (coefficient_joined p)
-
-sums : (x y m n k : ℕ) → m % 2 ^ 32 ≡ (x + y) % 2 ^ 32 → x % 2 ^ 32 ≡ n % 2 ^ 32 → y % 2 ^ 32 ≡ k % 2 ^ 32 → m % 2 ^ 32 ≡ (n + k) % 2 ^ 32
-sums x y m n k h i j = omega arith
-
--- merging joins
-pub merged_joined : (xs ys : List Monomial) → merged (joined xs) (joined ys) ≡ joined (xs ++ ys)
-merged_joined xs ys =
-    by_residues (merged (joined xs) (joined ys)) (joined (xs ++ ys))
-    (merged_poly (joined xs) (joined ys) (joined_poly xs) (joined_poly ys)) (joined_poly (xs ++ ys))
-    (λ a. sums (coefficient (joined xs) a) (coefficient (joined ys) a) (coefficient (merged (joined xs) (joined ys)) a) (coefficient xs a) (coefficient ys a)
-    (coefficient_merged (joined xs) (joined ys) a) (coefficient_joined xs a) (coefficient_joined ys a)
-    ∙ ap (λ n. n % 2 ^ 32) (sym (coefficient_append xs ys a)) ∙ sym (coefficient_joined (xs ++ ys) a))

@@ -1,48 +1,29 @@
--- Words of private contracts: the sum of two polynomials by one walk over both, and what the steps of that walk do.
-use Rattle.std.specs.Prelude.{◌≡◌, ◌+◌, ◌<◌, List, [], ◌∷◌, ◌++◌, length, Bool, true, false, Option, Some, None}
-use Rattle.std.specs.declared.cmp.Ordering.{Ordering}
+-- Words of private contracts: terms as they are made, before they are joined, and terms in order.
+use Rattle.std.specs.Prelude.{◌≡◌, ℕ, ◌%◌, ◌^◌, List, [], ◌∷◌, Bool, false}
+use Rattle.std.specs.Borrow.{Bor}
+use Rattle.std.specs.Ordering.{is_lt}
+use Rattle.std.specs.declared.cmp.Ordering.TheVariants.{Less}
 use Rattle.entail_ring.specs.declared.monomials.Monomial.{Monomial}
-use Rattle.std.specs.declared.cmp.Ordering.TheVariants.{Less, Equal, Greater}
-use Rattle.entail_ring.specs.Polys.{order, put}
+use Rattle.entail_ring.specs.Polys.{term_of, order}
 
--- Sums ---------------------------------------------------------------------------------------------------------
+-- a term that is lent
+abbrev pub lent : Bor Monomial → Monomial
+lent t = t.now
 
-abbrev pub chosen : Ordering → Monomial → Monomial → List Monomial → List Monomial → List Monomial → List Monomial
-chosen Less t u after_t after_both after_u = t ∷ after_t
-chosen Equal t u after_t after_both after_u = put (t.coefficient + u.coefficient) t.atoms after_both
-chosen Greater t u after_t after_both after_u = u ∷ after_u
+-- a term with its coefficient modulo 2^32
+abbrev pub reduced : Monomial → Monomial
+reduced t = term_of (t.coefficient % 2 ^ 32) t.atoms
 
--- a term, among those of a polynomial and the rest
-abbrev pub merged_from : Monomial → (List Monomial → List Monomial) → List Monomial → List Monomial
-merged_from t rest [] = t ∷ rest []
-merged_from t rest (u ∷ q) = chosen (order t.atoms u.atoms) t u (rest (u ∷ q)) (rest q) (merged_from t rest q)
+-- by their multisets
+abbrev pub comes_before : Monomial → Monomial → Bool
+comes_before t u = is_lt (order t.atoms u.atoms)
 
-abbrev pub merged : List Monomial → List Monomial → List Monomial
-merged [] q = q
-merged (t ∷ p) q = merged_from t (merged p) q
+-- a multiset is before that of no term
+abbrev pub AreUpTo : List ℕ → List Monomial → Type 0
+AreUpTo a [] = Unit {0}
+AreUpTo a (t ∷ p) = (is_lt (order a t.atoms) ≡ false) × AreUpTo a p
 
--- Steps --------------------------------------------------------------------------------------------------------
-
--- the order of the first terms, where there are both
-abbrev pub heads : List Monomial → List Monomial → Option Ordering
-heads [] q = None
-heads (t ∷ p) [] = None
-heads (t ∷ p) (u ∷ q) = Some (order t.atoms u.atoms)
-
--- the first term has moved over
-abbrev pub Shifts : (from from_after to to_after : List Monomial) → Type 0
-Shifts [] from_after to to_after = (from_after ≡ []) × (to_after ≡ to)
-Shifts (t ∷ from) from_after to to_after = (from_after ≡ from) × (to_after ≡ to ++ t ∷ [])
-
--- the first terms of both have moved over as one
-abbrev pub Joins : (p p_after q q_after out out_after : List Monomial) → Type 0
-Joins [] p_after q q_after out out_after = Unit {0}
-Joins (t ∷ p) p_after [] q_after out out_after = Unit {0}
-Joins (t ∷ p) p_after (u ∷ q) q_after out out_after =
-    (p_after ≡ p) × ((q_after ≡ q) × (out_after ≡ out ++ put (t.coefficient + u.coefficient) t.atoms []))
-
--- There was a step, or one of the two is empty. What is merged by now, and what is still to merge, stay the same.
-abbrev pub Advances : Bool → (p p_after q q_after out out_after : List Monomial) → Type 0
-Advances true p p_after q q_after out out_after =
-    (out_after ++ merged p_after q_after ≡ out ++ merged p q) × (length p_after + length q_after < length p + length q)
-Advances false p p_after q q_after out out_after = out_after ++ (p_after ++ q_after) ≡ out ++ merged p q
+-- each term is before a multiset
+abbrev pub AreBefore : List ℕ → List Monomial → Type 0
+AreBefore a [] = Unit {0}
+AreBefore a (t ∷ p) = (order t.atoms a ≡ Less) × AreBefore a p

@@ -9,9 +9,10 @@
 
 mod atoms;
 mod forms;
+mod join;
 mod laws;
-mod merge;
 mod monomials;
+mod multiset;
 mod polys;
 
 pub use forms::{Poly, normal, ring_equal};
