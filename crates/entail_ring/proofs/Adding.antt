@@ -7,7 +7,6 @@ use Rattle.std.proofs.lemmas.List.Recursion.{is_sum_by}
 use Rattle.std.proofs.lemmas.List.Sorted.{ranks_by, sorted_far, sum_by-IsPermutation}
 use Rattle.std.proofs.lemmas.Option.{slice_get_within, get_or_from_slice_get}
 use Rattle.std.proofs.lemmas.Slice.Eq.{bytes_eq-Decides}
-use Rattle.std.specs.Borrow.{Bor}
 use Rattle.std.specs.List.{slice_get}
 use Rattle.std.specs.List.Sorted.{IsPermutation, IsSortedBy}
 use Rattle.std.specs.Ordering.{is_lt}
@@ -15,7 +14,7 @@ use Rattle.std.specs.Str.{bytes_eq}
 use Rattle.std.specs.declared.cmp.Ordering.{Ordering}
 use Rattle.std.specs.declared.cmp.Ordering.TheVariants.{Less, Equal, Greater}
 use Rattle.entail_ring.specs.declared.monomials.Monomial.{Monomial}
-use Rattle.entail_ring.specs.Inside.{lent, reduced, comes_before, AreUpTo, AreBefore}
+use Rattle.entail_ring.specs.Inside.{reduced, comes_before, AreUpTo, AreBefore}
 use Rattle.entail_ring.specs.Polys.{term_of, order, put, placed, add, joined, IsBefore, IsPoly}
 use Rattle.entail_ring.specs.Values.{weighted}
 use Rattle.entail_ring.proofs.Joining.{before_put, put_poly, joined_is}
@@ -213,43 +212,44 @@ last_gone a b all rest t e f n r h =
     subst (λ x. Taken x all rest t.coefficient) (sym f ∙ same_atoms a b n)
     (subst (λ p. Taken t.atoms all p t.coefficient) (sym r) (last_taken all (take (length all - 1) all) t (last_at all t e) h))
 
--- Terms that are lent ------------------------------------------------------------------------------------------
+-- Terms by what stands for them ----------------------------------------------------------------------------------
 
-pub sorted_lent : (ts : List (Bor Monomial)) → IsSortedBy (λ t u. comes_before t.now u.now) ts → IsSortedBy comes_before (map lent ts)
-sorted_lent [] h = λ k d l m. absurd (omega arith)
-sorted_lent (x ∷ ts) h =
-    λ k d l m.
-    let long : length (map lent (x ∷ ts)) ≡ length (x ∷ ts) = length-map (x ∷ ts) lent in
-    ap (λ t. comes_before t (get_or (map lent (x ∷ ts)) k d)) (get_or-map lent (x ∷ ts) (k + 1) x d (omega arith))
-    ∙ ap (λ u. comes_before (get_or (x ∷ ts) (k + 1) x).now u) (get_or-map lent (x ∷ ts) k x d (omega arith))
-    ∙ h k x l (omega arith)
+module _ {X : Type 0} (f : X → Monomial) where
+  pub sorted_map : (rs : List X) → IsSortedBy (λ t u. comes_before (f t) (f u)) rs → IsSortedBy comes_before (map f rs)
+  sorted_map [] h = λ k d l m. absurd (omega arith)
+  sorted_map (x ∷ rs) h =
+      λ k d l m.
+      let long : length (map f (x ∷ rs)) ≡ length (x ∷ rs) = length-map (x ∷ rs) f in
+      ap (λ t. comes_before t (get_or (map f (x ∷ rs)) k d)) (get_or-map f (x ∷ rs) (k + 1) x d (omega arith))
+      ∙ ap (λ u. comes_before (f (get_or (x ∷ rs) (k + 1) x)) u) (get_or-map f (x ∷ rs) k x d (omega arith))
+      ∙ h k x l (omega arith)
 
-lent_at : (rs : List (Bor Monomial)) (i : ℕ) (r : Bor Monomial) → i < length rs → r ≡ get_or rs i r → get_or (map lent rs) i r.now ≡ r.now
-lent_at rs i r h e = get_or-map lent rs i r r.now h ∙ sym (ap lent e)
+  map_at : (rs : List X) (i : ℕ) (r : X) → i < length rs → r ≡ get_or rs i r → get_or (map f rs) i (f r) ≡ f r
+  map_at rs i r h e = get_or-map f rs i r (f r) h ∙ sym (ap f e)
 
--- none of what is made of the terms so far is behind the next one
-pub next_up_to : (rs : List (Bor Monomial)) (i : ℕ) (r : Bor Monomial) (made : List Monomial) → IsSortedBy comes_before (map lent rs) → i < length rs
-    → r ≡ get_or rs i r → made ≡ joined (take i (map lent rs)) → AreUpTo r.now.atoms made
-next_up_to rs i r made h k e m =
-    let long : length (map lent rs) ≡ length rs = length-map rs lent in
-    let before = up_to_sorted (map lent rs) h i r.now (omega arith) in
-    let here = subst (λ t. AreUpTo t.atoms (take i (map lent rs))) (lent_at rs i r k e) before in
-    subst (AreUpTo r.now.atoms) (sym m) (up_to_joined r.now.atoms (take i (map lent rs)) here)
+  -- none of what is made of the terms so far is behind the next one
+  pub next_up_to : (rs : List X) (i : ℕ) (r : X) (made : List Monomial) → IsSortedBy comes_before (map f rs) → i < length rs → r ≡ get_or rs i r
+      → made ≡ joined (take i (map f rs)) → AreUpTo (f r).atoms made
+  next_up_to rs i r made h k e m =
+      let long : length (map f rs) ≡ length rs = length-map rs f in
+      let before = up_to_sorted (map f rs) h i (f r) (omega arith) in
+      let here = subst (λ t. AreUpTo t.atoms (take i (map f rs))) (map_at rs i r k e) before in
+      subst (AreUpTo (f r).atoms) (sym m) (up_to_joined (f r).atoms (take i (map f rs)) here)
 
--- the next one is added
-pub next_made : (rs : List (Bor Monomial)) (i : ℕ) (r : Bor Monomial) (made new : List Monomial) → i < length rs → r ≡ get_or rs i r
-    → made ≡ joined (take i (map lent rs)) → new ≡ joined (made ++ r.now ∷ []) → new ≡ joined (take (i + 1) (map lent rs))
-next_made rs i r made new k e m n =
-    let long : length (map lent rs) ≡ length rs = length-map rs lent in
-    n
-    ∙ ap (λ p. joined (p ++ r.now ∷ [])) m
-    ∙ joined_more (take i (map lent rs)) r.now
-    ∙ ap (λ t. joined (take i (map lent rs) ++ t ∷ [])) (sym (lent_at rs i r k e))
-    ∙ ap joined (sym (take_more (map lent rs) i r.now (omega arith)))
+  -- the next one is added
+  pub next_made : (rs : List X) (i : ℕ) (r : X) (made new : List Monomial) → i < length rs → r ≡ get_or rs i r → made ≡ joined (take i (map f rs))
+      → new ≡ joined (made ++ f r ∷ []) → new ≡ joined (take (i + 1) (map f rs))
+  next_made rs i r made new k e m n =
+      let long : length (map f rs) ≡ length rs = length-map rs f in
+      n
+      ∙ ap (λ p. joined (p ++ f r ∷ [])) m
+      ∙ joined_more (take i (map f rs)) (f r)
+      ∙ ap (λ t. joined (take i (map f rs) ++ t ∷ [])) (sym (map_at rs i r k e))
+      ∙ ap joined (sym (take_more (map f rs) i (f r) (omega arith)))
 
--- all are added
-pub all_made : (ts : List Monomial) (rs : List (Bor Monomial)) (i : ℕ) (made : List Monomial) → IsPermutation ts (map lent rs) → length rs ≤ i
-    → made ≡ joined (take i (map lent rs)) → made ≡ joined ts
-all_made ts rs i made p h m =
-    let long : length (map lent rs) ≡ length rs = length-map rs lent in
-    m ∙ ap joined (take_all i (map lent rs) (omega arith)) ∙ joined_permuted ts (map lent rs) p
+  -- all are added
+  pub all_made : (ts : List Monomial) (rs : List X) (i : ℕ) (made : List Monomial) → IsPermutation ts (map f rs) → length rs ≤ i
+      → made ≡ joined (take i (map f rs)) → made ≡ joined ts
+  all_made ts rs i made p h m =
+      let long : length (map f rs) ≡ length rs = length-map rs f in
+      m ∙ ap joined (take_all i (map f rs) (omega arith)) ∙ joined_permuted ts (map f rs) p

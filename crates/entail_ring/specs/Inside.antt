@@ -1,18 +1,18 @@
--- Words of private contracts: terms as they are made, before they are joined, and terms in order.
-use Rattle.std.specs.Prelude.{◌≡◌, ℕ, ◌%◌, ◌^◌, List, [], ◌∷◌, Bool, false}
-use Rattle.std.specs.Borrow.{Bor}
+-- Words of private contracts: terms as they are made, before they are joined, what they are compared by, and terms in order.
+use Rattle.std.specs.Prelude.{◌≡◌, ℕ, ◌+◌, ◌*◌, ◌/◌, ◌%◌, ◌^◌, nat_lt, List, [], ◌∷◌, Bool, false, if◌then◌else◌}
 use Rattle.std.specs.Ordering.{is_lt}
 use Rattle.std.specs.declared.cmp.Ordering.TheVariants.{Less}
 use Rattle.entail_ring.specs.declared.monomials.Monomial.{Monomial}
 use Rattle.entail_ring.specs.Polys.{term_of, order}
 
--- a term that is lent
-abbrev pub lent : Bor Monomial → Monomial
-lent t = t.now
-
 -- a term with its coefficient modulo 2^32
 abbrev pub reduced : Monomial → Monomial
 reduced t = term_of (t.coefficient % 2 ^ 32) t.atoms
+
+-- The numbers of the first atoms, each more 1, as digits to the base 256, up to one that is no digit. The first digit counts so many units.
+abbrev pub rank : ℕ → List ℕ → ℕ
+rank unit [] = 0
+rank unit (x ∷ a) = if nat_lt x 254 then (x + 1) * unit + rank (unit / 256) a else 255 * unit
 
 -- by their multisets
 abbrev pub comes_before : Monomial → Monomial → Bool

@@ -1,10 +1,11 @@
 ghost use Rattle.std.specs.Prelude.{◌≡◌, [], ◌∷◌, ◌++◌, IfOk, OnOk, map};
 ghost use Rattle.std.specs.List.Sorted.{IsPermutation, IsSortedBy};
-ghost use Rattle.entail_ring.specs.Inside.{AreBefore, AreUpTo, comes_before, lent};
+ghost use Rattle.entail_ring.specs.Inside.{AreBefore, AreUpTo, comes_before};
 ghost use Rattle.entail_ring.specs.Polys as spec;
 ghost use Rattle.entail_ring.specs.Polys.{IsPoly};
 
-use crate::monomials::{Monomial, order};
+use crate::monomials::Monomial;
+use crate::ranked::{Ranked, compare};
 use cov_expr::NoMemory;
 use std::alloc::Global;
 
@@ -15,21 +16,21 @@ pub fn joined(alloc: Global, terms: &[Monomial]) -> Result<Vec<Monomial>, NoMemo
     let rising = in_order(alloc, terms)?;
     let mut made = Vec::new(alloc);
     for t in &rising {
-        add(&mut made, t)?;
+        add(&mut made, t.term)?;
     }
     Ok(made)
 }
 
 /// The terms in the order of their multisets.
-fn in_order(alloc: Global, terms: &[Monomial]) -> Result<Vec<&Monomial>, NoMemory>
-    ensures terms { IfOk result (λ made. IsPermutation terms.now (map lent made.items)) }
-    ensures order { IfOk result (λ made. IsSortedBy comes_before (map lent made.items)) }
+fn in_order(alloc: Global, terms: &[Monomial]) -> Result<Vec<Ranked<'_>>, NoMemory>
+    ensures terms { IfOk result (λ made. IsPermutation terms.now (map (λ t. t.term.now) made.items)) }
+    ensures order { IfOk result (λ made. IsSortedBy comes_before (map (λ t. t.term.now) made.items)) }
 {
     let mut made = Vec::with_capacity(alloc, terms.len())?;
     for t in terms {
-        made.push(t)?;
+        made.push(Ranked::new(t))?;
     }
-    made.sort_by(|t, u| order(t, u))?;
+    made.sort_by(|t, u| compare(t, u))?;
     Ok(made)
 }
 

@@ -14,6 +14,7 @@ mod laws;
 mod monomials;
 mod multiset;
 mod polys;
+mod ranked;
 
 pub use forms::{Poly, normal, ring_equal};
 pub use laws::{

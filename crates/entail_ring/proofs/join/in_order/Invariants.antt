@@ -1,6 +1,5 @@
 use Rattle.std.proofs.Common.{◌≡◌, map, take}
-use Rattle.entail_ring.specs.Inside.{lent}
 use Rattle.entail_ring.proofs.join.in_order.Given as goal
 
 abbrev pub invariant-loop-t : goal.invariant-loop-t
-invariant-loop-t l = map lent l.made.items ≡ take l.t-index l.terms
+invariant-loop-t l = map (λ t. t.term.now) l.made.items ≡ take l.t-index l.terms
