@@ -25,3 +25,9 @@ ring_told goal a b (Err s) is w e = tt
 pub range_told : (hyps : List Term) (goal : Term) (r : Bool) → r ≡ range_valid hyps goal → (r ≡ true → HasWords goal) → r ≡ is_range hyps goal
 range_told hyps goal true e w = sym (and_from (range_valid hyps goal) (is_of_words goal) (sym e) (has_words goal (w refl)))
 range_told hyps goal false e w = ap (λ b. b && is_of_words goal) e
+
+-- the same, where memory may run out
+pub range_told_if_ok : (hyps : List Term) (goal : Term) (r : Result Bool NoMemory) → IfOk r (λ b. b ≡ range_valid hyps goal)
+    → IfOk r (λ b. b ≡ true → HasWords goal) → IfOk r (λ b. b ≡ is_range hyps goal)
+range_told_if_ok hyps goal (Ok b) e w = range_told hyps goal b e w
+range_told_if_ok hyps goal (Err n) e w = tt

@@ -7,7 +7,7 @@ ghost use Rattle.entail_cert.specs.Valid as spec;
 use crate::fact::Fact;
 use crate::parts::operands;
 use cov_expr::{Expr, List, NoMemory, Op};
-use entail_range::range_valid_with;
+use entail_range::range_valid_indexed;
 use entail_ring::ring_equal;
 use std::alloc::Global;
 
@@ -22,10 +22,15 @@ pub fn is_ring(alloc: Global, goal: &Expr) -> Result<bool, NoMemory>
 }
 
 /// Whether a goal follows from the bounds that hypotheses give, which come in two parts.
-pub fn is_range(given: &[Expr], added: &[&Expr], goal: &Expr) -> bool
-    ensures { result ≡ spec.is_range (map term given.now ++ map lent added.now) (term goal.now) }
+pub fn is_range(
+    alloc: Global,
+    given: &[Expr],
+    added: &[&Expr],
+    goal: &Expr,
+) -> Result<bool, NoMemory>
+    ensures { IfOk result (λ holds. holds ≡ spec.is_range (map term given.now ++ map lent added.now) (term goal.now)) }
 {
-    range_valid_with(given, added, goal)
+    range_valid_indexed(alloc, given, added, goal)
 }
 
 /// The hypotheses that a walk has added, each lent.

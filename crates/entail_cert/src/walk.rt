@@ -242,7 +242,7 @@ impl<'a> Walk<'a> {
         ensures { IfOk result (λ holds. holds ≡ spec.is_range (hypotheses given.now self.now) (term goal.now)) }
     {
         let added = lent_facts(self.alloc, self.added.as_slice())?;
-        Ok(is_range(given, added.as_slice(), goal))
+        is_range(self.alloc, given, added.as_slice(), goal)
     }
 
     /// Looks for the first node that fails below a certificate, its own node first.
