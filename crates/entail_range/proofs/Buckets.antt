@@ -30,7 +30,7 @@ fit_cut Empty c h = (tt, tt)
 fit_cut (Within low high) Empty h = (tt, tt)
 fit_cut (Within low high) (Within l u) h = fit_from_to (max low l) (min high u) (omega arith)
 
-cut_all : (b : Bound) → IsFit b → cut b all ≡ b
+pub cut_all : (b : Bound) → IsFit b → cut b all ≡ b
 cut_all Empty h = refl
 cut_all (Within low high) h = at (nat_le (max low 0) (min high 4294967295)) refl
   where
