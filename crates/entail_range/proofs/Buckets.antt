@@ -1,9 +1,8 @@
 -- An index of hypotheses gives what all hypotheses give.
-use Rattle.std.proofs.Common.{◌≡◌, ◌≢◌, ℕ, zero, suc, ◌%◌, ◌<◌, ◌≤◌, max, min, nat_le, List, [], ◌∷◌, ◌++◌, length, get_or, set, Bool, true, false, Option, Some, None, refl, sym, ◌∙◌, ap, arith, inl, inr, ◌⊎◌, if◌then◌else◌, get_or-set_same, get_or-set_other, length-set, map}
+use Rattle.std.proofs.Common.{◌≡◌, ◌≢◌, ℕ, zero, suc, ◌<◌, ◌≤◌, max, min, nat_le, List, [], ◌∷◌, ◌++◌, length, get_or, set, Bool, true, false, Option, Some, None, refl, sym, ◌∙◌, ap, arith, inl, inr, ◌⊎◌, if◌then◌else◌, get_or-set_same, get_or-set_other, length-set, map}
 use Rattle.std.proofs.lemmas.Bool.{leb-true, leb-false, cases_eq}
 use Rattle.std.proofs.lemmas.List.{get_or-map, get_or_read, length-map, map-set, map_push}
 use Rattle.std.proofs.lemmas.Nat.{mod_below}
-use Rattle.cov_expr.specs.declared.expr.Op.{Op}
 use Rattle.cov_expr.specs.declared.expr.Op.TheVariants.{Add, Sub, Mul, And, Or, Xor, Eq, Ne, Lt, Le, Both, Either}
 use Rattle.cov_expr.specs.Term.{Term, const, var, neg, bin}
 use Rattle.cov_expr.specs.Trees.{same}
@@ -11,9 +10,9 @@ use Rattle.cov_expr.proofs.Trees.{same_is}
 use Rattle.entail_range.specs.declared.interval.Bound.{Bound}
 use Rattle.entail_range.specs.declared.interval.Bound.TheVariants.{Empty, Within}
 use Rattle.entail_range.specs.Index.{IsFit, FindsAll, Gains}
-use Rattle.entail_range.specs.Intervals.{all, cut, from_to, greatest}
-use Rattle.entail_range.specs.Places.{place, key, bounded, beside, opposite}
-use Rattle.entail_range.specs.Range.{number_beside, compared, given, limited}
+use Rattle.entail_range.specs.Intervals.{all, cut, from_to}
+use Rattle.entail_range.specs.Places.{place, key, bounded, beside}
+use Rattle.entail_range.specs.Range.{number_beside, given, limited}
 use Rattle.entail_range.proofs.Sound.{limited_append}
 
 -- Bounds -------------------------------------------------------------------------------------------------------

@@ -1,5 +1,5 @@
 -- What doesn't speak of an expression leaves it every word.
-use Rattle.std.proofs.Common.{◌≡◌, ◌==◌, ◌&&◌, ◌||◌, List, Bool, true, false, Option, Some, None, refl, sym, ◌∙◌, if◌then◌else◌}
+use Rattle.std.proofs.Common.{◌≡◌, ◌==◌, ◌&&◌, Bool, true, false, Some, None, refl, sym, ◌∙◌, if◌then◌else◌}
 use Rattle.std.proofs.lemmas.Bool.{or_parts}
 use Rattle.cov_expr.specs.declared.expr.Op.{Op}
 use Rattle.cov_expr.specs.declared.expr.Op.TheVariants.{Add, Sub, Mul, And, Or, Xor, Eq, Ne, Lt, Le, Both, Either}
@@ -9,7 +9,7 @@ use Rattle.cov_expr.proofs.Trees.{and_left}
 use Rattle.entail_range.specs.declared.interval.Bound.{Bound}
 use Rattle.entail_range.specs.Index.{IsFit}
 use Rattle.entail_range.specs.Intervals.{all, cut}
-use Rattle.entail_range.specs.Range.{number_beside, given, limited}
+use Rattle.entail_range.specs.Range.{number_beside, given}
 use Rattle.entail_range.specs.Speaks.{is_number, are_alike, speaks_of}
 use Rattle.entail_range.proofs.Buckets.{cut_all}
 

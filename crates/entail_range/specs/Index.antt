@@ -1,5 +1,5 @@
 -- What an index of hypotheses has to give: for each expression, at its place, what all hypotheses leave to it.
-use Rattle.std.specs.Prelude.{◌≡◌, ℕ, ◌<◌, ◌≤◌, List, [], ◌∷◌, ◌++◌, map, length, get_or, IfSome}
+use Rattle.std.specs.Prelude.{◌≡◌, ◌<◌, ◌≤◌, List, [], ◌∷◌, ◌++◌, map, length, get_or, IfSome}
 use Rattle.std.specs.Borrow.{Bor}
 use Rattle.cov_expr.specs.declared.expr.Expr.{Expr}
 use Rattle.cov_expr.specs.Term.{Term}

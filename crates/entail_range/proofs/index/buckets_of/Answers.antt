@@ -1,4 +1,3 @@
-use Rattle.std.proofs.Common.{map}
 use Rattle.std.proofs.lemmas.List.{append_assoc, map_more}
 use Rattle.cov_expr.specs.View.{term}
 use Rattle.entail_range.specs.Range.{lent}
