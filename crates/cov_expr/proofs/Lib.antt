@@ -1,4 +1,5 @@
 pub mod Tests
+pub mod Spellings
 pub mod Trees
 pub mod Values
 pub mod View

@@ -1,8 +1,10 @@
 pub mod formers
 pub mod Bytes
+pub mod Spellings
 pub mod Names
 pub mod Term
 pub mod Words
 pub mod Trees
 pub mod Entailment
 pub mod View
+pub mod Inside

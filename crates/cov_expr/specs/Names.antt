@@ -1,13 +1,8 @@
 -- Which texts are names.
-use Rattle.std.specs.Prelude.{ℕ, ◌≤◌, ◌<◌, ◌-◌, List, [], ◌∷◌, ◌++◌, length, replicate, map, Bool, false, IsTrue, not, ◌&&◌}
-use Rattle.std.specs.List.{list_all, list_any}
-use Rattle.std.specs.Str.{bytes_eq}
+use Rattle.std.specs.Prelude.{ℕ, ◌≤◌, ◌<◌, ◌-◌, List, [], ◌∷◌, ◌++◌, length, replicate, Bool, false, IsTrue, not, ◌&&◌}
+use Rattle.std.specs.List.{list_all}
 use Rattle.cov_expr.specs.Bytes.{is_lower, is_word}
-use Rattle.cov_expr.specs.declared.name.TheConstants.{KEYWORDS}
-
--- the words that the grammar keeps for itself
-unfoldable pub is_keyword : List ℕ → Bool
-is_keyword text = list_any (bytes_eq text) (map (λ word. word.now) KEYWORDS)
+use Rattle.cov_expr.specs.Spellings.{is_keyword}
 
 -- a lower-case letter, and then letters, digits and underscores
 abbrev pub is_word_text : List ℕ → Bool

@@ -1,6 +1,7 @@
 //! Words of 32 bits, expressions over numbered variables, and the small types that every crate uses.
 //!
 //! - [`List`], [`Name`] and [`NoMemory`]: a vector that contracts see as a list, a name of a text, the want of memory.
+//! - [`SPELLINGS`]: the keywords and the signs of texts, each with its [`Kind`]; [`kind_of`] looks a text up there.
 //! - [`Expr`]: an expression. Contracts see it as the plain tree `term e` of `specs/Term.antt`.
 //! - [`eval`]: its value in a memory. [`same`]: whether two trees are equal.
 //! - [`closed`], [`mentions`], [`has_conjunct`], [`vars`]: its parts. [`copy`], [`subst`]: trees made from others.
@@ -9,20 +10,26 @@
 #![tactic(auto)]
 
 mod build;
+mod byte;
 mod expr;
+mod kind;
 mod laws;
 mod list;
 mod measures;
 mod name;
 mod parts;
+mod spelling;
 
 pub use build::{boxed, copy, subst};
+pub use byte::{is_digit, is_lower, is_word};
 pub use expr::{Expr, HOLE, Op, apply, eval, same};
+pub use kind::Kind;
 pub use laws::{
     closed_mentions_nothing, same_is_equality, substitution_is_a_store, value_depends_on_mentioned,
     values_are_words,
 };
 pub use list::{Blob, List, NoMemory};
 pub use measures::{height_at_most, nodes_at_most, width_at_most};
-pub use name::{KEYWORDS, Name, is_digit, is_keyword, is_lower, is_word};
+pub use name::Name;
 pub use parts::{closed, has_conjunct, mentions, vars};
+pub use spelling::{SPELLINGS, is_keyword, kind_of};

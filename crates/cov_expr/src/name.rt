@@ -1,60 +1,12 @@
-ghost use Rattle.std.specs.Prelude.{◌≡◌, IfSome, IsSome, ◌↔◌, IsTrue, map};
-ghost use Rattle.std.specs.List.{list_any, list_all};
-ghost use Rattle.std.specs.Str.{bytes_eq};
+ghost use Rattle.std.specs.Prelude.{◌≡◌, IfSome, IsSome, ◌↔◌, IsTrue};
+ghost use Rattle.std.specs.List.{list_all};
 ghost use Rattle.cov_expr.specs.Bytes as class;
 ghost use Rattle.cov_expr.specs.Names.{IsName};
 ghost use Rattle.cov_expr.specs.Names as spec;
 
+use crate::byte::{is_lower, is_word};
+use crate::spelling::is_keyword;
 use std::marker::Model;
-
-/// The words that the grammar of programs keeps for itself. The last four stand in no rule yet.
-pub const KEYWORDS: [&[u8]; 45] = [
-    b"var",
-    b"low",
-    b"high",
-    b"when",
-    b"lock",
-    b"nowrite",
-    b"hide",
-    b"inv",
-    b"thread",
-    b"assume",
-    b"guarantee",
-    b"skip",
-    b"unlock",
-    b"if",
-    b"else",
-    b"join",
-    b"while",
-    b"note",
-    b"as",
-    b"retype",
-    b"by",
-    b"auto",
-    b"hyp",
-    b"calc",
-    b"clash",
-    b"and",
-    b"left",
-    b"right",
-    b"use",
-    b"cases",
-    b"split",
-    b"have",
-    b"absurd",
-    b"not",
-    b"contra",
-    b"refl",
-    b"fwd",
-    b"rev",
-    b"axiom",
-    b"ring",
-    b"range",
-    b"version",
-    b"output",
-    b"level",
-    b"seen",
-];
 
 /// The most bytes of a name.
 const LONGEST: usize = 32;
@@ -101,15 +53,24 @@ impl Name {
         ensures found { IsSome result ↔ IsName text.now }
         ensures text { IfSome result (λ name. name ≡ text.now) }
     {
-        if !is_name(text) {
-            return None;
+        if is_name(text) {
+            Some(Name::known(text))
+        } else {
+            None
         }
+    }
+
+    /// The name that these bytes are, where the caller knows that they are one, as the token of a name.
+    pub fn known(text: &[u8]) -> Name
+        requires { IsName text.now }
+        ensures { result ≡ text.now }
+    {
         let mut bytes = [0; 32];
         bytes[..text.len()].copy_from_slice(text);
-        Some(Name {
+        Name {
             bytes,
             len: text.len() as u8,
-        })
+        }
     }
 
     /// Its bytes.
@@ -126,25 +87,6 @@ fn is_name(text: &[u8]) -> bool
     ensures { IsTrue result ↔ IsName text.now }
 {
     text.len() <= LONGEST && is_word_text(text) && !is_keyword(text)
-}
-
-/// Whether a text is a keyword.
-#[tactic(auto, unfolding(crate::specs::Names::is_keyword))]
-pub fn is_keyword(text: &[u8]) -> bool
-    ensures { result ≡ spec.is_keyword text.now }
-{
-    is_one_of(text, &KEYWORDS)
-}
-
-fn is_one_of(text: &[u8], words: &[&[u8]]) -> bool
-    ensures { result ≡ list_any (bytes_eq text.now) (map (λ word. word.now) words.now) }
-{
-    for word in words {
-        if text == *word {
-            return true;
-        }
-    }
-    false
 }
 
 /// Whether a text is a lower-case letter and then letters, digits and underscores.
@@ -166,25 +108,4 @@ fn are_word_bytes(text: &[u8]) -> bool
         }
     }
     true
-}
-
-/// Whether a byte is a lower-case letter.
-pub fn is_lower(byte: u8) -> bool
-    ensures { result ≡ class.is_lower byte }
-{
-    b'a' <= byte && byte <= b'z'
-}
-
-/// Whether a byte is a digit.
-pub fn is_digit(byte: u8) -> bool
-    ensures { result ≡ class.is_digit byte }
-{
-    b'0' <= byte && byte <= b'9'
-}
-
-/// Whether a byte is a lower-case letter, a digit or an underscore.
-pub fn is_word(byte: u8) -> bool
-    ensures { result ≡ class.is_word byte }
-{
-    is_lower(byte) || is_digit(byte) || byte == b'_'
 }

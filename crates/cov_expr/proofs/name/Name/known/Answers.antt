@@ -3,7 +3,7 @@ use Rattle.std.proofs.lemmas.List.{drop-replicate}
 use Rattle.std.proofs.Math.ListN.{replicate}
 use Rattle.std.proofs.Math.Seq.{take-append_seam}
 use Rattle.cov_expr.specs.Names.{IsName, padded}
-use Rattle.cov_expr.proofs.name.Name.new.Goals as goal
+use Rattle.cov_expr.proofs.name.Name.known.Goals as goal
 
 -- what the copied bytes and the zeros behind them are
 padded_kept : (text front : List ℕ) → front ≡ text → IsName text

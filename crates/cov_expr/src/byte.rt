@@ -1,0 +1,26 @@
+ghost use Rattle.std.specs.Prelude.{◌≡◌};
+ghost use Rattle.cov_expr.specs.Bytes as class;
+
+/// Whether a byte is a lower-case letter.
+#[inline]
+pub fn is_lower(byte: u8) -> bool
+    ensures { result ≡ class.is_lower byte }
+{
+    b'a' <= byte && byte <= b'z'
+}
+
+/// Whether a byte is a digit.
+#[inline]
+pub fn is_digit(byte: u8) -> bool
+    ensures { result ≡ class.is_digit byte }
+{
+    b'0' <= byte && byte <= b'9'
+}
+
+/// Whether a byte is a lower-case letter, a digit or an underscore.
+#[inline]
+pub fn is_word(byte: u8) -> bool
+    ensures { result ≡ class.is_word byte }
+{
+    is_lower(byte) || is_digit(byte) || byte == b'_'
+}
