@@ -2,9 +2,9 @@
 use Rattle.std.proofs.Common.{◌≡◌, List, [], ◌∷◌, ◌++◌, Bool, true, false, not, ◌&&◌, ◌||◌, Option, Some, None, refl, sym, ap, subst, ◌∙◌}
 use Rattle.std.proofs.lemmas.Bool.{not-true}
 use denote.Enum.Bare.{same_true, true_same}
-use Rattle.cov_grammar.specs.declared.token.Kind.{Kind}
+use Rattle.cov_expr.specs.declared.kind.Kind.{Kind}
 use Rattle.cov_grammar.specs.declared.token.Token.{Token}
-use Rattle.cov_grammar.specs.contracts.token.Kind as kind
+use Rattle.cov_expr.specs.contracts.kind.Kind as kind
 use Rattle.cov_grammar.specs.Shapes.{head}
 use Rattle.cov_grammar.specs.LookAhead.{kind_is, has, starts, apart, within}
 use Rattle.cov_expr.proofs.Tests.{left_true, right_true, or_regrouped}

@@ -4,7 +4,7 @@
 -- From the last, with completeness, it follows that a fault is where no text goes on: a text that went on there would be
 -- read, and would not, since the reader sees no further.
 use Rattle.std.proofs.Common.{◌≡◌, List, ◌++◌, Bool, true, false, if◌then◌else◌, refl, sym, ap, ◌∙◌, append_assoc}
-use Rattle.cov_grammar.specs.declared.token.Kind.{Kind}
+use Rattle.cov_expr.specs.declared.kind.Kind.{Kind}
 use Rattle.cov_grammar.specs.declared.token.Token.{Token}
 use Rattle.cov_grammar.specs.Shapes.{head}
 use Rattle.cov_grammar.specs.LookAhead.{starts}

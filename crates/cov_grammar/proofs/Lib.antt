@@ -15,4 +15,4 @@ pub mod Exactness
 -- For code that reads by it.
 pub mod Repeats
 pub mod Stops
-mod Rows
+mod Examples

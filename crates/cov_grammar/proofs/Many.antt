@@ -1,6 +1,6 @@
 -- Repetitions: one turn and the rest of them, without the count of turns.
 use Rattle.std.proofs.Common.{◌≡◌, ℕ, zero, suc, ◌≤◌, ◌<◌, List, [], ◌∷◌, ◌++◌, length, if◌then◌else◌, refl, sym, ap, subst, ◌∙◌, arith}
-use Rattle.cov_grammar.specs.declared.token.Kind.{Kind}
+use Rattle.cov_expr.specs.declared.kind.Kind.{Kind}
 use Rattle.cov_grammar.specs.declared.token.Token.{Token}
 use Rattle.cov_grammar.specs.Shapes.{Each, head}
 use Rattle.cov_grammar.specs.LookAhead.{starts}

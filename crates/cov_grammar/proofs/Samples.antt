@@ -2,7 +2,7 @@
 use Rattle.std.proofs.Common.{◌≡◌, ℕ, zero, suc, List, [], ◌∷◌, ◌++◌, Bool, true, false, ◌&&◌, if◌then◌else◌, Some, None, refl, sym, subst, ◌∙◌, inl, inr}
 use Rattle.std.proofs.lemmas.Bool.{or_right, or_left}
 use Rattle.cov_grammar.specs.declared.token.Token.{Token}
-use Rattle.cov_grammar.specs.declared.token.Kind.{Kind}
+use Rattle.cov_expr.specs.declared.kind.Kind.{Kind}
 use Rattle.cov_grammar.specs.Trees.{Rule, Meaning, expr, template, cert, block}
 use Rattle.cov_grammar.specs.Shapes.{Shape, token, rule, seq, alt, opt, many, act, placed, place, Each, Sense, Spells}
 use Rattle.cov_grammar.specs.Grammar.{atom, template_atom, unary, prod, sum, band, bxor, bor, cmp, both, either, part, arguments, last_certs, more_certs, certificate, proof, proofs, retype, assigned, branched, looped, state, statement, braces, body, types}
@@ -37,7 +37,7 @@ abbrev pub Some_of : {A : Type 0} → Sense → Shape A → Type 0
 Some_of {A} S a = (v : A) × (ts : List Token) × Spells S a v ts
 
 some_direct : (S : Sense) {A : Type 0} (a : Shape A) → direct a ≡ true → Some_of S a
-some_direct S (token k) h = let t : Token = record { kind = k; at = 0; value = 0 } in (t, t ∷ [], (refl, refl))
+some_direct S (token k) h = let t : Token = record { kind = k; at = 0; end = 0; value = 0 } in (t, t ∷ [], (refl, refl))
 some_direct S (rule r) h = cc
 some_direct S (seq a b) h =
     let x = some_direct S a (left_true (direct a) (direct b) h) in
@@ -50,7 +50,7 @@ some_direct S (act f a) h = let x = some_direct S a h in (f x.0, x.1, (x.0, refl
 some_direct S (placed a) h = let x = some_direct S a h in ((place x.1, x.0), x.1, (refl, x.2))
 
 pub some_of : {A : Type 0} (a : Shape A) → Some_of AtSome a
-some_of (token k) = let t : Token = record { kind = k; at = 0; value = 0 } in (t, t ∷ [], (refl, refl))
+some_of (token k) = let t : Token = record { kind = k; at = 0; end = 0; value = 0 } in (t, t ∷ [], (refl, refl))
 some_of (rule r) = let x = some_direct (Within 0) (body r) (direct_body r) in (x.0, x.1, (1, x.2))
 some_of (seq a b) =
     let x = some_of a in

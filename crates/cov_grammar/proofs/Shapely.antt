@@ -1,7 +1,7 @@
 -- Reading a right side is honest, where the next token decides its choices and the readers of rules are honest.
 use Rattle.std.proofs.Common.{◌≡◌, ℕ, zero, suc, ◌<◌, List, [], ◌∷◌, ◌++◌, length, Bool, true, false, if◌then◌else◌, Some, None, refl, sym, ap, subst, ◌∙◌, append-nil, arith, length-append, inl, inr}
 use Rattle.std.proofs.lemmas.Bool.{not-true}
-use Rattle.cov_grammar.specs.declared.token.Kind.{Kind}
+use Rattle.cov_expr.specs.declared.kind.Kind.{Kind}
 use Rattle.cov_grammar.specs.declared.token.Token.{Token}
 use Rattle.cov_grammar.specs.Trees.{Rule}
 use Rattle.cov_grammar.specs.Shapes.{Shape, token, rule, seq, alt, opt, many, act, placed, place, head}
@@ -28,7 +28,7 @@ one_kind [] k h = cc
 one_kind (t ∷ us) k h = (t, us, refl, cc)
 
 abbrev sample : Kind → Token
-sample k = record { kind = k; at = 0; value = 0 }
+sample k = record { kind = k; at = 0; end = 0; value = 0 }
 
 token_honest : (k : Kind) → Honest (OfShape (token k)) (take_kind k)
 token_honest k [] = record {

@@ -1,6 +1,6 @@
 -- A rule has turns enough: more turns change nothing, and each one takes a token.
 use Rattle.std.proofs.Common.{◌≡◌, ℕ, zero, suc, ◌≤◌, ◌<◌, List, [], ◌∷◌, ◌++◌, length, Bool, true, false, not, ◌&&◌, ◌||◌, if◌then◌else◌, Some, None, ◌⊎◌, refl, sym, ap, subst, ◌∙◌, arith, length-append, inl, inr}
-use Rattle.cov_grammar.specs.declared.token.Kind.{Kind}
+use Rattle.cov_expr.specs.declared.kind.Kind.{Kind}
 use Rattle.cov_grammar.specs.declared.token.Token.{Token}
 use Rattle.cov_grammar.specs.Trees.{Rule, Meaning, expr, template, cert, block}
 use Rattle.cov_grammar.specs.Shapes.{Shape, token, rule, seq, alt, opt, many, act, placed, place, head}

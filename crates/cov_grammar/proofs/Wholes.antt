@@ -12,7 +12,7 @@ use Rattle.cov_grammar.specs.Spelling.{Is, FirstWrong}
 use Rattle.cov_grammar.specs.LookAhead.{fine}
 use Rattle.cov_grammar.specs.Tables.{first_of, more_of}
 use Rattle.cov_grammar.specs.Reading.{Reading, got, stopped, spent, ◌>>=◌, reading, ended, all_of}
-use Rattle.cov_grammar.specs.Answers.{Gives, whole_answer, Stands, Answers, Only}
+use Rattle.cov_grammar.specs.ReaderAnswers.{Gives, whole_answer, Stands, Answers, Only}
 use Rattle.cov_grammar.proofs.Exact.{all_sound, all_complete, all_first, all_ends}
 
 -- what a reader of a front answered, made the answer for all tokens

@@ -1,4 +1,3 @@
-pub mod Words
 pub mod Trees
 pub mod Shapes
 pub mod Grammar
@@ -6,5 +5,5 @@ pub mod Spelling
 pub mod LookAhead
 pub mod Tables
 pub mod Reading
-pub mod Answers
+pub mod ReaderAnswers
 pub mod Laws

@@ -2,8 +2,8 @@
 --
 -- This is the LL(1) condition: where there is a choice, the next token alone decides it.
 use Rattle.std.specs.Prelude.{List, [], ◌∷◌, ◌++◌, Bool, true, false, not, ◌&&◌, ◌||◌, if◌then◌else◌, Option, Some, None}
-use Rattle.cov_grammar.specs.declared.token.Kind.{Kind}
-use Rattle.cov_grammar.specs.contracts.token.KindPartialEq.TheImpl as kinds
+use Rattle.cov_expr.specs.declared.kind.Kind.{Kind}
+use Rattle.cov_expr.specs.contracts.kind.KindPartialEq.TheImpl as kinds
 use Rattle.cov_grammar.specs.Trees.{Rule}
 use Rattle.cov_grammar.specs.Shapes.{Shape, token, rule, seq, alt, opt, many, act, placed}
 

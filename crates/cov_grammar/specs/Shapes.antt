@@ -3,7 +3,7 @@
 -- A right side is a parsing expression with semantic actions, as in parser combinators, but it says only what is
 -- spelled: `alt` takes no order, and nothing here speaks of a reader.
 use Rattle.std.specs.Prelude.{◌≡◌, ℕ, List, [], ◌∷◌, ◌++◌, Option, Some, None, ◌⊎◌}
-use Rattle.cov_grammar.specs.declared.token.Kind.{Kind}
+use Rattle.cov_expr.specs.declared.kind.Kind.{Kind}
 use Rattle.cov_grammar.specs.declared.token.Token.{Token}
 use Rattle.cov_grammar.specs.Trees.{Rule, Meaning}
 

@@ -2,8 +2,8 @@
 --
 -- That these lists are right for the grammar is computed, in proofs/TableLaws.antt.
 use Rattle.std.specs.Prelude.{List, [], ◌∷◌}
-use Rattle.cov_grammar.specs.declared.token.Kind.{Kind}
-use Rattle.cov_grammar.specs.declared.token.Kind.TheVariants as k
+use Rattle.cov_expr.specs.declared.kind.Kind.{Kind}
+use Rattle.cov_expr.specs.declared.kind.Kind.TheVariants as k
 use Rattle.cov_grammar.specs.Trees.{Rule, expr, template, cert, block}
 
 -- the kinds that a spelling of a rule may begin with

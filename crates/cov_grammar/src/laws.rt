@@ -1,9 +1,6 @@
-ghost use Rattle.std.specs.Prelude.{◌≡◌, map};
-ghost use Rattle.cov_expr.specs.declared.name.TheConstants.{KEYWORDS};
 ghost use Rattle.cov_grammar.specs.Trees.{Rule};
 ghost use Rattle.cov_grammar.specs.Shapes.{rule};
 ghost use Rattle.cov_grammar.specs.Grammar.{program, whole};
-ghost use Rattle.cov_grammar.specs.Words.{keyword_kinds};
 ghost use Rattle.cov_grammar.specs.Laws.{IsReadExactly, IsDecided};
 
 /// A law: reading with one token of look-ahead gives a tree exactly where the tokens spell it, and else stops in front of the
@@ -21,10 +18,4 @@ pub fn tree_or_fault_is_one()
     ensures programs { IsDecided program }
     ensures expressions { IsDecided whole }
     ensures rules { (r : Rule) → IsDecided (rule r) }
-{}
-
-/// A law: the keywords that have a kind are those that can't be names.
-#[tactic(auto, unfolding(crate::specs::Words::keyword_kinds))]
-pub fn keywords_are_no_names()
-    ensures { map (λ word. word.0) keyword_kinds ≡ map (λ word. word.now) KEYWORDS }
 {}

@@ -6,13 +6,13 @@
 //! stands within itself.
 //!
 //! **What has to be believed** is in the first files of `specs/`, in this order:
-//! - `Words`: the bytes of keywords and signs. `Trees`: what a program is, with places.
+//! - `Trees`: what a program is, with places.
 //! - `Shapes`: what a right side is, and which tokens spell which of its values.
 //! - `Grammar`: the rules, a definition each, below the rule in the usual notation.
 //! - `Spelling`: `Is`, the tokens spell the value; `FirstWrong`, the first wrong token, by the language alone.
 //!
-//! The others speak of the reader: `LookAhead` and `Tables` (the LL(1) condition), `Reading` (what is read), `Answers` (what
-//! code answers), `Laws` (the two laws).
+//! The others speak of the reader: `LookAhead` and `Tables` (the LL(1) condition), `Reading` (what is read), `ReaderAnswers`
+//! (what code answers), `Laws` (the two laws).
 //!
 //! **How to read by it.** Code takes a [`TokenReader`] and has one function for each right side with a name, with the clause
 //! `Gives view tokens.new result (reading SHAPE tokens.old)`. [`TokenReader::finish`] makes the answer for a whole text. The
@@ -22,7 +22,7 @@
 //!
 //! **How it is proved.** Four facts, each one induction over the eight forms of a right side, and none for a rule of the
 //! grammar: reading is honest (`Honest`, `Many`, `Shapely`), complete (`Complete`), has turns enough (`Turns`), and the
-//! tables are right for the grammar, by computation (`TableLaws`). `proofs/Rows.antt` computes worked rows.
+//! tables are right for the grammar, by computation (`TableLaws`). `proofs/Examples.antt` computes worked examples.
 #![tactic(auto)]
 
 mod fault;
@@ -30,11 +30,10 @@ mod laws;
 mod reader;
 mod stop;
 mod token;
-mod word;
 
+pub use cov_expr::Kind;
 pub use fault::TokenFault;
-pub use laws::{keywords_are_no_names, reading_is_exact, tree_or_fault_is_one};
+pub use laws::{reading_is_exact, tree_or_fault_is_one};
 pub use reader::{TokenReader, is, is_any};
 pub use stop::Stop;
-pub use token::{Kind, Token};
-pub use word::{WORDS, kind_of};
+pub use token::Token;

@@ -4,11 +4,12 @@ ghost use Rattle.cov_grammar.specs.Shapes.{head};
 ghost use Rattle.cov_grammar.specs.Spelling.{spot};
 ghost use Rattle.cov_grammar.specs.LookAhead.{kind_is, has, starts};
 ghost use Rattle.cov_grammar.specs.Reading.{take_kind, got, stopped};
-ghost use Rattle.cov_grammar.specs.Answers.{Gives, Shorter, whole_answer};
+ghost use Rattle.cov_grammar.specs.ReaderAnswers.{Gives, Shorter, whole_answer};
 
 use crate::fault::TokenFault;
 use crate::stop::Stop;
-use crate::token::{Kind, Token};
+use crate::token::Token;
+use cov_expr::Kind;
 use std::marker::Model;
 
 /// The tokens of a text that are still to be read. Contracts see it as their list.

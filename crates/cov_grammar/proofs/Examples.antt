@@ -1,9 +1,9 @@
--- Worked rows: the trees of a few texts, and where a few wrong ones are wrong, by computation.
+-- Worked examples: the trees of a few texts, and where a few wrong ones are wrong, by computation.
 use Rattle.std.proofs.Common.{◌≡◌, ℕ, ◌+◌, List, [], ◌∷◌, refl}
 use Rattle.cov_expr.specs.Term.{var, neg, bin}
 use Rattle.cov_expr.specs.declared.expr.Op.TheVariants as ops
-use Rattle.cov_grammar.specs.declared.token.Kind.{Kind}
-use Rattle.cov_grammar.specs.declared.token.Kind.TheVariants as k
+use Rattle.cov_expr.specs.declared.kind.Kind.{Kind}
+use Rattle.cov_expr.specs.declared.kind.Kind.TheVariants as k
 use Rattle.cov_grammar.specs.declared.token.Token.{Token}
 use Rattle.cov_grammar.specs.Trees as t
 use Rattle.cov_grammar.specs.LookAhead.{kind_is}
@@ -13,7 +13,7 @@ use Rattle.cov_grammar.specs.Grammar.{names, atom, template_atom, unary, prod, s
 -- words, each with its value, as tokens one behind the other, each a byte long
 abbrev tokens_at : ℕ → List (Kind × ℕ) → List Token
 tokens_at at [] = []
-tokens_at at (w ∷ ws) = record { kind = w.0; at = at; value = w.1 } ∷ tokens_at (at + 1) ws
+tokens_at at (w ∷ ws) = record { kind = w.0; at = at; end = at + 1; value = w.1 } ∷ tokens_at (at + 1) ws
 
 abbrev n : ℕ → Kind × ℕ
 n x = (k.Name, x)
