@@ -1,5 +1,5 @@
 -- The keywords and the signs of texts, looked up in the one table of them.
-use Rattle.std.specs.Prelude.{ℕ, List, [], ◌∷◌, map, Bool, false, not, ◌&&◌, if◌then◌else◌, Option, Some, None, is_some}
+use Rattle.std.specs.Prelude.{ℕ, List, [], ◌∷◌, map, Bool, false, ◌&&◌, if◌then◌else◌, Option, Some, None, is_some}
 use Rattle.std.specs.Str.{bytes_eq}
 use Rattle.cov_expr.specs.Bytes.{is_lower}
 use Rattle.cov_expr.specs.declared.kind.Kind.{Kind}
@@ -22,10 +22,6 @@ abbrev pub begins_with_letter : List ℕ → Bool
 begins_with_letter [] = false
 begins_with_letter (b ∷ bs) = is_lower b
 
--- A keyword is a spelling of the table that begins with a letter.
+-- A keyword is a spelling of the table that begins with a letter; the others are signs.
 unfoldable pub is_keyword : List ℕ → Bool
 is_keyword text = begins_with_letter text && is_some (kind_of text)
-
--- A sign is one that doesn't.
-unfoldable pub is_sign : List ℕ → Bool
-is_sign text = not (begins_with_letter text) && is_some (kind_of text)

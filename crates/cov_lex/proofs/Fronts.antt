@@ -5,8 +5,7 @@ use Rattle.std.proofs.Math.Seq.{take-append_seam}
 use Rattle.std.specs.List.{prefix_len, take_while, list_all}
 use Rattle.std.proofs.lemmas.Bool.{and_parts}
 use Rattle.cov_lex.specs.declared.token.TokenKind.{TokenKind}
-use Rattle.cov_lex.specs.declared.piece.Piece.TheVariants.{Gap, Part}
-use Rattle.cov_lex.specs.Lexing.{piece_at, tokens_from, before, behind}
+use Rattle.cov_lex.specs.Lexing.{Gap, Part, piece_at, tokens_from, before, behind}
 use Rattle.cov_lex.proofs.Steps.{rest}
 
 seam : (b : ℕ) (bs more : List ℕ) (at : ℕ) → tokens_from (length (b ∷ bs) - 1) (at + 1) (bs ++ more) ≡ tokens_from 0 (at + length (b ∷ bs)) more

@@ -1,6 +1,8 @@
 pub mod Digits
+pub mod Signs
 pub mod Pieces
 pub mod Steps
 pub mod Spelled
+pub mod Lexical
 pub mod Fronts
-mod Rows
+mod Examples

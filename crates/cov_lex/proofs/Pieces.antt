@@ -1,22 +1,20 @@
 -- What stands at the front of a text has bytes of it, and they are those of its kind.
-use Rattle.std.proofs.Common.{◌≡◌, ℕ, ◌≤◌, ◌<◌, List, [], ◌∷◌, length, take, Bool, true, false, cond, not, ◌&&◌, ◌||◌, ◌==◌, nat_lt, codes, if◌then◌else◌, Result, Ok, Err, refl, sym, ap, subst, ◌∙◌, arith, ⊎_elim, get_or, true≢false, length-take, eqb-true, IfOk}
-use Rattle.std.proofs.Math.Bool.{or-true}
-use Rattle.std.proofs.lemmas.Bool.{and_parts, or_cases}
-use Rattle.std.proofs.lemmas.List.Folds.{length-prefix_len, list_any-append}
+use Rattle.std.proofs.Common.{◌≡◌, ℕ, ◌≤◌, ◌<◌, List, [], ◌∷◌, length, take, Bool, true, false, cond, not, ◌&&◌, ◌||◌, ◌==◌, nat_lt, codes, if◌then◌else◌, Result, Ok, Err, refl, sym, ap, subst, ◌∙◌, arith, get_or, length-take, IfOk}
+use Rattle.std.proofs.lemmas.List.Folds.{length-prefix_len}
 use Rattle.std.proofs.lemmas.List.Sums.{prefix_len-le-length, take_while-cons}
 use Rattle.std.proofs.lemmas.Slice.Eq.{bytes_eq-Decides}
 use Rattle.std.specs.List.{list_all, list_any, take_while, before_first}
 use Rattle.std.specs.Str.{bytes_eq}
 use Rattle.std.specs.Str.Parse.{digits_value}
 use Rattle.cov_expr.specs.Bytes.{is_lower, is_digit, is_word}
-use Rattle.cov_expr.specs.Names.{is_keyword, is_word_text}
+use Rattle.cov_expr.specs.Names.{is_word_text}
+use Rattle.cov_expr.specs.Spellings.{is_keyword}
 use Rattle.cov_lex.specs.Signs.{is_blank, doubles, singles}
+use Rattle.cov_lex.proofs.Signs.{same_length, doubles_length, singles_length, double_is_sign, single_is_sign}
 use Rattle.cov_lex.specs.Tokens.{Spells}
-use Rattle.cov_lex.specs.Lexing.{piece_at, word_of, number_of, sign_of}
+use Rattle.cov_lex.specs.Lexing.{Piece, Gap, Part, piece_at, word_of, number_of, sign_of}
 use Rattle.cov_lex.specs.declared.token.TokenKind.{TokenKind}
 use Rattle.cov_lex.specs.declared.token.TokenKind.TheVariants.{Keyword, Name, Number, Sign}
-use Rattle.cov_lex.specs.declared.piece.Piece.{Piece}
-use Rattle.cov_lex.specs.declared.piece.Piece.TheVariants.{Gap, Part}
 use Rattle.cov_lex.specs.declared.fault.LexFault.{LexFault}
 use Rattle.cov_lex.specs.declared.fault.LexFault.TheVariants.{BadByte, NumberTooLarge, NameTooLong}
 
@@ -94,27 +92,20 @@ number_good at b bs digit = by (nat_lt 4294967295 (digits_value 10 run))
 
 -- Signs --------------------------------------------------------------------------------------------------------
 
--- what is one of texts of a length has that length
-same_length : (text : List ℕ) (n : ℕ) (texts : List (List ℕ)) → list_any (bytes_eq text) texts ≡ true → list_all (λ s. length s == n) texts ≡ true → length text ≡ n
-same_length text n [] e h = absurd (true≢false (sym e))
-same_length text n (s ∷ texts) e h =
-    let parts = and_parts _ _ h in
-    ⊎_elim (λ is. ap length ((bytes_eq-Decides text s).0 is) ∙ eqb-true (length s) n parts.0) (λ rest. same_length text n texts rest parts.1) (or_cases (bytes_eq text s) (list_any (bytes_eq text) texts) e)
-
 sign_good : (at : ℕ) (text : List ℕ) → Good text (sign_of at text)
 sign_good at text = by_two (list_any (bytes_eq (take 2 text)) doubles) refl
   where
     by_one : (c : Bool) → list_any (bytes_eq (take 1 text)) singles ≡ c → Good text (if c then Ok (Part Sign 1) else Err (BadByte at))
     by_one true e = (
-      (omega arith, omega (arith, length-take 1 text, same_length (take 1 text) 1 singles e refl)),
-      list_any-append (bytes_eq (take 1 text)) doubles singles ∙ ap (λ c. list_any (bytes_eq (take 1 text)) doubles || c) e ∙ or-true _,
+      (omega arith, omega (arith, length-take 1 text, same_length (take 1 text) 1 singles e singles_length)),
+      single_is_sign (take 1 text) e,
     )
     by_one false e = tt
 
     by_two : (c : Bool) → list_any (bytes_eq (take 2 text)) doubles ≡ c → Good text (if c then Ok (Part Sign 2) else (if list_any (bytes_eq (take 1 text)) singles then Ok (Part Sign 1) else Err (BadByte at)))
     by_two true e = (
-      (omega arith, omega (arith, length-take 2 text, same_length (take 2 text) 2 doubles e refl)),
-      list_any-append (bytes_eq (take 2 text)) doubles singles ∙ ap (λ c. c || list_any (bytes_eq (take 2 text)) singles) e,
+      (omega arith, omega (arith, length-take 2 text, same_length (take 2 text) 2 doubles e doubles_length)),
+      double_is_sign (take 2 text) e,
     )
     by_two false e = by_one (list_any (bytes_eq (take 1 text)) singles) refl
 

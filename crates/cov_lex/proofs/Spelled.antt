@@ -6,10 +6,8 @@ use Rattle.std.proofs.lemmas.List.Kept.{AllPairs-cons}
 use Rattle.std.specs.List.{All}
 use Rattle.cov_lex.specs.declared.token.Token.{Token}
 use Rattle.cov_lex.specs.declared.token.TokenKind.{TokenKind}
-use Rattle.cov_lex.specs.declared.piece.Piece.{Piece}
-use Rattle.cov_lex.specs.declared.piece.Piece.TheVariants.{Gap, Part}
 use Rattle.cov_lex.specs.declared.fault.LexFault.{LexFault}
-use Rattle.cov_lex.specs.Lexing.{Lexed, piece_at, tokens_from, tokens_of, before, behind}
+use Rattle.cov_lex.specs.Lexing.{Piece, Gap, Part, Lexed, piece_at, tokens_from, tokens_of, before, behind}
 use Rattle.cov_lex.specs.Tokens.{IsToken, AreTokens, Spells}
 use Rattle.cov_lex.proofs.Pieces.{piece_good, IsPiece}
 

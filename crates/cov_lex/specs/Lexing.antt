@@ -1,21 +1,23 @@
 -- The only reading of a text as tokens.
-use Rattle.std.specs.Prelude.{◌≡◌, ℕ, zero, suc, ◌+◌, ◌-◌, ◌==◌, ◌<◌, ◌≤◌, nat_lt, List, [], ◌∷◌, length, Bool, not, if◌then◌else◌, take, codes, Result, Ok, Err}
+use Rattle.std.specs.Prelude.{◌≡◌, ℕ, zero, suc, ◌+◌, ◌-◌, ◌==◌, nat_lt, List, [], ◌∷◌, length, if◌then◌else◌, take, codes, Result, Ok, Err}
 use Rattle.std.specs.List.{list_any, take_while, before_first}
 use Rattle.std.specs.Str.{bytes_eq}
 use Rattle.std.specs.Str.Parse.{digits_value}
 use Rattle.cov_expr.specs.Bytes.{is_lower, is_digit, is_word}
-use Rattle.cov_expr.specs.Names.{is_keyword}
+use Rattle.cov_expr.specs.Spellings.{is_keyword}
 use Rattle.cov_lex.specs.Signs.{is_blank, doubles, singles}
+use Rattle.cov_lex.specs.declared.token.TokenKind.{TokenKind}
 use Rattle.cov_lex.specs.declared.token.TokenKind.TheVariants.{Keyword, Name, Number, Sign}
 use Rattle.cov_lex.specs.declared.token.Token.{Token}
-use Rattle.cov_lex.specs.declared.piece.Piece.{Piece}
-use Rattle.cov_lex.specs.declared.piece.Piece.TheVariants.{Gap, Part}
-use Rattle.cov_lex.specs.declared.piece.Class.{Class}
-use Rattle.cov_lex.specs.declared.piece.Class.TheVariants.{Word, Digit, Line}
 use Rattle.cov_lex.specs.declared.fault.LexFault.{LexFault}
 use Rattle.cov_lex.specs.declared.fault.LexFault.TheVariants.{BadByte, NumberTooLarge, NameTooLong, NoMemory}
 
 -- What stands at a place ---------------------------------------------------------------------------------------
+
+-- a blank or a comment, or a token of a kind, of so many bytes
+pub data Piece : Type 0 where
+  Gap : ℕ → Piece
+  Part : TokenKind → ℕ → Piece
 
 -- a whole run of word bytes that begins at an offset
 abbrev pub word_of : ℕ → List ℕ → Result Piece LexFault
@@ -70,20 +72,7 @@ unfoldable pub tokens_of : List ℕ → Lexed
 tokens_of text = tokens_from 0 0 text
 
 -- What was answered is the reading, unless memory ran out.
-abbrev pub Gives : Lexed → Lexed → Type 0
+abbrev pub Gives : {A : Type 0} → Result A LexFault → Result A LexFault → Type 0
 Gives (Ok ts) reading = reading ≡ Ok ts
 Gives (Err NoMemory) reading = Unit {0}
 Gives (Err fault) reading = reading ≡ Err fault
-
--- Words of the code's contracts --------------------------------------------------------------------------------
-
--- the bytes of a class of runs
-abbrev pub is_in : Class → ℕ → Bool
-is_in Word b = is_word b
-is_in Digit b = is_digit b
-is_in Line b = not (b == 10)
-
--- A piece has a byte, and no more than there are.
-abbrev pub IsWithin : ℕ → Piece → Type 0
-IsWithin most (Gap n) = (0 < n) × (n ≤ most)
-IsWithin most (Part kind n) = (0 < n) × (n ≤ most)

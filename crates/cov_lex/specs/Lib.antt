@@ -1,3 +1,5 @@
 pub mod Signs
 pub mod Lexing
 pub mod Tokens
+pub mod Classified
+pub mod Inside

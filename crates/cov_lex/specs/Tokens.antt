@@ -3,7 +3,8 @@ use Rattle.std.specs.Prelude.{◌≡◌, ℕ, ◌-◌, ◌<◌, ◌≤◌, List,
 use Rattle.std.specs.List.{list_all, All, AllPairs}
 use Rattle.std.specs.Str.Parse.{digits_value}
 use Rattle.cov_expr.specs.Bytes.{is_digit}
-use Rattle.cov_expr.specs.Names.{is_keyword, IsName}
+use Rattle.cov_expr.specs.Names.{IsName}
+use Rattle.cov_expr.specs.Spellings.{is_keyword}
 use Rattle.cov_lex.specs.Signs.{is_sign}
 use Rattle.cov_lex.specs.declared.token.TokenKind.{TokenKind}
 use Rattle.cov_lex.specs.declared.token.TokenKind.TheVariants.{Keyword, Name, Number, Sign}

@@ -1,25 +1,24 @@
-use Rattle.std.proofs.Common.{◌∙◌, Ok, ap, sym}
-use Rattle.cov_lex.proofs.Steps.{gap_fits, gap_read, part_fits, part_read, end_read}
+use Rattle.std.proofs.Common.{◌≡◌, ◌∙◌, map, Ok, Err, ap, sym, subst, rules}
+use Rattle.cov_lex.specs.Inside.{lexical}
+use Rattle.cov_lex.specs.Lexing.{Gives, tokens_of}
+use Rattle.cov_lex.proofs.Lexical.{read_back, fault_back}
 use Rattle.cov_lex.proofs.Spelled.{are_tokens}
-use Rattle.cov_lex.specs.Lexing.{tokens_of}
 use Rattle.cov_lex.proofs.lexer.lex.Goals as goal
 
-pub loop-at-preserved-in-Gap : goal.loop-at-preserved-in-Gap
-loop-at-preserved-in-Gap c =
-    let e = ap Ok (sym c.in-Gap.is) ∙ c.in_ok-len.ensures.piece in record {
-      same = gap_read c.loop-at.at c.args.bytes.now c.loop-at-test.true c.loop-at.tokens c.in-Gap.len e ∙ c.loop-at.invariant.same;
-      within = gap_fits c.loop-at.at c.args.bytes.now c.loop-at-test.true c.in-Gap.len e;
-    }
+pub returns-in_err-classified-clause-reading : goal.returns-in_err-classified-clause-reading
+returns-in_err-classified-clause-reading c =
+    let same : c.from_residual.result ≡ Err c.in_err-classified.field-0.0 = search rules in
+    subst (λ r. Gives r (tokens_of c.args.bytes.now)) (sym same) (fault_back c.args.bytes.now c.in_err-classified.field-0.0 c.in_err-classified.ensures.reading)
 
-pub loop-at-preserved : goal.loop-at-preserved
-loop-at-preserved c =
-    let e = ap Ok (sym c.in-Part.is) ∙ c.in_ok-len.ensures.piece in record {
-      same =
-          part_read c.loop-at.at c.args.bytes.now c.loop-at-test.true c.loop-at.tokens c.push.new.self c.in-Part.kind c.in-Part.len e c.in_ok-push-in-Part.ensures.ok
-          ∙ c.loop-at.invariant.same;
-      within = part_fits c.loop-at.at c.args.bytes.now c.loop-at-test.true c.in-Part.kind c.in-Part.len e;
-    }
+pub returns-clause-reading : goal.returns-clause-reading
+returns-clause-reading c =
+    let same : c.as_slice.result.now ≡ c.in_ok-classified.classified = search rules in
+    read_back c.args.bytes.now c.in_ok-classified.classified c.in_ok-classified.ensures.tokens
+    ∙ ap Ok (ap (map (lexical c.args.bytes.now)) (sym same) ∙ sym c.in_ok-all_lexical.ensures)
 
 pub returns-clause-tokens : goal.returns-clause-tokens
-unfolding tokens_of
-returns-clause-tokens c = are_tokens c.args.bytes.now c.loop-at.tokens (sym c.loop-at.invariant.same ∙ end_read c.loop-at.tokens c.loop-at.at c.args.bytes.now c.loop-at-test.false)
+returns-clause-tokens c =
+    let same : c.as_slice.result.now ≡ c.in_ok-classified.classified = search rules in
+    are_tokens c.args.bytes.now c.in_ok-all_lexical.field-0
+    (read_back c.args.bytes.now c.in_ok-classified.classified c.in_ok-classified.ensures.tokens
+    ∙ ap Ok (ap (map (lexical c.args.bytes.now)) (sym same) ∙ sym c.in_ok-all_lexical.ensures))

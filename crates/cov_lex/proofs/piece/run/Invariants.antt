@@ -1,6 +1,6 @@
 use Rattle.std.proofs.Common.{◌≡◌, ◌+◌, drop}
 use Rattle.std.specs.List.{prefix_len}
-use Rattle.cov_lex.specs.Lexing.{is_in}
+use Rattle.cov_lex.specs.Inside.{is_in}
 use Rattle.cov_lex.proofs.piece.run.Given as goal
 
 abbrev pub invariant-loop-i : goal.invariant-loop-i

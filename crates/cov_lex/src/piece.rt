@@ -1,24 +1,25 @@
-ghost use Rattle.std.specs.Prelude.{◌≡◌, ◌∷◌, [], ◌≤◌, ◌<◌, length, IsTrue, take, codes, IfOk, MatchOption};
-ghost use Rattle.std.specs.List.{take_while, list_all, list_any};
+ghost use Rattle.std.specs.Prelude.{◌≡◌, ◌<◌, length, IsTrue, true, false, take, codes, IfOk, MatchOption};
+ghost use Rattle.std.specs.List.{take_while, list_all};
 ghost use Rattle.std.specs.Str.{bytes_eq};
 ghost use Rattle.std.specs.Str.Parse.{digits_value};
 ghost use Rattle.cov_expr.specs.Bytes as class;
+ghost use Rattle.cov_expr.specs.Spellings.{begins_with_letter};
 ghost use Rattle.cov_lex.specs.Signs as signs;
 ghost use Rattle.cov_lex.specs.Lexing as spec;
-ghost use Rattle.cov_lex.specs.Lexing.{IsWithin};
+ghost use Rattle.cov_lex.specs.Inside.{with_kind, is_in, IsWithin};
 
 use crate::fault::LexFault;
-use crate::token::TokenKind;
-use cov_expr::{is_digit, is_keyword, is_lower, is_word};
+use cov_expr::{Kind, is_digit, is_lower, is_word, kind_of};
 
 /// The most bytes of a word.
 const LONGEST: usize = 32;
 
-/// What stands at the front of a text: a blank or a comment, or a token, of so many bytes.
+/// What stands at the front of a text: a blank or a comment of so many bytes, or a token of a kind, with the value of a number, of so
+/// many bytes.
 #[derive(Clone, Copy, Debug)]
 pub enum Piece {
     Gap(usize),
-    Part(TokenKind, usize),
+    Part(Kind, u32, usize),
 }
 
 /// The bytes that a run goes on over.
@@ -32,7 +33,7 @@ pub enum Class {
 /// What stands at the front of a text that begins at an offset.
 pub fn front(bytes: &[u8], at: u32) -> Result<Piece, LexFault>
     requires { 0 < length bytes.now }
-    ensures piece { result ≡ spec.piece_at at bytes.now }
+    ensures piece { result ≡ with_kind bytes.now (spec.piece_at at bytes.now) }
     ensures within { IfOk result (IsWithin (length bytes.now)) }
 {
     let first = bytes[0];
@@ -50,8 +51,9 @@ pub fn front(bytes: &[u8], at: u32) -> Result<Piece, LexFault>
 }
 
 /// The longest part at the front of which each byte is of a class.
+#[inline(always)]
 fn run(class: Class, bytes: &[u8]) -> &[u8]
-    ensures { result.now ≡ take_while (spec.is_in class) bytes.now }
+    ensures { result.now ≡ take_while (is_in class) bytes.now }
 {
     for (i, byte) in bytes.iter().enumerate() {
         if !is_in(class, *byte) {
@@ -61,8 +63,9 @@ fn run(class: Class, bytes: &[u8]) -> &[u8]
     bytes
 }
 
+#[inline(always)]
 fn is_in(class: Class, byte: u8) -> bool
-    ensures { result ≡ spec.is_in class byte }
+    ensures { result ≡ is_in class byte }
 {
     match class {
         Class::Word => is_word(byte),
@@ -88,25 +91,23 @@ fn is_comment(bytes: &[u8]) -> bool
 
 /// A word as a token, by its whole run.
 fn word(run: &[u8], at: u32) -> Result<Piece, LexFault>
-    ensures { result ≡ spec.word_of at run.now }
+    requires { IsTrue (begins_with_letter run.now) }
+    ensures { result ≡ with_kind run.now (spec.word_of at run.now) }
 {
     if run.len() > LONGEST {
         return Err(LexFault::NameTooLong(at));
     }
-    if is_keyword(run) {
-        Ok(Piece::Part(TokenKind::Keyword, run.len()))
-    } else {
-        Ok(Piece::Part(TokenKind::Name, run.len()))
-    }
+    let kind = kind_of(run).unwrap_or(Kind::Name);
+    Ok(Piece::Part(kind, 0, run.len()))
 }
 
 /// A number as a token, by its whole run.
 fn number(run: &[u8], at: u32) -> Result<Piece, LexFault>
     requires { IsTrue (list_all class.is_digit run.now) }
-    ensures { result ≡ spec.number_of at run.now }
+    ensures { result ≡ with_kind run.now (spec.number_of at run.now) }
 {
     match value(run) {
-        Some(n) => Ok(Piece::Part(TokenKind::Number(n), run.len())),
+        Some(n) => Ok(Piece::Part(Kind::Number, n, run.len())),
         None => Err(LexFault::NumberTooLarge(at)),
     }
 }
@@ -126,46 +127,20 @@ fn value(digits: &[u8]) -> Option<u32>
     Some(n as u32)
 }
 
-/// The longest sign at the front of a text.
+/// The longest sign at the front of a text that doesn't begin with a letter.
 fn sign(bytes: &[u8], at: u32) -> Result<Piece, LexFault>
-    ensures { result ≡ spec.sign_of at bytes.now }
+    requires some { 0 < length bytes.now }
+    requires no_word { begins_with_letter bytes.now ≡ false }
+    ensures sign { result ≡ with_kind bytes.now (spec.sign_of at bytes.now) }
+    ensures within { IfOk result (IsWithin (length bytes.now)) }
 {
-    match bytes {
-        [first, second, ..] if is_double(*first, *second) => Ok(Piece::Part(TokenKind::Sign, 2)),
-        [first, ..] if is_single(*first) => Ok(Piece::Part(TokenKind::Sign, 1)),
-        _ => Err(LexFault::BadByte(at)),
+    if bytes.len() > 1 {
+        if let Some(kind) = kind_of(&bytes[..2]) {
+            return Ok(Piece::Part(kind, 0, 2));
+        }
     }
-}
-
-/// Whether two bytes are a sign.
-fn is_double(first: u8, second: u8) -> bool
-    ensures { result ≡ list_any (bytes_eq (first ∷ second ∷ [])) signs.doubles }
-{
-    (second == b'=' && (first == b':' || first == b'=' || first == b'!' || first == b'<'))
-        || (first == b'&' && second == b'&')
-        || (first == b'|' && second == b'|')
-}
-
-/// Whether a byte is a sign.
-fn is_single(byte: u8) -> bool
-    ensures { result ≡ list_any (bytes_eq (byte ∷ [])) signs.singles }
-{
-    byte == b':'
-        || byte == b';'
-        || byte == b','
-        || byte == b'{'
-        || byte == b'}'
-        || byte == b'('
-        || byte == b')'
-        || byte == b'['
-        || byte == b']'
-        || byte == b'_'
-        || byte == b'+'
-        || byte == b'-'
-        || byte == b'*'
-        || byte == b'&'
-        || byte == b'|'
-        || byte == b'^'
-        || byte == b'<'
-        || byte == b'!'
+    match kind_of(&bytes[..1]) {
+        Some(kind) => Ok(Piece::Part(kind, 0, 1)),
+        None => Err(LexFault::BadByte(at)),
+    }
 }
