@@ -16,6 +16,7 @@ abbrev pub IsOfWords : Bound → Type 0
 IsOfWords Empty = Unit {0}
 IsOfWords (Within low high) = high ≤ greatest
 
+-- as each bound of the code is
 abbrev pub IsFit : Bound → Type 0
 IsFit b = IsProper b × IsOfWords b
 
