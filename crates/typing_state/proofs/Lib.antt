@@ -1,5 +1,7 @@
 mod ForgetLaws
+mod KeyLaws
 mod LockLaws
+mod PlaceLaws
 mod PointLaws
 mod RetainLaws
 mod SharedLaws

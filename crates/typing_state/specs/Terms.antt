@@ -2,7 +2,7 @@
 use Rattle.std.specs.Prelude.{◌≡◌, ℕ, ◌<◌, ◌≤◌, ◌==◌, ◌&&◌, nat_le, List, [], ◌∷◌, ◌++◌, Bool, true, false, not, filter, length, if◌then◌else◌, Option, Some, None}
 use Rattle.std.specs.Option.{option_or}
 use Rattle.cov_expr.specs.declared.expr.Op.TheVariants.{Both}
-use Rattle.cov_expr.specs.Term.{Term, const, var, neg, bin}
+use Rattle.cov_expr.specs.Term.{Term, const, var, neg, bin, value, is_set}
 use Rattle.cov_expr.specs.Trees.{has_term, is_closed, nodes}
 
 -- whether each variable of an expression passes a test
@@ -59,6 +59,10 @@ joined (e ∷ es) = joined_from e es
 abbrev pub listed : List (ℕ × Term) → ℕ → Option Term
 listed [] z = None
 listed (t ∷ ts) z = option_or (listed ts z) (if t.0 == z then Some t.1 else None)
+
+-- closed, with the value 0
+abbrev pub is_false : Term → Bool
+is_false e = is_closed e && not (is_set (value e []))
 
 -- at most 1,000 nodes
 abbrev pub is_small : Term → Bool
