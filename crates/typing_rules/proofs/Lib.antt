@@ -1,3 +1,4 @@
+mod AtOnce
 pub mod Soundness
 mod Examples
 mod GuardLaws

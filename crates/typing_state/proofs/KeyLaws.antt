@@ -1,7 +1,8 @@
 -- Laws of keys: no two expressions have the same, and no key goes on as another.
-use Rattle.std.proofs.Common.{◌≡◌, ℕ, suc, ◌+◌, ◌&&◌, ◌||◌, List, [], ◌∷◌, ◌++◌, Bool, true, false, map, length, refl, sym, ap, subst, ◌∙◌, append_assoc, arith}
+use Rattle.std.proofs.Common.{◌≡◌, ℕ, suc, ◌+◌, ◌&&◌, ◌||◌, List, [], ◌∷◌, ◌++◌, Bool, true, false, true≢false, map, length, refl, sym, ap, subst, ◌∙◌, append_assoc, arith}
 use Rattle.std.specs.List.{list_any}
 use Rattle.std.specs.Str.{bytes_eq}
+use Rattle.std.proofs.lemmas.Bool.{false_from_ne_true}
 use Rattle.std.proofs.lemmas.Slice.Eq.{bytes_eq-Decides}
 use Rattle.cov_expr.specs.declared.expr.Op.TheVariants.{Add, Eq, Both, Either}
 use Rattle.cov_expr.specs.declared.expr.Op.{Op}
@@ -65,17 +66,17 @@ key_from (bin o a b) (neg d) s t e = absurd (omega (arith, head_is e))
 pub key_is : (a b : Term) → key a ≡ key b → a ≡ b
 key_is a b e = (key_from a b [] [] (ap (λ l. l ++ []) e)).0
 
-bool_is : (p q : Bool) → (p ≡ true → q ≡ true) → (q ≡ true → p ≡ true) → p ≡ q
-bool_is true q there back = sym (there refl)
-bool_is false true there back = back refl
-bool_is false false there back = refl
-
 -- keys are compared in the place of expressions
 pub keys_same : (e f : Term) → bytes_eq (key e) (key f) ≡ same f e
-keys_same e f =
-    bool_is (bytes_eq (key e) (key f)) (same f e)
-    (λ h. let is : e ≡ f = key_is e f ((bytes_eq-Decides (key e) (key f)).0 h) in subst (λ g. same g e ≡ true) is (same_refl e))
-    (λ h. (bytes_eq-Decides (key e) (key f)).1 (ap key (sym (same_is f e h))))
+keys_same e f = at (same f e) refl
+  where
+    at : (b : Bool) → same f e ≡ b → bytes_eq (key e) (key f) ≡ same f e
+    at true h = (bytes_eq-Decides (key e) (key f)).1 (ap key (sym (same_is f e h))) ∙ sym h
+    at false h =
+        false_from_ne_true (bytes_eq (key e) (key f))
+        (λ k. let is : e ≡ f = key_is e f ((bytes_eq-Decides (key e) (key f)).0 k) in
+        true≢false (sym (subst (λ g. same g e ≡ true) is (same_refl e)) ∙ h))
+        ∙ sym h
 
 -- so an expression is found by its key
 pub found_by_key : (es : List Term) (e : Term) → list_any (bytes_eq (key e)) (map key es) ≡ has_term es e

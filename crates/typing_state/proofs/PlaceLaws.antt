@@ -5,15 +5,14 @@ use Rattle.std.specs.List.{list_all, list_any, position_or_len, AllZip}
 use Rattle.std.specs.Map.{keys_of, lookup, values_of}
 use Rattle.std.specs.Str.{bytes_eq}
 use Rattle.std.proofs.lemmas.List.{map-append, length-append, length-map, get_or_append_left, get_or_push, reverse-append, take-map, drop-map}
+use Rattle.std.proofs.lemmas.Bool.{and_from, and_parts, or_parts}
 use Rattle.std.proofs.lemmas.List.Elements.{filter-append}
 use Rattle.std.proofs.lemmas.List.Recursion.{is_position_or_len}
 use Rattle.std.proofs.lemmas.Option.{get_or_from_slice_get, same_Some, slice_get-map, slice_get_read, slice_get_within}
-use Rattle.cov_expr.specs.Term.{Term, const, var, neg, bin}
-use Rattle.cov_expr.specs.Trees.{has_term, is_closed, same}
-use Rattle.cov_expr.specs.Words.{HasVarsBelow}
+use Rattle.cov_expr.specs.Term.{Term}
+use Rattle.cov_expr.specs.Trees.{has_term, same}
 use Rattle.cov_expr.specs.View.{term}
 use Rattle.cov_expr.specs.declared.expr.Expr.{Expr}
-use Rattle.cov_expr.proofs.Trees.{and_left, and_right, and_true}
 use Rattle.indexmap.specs.Layout.{set_value_at}
 use Rattle.typing_state.specs.Keys.{key}
 use Rattle.typing_state.specs.Terms.{with_term}
@@ -110,10 +109,6 @@ with_new es new old e shown pushed none =
     ap (map term) (pushed ∙ ap (λ l. l ++ e ∷ []) shown) ∙ map-append term old (e ∷ [])
     ∙ sym (ap (λ b. if b then map term old else map term old ++ term e ∷ []) none)
 
-pub none_is : {X : Type 0} (o : Option X) → is_some o ≡ false → o ≡ None
-none_is None h = refl
-none_is (Some x) h = absurd (true≢false h)
-
 -- Numbers ------------------------------------------------------------------------------------------------------
 
 value_set : (es : List (List ℕ × ℕ)) (i w : ℕ) → i < length es → slice_get (values_of (set_value_at es i w)) i ≡ Some w
@@ -142,18 +137,14 @@ numbered_more es i within h k lt = elim (nat_side k i) [
 pub filter_whole : (f : Term → Bool) (es : List Term) → list_all f es ≡ true → filter f es ≡ es
 filter_whole f [] h = refl
 filter_whole f (e ∷ es) h =
-    ap (λ b. cond b (e ∷ filter f es) (filter f es)) (and_left (f e) (list_all f es) h)
-    ∙ ap (λ l. e ∷ l) (filter_whole f es (and_right (f e) (list_all f es) h))
+    let both = and_parts (f e) (list_all f es) h in
+    ap (λ b. cond b (e ∷ filter f es) (filter f es)) both.0 ∙ ap (λ l. e ∷ l) (filter_whole f es both.1)
 
 pub all_without : (f : Term → Bool) (es : List Term) → list_any f es ≡ false → list_all (λ e. not (f e)) es ≡ true
 all_without f [] h = refl
 all_without f (e ∷ es) h =
-    let both = neither (f e) (list_any f es) h in
-    and_true (not (f e)) (list_all (λ d. not (f d)) es) (ap not both.0) (all_without f es both.1)
-  where
-    neither : (a b : Bool) → (a || b) ≡ false → (a ≡ false) × (b ≡ false)
-    neither true b e = absurd (true≢false e)
-    neither false b e = (refl, e)
+    let both = or_parts (f e) (list_any f es) h in
+    and_from (not (f e)) (list_all (λ d. not (f d)) es) (ap not both.0) (all_without f es both.1)
 
 -- the item between two lists is removed
 pub remove_between : {X : Type 0} (xs : List X) (y : X) (zs : List X) (n : ℕ) → length xs ≡ n → remove (xs ++ y ∷ zs) n ≡ xs ++ zs
@@ -229,25 +220,3 @@ entries_copied [] [] h = refl
 entries_copied [] (f ∷ fs) h = absurd h
 entries_copied (e ∷ es) [] h = absurd h
 entries_copied (e ∷ es) (f ∷ fs) h = λ i. (h.0.0 i, h.0.1 i) ∷ entries_copied es fs h.1 i
-
--- Expressions without variables --------------------------------------------------------------------------------
-
-pub list_any_push : (f : Term → Bool) (es : List Term) (e : Term) → (list_any f es || f e) ≡ list_any f (es ++ e ∷ [])
-list_any_push f [] e = sym (or_false (f e))
-  where
-    or_false : (b : Bool) → (b || false) ≡ b
-    or_false true = refl
-    or_false false = refl
-list_any_push f (d ∷ es) e = or_assoc (f d) (list_any f es) (f e) ∙ ap (λ b. f d || b) (list_any_push f es e)
-  where
-    or_assoc : (a b c : Bool) → ((a || b) || c) ≡ (a || (b || c))
-    or_assoc true b c = refl
-    or_assoc false b c = refl
-
--- what is closed has its variables below any number
-pub closed_below : (e : Term) (n : ℕ) → is_closed e ≡ true → HasVarsBelow e n
-closed_below (const k) n h = tt
-closed_below (var x) n h = absurd (true≢false (sym h))
-closed_below (neg e) n h = closed_below e n h
-closed_below (bin op a b) n h =
-    (closed_below a n (and_left (is_closed a) (is_closed b) h), closed_below b n (and_right (is_closed a) (is_closed b) h))

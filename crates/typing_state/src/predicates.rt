@@ -1,4 +1,4 @@
-ghost use Rattle.std.specs.Prelude.{◌≡◌, ◌<◌, ◌++◌, ◌∷◌, [], ◌&&◌, ℕ, length, map, not, filter, position, remove, reverse, slice_get, IfOk, OnOk, Some, if◌then◌else◌};
+ghost use Rattle.std.specs.Prelude.{◌≡◌, ◌<◌, ◌++◌, ◌∷◌, [], ◌&&◌, ℕ, is_some, length, map, not, filter, position, remove, reverse, slice_get, IfOk, OnOk, Some, if◌then◌else◌};
 ghost use Rattle.std.specs.List.{list_all, list_any};
 ghost use Rattle.cov_expr.specs.Trees as tree;
 ghost use Rattle.cov_expr.specs.View.{term};
@@ -80,7 +80,8 @@ impl Predicates {
 
     /// The place of an expression, if it is there.
     pub fn place_of(&self, alloc: Global, e: &Expr) -> Result<Option<usize>, NoMemory>
-        ensures { IfOk result (λ place. place ≡ position (λ f. tree.same f (term e.now)) (map term self.now)) }
+        ensures place { IfOk result (λ place. place ≡ position (λ f. tree.same f (term e.now)) (map term self.now)) }
+        ensures found { IfOk result (λ place. is_some place ≡ tree.has_term (map term self.now) (term e.now)) }
     {
         let key = key_of(alloc, e)?;
         match self.places.get_full(&key) {

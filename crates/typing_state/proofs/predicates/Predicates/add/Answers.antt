@@ -4,12 +4,15 @@ use Rattle.std.specs.List.{list_any}
 use Rattle.std.specs.Map.{lookup}
 use Rattle.std.specs.Str.{bytes_eq}
 use Rattle.std.proofs.lemmas.List.{map-append}
+use Rattle.std.proofs.lemmas.List.Folds.{list_any-append}
+use Rattle.std.proofs.Math.Bool.{or-false}
 use Rattle.cov_expr.specs.Trees.{has_term}
 use Rattle.cov_expr.specs.View.{term}
+use Rattle.flow_model.proofs.Decided.{none_is}
 use Rattle.indexmap.specs.IndexMap.{insert_entry}
 use Rattle.indexmap.proofs.CallerLemmas.{insert_entry-new}
 use Rattle.typing_state.specs.Terms.{is_false}
-use Rattle.typing_state.proofs.PlaceLaws.{keyed_lookup, keys_added, list_any_push, none_is, places_added, with_new}
+use Rattle.typing_state.proofs.PlaceLaws.{keyed_lookup, keys_added, places_added, with_new}
 use Rattle.typing_state.proofs.predicates.Predicates.add.Goals.{then-self, else-self}
 use Rattle.typing_state.proofs.predicates.Predicates.add.Goals as goal
 
@@ -40,7 +43,7 @@ invariant_of-self-2 c =
     ] in (
       keys_added entries list c.self.invariant.0 c.insert.new.self.entries c.push.new.self c.args.e k added c.in_ok-push.ensures.ok c.in_ok-key.ensures,
       places_added entries list c.self.invariant.0 c.insert.new.self.entries c.push.new.self c.args.e k added c.in_ok-push.ensures.ok c.self.invariant.1,
-      flag ∙ ap (λ b. b || is_false e) c.self.invariant.2 ∙ list_any_push is_false (map term list) e
+      flag ∙ ap (λ b. b || is_false e) c.self.invariant.2 ∙ ap (λ b. list_any is_false (map term list) || b) (sym (or-false (is_false e))) ∙ sym (list_any-append is_false (map term list) (e ∷ []))
           ∙ ap (list_any is_false) (sym (map-append term list (c.args.e ∷ [])) ∙ ap (map term) (sym c.in_ok-push.ensures.ok)),
     )
 
