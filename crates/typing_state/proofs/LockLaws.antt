@@ -74,12 +74,6 @@ lock_point p t l a inside h = record {
 
 -- Which variables are stable once it is given back -------------------------------------------------------------
 
-]
-  where
-    either : (a b : Bool) → (a || b) ≡ true → (a ≡ true) ⊎ (b ≡ true)
-    either true b e = inl refl
-    either false b e = inr e
-
 module _ (p : Plain) (t l : ℕ) (held : List Bool) (count : length held ≡ length p.locks) (inside : l < length p.locks) where
   held_before : (k : ℕ) (u : Bool) → (has (set held l false) k && u) ≡ true → (has held k && u) ≡ true
   held_before k u e = elim (cases_eq l k) [

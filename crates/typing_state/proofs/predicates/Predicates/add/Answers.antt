@@ -1,4 +1,4 @@
-use Rattle.std.proofs.Common.{◌≡◌, ◌∙◌, ◌||◌, [], ◌∷◌, ◌++◌, ap, sym, subst, map, false, length, Option, None, if◌then◌else◌}
+use Rattle.std.proofs.Common.{◌≡◌, ℕ, is_some, true≢false, refl, Some, ◌∙◌, ◌||◌, [], ◌∷◌, ◌++◌, ap, sym, subst, map, false, length, Option, None, if◌then◌else◌}
 use Rattle.std.specs.Prelude.{OnOk}
 use Rattle.std.specs.List.{list_any}
 use Rattle.std.specs.Map.{lookup}
@@ -8,13 +8,17 @@ use Rattle.std.proofs.lemmas.List.Folds.{list_any-append}
 use Rattle.std.proofs.Math.Bool.{or-false}
 use Rattle.cov_expr.specs.Trees.{has_term}
 use Rattle.cov_expr.specs.View.{term}
-use Rattle.flow_model.proofs.Decided.{none_is}
 use Rattle.indexmap.specs.IndexMap.{insert_entry}
 use Rattle.indexmap.proofs.CallerLemmas.{insert_entry-new}
 use Rattle.typing_state.specs.Terms.{is_false}
 use Rattle.typing_state.proofs.PlaceLaws.{keyed_lookup, keys_added, places_added, with_new}
 use Rattle.typing_state.proofs.predicates.Predicates.add.Goals.{then-self, else-self}
 use Rattle.typing_state.proofs.predicates.Predicates.add.Goals as goal
+
+-- what isn't found is missing
+missing : (found : Option ℕ) → is_some found ≡ false → found ≡ None
+missing None h = refl
+missing (Some place) h = absurd (true≢false h)
 
 pub returns-then-is_some : goal.returns-then-is_some
 returns-then-is_some c =
@@ -32,7 +36,7 @@ invariant_of-self-2 c =
     let e = term c.args.e in
     let k = c.in_ok-key.key in
     let reserved = c.reserve.new.self in
-    let none = none_is (lookup (bytes_eq k) entries) (sym c.get_index_of.ensures.found ∙ sym c.is_some.ensures ∙ c.if-is_some.false) in
+    let none = missing (lookup (bytes_eq k) entries) (sym c.get_index_of.ensures.found ∙ sym c.is_some.ensures ∙ c.if-is_some.false) in
     let absent : lookup (bytes_eq k) reserved.entries ≡ None = ap (lookup (bytes_eq k)) c.in_ok-reserve.ensures.entries ∙ none in
     let put = subst (λ r. OnOk r (c.insert.new.self.entries ≡ insert_entry bytes_eq reserved.entries k c.len-place.result)) c.unwrap.ensures c.insert.ensures.entries in
     let added : c.insert.new.self.entries ≡ entries ++ (k, length list) ∷ [] =
