@@ -84,8 +84,8 @@ impl Mask {
         ensures { self.new ≡ set self.old x member }
     {
         if x < self.bound {
-            let place = (x / 64) as usize;
-            self.words[place] = with_bit(self.words[place], x % 64, member);
+            let word = (x / 64) as usize;
+            self.words[word] = with_bit(self.words[word], x % 64, member);
         }
     }
 
@@ -112,10 +112,10 @@ impl Mask {
 fn next_in(words: &[u64; 4], from: u32) -> Option<u32>
     ensures { IsNext (in_words words.now) from 256 result }
 {
-    for place in (from / 64)..4 {
-        let first = from.saturating_sub(place * 64);
-        if let Some(k) = next_bit(words[place as usize], first) {
-            return Some(place * 64 + k);
+    for word in (from / 64)..4 {
+        let first = from.saturating_sub(word * 64);
+        if let Some(k) = next_bit(words[word as usize], first) {
+            return Some(word * 64 + k);
         }
     }
     None
