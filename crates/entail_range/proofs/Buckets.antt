@@ -1,18 +1,20 @@
 -- An index of hypotheses gives what all hypotheses give.
-use Rattle.std.proofs.Common.{◌≡◌, ◌≢◌, ℕ, zero, suc, ◌<◌, ◌≤◌, max, min, nat_le, List, [], ◌∷◌, ◌++◌, length, get_or, set, Bool, true, false, Option, Some, None, refl, sym, ◌∙◌, ap, arith, inl, inr, ◌⊎◌, if◌then◌else◌, get_or-set_same, get_or-set_other, length-set, map}
+use Rattle.std.proofs.Common.{◌≡◌, ℕ, zero, suc, ◌<◌, ◌≤◌, max, min, nat_le, List, [], ◌∷◌, ◌++◌, length, get_or, set, Bool, true, false, Option, Some, None, refl, sym, ◌∙◌, ap, arith, inl, inr, ◌⊎◌, if◌then◌else◌, get_or-set_same, get_or-set_other, length-set, map, option_map, Result, Ok, Err, OnOk}
 use Rattle.std.proofs.lemmas.Bool.{leb-true, leb-false, cases_eq}
-use Rattle.std.proofs.lemmas.List.{get_or-map, get_or_read, length-map, map-set, map_push}
+use Rattle.std.proofs.lemmas.List.{get_or-map, get_or_read, map-set, map_push}
 use Rattle.std.proofs.lemmas.Nat.{mod_below}
 use Rattle.cov_expr.specs.declared.expr.Op.TheVariants.{Add, Sub, Mul, And, Or, Xor, Eq, Ne, Lt, Le, Both, Either}
+use Rattle.cov_expr.specs.declared.list.NoMemory.{NoMemory}
 use Rattle.cov_expr.specs.Term.{Term, const, var, neg, bin}
 use Rattle.cov_expr.specs.Trees.{same}
 use Rattle.cov_expr.proofs.Trees.{same_is}
 use Rattle.entail_range.specs.declared.interval.Bound.{Bound}
 use Rattle.entail_range.specs.declared.interval.Bound.TheVariants.{Empty, Within}
-use Rattle.entail_range.specs.Index.{IsFit, FindsAll, Gains}
+use Rattle.entail_range.specs.Index.{IsFit, FindsAll, Gains, added}
 use Rattle.entail_range.specs.Intervals.{all, cut, from_to}
-use Rattle.entail_range.specs.Places.{place, key, bounded, beside}
+use Rattle.entail_range.specs.Places.{place, key, left_side, right_side}
 use Rattle.entail_range.specs.Range.{number_beside, given, limited}
+use Rattle.entail_range.specs.Speaks.{is_number}
 use Rattle.entail_range.proofs.Sound.{limited_append}
 
 -- Bounds -------------------------------------------------------------------------------------------------------
@@ -50,77 +52,41 @@ fit_limited (g ∷ hyps) e b h = fit_limited hyps e (cut b (given g e)) (fit_cut
 
 -- Hypotheses elsewhere -----------------------------------------------------------------------------------------
 
--- what is bounded lies at another place than the expression
-IsElsewhere : ℕ → Option Term → Term → Type 0
-IsElsewhere n None e = Unit {0}
-IsElsewhere n (Some side) e = place n side ≢ place n e
-
 module _ (n : ℕ) (e : Term) where
-  none_beside : (side other : Term) → place n side ≢ place n e → number_beside side other e ≡ None
+  none_beside : (side other : Term) → (option_map (place n) (if is_number other then Some side else None) ≡ Some (place n e) → ⊥)
+      → number_beside side other e ≡ None
   none_beside side (const k) ne = at (same side e) refl
     where
       at : (b : Bool) → same side e ≡ b → (if b then Some k else None) ≡ None
-      at true i = absurd (ne (ap (place n) (same_is side e i)))
+      at true i = absurd (ne (ap (λ (f : Term). Some (place n f)) (same_is side e i)))
       at false i = refl
   none_beside side (var x) ne = refl
   none_beside side (neg a) ne = refl
   none_beside side (bin op a b) ne = refl
 
-  none_opposite : (k : ℕ) (a : Term) → place n a ≢ place n e → number_beside (const k) a e ≡ None
-  none_opposite k (const j) ne = none_beside (const k) (const j) ne
-  none_opposite k (var x) ne = refl
-  none_opposite k (neg a) ne = refl
-  none_opposite k (bin op a b) ne = refl
-
-  none_on_either : (a b : Term) → IsElsewhere n (beside a b) e → (number_beside a b e ≡ None) × (number_beside b a e ≡ None)
-  unfolding IsElsewhere
-  none_on_either a (const k) ne = (none_beside a (const k) ne, none_opposite k a ne)
-  none_on_either (const j) (var x) ne = (refl, none_beside (var x) (const j) ne)
-  none_on_either (const j) (neg b) ne = (refl, none_beside (neg b) (const j) ne)
-  none_on_either (const j) (bin op b c) ne = (refl, none_beside (bin op b c) (const j) ne)
-  none_on_either (var y) (var x) ne = (refl, refl)
-  none_on_either (var y) (neg b) ne = (refl, refl)
-  none_on_either (var y) (bin op b c) ne = (refl, refl)
-  none_on_either (neg a) (var x) ne = (refl, refl)
-  none_on_either (neg a) (neg b) ne = (refl, refl)
-  none_on_either (neg a) (bin op b c) ne = (refl, refl)
-  none_on_either (bin o a d) (var x) ne = (refl, refl)
-  none_on_either (bin o a d) (neg b) ne = (refl, refl)
-  none_on_either (bin o a d) (bin op b c) ne = (refl, refl)
-
-  given_elsewhere : (h : Term) → IsElsewhere n (bounded h) e → given h e ≡ all
-  unfolding IsElsewhere
-  given_elsewhere (bin Le a b) ne = let both = none_on_either a b ne in rw (both.0, both.1) refl
-  given_elsewhere (bin Lt a b) ne = let both = none_on_either a b ne in rw (both.0, both.1) refl
-  given_elsewhere (bin Eq a b) ne = let both = none_on_either a b ne in rw both.0 refl
-  given_elsewhere (bin Add a b) ne = refl
-  given_elsewhere (bin Sub a b) ne = refl
-  given_elsewhere (bin Mul a b) ne = refl
-  given_elsewhere (bin And a b) ne = refl
-  given_elsewhere (bin Or a b) ne = refl
-  given_elsewhere (bin Xor a b) ne = refl
-  given_elsewhere (bin Ne a b) ne = refl
-  given_elsewhere (bin Both a b) ne = refl
-  given_elsewhere (bin Either a b) ne = refl
-  given_elsewhere (const k) ne = refl
-  given_elsewhere (var x) ne = refl
-  given_elsewhere (neg a) ne = refl
-
-  -- a hypothesis more, which lies elsewhere
-  limited_elsewhere : (hyps : List Term) (h : Term) (b : Bound) → IsElsewhere n (bounded h) e → IsFit b
-      → limited hyps e b ≡ limited (hyps ++ h ∷ []) e b
-  limited_elsewhere hyps h b ne fit =
-      sym (limited_append hyps (h ∷ []) e b
-      ∙ ap (cut (limited hyps e b)) (given_elsewhere h ne)
-      ∙ cut_all (limited hyps e b) (fit_limited hyps e b fit))
+  -- where neither side that it may bound lies at the expression's place
+  pub given_elsewhere : (h : Term) → (option_map (place n) (left_side h) ≡ Some (place n e) → ⊥)
+      → (option_map (place n) (right_side h) ≡ Some (place n e) → ⊥) → given h e ≡ all
+  given_elsewhere (bin Le a b) l r = rw (none_beside a b l, none_beside b a r) refl
+  given_elsewhere (bin Lt a b) l r = rw (none_beside a b l, none_beside b a r) refl
+  given_elsewhere (bin Eq a b) l r = rw (none_beside a b l) refl
+  given_elsewhere (bin Add a b) l r = refl
+  given_elsewhere (bin Sub a b) l r = refl
+  given_elsewhere (bin Mul a b) l r = refl
+  given_elsewhere (bin And a b) l r = refl
+  given_elsewhere (bin Or a b) l r = refl
+  given_elsewhere (bin Xor a b) l r = refl
+  given_elsewhere (bin Ne a b) l r = refl
+  given_elsewhere (bin Both a b) l r = refl
+  given_elsewhere (bin Either a b) l r = refl
+  given_elsewhere (const k) l r = refl
+  given_elsewhere (var x) l r = refl
+  given_elsewhere (neg a) l r = refl
 
 -- Buckets ------------------------------------------------------------------------------------------------------
 
 pub place_within : (n : ℕ) (e : Term) → 0 < n → place n e < n
-place_within n (const k) h = h
-place_within n (var x) h = mod_below (key (var x)) n h
-place_within n (neg a) h = mod_below (key (neg a)) n h
-place_within n (bin op a b) h = mod_below (key (bin op a b)) n h
+place_within n e h = mod_below (key e) n h
 
 -- at the start
 pub finds_none : (buckets : List (List Term)) → 0 < length buckets → ((i : ℕ) → get_or buckets i [] ≡ []) → FindsAll buckets []
@@ -129,51 +95,100 @@ finds_none buckets some empty = record {
   found = λ e b fit. ap (λ (hyps : List Term). limited hyps e b) (empty (place (length buckets) e));
 }
 
--- a hypothesis that bounds nothing
-pub finds_same : (buckets : List (List Term)) (hyps : List Term) (h : Term) → bounded h ≡ None → FindsAll buckets hyps
-    → FindsAll buckets (hyps ++ h ∷ [])
-unfolding IsElsewhere
-finds_same buckets hyps h none finds = record {
-  some = finds.some;
-  found = λ e b fit. finds.found e b fit ∙ limited_elsewhere (length buckets) e hyps h b (rw none tt) fit;
-}
+length_added : (buckets : List (List Term)) (place : Option ℕ) (h : Term) → length (added buckets place h) ≡ length buckets
+length_added buckets None h = refl
+length_added buckets (Some i) h = length-set buckets i (get_or buckets i [] ++ h ∷ [])
 
--- a hypothesis that bounds a side, put at its place
-module _ (buckets : List (List Term)) (hyps : List Term) (h side : Term) (i : ℕ) (bounds : bounded h ≡ Some side)
-    (at : i ≡ place (length buckets) side) (finds : FindsAll buckets hyps) where
-  found_put : (e : Term) (b : Bound) → IsFit b → (place (length buckets) e ≡ i) ⊎ (place (length buckets) e ≡ i → ⊥)
-      → limited (get_or (set buckets i (get_or buckets i [] ++ h ∷ [])) (place (length buckets) e) []) e b ≡ limited (hyps ++ h ∷ []) e b
-  unfolding IsElsewhere
-  found_put e b fit (inl here) =
-      let within : i < length buckets = rw at (place_within (length buckets) side finds.some) in
-      let found : limited (get_or buckets i []) e b ≡ limited hyps e b = rw here at (finds.found e b fit) in
-      rw (here, get_or-set_same buckets i (get_or buckets i [] ++ h ∷ []) [] within)
-      (limited_append (get_or buckets i []) (h ∷ []) e b
+added_here : (buckets : List (List Term)) (place : Option ℕ) (h : Term) (p : ℕ) → place ≡ Some p → p < length buckets
+    → get_or (added buckets place h) p [] ≡ get_or buckets p [] ++ h ∷ []
+added_here buckets None h p is within = cc
+added_here buckets (Some i) h p is within =
+    let same : i ≡ p = cc in
+    rw same (get_or-set_same buckets p (get_or buckets p [] ++ h ∷ []) [] within)
+
+added_elsewhere : (buckets : List (List Term)) (place : Option ℕ) (h : Term) (p : ℕ) → (place ≡ Some p → ⊥)
+    → get_or (added buckets place h) p [] ≡ get_or buckets p []
+added_elsewhere buckets None h p other = refl
+added_elsewhere buckets (Some i) h p other =
+    get_or-set_other buckets i p (get_or buckets i [] ++ h ∷ []) [] (λ (same : p ≡ i). other (ap Some (sym same)))
+
+cases_place : (place : Option ℕ) (p : ℕ) → (place ≡ Some p) ⊎ (place ≡ Some p → ⊥)
+cases_place None p = inr (λ (is : None ≡ Some p). cc)
+cases_place (Some i) p = at (cases_eq i p)
+  where
+    at : (i ≡ p) ⊎ (i ≡ p → ⊥) → (Some i ≡ Some p) ⊎ (Some i ≡ Some p → ⊥)
+    at (inl same) = inl (ap Some same)
+    at (inr other) = inr (λ (is : Some i ≡ Some p). let same : i ≡ p = cc in other same)
+
+-- a hypothesis more at up to two places, which leaves every word to what lies elsewhere
+module _ (buckets : List (List Term)) (hyps : List Term) (h : Term) (l r : Option ℕ)
+    (apart : (p : ℕ) → l ≡ Some p → r ≡ Some p → ⊥)
+    (elsewhere : (e : Term) → (l ≡ Some (place (length buckets) e) → ⊥) → (r ≡ Some (place (length buckets) e) → ⊥) → given h e ≡ all)
+    (finds : FindsAll buckets hyps) where
+  more_here : (bucket : List Term) (e : Term) (b : Bound) → limited bucket e b ≡ limited hyps e b
+      → limited (bucket ++ h ∷ []) e b ≡ limited (hyps ++ h ∷ []) e b
+  more_here bucket e b found =
+      limited_append bucket (h ∷ []) e b
       ∙ ap (λ (c : Bound). cut c (given h e)) found
-      ∙ sym (limited_append hyps (h ∷ []) e b))
-  found_put e b fit (inr other) =
-      rw (get_or-set_other buckets i (place (length buckets) e) (get_or buckets i [] ++ h ∷ []) [] other)
-      (finds.found e b fit
-      ∙ limited_elsewhere (length buckets) e hyps h b (rw bounds (λ (same : place (length buckets) side ≡ place (length buckets) e). other (sym (at ∙ same)))) fit)
+      ∙ sym (limited_append hyps (h ∷ []) e b)
 
-  pub finds_put : FindsAll (set buckets i (get_or buckets i [] ++ h ∷ [])) (hyps ++ h ∷ [])
-  finds_put =
-      let more = length-set buckets i (get_or buckets i [] ++ h ∷ []) in
+  found_added : (e : Term) (b : Bound) → IsFit b
+      → (l ≡ Some (place (length buckets) e)) ⊎ (l ≡ Some (place (length buckets) e) → ⊥)
+      → (r ≡ Some (place (length buckets) e)) ⊎ (r ≡ Some (place (length buckets) e) → ⊥)
+      → limited (get_or (added (added buckets l h) r h) (place (length buckets) e) []) e b ≡ limited (hyps ++ h ∷ []) e b
+  found_added e b fit (inl i) (inl j) = absurd (apart (place (length buckets) e) i j)
+  found_added e b fit (inl i) (inr m) =
+      let p = place (length buckets) e in
+      rw (added_elsewhere (added buckets l h) r h p m, added_here buckets l h p i (place_within (length buckets) e finds.some))
+      (more_here (get_or buckets p []) e b (finds.found e b fit))
+  found_added e b fit (inr n) (inl j) =
+      let p = place (length buckets) e in
+      rw (added_here (added buckets l h) r h p j (rw (length_added buckets l h) (place_within (length buckets) e finds.some)), added_elsewhere buckets l h p n)
+      (more_here (get_or buckets p []) e b (finds.found e b fit))
+  found_added e b fit (inr n) (inr m) =
+      let p = place (length buckets) e in
+      rw (added_elsewhere (added buckets l h) r h p m, added_elsewhere buckets l h p n)
+      (finds.found e b fit
+      ∙ sym (limited_append hyps (h ∷ []) e b
+      ∙ ap (cut (limited hyps e b)) (elsewhere e n m)
+      ∙ cut_all (limited hyps e b) (fit_limited hyps e b fit)))
+
+  pub finds_added : FindsAll (added (added buckets l h) r h) (hyps ++ h ∷ [])
+  finds_added =
+      let more = length_added (added buckets l h) r h ∙ length_added buckets l h in
       record {
         some = rw more finds.some;
-        found = λ e b fit. rw more (found_put e b fit (cases_eq (place (length buckets) e) i));
+        found = λ e b fit. rw more (found_added e b fit (cases_place l (place (length buckets) e)) (cases_place r (place (length buckets) e)));
       }
 
--- buckets of what is lent
-pub gains_put : {X : Type 0} (f : X → Term) (items : List (List X)) (i : ℕ) (bucket new : List X) (x : X) (side : Term)
-    → i < length items → bucket ≡ get_or items i bucket → new ≡ bucket ++ x ∷ [] → Some side ≡ bounded (f x) → i ≡ place (length items) side
-    → Gains (map (map f) items) (map (map f) (set items i new)) (f x)
-gains_put f items i bucket new x side within read pushed bounds at hyps finds =
+-- Both sides' places are one, or there is none.
+pub gains_one : (buckets : List (List Term)) (h : Term) (l r : Option ℕ) → l ≡ option_map (place (length buckets)) (left_side h)
+    → r ≡ option_map (place (length buckets)) (right_side h) → r ≡ l → Gains buckets (added buckets l h) h
+gains_one buckets h l r left right same hyps finds =
+    finds_added buckets hyps h l None (λ p (i : l ≡ Some p) (j : None ≡ Some p). cc)
+    (λ e n m. given_elsewhere (length buckets) e h (rw (← left) n) (rw (← right, same) n)) finds
+
+pub gains_two : (buckets : List (List Term)) (h : Term) (l r : Option ℕ) → l ≡ option_map (place (length buckets)) (left_side h)
+    → r ≡ option_map (place (length buckets)) (right_side h) → (r ≡ l → ⊥) → Gains buckets (added (added buckets l h) r h) h
+gains_two buckets h l r left right other hyps finds =
+    finds_added buckets hyps h l r (λ p (i : l ≡ Some p) (j : r ≡ Some p). other (j ∙ sym i))
+    (λ e n m. given_elsewhere (length buckets) e h (rw (← left) n) (rw (← right) m)) finds
+
+-- the same, where memory may run out on the way
+pub ok_gains : (result : Result (Unit {0}) NoMemory) (before after grown : List (List Term)) (h : Term) → Gains before grown h
+    → OnOk result (after ≡ grown) → OnOk result (Gains before after h)
+ok_gains (Ok done) before after grown h gains is = rw is gains
+ok_gains (Err fault) before after grown h gains is = tt
+
+-- one bucket of what is lent, with one item more
+pub put_is : {X : Type 0} (f : X → Term) (items : List (List X)) (i : ℕ) (bucket new : List X) (x : X)
+    → i < length items → bucket ≡ get_or items i bucket → new ≡ bucket ++ x ∷ []
+    → map (map f) (set items i new) ≡ added (map (map f) items) (Some i) (f x)
+put_is f items i bucket new x within read pushed =
     let here : get_or (map (map f) items) i [] ≡ map f bucket =
     get_or-map (map f) items i [] [] within ∙ ap (map f) (sym (get_or_read items i bucket within read [])) in
     let made : map f new ≡ get_or (map (map f) items) i [] ++ f x ∷ [] = rw (pushed, here) (map_push f bucket x) in
-    rw (map-set (map f) items i new, made)
-    (finds_put (map (map f) items) hyps (f x) side i (sym bounds) (rw (length-map items (map f)) at) finds)
+    rw (map-set (map f) items i new, made) refl
 
 -- an empty bucket more
 pub empty_push : {X : Type 0} (f : X → Term) (items : List (List X)) (new : List X) → new ≡ []

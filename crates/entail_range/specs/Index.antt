@@ -1,5 +1,5 @@
 -- What an index of hypotheses has to give: for each expression, at its place, what all hypotheses leave to it.
-use Rattle.std.specs.Prelude.{◌≡◌, ◌<◌, ◌≤◌, List, [], ◌∷◌, ◌++◌, map, length, get_or, IfSome}
+use Rattle.std.specs.Prelude.{◌≡◌, ℕ, ◌<◌, ◌≤◌, List, [], ◌∷◌, ◌++◌, map, length, get_or, set, Option, Some, None, IfSome}
 use Rattle.std.specs.Borrow.{Bor}
 use Rattle.cov_expr.specs.declared.expr.Expr.{Expr}
 use Rattle.cov_expr.specs.Term.{Term}
@@ -28,6 +28,11 @@ pub record FindsAll (buckets : List (List Term)) (hyps : List Term) : Type 0 whe
 -- Whatever hypotheses are found before, they and one more are found after.
 abbrev pub Gains : List (List Term) → List (List Term) → Term → Type 0
 Gains before after h = (hyps : List Term) → FindsAll before hyps → FindsAll after (hyps ++ h ∷ [])
+
+-- with a hypothesis more at a place, if there is one
+abbrev pub added : List (List Term) → Option ℕ → Term → List (List Term)
+added buckets None h = buckets
+added buckets (Some i) h = set buckets i (get_or buckets i [] ++ h ∷ [])
 
 abbrev pub terms : List (List (Bor Expr)) → List (List Term)
 terms buckets = map (map lent) buckets

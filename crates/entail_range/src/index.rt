@@ -1,10 +1,11 @@
-ghost use Rattle.std.specs.Prelude.{◌≡◌, ◌<◌, [], ◌++◌, IfOk, OnOk, map, option_map, vec_len};
+ghost use Rattle.std.specs.Prelude.{◌≡◌, ◌<◌, [], ◌++◌, ◌%◌, IfOk, IfSome, OnOk, map, option_map, vec_len};
 ghost use Rattle.cov_expr.specs.Trees.{op_number};
 ghost use Rattle.cov_expr.specs.View.{term};
-ghost use Rattle.entail_range.specs.Index.{FindsAll, Gains, terms};
+ghost use Rattle.entail_range.specs.Index.{FindsAll, Gains, added, terms};
 ghost use Rattle.entail_range.specs.Places as spec;
 ghost use Rattle.entail_range.specs.Range.{lent};
 
+use crate::bounds::is_number;
 use cov_expr::{Expr, List, NoMemory, Op};
 use std::alloc::Global;
 
@@ -48,60 +49,47 @@ fn key(e: &Expr) -> u32
     }
 }
 
-/// The place of an expression with this key, among so many. All numbers have one place.
-pub fn place(count: usize, e: &Expr, key: u32) -> usize
-    requires some { 0 < count }
-    requires key { key ≡ spec.key (term e.now) }
-    ensures place { result ≡ spec.place count (term e.now) }
-    ensures within { result < count }
+/// The place of an expression with this key, among so many.
+pub fn place(count: usize, key: u32) -> usize
+    requires { 0 < count }
+    ensures { result ≡ key % count }
 {
-    match e {
-        Expr::Const(_) => 0,
-        Expr::Var(_) | Expr::Not(_) | Expr::Bin(..) => key as usize % count,
-    }
+    key as usize % count
 }
 
-/// The side that a hypothesis bounds, if there is one.
-fn bounded(h: &Expr) -> Option<&Expr>
-    ensures { option_map (λ e. term e.now) result ≡ spec.bounded (term h.now) }
+/// The side of a hypothesis that a number on the right may bound.
+fn left_side(h: &Expr) -> Option<&Expr>
+    ensures { option_map (λ e. term e.now) result ≡ spec.left_side (term h.now) }
 {
     match h {
-        Expr::Bin(Op::Le | Op::Lt | Op::Eq, a, b) => beside(a, b),
-        Expr::Bin(
-            Op::Add
-            | Op::Sub
-            | Op::Mul
-            | Op::And
-            | Op::Or
-            | Op::Xor
-            | Op::Ne
-            | Op::Both
-            | Op::Either,
-            _,
-            _,
-        )
-        | Expr::Const(_)
-        | Expr::Var(_)
-        | Expr::Not(_) => None,
+        Expr::Bin(_, a, b) if is_number(b) => Some(a),
+        Expr::Bin(..) | Expr::Const(_) | Expr::Var(_) | Expr::Not(_) => None,
     }
 }
 
-/// The side whose other side is a number; the left one where both are.
-fn beside<'h>(a: &'h Expr, b: &'h Expr) -> Option<&'h Expr>
-    ensures { option_map (λ e. term e.now) result ≡ spec.beside (term a.now) (term b.now) }
+/// The side of a hypothesis that a number on the left may bound.
+fn right_side(h: &Expr) -> Option<&Expr>
+    ensures { option_map (λ e. term e.now) result ≡ spec.right_side (term h.now) }
 {
-    match (a, b) {
-        (_, Expr::Const(_)) => Some(a),
-        (Expr::Const(_), Expr::Var(_) | Expr::Not(_) | Expr::Bin(..)) => Some(b),
-        (
-            Expr::Var(_) | Expr::Not(_) | Expr::Bin(..),
-            Expr::Var(_) | Expr::Not(_) | Expr::Bin(..),
-        ) => None,
+    match h {
+        Expr::Bin(_, a, b) if is_number(a) => Some(b),
+        Expr::Bin(..) | Expr::Const(_) | Expr::Var(_) | Expr::Not(_) => None,
     }
 }
 
-/// The hypotheses that bound an expression, each at the place of that expression, among at least as many places as there
-/// are hypotheses.
+/// The place of a side, if there is one, among so many.
+fn place_of(count: usize, side: Option<&Expr>) -> Option<usize>
+    requires { 0 < count }
+    ensures place { result ≡ option_map (spec.place count) (option_map (λ e. term e.now) side.entry) }
+    ensures within { IfSome result (λ i. i < count) }
+{
+    match side {
+        Some(e) => Some(place(count, key(e))),
+        None => None,
+    }
+}
+
+/// The hypotheses that may bound an expression, each at the place of that expression, among as many places as there are hypotheses.
 pub fn buckets_of<'a>(
     alloc: Global,
     given: &'a [Expr],
@@ -131,14 +119,32 @@ fn empty<'a>(alloc: Global, count: usize) -> Result<Vec<List<&'a Expr>>, NoMemor
     Ok(buckets)
 }
 
-/// Puts a hypothesis at its place, if it bounds an expression.
+/// Puts a hypothesis at the place of each side that it may bound.
 fn put<'a>(buckets: &mut Vec<List<&'a Expr>>, h: &'a Expr) -> Result<(), NoMemory>
     requires { 0 < vec_len buckets.old }
     ensures { OnOk result (Gains (terms buckets.old.items) (terms buckets.new.items) (term h.now)) }
 {
-    if let Some(side) = bounded(h) {
-        let place = place(buckets.len(), side, key(side));
-        buckets[place].push(h)?;
+    let left = place_of(buckets.len(), left_side(h));
+    let right = place_of(buckets.len(), right_side(h));
+    put_at(buckets, left, h)?;
+    if right == left {
+        return Ok(());
+    }
+    put_at(buckets, right, h)
+}
+
+/// Puts a hypothesis at a place, if there is one.
+fn put_at<'a>(
+    buckets: &mut Vec<List<&'a Expr>>,
+    place: Option<usize>,
+    h: &'a Expr,
+) -> Result<(), NoMemory>
+    requires { IfSome place (λ i. i < vec_len buckets.old) }
+    ensures ok { OnOk result (terms buckets.new.items ≡ added (terms buckets.old.items) place (term h.now)) }
+    ensures length { vec_len buckets.new ≡ vec_len buckets.old }
+{
+    if let Some(i) = place {
+        buckets[i].push(h)?;
     }
     Ok(())
 }

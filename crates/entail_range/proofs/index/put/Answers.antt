@@ -1,14 +1,31 @@
-use Rattle.std.proofs.Common.{sym, arith}
+use Rattle.std.proofs.Common.{◌≡◌, length, map, option_map, ap, sym, ◌∙◌, rules}
+use Rattle.std.proofs.lemmas.List.{length-map}
 use Rattle.cov_expr.specs.View.{term}
+use Rattle.entail_range.specs.Index.{terms}
+use Rattle.entail_range.specs.Places.{place}
 use Rattle.entail_range.specs.Range.{lent}
-use Rattle.entail_range.proofs.Buckets.{finds_same, gains_put}
+use Rattle.entail_range.proofs.Buckets.{gains_one, gains_two, ok_gains}
 use Rattle.entail_range.proofs.index.put.Goals as goal
 
-pub returns-in_ok-push : goal.returns-in_ok-push
-returns-in_ok-push c =
-    gains_put lent c.args.buckets.now.items c.place-place.result c.index_mut.result.now c.push.new.self c.args.h (term c.in-Some.side.now)
-    (omega arith) c.index_mut.ensures.value c.in_ok-push.ensures.ok c.in-Some.ensures
-    (rw (← c.args.buckets.now.ok.0, ← c.len.ensures) c.place-place.ensures.place)
+pub returns-then-eq : goal.returns-then-eq
+returns-then-eq c =
+    let buckets = c.args.buckets.now in
+    let count : length (terms buckets.items) ≡ c.len.result = length-map buckets.items (map lent) ∙ sym buckets.ok.0 ∙ sym c.len.ensures in
+    let count-2 : length (terms buckets.items) ≡ c.len-2.result = length-map buckets.items (map lent) ∙ sym buckets.ok.0 ∙ sym c.len-2.ensures in
+    rw c.in_ok-put_at.ensures.ok
+    (gains_one (terms buckets.items) (term c.args.h.now) c.place_of-left.result c.place_of-right.result
+    (rw count (c.place_of-left.ensures.place ∙ ap (option_map (place c.len.result)) c.left_side.ensures))
+    (rw count-2 (c.place_of-right.ensures.place ∙ ap (option_map (place c.len-2.result)) c.right_side.ensures))
+    (search rules))
 
-pub returns-in_default : goal.returns-in_default
-returns-in_default c = λ hyps finds. finds_same _ hyps (term c.args.h.now) (sym c.in_default.ensures) finds
+pub returns : goal.returns
+returns c =
+    let buckets = c.args.buckets.now in
+    let count : length (terms buckets.items) ≡ c.len.result = length-map buckets.items (map lent) ∙ sym buckets.ok.0 ∙ sym c.len.ensures in
+    let count-2 : length (terms buckets.items) ≡ c.len-2.result = length-map buckets.items (map lent) ∙ sym buckets.ok.0 ∙ sym c.len-2.ensures in
+    ok_gains c.put_at-2.result (terms buckets.items) _ _ (term c.args.h.now)
+    (gains_two (terms buckets.items) (term c.args.h.now) c.place_of-left.result c.place_of-right.result
+    (rw count (c.place_of-left.ensures.place ∙ ap (option_map (place c.len.result)) c.left_side.ensures))
+    (rw count-2 (c.place_of-right.ensures.place ∙ ap (option_map (place c.len-2.result)) c.right_side.ensures))
+    (search rules))
+    (rw (← c.in_ok-put_at.ensures.ok) c.put_at-2.ensures.ok)
