@@ -30,13 +30,13 @@ pub has_append : (xs ys : List Kind) (k : Kind) → has (xs ++ ys) k ≡ (has xs
 has_append [] ys k = refl
 has_append (x ∷ xs) ys k = ap (λ b. kind_is x k || b) (has_append xs ys k) ∙ or_regrouped (kind_is x k) (has xs k) (has ys k)
 
-pub or_left : (a b : Bool) → (a || b) ≡ false → a ≡ false
-or_left true b h = h
-or_left false b h = refl
+pub left_false : (a b : Bool) → (a || b) ≡ false → a ≡ false
+left_false true b h = h
+left_false false b h = refl
 
-pub or_right : (a b : Bool) → (a || b) ≡ false → b ≡ false
-or_right true b h = cc
-or_right false b h = h
+pub right_false : (a b : Bool) → (a || b) ≡ false → b ≡ false
+right_false true b h = cc
+right_false false b h = h
 
 pub true_false : {A : Type 0} (b : Bool) → b ≡ true → b ≡ false → A
 true_false true h e = cc

@@ -8,7 +8,7 @@ use Rattle.cov_grammar.specs.Shapes.{Shape, token, rule, seq, alt, opt, many, ac
 use Rattle.cov_grammar.specs.LookAhead.{kind_is, has, starts, nullable, firsts, apart, fine, more}
 use Rattle.cov_grammar.specs.Tables.{first_of, more_of}
 use Rattle.cov_grammar.specs.Reading.{got, stopped, ◌>>=◌, Reader, Inner, take_kind, read}
-use Rattle.cov_grammar.proofs.Basics.{kind_itself, has_append, or_left, or_right, true_false, apart_not}
+use Rattle.cov_grammar.proofs.Basics.{kind_itself, has_append, left_false, right_false, true_false, apart_not}
 use Rattle.cov_grammar.proofs.Honest.{Honest, made, both_of}
 use Rattle.cov_grammar.proofs.Many.{Shrinks, many_of, many_is, cons_of}
 use Rattle.cov_grammar.proofs.Senses.{AtSome, nullable_ok}
@@ -18,11 +18,11 @@ use Rattle.cov_expr.proofs.Tests.{left_true, right_true}
 
 starts_left : (xs ys : List Kind) (o : Option Kind) → starts (xs ++ ys) o ≡ false → starts xs o ≡ false
 starts_left xs ys None h = refl
-starts_left xs ys (Some k) h = or_left (has xs k) (has ys k) (sym (has_append xs ys k) ∙ h)
+starts_left xs ys (Some k) h = left_false (has xs k) (has ys k) (sym (has_append xs ys k) ∙ h)
 
 starts_right : (xs ys : List Kind) (o : Option Kind) → starts (xs ++ ys) o ≡ false → starts ys o ≡ false
 starts_right xs ys None h = refl
-starts_right xs ys (Some k) h = or_right (has xs k) (has ys k) (sym (has_append xs ys k) ∙ h)
+starts_right xs ys (Some k) h = right_false (has xs k) (has ys k) (sym (has_append xs ys k) ∙ h)
 
 -- the token ahead of tokens that begin so
 ahead_true : (ks : List Kind) (us w : List Token) → (us ≡ [] → ⊥) → Begins ks us → starts ks (head (us ++ w)) ≡ true
@@ -86,13 +86,13 @@ module _ (S : Sense) (full : (r : Rule) (v : Meaning r) → S r v [] → ⊥) (f
   complete (alt a b) f v us w (inl h) g =
       let fb = right_true (fine first_of more_of a) _ f in
       let full_both = not-true (nullable a || nullable b) (right_true (apart (F a) (F b)) _ (right_true (fine first_of more_of b) _ fb)) in
-      ap (λ c. if c then R a (us ++ w) else R b (us ++ w)) (ahead_true (F a) us w (solid a (or_left (nullable a) (nullable b) full_both) v us h) (first_ok S full first a v us h))
+      ap (λ c. if c then R a (us ++ w) else R b (us ++ w)) (ahead_true (F a) us w (solid a (left_false (nullable a) (nullable b) full_both) v us h) (first_ok S full first a v us h))
       ∙ complete a (left_true _ _ f) v us w h (starts_left (M a) (M b) (head w) g)
   complete (alt a b) f v us w (inr h) g =
       let fb = right_true (fine first_of more_of a) _ f in
       let free = left_true (apart (F a) (F b)) _ (right_true (fine first_of more_of b) _ fb) in
       let full_both = not-true (nullable a || nullable b) (right_true (apart (F a) (F b)) _ (right_true (fine first_of more_of b) _ fb)) in
-      let some = solid b (or_right (nullable a) (nullable b) full_both) v us h in
+      let some = solid b (right_false (nullable a) (nullable b) full_both) v us h in
       ap (λ c. if c then R a (us ++ w) else R b (us ++ w)) (ahead_false (F a) (F b) us w free (first_ok S full first b v us h) (λ e. absurd (some e)))
       ∙ complete b (left_true _ _ fb) v us w h (starts_right (M a) (M b) (head w) g)
   complete (opt a) f None us w h g =

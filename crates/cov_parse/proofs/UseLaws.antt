@@ -5,7 +5,7 @@ use Rattle.cov_grammar.specs.declared.token.Kind.{Kind}
 use Rattle.cov_grammar.specs.declared.token.Kind.TheVariants as k
 use Rattle.cov_grammar.specs.declared.token.Token.{Token}
 use Rattle.cov_grammar.specs.LookAhead.{kind_is, has}
-use Rattle.cov_grammar.proofs.Basics.{kind_itself, or_right}
+use Rattle.cov_grammar.proofs.Basics.{kind_itself, right_false}
 use Rattle.cov_ast.specs.Ready.{Use, as_variable, as_lock}
 use Rattle.cov_ast.specs.Ready as ready
 use Rattle.cov_parse.specs.Uses.{declares, is_lock, uses_behind}
@@ -27,7 +27,7 @@ abbrev pub IsPlain : Kind → Type 0
 IsPlain j = has (k.Name ∷ loud) j ≡ false
 
 pub plain_silent : (j : Kind) → IsPlain j → IsSilent j
-plain_silent j p = or_right (kind_is k.Name j) (has loud j) p
+plain_silent j p = right_false (kind_is k.Name j) (has loud j) p
 
 abbrev token_uses : (b name thread lock declared : Bool) → Token → (Bool → List Use) → List Use
 token_uses b name thread lock declared t rest =
