@@ -1,5 +1,5 @@
 -- What joining makes of terms.
-use Rattle.std.proofs.Common.{◌≡◌, ℕ, ◌+◌, ◌%◌, ◌^◌, ◌<◌, ◌==◌, List, [], ◌∷◌, ◌++◌, Bool, true, false, refl, sym, ◌∙◌, ap, subst, arith, if◌then◌else◌}
+use Rattle.std.proofs.Common.{◌≡◌, ℕ, ◌+◌, ◌%◌, ◌^◌, ◌<◌, ◌==◌, List, [], ◌∷◌, Bool, true, false, refl, sym, ◌∙◌, ap, subst, arith, if◌then◌else◌}
 use Rattle.std.proofs.lemmas.Bool.{eqb-true, eqb-false}
 use Rattle.std.specs.Ordering.{is_eq}
 use Rattle.std.specs.declared.cmp.Ordering.{Ordering}
@@ -106,10 +106,6 @@ pub coefficient_joined : (ts : List Monomial) (a : List ℕ) → coefficient (jo
 coefficient_joined [] a = refl
 coefficient_joined (t ∷ ts) a =
     coefficient_add t (joined ts) a ∙ inside (share a t.atoms t.coefficient) (coefficient (joined ts) a) (coefficient ts a) (coefficient_joined ts a)
-
-pub coefficient_append : (p q : List Monomial) (a : List ℕ) → coefficient (p ++ q) a ≡ coefficient p a + coefficient q a
-coefficient_append [] q a = omega arith
-coefficient_append (t ∷ p) q a = let h = coefficient_append p q a in omega arith
 
 -- Polynomials by their coefficients --------------------------------------------------------------------------------
 

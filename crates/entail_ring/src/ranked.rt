@@ -5,7 +5,7 @@ ghost use Rattle.entail_ring.specs.Polys as spec;
 use crate::monomials::{Monomial, order};
 use std::cmp::Ordering;
 
-/// A term that is lent, with its first atoms in one number, by which most pairs of terms are told apart.
+/// A term that is lent, with its rank: the first atoms in one number, by which most pairs of terms are told apart.
 #[derive(Clone, Copy, Debug)]
 pub struct Ranked<'a> {
     rank: u64,
@@ -15,7 +15,7 @@ pub struct Ranked<'a> {
 }
 
 impl<'a> Ranked<'a> {
-    /// The term with its number.
+    /// A term with its rank.
     pub fn new(term: &'a Monomial) -> Self
         ensures { result.term.now ≡ term.now }
     {
@@ -39,7 +39,8 @@ pub fn compare(t: &Ranked<'_>, u: &Ranked<'_>) -> Ordering
     }
 }
 
-/// The first eight atoms as digits, up to one whose number is no digit. A multiset that comes later never has a lower number.
+/// The numbers of the first eight atoms as digits to the base 256, up to one that is too large for a digit. A multiset that comes later
+/// never has a lower rank.
 fn rank(atoms: &[u32]) -> u64
     ensures { result ≡ inside.rank (2 ^ 56) atoms.now }
 {
