@@ -12,7 +12,7 @@ use Rattle.entail_range.specs.declared.interval.Bound.{Bound}
 use Rattle.entail_range.specs.declared.interval.Bound.TheVariants.{Empty, Within}
 use Rattle.entail_range.specs.Index.{IsFit, FindsAll, Gains, added}
 use Rattle.entail_range.specs.Intervals.{all, cut, from_to}
-use Rattle.entail_range.specs.Places.{place, key, left_side, right_side}
+use Rattle.entail_range.specs.Slots.{slot, key, left_side, right_side}
 use Rattle.entail_range.specs.Range.{number_beside, given, limited}
 use Rattle.entail_range.specs.Speaks.{is_number}
 use Rattle.entail_range.proofs.Sound.{limited_append}
@@ -53,20 +53,20 @@ fit_limited (g ∷ hyps) e b h = fit_limited hyps e (cut b (given g e)) (fit_cut
 -- Hypotheses elsewhere -----------------------------------------------------------------------------------------
 
 module _ (n : ℕ) (e : Term) where
-  none_beside : (side other : Term) → (option_map (place n) (if is_number other then Some side else None) ≡ Some (place n e) → ⊥)
+  none_beside : (side other : Term) → (option_map (slot n) (if is_number other then Some side else None) ≡ Some (slot n e) → ⊥)
       → number_beside side other e ≡ None
   none_beside side (const k) ne = at (same side e) refl
     where
       at : (b : Bool) → same side e ≡ b → (if b then Some k else None) ≡ None
-      at true i = absurd (ne (ap (λ (f : Term). Some (place n f)) (same_is side e i)))
+      at true i = absurd (ne (ap (λ (f : Term). Some (slot n f)) (same_is side e i)))
       at false i = refl
   none_beside side (var x) ne = refl
   none_beside side (neg a) ne = refl
   none_beside side (bin op a b) ne = refl
 
-  -- where neither side that it may bound lies at the expression's place
-  pub given_elsewhere : (h : Term) → (option_map (place n) (left_side h) ≡ Some (place n e) → ⊥)
-      → (option_map (place n) (right_side h) ≡ Some (place n e) → ⊥) → given h e ≡ all
+  -- where neither side that it may bound lies at the expression's slot
+  pub given_elsewhere : (h : Term) → (option_map (slot n) (left_side h) ≡ Some (slot n e) → ⊥)
+      → (option_map (slot n) (right_side h) ≡ Some (slot n e) → ⊥) → given h e ≡ all
   given_elsewhere (bin Le a b) l r = rw (none_beside a b l, none_beside b a r) refl
   given_elsewhere (bin Lt a b) l r = rw (none_beside a b l, none_beside b a r) refl
   given_elsewhere (bin Eq a b) l r = rw (none_beside a b l) refl
@@ -85,45 +85,45 @@ module _ (n : ℕ) (e : Term) where
 
 -- Buckets ------------------------------------------------------------------------------------------------------
 
-pub place_within : (n : ℕ) (e : Term) → 0 < n → place n e < n
-place_within n e h = mod_below (key e) n h
+pub slot_within : (n : ℕ) (e : Term) → 0 < n → slot n e < n
+slot_within n e h = mod_below (key e) n h
 
 -- at the start
 pub finds_none : (buckets : List (List Term)) → 0 < length buckets → ((i : ℕ) → get_or buckets i [] ≡ []) → FindsAll buckets []
 finds_none buckets some empty = record {
   some = some;
-  found = λ e b fit. ap (λ (hyps : List Term). limited hyps e b) (empty (place (length buckets) e));
+  found = λ e b fit. ap (λ (hyps : List Term). limited hyps e b) (empty (slot (length buckets) e));
 }
 
-length_added : (buckets : List (List Term)) (place : Option ℕ) (h : Term) → length (added buckets place h) ≡ length buckets
+length_added : (buckets : List (List Term)) (slot : Option ℕ) (h : Term) → length (added buckets slot h) ≡ length buckets
 length_added buckets None h = refl
 length_added buckets (Some i) h = length-set buckets i (get_or buckets i [] ++ h ∷ [])
 
-added_here : (buckets : List (List Term)) (place : Option ℕ) (h : Term) (p : ℕ) → place ≡ Some p → p < length buckets
-    → get_or (added buckets place h) p [] ≡ get_or buckets p [] ++ h ∷ []
+added_here : (buckets : List (List Term)) (slot : Option ℕ) (h : Term) (p : ℕ) → slot ≡ Some p → p < length buckets
+    → get_or (added buckets slot h) p [] ≡ get_or buckets p [] ++ h ∷ []
 added_here buckets None h p is within = cc
 added_here buckets (Some i) h p is within =
     let same : i ≡ p = cc in
     rw same (get_or-set_same buckets p (get_or buckets p [] ++ h ∷ []) [] within)
 
-added_elsewhere : (buckets : List (List Term)) (place : Option ℕ) (h : Term) (p : ℕ) → (place ≡ Some p → ⊥)
-    → get_or (added buckets place h) p [] ≡ get_or buckets p []
+added_elsewhere : (buckets : List (List Term)) (slot : Option ℕ) (h : Term) (p : ℕ) → (slot ≡ Some p → ⊥)
+    → get_or (added buckets slot h) p [] ≡ get_or buckets p []
 added_elsewhere buckets None h p other = refl
 added_elsewhere buckets (Some i) h p other =
     get_or-set_other buckets i p (get_or buckets i [] ++ h ∷ []) [] (λ (same : p ≡ i). other (ap Some (sym same)))
 
-cases_place : (place : Option ℕ) (p : ℕ) → (place ≡ Some p) ⊎ (place ≡ Some p → ⊥)
-cases_place None p = inr (λ (is : None ≡ Some p). cc)
-cases_place (Some i) p = at (cases_eq i p)
+cases_slot : (slot : Option ℕ) (p : ℕ) → (slot ≡ Some p) ⊎ (slot ≡ Some p → ⊥)
+cases_slot None p = inr (λ (is : None ≡ Some p). cc)
+cases_slot (Some i) p = at (cases_eq i p)
   where
     at : (i ≡ p) ⊎ (i ≡ p → ⊥) → (Some i ≡ Some p) ⊎ (Some i ≡ Some p → ⊥)
     at (inl same) = inl (ap Some same)
     at (inr other) = inr (λ (is : Some i ≡ Some p). let same : i ≡ p = cc in other same)
 
--- a hypothesis more at up to two places, which leaves every word to what lies elsewhere
+-- a hypothesis more at up to two slots, which leaves every word to what lies elsewhere
 module _ (buckets : List (List Term)) (hyps : List Term) (h : Term) (l r : Option ℕ)
     (apart : (p : ℕ) → l ≡ Some p → r ≡ Some p → ⊥)
-    (elsewhere : (e : Term) → (l ≡ Some (place (length buckets) e) → ⊥) → (r ≡ Some (place (length buckets) e) → ⊥) → given h e ≡ all)
+    (elsewhere : (e : Term) → (l ≡ Some (slot (length buckets) e) → ⊥) → (r ≡ Some (slot (length buckets) e) → ⊥) → given h e ≡ all)
     (finds : FindsAll buckets hyps) where
   more_here : (bucket : List Term) (e : Term) (b : Bound) → limited bucket e b ≡ limited hyps e b
       → limited (bucket ++ h ∷ []) e b ≡ limited (hyps ++ h ∷ []) e b
@@ -133,20 +133,20 @@ module _ (buckets : List (List Term)) (hyps : List Term) (h : Term) (l r : Optio
       ∙ sym (limited_append hyps (h ∷ []) e b)
 
   found_added : (e : Term) (b : Bound) → IsFit b
-      → (l ≡ Some (place (length buckets) e)) ⊎ (l ≡ Some (place (length buckets) e) → ⊥)
-      → (r ≡ Some (place (length buckets) e)) ⊎ (r ≡ Some (place (length buckets) e) → ⊥)
-      → limited (get_or (added (added buckets l h) r h) (place (length buckets) e) []) e b ≡ limited (hyps ++ h ∷ []) e b
-  found_added e b fit (inl i) (inl j) = absurd (apart (place (length buckets) e) i j)
+      → (l ≡ Some (slot (length buckets) e)) ⊎ (l ≡ Some (slot (length buckets) e) → ⊥)
+      → (r ≡ Some (slot (length buckets) e)) ⊎ (r ≡ Some (slot (length buckets) e) → ⊥)
+      → limited (get_or (added (added buckets l h) r h) (slot (length buckets) e) []) e b ≡ limited (hyps ++ h ∷ []) e b
+  found_added e b fit (inl i) (inl j) = absurd (apart (slot (length buckets) e) i j)
   found_added e b fit (inl i) (inr m) =
-      let p = place (length buckets) e in
-      rw (added_elsewhere (added buckets l h) r h p m, added_here buckets l h p i (place_within (length buckets) e finds.some))
+      let p = slot (length buckets) e in
+      rw (added_elsewhere (added buckets l h) r h p m, added_here buckets l h p i (slot_within (length buckets) e finds.some))
       (more_here (get_or buckets p []) e b (finds.found e b fit))
   found_added e b fit (inr n) (inl j) =
-      let p = place (length buckets) e in
-      rw (added_here (added buckets l h) r h p j (rw (length_added buckets l h) (place_within (length buckets) e finds.some)), added_elsewhere buckets l h p n)
+      let p = slot (length buckets) e in
+      rw (added_here (added buckets l h) r h p j (rw (length_added buckets l h) (slot_within (length buckets) e finds.some)), added_elsewhere buckets l h p n)
       (more_here (get_or buckets p []) e b (finds.found e b fit))
   found_added e b fit (inr n) (inr m) =
-      let p = place (length buckets) e in
+      let p = slot (length buckets) e in
       rw (added_elsewhere (added buckets l h) r h p m, added_elsewhere buckets l h p n)
       (finds.found e b fit
       ∙ sym (limited_append hyps (h ∷ []) e b
@@ -158,18 +158,18 @@ module _ (buckets : List (List Term)) (hyps : List Term) (h : Term) (l r : Optio
       let more = length_added (added buckets l h) r h ∙ length_added buckets l h in
       record {
         some = rw more finds.some;
-        found = λ e b fit. rw more (found_added e b fit (cases_place l (place (length buckets) e)) (cases_place r (place (length buckets) e)));
+        found = λ e b fit. rw more (found_added e b fit (cases_slot l (slot (length buckets) e)) (cases_slot r (slot (length buckets) e)));
       }
 
--- Both sides' places are one, or there is none.
-pub gains_one : (buckets : List (List Term)) (h : Term) (l r : Option ℕ) → l ≡ option_map (place (length buckets)) (left_side h)
-    → r ≡ option_map (place (length buckets)) (right_side h) → r ≡ l → Gains buckets (added buckets l h) h
+-- Both sides' slots are one, or there is none.
+pub gains_one : (buckets : List (List Term)) (h : Term) (l r : Option ℕ) → l ≡ option_map (slot (length buckets)) (left_side h)
+    → r ≡ option_map (slot (length buckets)) (right_side h) → r ≡ l → Gains buckets (added buckets l h) h
 gains_one buckets h l r left right same hyps finds =
     finds_added buckets hyps h l None (λ p (i : l ≡ Some p) (j : None ≡ Some p). cc)
     (λ e n m. given_elsewhere (length buckets) e h (rw (← left) n) (rw (← right, same) n)) finds
 
-pub gains_two : (buckets : List (List Term)) (h : Term) (l r : Option ℕ) → l ≡ option_map (place (length buckets)) (left_side h)
-    → r ≡ option_map (place (length buckets)) (right_side h) → (r ≡ l → ⊥) → Gains buckets (added (added buckets l h) r h) h
+pub gains_two : (buckets : List (List Term)) (h : Term) (l r : Option ℕ) → l ≡ option_map (slot (length buckets)) (left_side h)
+    → r ≡ option_map (slot (length buckets)) (right_side h) → (r ≡ l → ⊥) → Gains buckets (added (added buckets l h) r h) h
 gains_two buckets h l r left right other hyps finds =
     finds_added buckets hyps h l r (λ p (i : l ≡ Some p) (j : r ≡ Some p). other (j ∙ sym i))
     (λ e n m. given_elsewhere (length buckets) e h (rw (← left) n) (rw (← right) m)) finds

@@ -1,12 +1,12 @@
 ghost use Rattle.std.specs.Prelude.{◌≡◌, ◌++◌, IfOk, map};
 ghost use Rattle.cov_expr.specs.View.{term};
 ghost use Rattle.entail_range.specs.Index.{IsFit, IsIndexed, listed};
-ghost use Rattle.entail_range.specs.Places as places;
+ghost use Rattle.entail_range.specs.Slots as slots;
 ghost use Rattle.entail_range.specs.Range.{lent};
 ghost use Rattle.entail_range.specs.Range as spec;
 
 use crate::bounds::{limited_first, limited_more};
-use crate::index::{buckets_of, place};
+use crate::index::{buckets_of, slot};
 use crate::interval::Bound;
 use cov_expr::{Expr, List, NoMemory};
 use std::alloc::Global;
@@ -16,7 +16,7 @@ use std::alloc::Global;
 pub struct Hypotheses<'a> {
     pub given: &'a [Expr],
     pub more: &'a [&'a Expr],
-    /// Those that may bound an expression, each at the place of that expression.
+    /// Those that may bound an expression, each at the slot of that expression.
     pub buckets: Option<Vec<List<&'a Expr>>>,
 }
 
@@ -54,13 +54,13 @@ impl<'a> Hypotheses<'a> {
     #[tactic(auto, using(crate::proofs::Sound::limited_append))]
     pub fn limited(&self, e: &Expr, key: u32, b: Bound) -> Bound
         requires indexed { IsIndexed self.now }
-        requires key { key ≡ places.key (term e.now) }
+        requires key { key ≡ slots.key (term e.now) }
         requires fit { IsFit b }
         ensures bound { result ≡ spec.limited (listed self.now) (term e.now) b }
         ensures fit { IsFit result }
     {
         match &self.buckets {
-            Some(buckets) => limited_more(buckets[place(buckets.len(), key)].as_slice(), e, b),
+            Some(buckets) => limited_more(buckets[slot(buckets.len(), key)].as_slice(), e, b),
             None => limited_more(self.more, e, limited_first(self.given, e, b)),
         }
     }

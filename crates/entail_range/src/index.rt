@@ -2,7 +2,7 @@ ghost use Rattle.std.specs.Prelude.{◌≡◌, ◌<◌, [], ◌++◌, ◌%◌, I
 ghost use Rattle.cov_expr.specs.Trees.{op_number};
 ghost use Rattle.cov_expr.specs.View.{term};
 ghost use Rattle.entail_range.specs.Index.{FindsAll, Gains, added, terms};
-ghost use Rattle.entail_range.specs.Places as spec;
+ghost use Rattle.entail_range.specs.Slots as spec;
 ghost use Rattle.entail_range.specs.Range.{lent};
 
 use crate::bounds::is_number;
@@ -49,8 +49,8 @@ fn key(e: &Expr) -> u32
     }
 }
 
-/// The place of an expression with this key, among so many.
-pub fn place(count: usize, key: u32) -> usize
+/// The slot of an expression with this key, among so many.
+pub fn slot(count: usize, key: u32) -> usize
     requires { 0 < count }
     ensures { result ≡ key % count }
 {
@@ -77,19 +77,19 @@ fn right_side(h: &Expr) -> Option<&Expr>
     }
 }
 
-/// The place of a side, if there is one, among so many.
-fn place_of(count: usize, side: Option<&Expr>) -> Option<usize>
+/// The slot of a side, if there is one, among so many.
+fn slot_of(count: usize, side: Option<&Expr>) -> Option<usize>
     requires { 0 < count }
-    ensures place { result ≡ option_map (spec.place count) (option_map (λ e. term e.now) side.entry) }
+    ensures slot { result ≡ option_map (spec.slot count) (option_map (λ e. term e.now) side.entry) }
     ensures within { IfSome result (λ i. i < count) }
 {
     match side {
-        Some(e) => Some(place(count, key(e))),
+        Some(e) => Some(slot(count, key(e))),
         None => None,
     }
 }
 
-/// The hypotheses that may bound an expression, each at the place of that expression, among as many places as there are hypotheses.
+/// The hypotheses that may bound an expression, each at the slot of that expression, among as many slots as there are hypotheses.
 pub fn buckets_of<'a>(
     alloc: Global,
     given: &'a [Expr],
@@ -107,25 +107,25 @@ pub fn buckets_of<'a>(
     Ok(buckets)
 }
 
-/// So many places, at least one, with nothing there.
+/// So many slots, at least one, with nothing there.
 fn empty<'a>(alloc: Global, count: usize) -> Result<Vec<List<&'a Expr>>, NoMemory>
     requires { 0 < count }
     ensures { IfOk result (λ made. FindsAll (terms made.items) []) }
 {
     let mut buckets = Vec::new(alloc);
-    'places: while buckets.len() < count {
+    'slots: while buckets.len() < count {
         buckets.push(List::new(alloc))?;
     }
     Ok(buckets)
 }
 
-/// Puts a hypothesis at the place of each side that it may bound.
+/// Puts a hypothesis at the slot of each side that it may bound.
 fn put<'a>(buckets: &mut Vec<List<&'a Expr>>, h: &'a Expr) -> Result<(), NoMemory>
     requires { 0 < vec_len buckets.old }
     ensures { OnOk result (Gains (terms buckets.old.items) (terms buckets.new.items) (term h.now)) }
 {
-    let left = place_of(buckets.len(), left_side(h));
-    let right = place_of(buckets.len(), right_side(h));
+    let left = slot_of(buckets.len(), left_side(h));
+    let right = slot_of(buckets.len(), right_side(h));
     put_at(buckets, left, h)?;
     if right == left {
         return Ok(());
@@ -133,17 +133,17 @@ fn put<'a>(buckets: &mut Vec<List<&'a Expr>>, h: &'a Expr) -> Result<(), NoMemor
     put_at(buckets, right, h)
 }
 
-/// Puts a hypothesis at a place, if there is one.
+/// Puts a hypothesis at a slot, if there is one.
 fn put_at<'a>(
     buckets: &mut Vec<List<&'a Expr>>,
-    place: Option<usize>,
+    slot: Option<usize>,
     h: &'a Expr,
 ) -> Result<(), NoMemory>
-    requires { IfSome place (λ i. i < vec_len buckets.old) }
-    ensures ok { OnOk result (terms buckets.new.items ≡ added (terms buckets.old.items) place (term h.now)) }
+    requires { IfSome slot (λ i. i < vec_len buckets.old) }
+    ensures ok { OnOk result (terms buckets.new.items ≡ added (terms buckets.old.items) slot (term h.now)) }
     ensures length { vec_len buckets.new ≡ vec_len buckets.old }
 {
-    if let Some(i) = place {
+    if let Some(i) = slot {
         buckets[i].push(h)?;
     }
     Ok(())

@@ -4,7 +4,7 @@ use Rattle.entail_range.specs.Index.{FindsAll, terms}
 use Rattle.entail_range.specs.Range.{lent}
 use Rattle.entail_range.proofs.index.buckets_of.Given as goal
 
--- those looked at are put at their places
+-- those looked at are put at their slots
 abbrev pub invariant-loop-h : goal.invariant-loop-h
 invariant-loop-h l = FindsAll (terms l.buckets.items) (map term (take l.h-index l.given))
 

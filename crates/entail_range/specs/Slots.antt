@@ -1,4 +1,4 @@
--- Where hypotheses are looked for: each expression has a place among so many, and a hypothesis lies at the places of the sides that it
+-- Where hypotheses are looked for: each expression has a slot among so many, and a hypothesis lies at the slots of the sides that it
 -- may bound.
 use Rattle.std.specs.Prelude.{ℕ, ◌+◌, ◌*◌, ◌%◌, ◌^◌, Option, Some, None, if◌then◌else◌}
 use Rattle.cov_expr.specs.Term.{Term, const, var, neg, bin}
@@ -16,9 +16,9 @@ key (var x) = mixed 12 x
 key (neg a) = mixed 13 (key a)
 key (bin op a b) = mixed (mixed (key a) (key b)) (op_number op)
 
--- the place of an expression among so many
-abbrev pub place : ℕ → Term → ℕ
-place count e = key e % count
+-- the slot of an expression among so many
+abbrev pub slot : ℕ → Term → ℕ
+slot count e = key e % count
 
 -- the side that a number on the right may bound
 abbrev pub left_side : Term → Option Term
