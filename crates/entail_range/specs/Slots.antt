@@ -9,7 +9,7 @@ use Rattle.entail_range.specs.Speaks.{is_number}
 abbrev pub mixed : ℕ → ℕ → ℕ
 mixed a b = ((a * 2654435761) % 2 ^ 32 + b) % 2 ^ 32
 
--- a word of an expression, mostly another one of another expression
+-- a word of an expression, mostly another one of another expression; no operator has the numbers 12 and 13
 abbrev pub key : Term → ℕ
 key (const k) = k
 key (var x) = mixed 12 x

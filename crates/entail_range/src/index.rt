@@ -9,25 +9,33 @@ use crate::bounds::is_number;
 use cov_expr::{Expr, List, NoMemory, Op};
 use std::alloc::Global;
 
+/// What stands for a variable and for `!` in a key, where an operator's number stands for that: those are below 12.
+const VARIABLE: u32 = 12;
+
+const NEGATION: u32 = 13;
+
+/// An odd number without a pattern, 2^32 over the golden ratio.
+const FACTOR: u32 = 2_654_435_761;
+
 /// A word of two numbers, mostly another one of others.
 fn mixed(a: u32, b: u32) -> u32
     ensures { result ≡ spec.mixed a b }
 {
-    a.wrapping_mul(2_654_435_761).wrapping_add(b)
+    a.wrapping_mul(FACTOR).wrapping_add(b)
 }
 
 /// The key of a variable.
 pub fn key_of_var(x: u32) -> u32
     ensures { result ≡ spec.mixed 12 x }
 {
-    mixed(12, x)
+    mixed(VARIABLE, x)
 }
 
 /// The key of the negation of an expression with this key.
 pub fn key_of_not(a: u32) -> u32
     ensures { result ≡ spec.mixed 13 a }
 {
-    mixed(13, a)
+    mixed(NEGATION, a)
 }
 
 /// The key of an operator between expressions with these keys.
