@@ -1,6 +1,6 @@
 -- Repeated declarations.
 use Rattle.std.proofs.Common.{[], ◌∷◌, refl}
-use Rattle.cov_grammar.specs.declared.token.Kind.TheVariants as k
+use Rattle.cov_expr.specs.declared.kind.Kind.TheVariants as k
 use Rattle.cov_grammar.specs.LookAhead.{kind_is}
 use Rattle.cov_grammar.specs.Grammar.{◌▸◌, name, class, var_decl, names, lock_decl, modes_behind, two_modes, thread_decl}
 use Rattle.cov_grammar.proofs.Repeats.{Item}

@@ -4,8 +4,8 @@ use Rattle.std.proofs.lemmas.Bool.{or_left}
 use Rattle.cov_expr.specs.Term.{Term, neg, bin}
 use Rattle.cov_expr.specs.declared.expr.Op.{Op}
 use Rattle.cov_expr.specs.declared.expr.Op.TheVariants as ops
-use Rattle.cov_grammar.specs.declared.token.Kind.{Kind}
-use Rattle.cov_grammar.specs.declared.token.Kind.TheVariants as k
+use Rattle.cov_expr.specs.declared.kind.Kind.{Kind}
+use Rattle.cov_expr.specs.declared.kind.Kind.TheVariants as k
 use Rattle.cov_grammar.specs.declared.token.Token.{Token}
 use Rattle.cov_parse.specs.declared.level.Level.{Level}
 use Rattle.cov_parse.specs.declared.level.Level.TheVariants.{Prod, Sum, Band, Bxor, Bor, Both, Either}

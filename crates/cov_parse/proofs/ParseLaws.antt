@@ -15,7 +15,7 @@ use Rattle.cov_grammar.specs.Spelling.{Is, FirstWrong, spot}
 use Rattle.cov_grammar.specs.LookAhead.{fine}
 use Rattle.cov_grammar.specs.Tables.{first_of, more_of}
 use Rattle.cov_grammar.specs.Reading.{reading}
-use Rattle.cov_grammar.specs.Answers as answers
+use Rattle.cov_grammar.specs.ReaderAnswers as answers
 use Rattle.cov_grammar.proofs.TableLaws.{fine_program}
 use Rattle.cov_grammar.proofs.Wholes.{finish_stands, whole_answers, value_one}
 use Rattle.cov_grammar.proofs.Unique.{spelled_right}
@@ -25,14 +25,14 @@ use Rattle.cov_parse.specs.declared.fault.Limit.{Limit}
 use Rattle.cov_parse.specs.declared.fault.Limit.TheVariants.{TooMany, TooDeep}
 use Rattle.cov_parse.specs.declared.fault.Excess.{Excess}
 use Rattle.cov_parse.specs.Depth.{deep}
-use Rattle.cov_parse.specs.Words as words
-use Rattle.cov_parse.specs.declared.words.Words.{Words}
+use Rattle.cov_parse.specs.Numbered as words
+use Rattle.cov_parse.specs.declared.tokens.Tokens.{Tokens}
 use Rattle.cov_parse.specs.declared.decl.PlacedProgram.{PlacedProgram}
 use Rattle.cov_parse.specs.declared.cert.Whole.{Whole}
 use Rattle.cov_parse.specs.CertViews as certs
 use Rattle.cov_parse.specs.DeclViews as decls
 use Rattle.cov_parse.specs.Text.{lexed_of, words_of, names_of, lexical, fault_at, fault_of, IsFirstFault, IsShallow, IsText, IsUnexpected, IsPastLimit, IsFault, Answers, Only}
-use Rattle.cov_parse.specs.Replies.{Reads, unexpected}
+use Rattle.cov_parse.specs.Replies.{Reads, AreRead, unexpected}
 
 -- All tokens ---------------------------------------------------------------------------------------------------
 
@@ -71,18 +71,14 @@ lexical_fault text (lex.NameTooLong at) h = subst (λ r. IsFirstFault r (words_o
 lexical_fault text lex.NoMemory h = tt
 
 -- what was read of the bytes
-module _ (text : List ℕ) (ts : List lexed.Token) (e : tokens_of text ≡ Ok ts) (w : Words) (named : w.names ≡ words.names_of text ts) (read : w.tokens ≡ words.words_of text ts) where
-  pub deep_fault : (at : ℕ) → Some at ≡ deep 0 0 w.tokens → Reads text (Err (faults.TooDeep at))
+module _ (text : List ℕ) (r : Tokens) (read : AreRead text (Ok r)) where
+  pub deep_fault : (at : ℕ) → Some at ≡ deep 0 0 r.tokens → Reads text (Err (faults.TooDeep at))
   deep_fault at h =
-      subst (λ r. IsFirstFault r (words_of text) (faults.TooDeep at)) (sym e)
-      (at, ap (deep 0 0) (words_are text ts e ∙ sym read) ∙ sym h, refl)
+      subst (λ ts. IsFirstFault ts (words_of text) (faults.TooDeep at)) (sym read.0)
+      (at, ap (deep 0 0) (sym read.2) ∙ sym h, refl)
 
-  pub reads_words : None ≡ deep 0 0 w.tokens → Reads text (Ok w)
-  reads_words h = (
-    record { lexes = lexes_so text ts e; shallow = ap (deep 0 0) (words_are text ts e ∙ sym read) ∙ sym h },
-    named ∙ sym (names_are text ts e),
-    read ∙ sym (words_are text ts e),
-  )
+  pub reads_tokens : None ≡ deep 0 0 r.tokens → Reads text (Ok r)
+  reads_tokens h = (record { lexes = read.0; shallow = ap (deep 0 0) (sym read.2) ∙ sym h }, read.1, read.2)
 
 -- Answers ------------------------------------------------------------------------------------------------------
 

@@ -1,6 +1,6 @@
 -- Items behind commas.
 use Rattle.std.proofs.Common.{[], ◌∷◌, refl}
-use Rattle.cov_grammar.specs.declared.token.Kind.TheVariants as k
+use Rattle.cov_expr.specs.declared.kind.Kind.TheVariants as k
 use Rattle.cov_grammar.specs.LookAhead.{kind_is}
 use Rattle.cov_grammar.specs.Grammar.{◌▸◌, type_of_name, proof}
 use Rattle.cov_grammar.proofs.Repeats.{Item}

@@ -7,8 +7,8 @@ use Rattle.cov_expr.specs.Term.{Term}
 use Rattle.cov_expr.specs.Trees.{nodes}
 use Rattle.cov_expr.specs.Words.{HasVarsBelow}
 use Rattle.cov_expr.specs.declared.expr.TheConstants.{HOLE}
-use Rattle.cov_grammar.specs.declared.token.Kind.{Kind}
-use Rattle.cov_grammar.specs.declared.token.Kind.TheVariants as k
+use Rattle.cov_expr.specs.declared.kind.Kind.{Kind}
+use Rattle.cov_expr.specs.declared.kind.Kind.TheVariants as k
 use Rattle.cov_grammar.specs.LookAhead.{kind_is}
 use Rattle.cov_grammar.specs.Trees.{Placed, Proofs, Retypes, State, Stm, Block, stms, expr, template, cert, block}
 use Rattle.cov_grammar.specs.Trees as t

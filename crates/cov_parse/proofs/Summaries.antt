@@ -1,8 +1,8 @@
 -- Summaries of pieces of a text: the uses of names in a piece, its size, where statements begin, and what holds of its ids.
 -- Of pieces one behind the other the summary is that of each, joined.
 use Rattle.std.proofs.Common.{◌≡◌, ℕ, ◌+◌, ◌≤◌, ◌<◌, List, [], ◌∷◌, ◌++◌, length, map, Bool, true, false, refl, sym, ap, subst, ◌∙◌, arith, append_assoc, length-append}
-use Rattle.cov_grammar.specs.declared.token.Kind.{Kind}
-use Rattle.cov_grammar.specs.declared.token.Kind.TheVariants as k
+use Rattle.cov_expr.specs.declared.kind.Kind.{Kind}
+use Rattle.cov_expr.specs.declared.kind.Kind.TheVariants as k
 use Rattle.cov_grammar.specs.declared.token.Token.{Token}
 use Rattle.cov_grammar.specs.LookAhead.{kind_is}
 use Rattle.cov_grammar.proofs.Basics.{left_false, right_false}

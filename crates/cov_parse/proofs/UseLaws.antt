@@ -1,8 +1,8 @@
 -- The uses of names in a text, token by token.
 use Rattle.std.proofs.Common.{◌≡◌, List, [], ◌∷◌, ◌++◌, map, Bool, true, false, if◌then◌else◌, ◌||◌, refl, ap, ◌∙◌}
 use Rattle.std.proofs.Math.Bool.{or-true, or-false}
-use Rattle.cov_grammar.specs.declared.token.Kind.{Kind}
-use Rattle.cov_grammar.specs.declared.token.Kind.TheVariants as k
+use Rattle.cov_expr.specs.declared.kind.Kind.{Kind}
+use Rattle.cov_expr.specs.declared.kind.Kind.TheVariants as k
 use Rattle.cov_grammar.specs.declared.token.Token.{Token}
 use Rattle.cov_grammar.specs.LookAhead.{kind_is, has}
 use Rattle.cov_grammar.proofs.Basics.{kind_itself, right_false}

@@ -5,27 +5,21 @@ use Rattle.std.specs.List.{AllByRecursion, list_any, list_all}
 use Rattle.std.specs.Str.{bytes_eq}
 use Rattle.std.proofs.lemmas.Slice.Eq.{bytes_eq-Decides}
 use Rattle.std.proofs.lemmas.List.Elements.{recursion_from_All}
-use Rattle.cov_expr.specs.Names.{is_keyword}
-use Rattle.cov_expr.specs.declared.name.TheConstants.{KEYWORDS}
 use Rattle.cov_expr.specs.declared.expr.TheConstants.{HOLE}
-use Rattle.cov_expr.proofs.Tests.{left_true, right_true}
 use Rattle.cov_lex.specs.declared.token.Token as lexed
 use Rattle.cov_lex.specs.declared.token.TokenKind.{TokenKind}
 use Rattle.cov_lex.specs.declared.token.TokenKind.TheVariants as raw
-use Rattle.cov_lex.specs.declared.piece.Piece.{Piece}
-use Rattle.cov_lex.specs.declared.piece.Piece.TheVariants.{Gap, Part}
+use Rattle.cov_lex.specs.Lexing.{Piece}
+use Rattle.cov_lex.specs.Lexing.{Gap, Part}
 use Rattle.cov_lex.specs.declared.fault.LexFault.{LexFault}
 use Rattle.cov_lex.specs.Lexing.{Lexed, piece_at, tokens_from, tokens_of, before, behind}
-use Rattle.cov_lex.specs.Signs.{doubles, singles}
 use Rattle.cov_lex.specs.Tokens.{IsToken, Spells, bytes_of}
 use Rattle.cov_lex.proofs.Spelled.{are_tokens}
-use Rattle.cov_grammar.specs.declared.token.Kind.TheVariants as k
-use Rattle.cov_grammar.specs.LookAhead.{kind_is}
-use Rattle.cov_grammar.specs.Words as grammar
-use Rattle.cov_grammar.specs.Words.{keyword_kinds, sign_kinds}
-use Rattle.cov_grammar.proofs.Basics.{kind_itself}
+use Rattle.cov_expr.specs.declared.kind.Kind.TheVariants as k
 use Rattle.cov_ast.specs.Names.{number_of, with_name}
-use Rattle.cov_parse.specs.Words.{with_word, with_token, names_onto, value_of, word_of, kind_of}
+use Rattle.cov_parse.specs.Numbered.{with_word, with_token, names_onto, value_of, word_of}
+use Rattle.cov_lex.specs.Classified.{kind_of}
+use Rattle.cov_lex.proofs.Lexical.{only_names}
 use Rattle.cov_parse.specs.Text.{words_of, names_of, lexed_of}
 use Rattle.cov_parse.proofs.Summaries.{AreWithin, AreBelow, AreFine}
 use Rattle.cov_parse.proofs.Summaries as pieces
@@ -67,32 +61,6 @@ in_order text ts e = subst (InOrder 0 (length text)) e (order_from 0 0 (length t
 few_within : (low high : ℕ) (ns : List ℕ) → AreWithin low high ns → low + length ns ≤ high
 few_within low high [] h = omega arith
 few_within low high (n ∷ ns) h = omega (arith, h.0, few_within (n + 1) high ns h.1)
-
--- Keywords and signs are no names ------------------------------------------------------------------------------
-
-abbrev no_name : List ℕ → Bool
-no_name word = not (kind_is k.Name (grammar.kind_of word))
-
-no_name_among : (ws : List (List ℕ)) (word : List ℕ) → list_all no_name ws ≡ true → list_any (bytes_eq word) ws ≡ true → no_name word ≡ true
-no_name_among [] word h e = cc
-no_name_among (w ∷ ws) word h e = by (bytes_eq word w) refl (no_name_among ws word (right_true (no_name w) (list_all no_name ws) h))
-  where
-    by : (b : Bool) → bytes_eq word w ≡ b → (list_any (bytes_eq word) ws ≡ true → no_name word ≡ true) → no_name word ≡ true
-    by true is rest = subst (λ v. no_name v ≡ true) (sym ((bytes_eq-Decides word w).0 is)) (left_true (no_name w) (list_all no_name ws) h)
-    by false is rest = rest (sym (ap (λ b. b || list_any (bytes_eq word) ws) is) ∙ e)
-
-keywords_no_names : list_all no_name (map (λ word. word.now) KEYWORDS) ≡ true
-unfolding kind_is keyword_kinds sign_kinds grammar.kind_of
-keywords_no_names = refl
-
-signs_no_names : list_all no_name (doubles ++ singles) ≡ true
-unfolding kind_is keyword_kinds sign_kinds grammar.kind_of
-signs_no_names = refl
-
-not_a_name : (word : List ℕ) → no_name word ≡ true → grammar.kind_of word ≡ k.Name → ⊥
-not_a_name word h e =
-    let is : kind_is k.Name (grammar.kind_of word) ≡ true = ap (kind_is k.Name) e ∙ kind_itself k.Name in
-    let no : false ≡ true = sym (ap not is) ∙ h in cc
 
 -- Numbers of names ---------------------------------------------------------------------------------------------
 
@@ -147,11 +115,10 @@ there_onto text word ns (t ∷ ts) h = there_onto text word (with_token text ns 
 -- a token that the grammar takes as a name has the number of a name
 number_below : (text : List ℕ) (ns : List (List ℕ)) (ts : List lexed.Token) (kind : TokenKind) (word : List ℕ) → Spells word kind → (all : List (List ℕ)) → all ≡ names_onto text (with_word kind word ns) ts
     → kind_of kind word ≡ k.Name → value_of kind word all < length all
-unfolding kind_is is_keyword
 number_below text ns ts raw.Name word is all e h = below_there word all (ap (list_any (bytes_eq word)) e ∙ there_onto text word (with_name ns word) ts (there_with word ns))
-number_below text ns ts raw.Keyword word is all e h = absurd (not_a_name word (no_name_among (map (λ w. w.now) KEYWORDS) word keywords_no_names is) h)
-number_below text ns ts (raw.Number m) word is all e h = let no : false ≡ true = ap (kind_is k.Name) h ∙ kind_itself k.Name in cc
-number_below text ns ts raw.Sign word is all e h = absurd (not_a_name word (no_name_among (doubles ++ singles) word signs_no_names is) h)
+number_below text ns ts raw.Keyword word is all e h = let no : raw.Keyword ≡ raw.Name = only_names raw.Keyword word is h in cc
+number_below text ns ts (raw.Number m) word is all e h = let no : raw.Number m ≡ raw.Name = only_names (raw.Number m) word is h in cc
+number_below text ns ts raw.Sign word is all e h = let no : raw.Sign ≡ raw.Name = only_names raw.Sign word is h in cc
 
 numbers_below : (text : List ℕ) (ns : List (List ℕ)) (ts : List lexed.Token) (all : List (List ℕ)) → AllByRecursion (IsToken text) ts → all ≡ names_onto text ns ts → AreBelow (length all) (map (word_of text all) ts)
 numbers_below text ns [] all are e = tt

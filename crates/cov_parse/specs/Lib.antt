@@ -1,4 +1,4 @@
-pub mod Words
+pub mod Numbered
 pub mod Text
 pub mod Replies
 pub mod Trees

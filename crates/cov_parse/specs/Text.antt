@@ -16,7 +16,7 @@ use Rattle.cov_parse.specs.declared.fault.ParseFault.TheVariants as faults
 use Rattle.cov_parse.specs.declared.fault.Limit.{Limit}
 use Rattle.cov_parse.specs.declared.fault.Limit.TheVariants.{TooMany, TooDeep}
 use Rattle.cov_parse.specs.declared.fault.Excess.{Excess}
-use Rattle.cov_parse.specs.Words as words
+use Rattle.cov_parse.specs.Numbered as words
 use Rattle.cov_parse.specs.Depth.{deep}
 use Rattle.cov_parse.specs.Uses.{uses_of}
 use Rattle.cov_parse.specs.Trees.{parsed_of, expr_of}

@@ -3,8 +3,8 @@ use Rattle.std.specs.Prelude.{◌≡◌, List, [], ◌∷◌, ◌++◌, map, Boo
 use Rattle.cov_expr.specs.Term.{Term}
 use Rattle.cov_ast.specs.Ready as ready
 use Rattle.cov_ast.specs.declared.parsed.NameUse.{NameUse}
-use Rattle.cov_grammar.specs.declared.token.Kind.{Kind}
-use Rattle.cov_grammar.specs.declared.token.Kind.TheVariants as k
+use Rattle.cov_expr.specs.declared.kind.Kind.{Kind}
+use Rattle.cov_expr.specs.declared.kind.Kind.TheVariants as k
 use Rattle.cov_grammar.specs.declared.token.Token.{Token}
 use Rattle.cov_grammar.specs.LookAhead.{kind_is}
 

@@ -1,10 +1,10 @@
 ghost use Rattle.std.specs.Prelude.{◌≡◌, ◌≤◌, ◌<◌, ◌∷◌, length, List, [], map, false, true, Option, MatchOption, IfOk, OnOk, MatchBool};
 ghost use Rattle.cov_expr.specs.declared.expr.Op.TheVariants as ops;
-ghost use Rattle.cov_grammar.specs.declared.token.Kind.TheVariants as kinds;
+ghost use Rattle.cov_expr.specs.declared.kind.Kind.TheVariants as kinds;
 ghost use Rattle.cov_grammar.specs.Shapes.{many};
 ghost use Rattle.cov_grammar.specs.Grammar.{unary, cmp, negated, grouped};
 ghost use Rattle.cov_grammar.specs.Reading.{reading};
-ghost use Rattle.cov_grammar.specs.Answers.{Gives, Shorter};
+ghost use Rattle.cov_grammar.specs.ReaderAnswers.{Gives, Shorter};
 ghost use Rattle.cov_parse.specs.Levels as spec;
 ghost use Rattle.cov_parse.specs.Levels.{atom_of, rule_for, SignOf, first_sign, other_signs, comparisons};
 ghost use Rattle.cov_parse.specs.WrittenViews as views;

@@ -3,7 +3,7 @@
 //! - [`parse`]: the program that a text spells, or its first fault; [`parse_expr`]: the same of one expression.
 //!   `specs/Text.antt` says what a text spells and which fault is its first.
 //! - [`ParseFault`], [`Counted`]: why a text isn't read.
-//! - [`read_words`]: the tokens of a text as the grammar takes them, and its names.
+//! - [`read_tokens`]: the tokens of a text as the grammar takes them, and its names.
 #![tactic(auto)]
 
 mod annotations;
@@ -24,10 +24,10 @@ mod states;
 mod stmt;
 mod stmts;
 mod text;
+mod tokens;
 mod uses;
-mod words;
 mod written;
 
 pub use fault::{Counted, ParseFault};
 pub use text::{ParsedExpr, parse, parse_expr};
-pub use words::{Words, read_words};
+pub use tokens::{Tokens, read_tokens};

@@ -1,10 +1,10 @@
 ghost use Rattle.std.specs.Prelude.{◌≡◌, ◌≤◌, length, map, List, option_map};
-ghost use Rattle.cov_grammar.specs.declared.token.Kind.TheVariants as kinds;
+ghost use Rattle.cov_expr.specs.declared.kind.Kind.TheVariants as kinds;
 ghost use Rattle.cov_grammar.specs.Trees as trees;
 ghost use Rattle.cov_grammar.specs.Shapes.{opt, many, rule, placed};
 ghost use Rattle.cov_grammar.specs.Grammar as grammar;
 ghost use Rattle.cov_grammar.specs.Reading.{reading};
-ghost use Rattle.cov_grammar.specs.Answers.{Gives, Shorter};
+ghost use Rattle.cov_grammar.specs.ReaderAnswers.{Gives, Shorter};
 ghost use Rattle.cov_parse.specs.CertViews as views;
 ghost use Rattle.cov_parse.specs.StateViews as states;
 ghost use Rattle.cov_parse.specs.StmtViews as stmts;

@@ -3,7 +3,7 @@ ghost use Rattle.cov_ast.specs.Ready.{HasUsesInOrder, IsReady};
 ghost use Rattle.cov_ast.specs.View as ast;
 ghost use Rattle.cov_grammar.specs.Trees.{Program, Placed};
 ghost use Rattle.cov_grammar.specs.Grammar as grammar;
-ghost use Rattle.cov_grammar.specs.Answers as answers;
+ghost use Rattle.cov_grammar.specs.ReaderAnswers as answers;
 ghost use Rattle.cov_expr.specs.Term.{Term};
 ghost use Rattle.cov_expr.specs.View.{term};
 ghost use Rattle.cov_expr.specs.Words.{HasVarsBelow};
@@ -23,12 +23,11 @@ use crate::exprs::expr_of;
 use crate::fault::ParseFault;
 use crate::limits::{in_expr, in_program};
 use crate::programs::parsed_of;
+use crate::tokens::{Tokens, read_tokens};
 use crate::uses::uses;
-use crate::words::{Words, read_words};
 use cov_ast::{NameTable, NameUse, Parsed};
 use cov_expr::{Expr, List};
 use cov_grammar::{Token, TokenFault, TokenReader};
-use cov_lex::lex;
 use std::alloc::Global;
 
 /// What a text spells that is one expression.
@@ -60,7 +59,7 @@ fn read_program_text(alloc: Global, bytes: &[u8]) -> Result<Parsed, ParseFault>
     requires { length bytes.now ≤ 1048576 }
     ensures { Answers grammar.program limits.in_program bytes.now ast.parsed (program_of bytes.now) result }
 {
-    let Words { names, tokens } = read_text(alloc, bytes)?;
+    let Tokens { names, tokens } = read_text(alloc, bytes)?;
     let program = tokens_as_program(alloc, tokens.as_slice(), bytes.len() as u32)?;
     if let Some(excess) = in_program(&program) {
         return Err(ParseFault::from(excess));
@@ -89,7 +88,7 @@ fn read_expr_text(alloc: Global, bytes: &[u8]) -> Result<ParsedExpr, ParseFault>
     requires { length bytes.now ≤ 1048576 }
     ensures { Answers grammar.whole limits.in_expr bytes.now parsed_expr (expression_of bytes.now) result }
 {
-    let Words { names, tokens } = read_text(alloc, bytes)?;
+    let Tokens { names, tokens } = read_text(alloc, bytes)?;
     let whole = tokens_as_expr(alloc, tokens.as_slice(), bytes.len() as u32)?;
     if let Some(excess) = in_expr(&whole) {
         return Err(ParseFault::from(excess));
@@ -100,15 +99,14 @@ fn read_expr_text(alloc: Global, bytes: &[u8]) -> Result<ParsedExpr, ParseFault>
 }
 
 /// The tokens of a text and its names, or the first fault of its bytes or its brackets.
-fn read_text(alloc: Global, bytes: &[u8]) -> Result<Words, ParseFault>
+fn read_text(alloc: Global, bytes: &[u8]) -> Result<Tokens, ParseFault>
     requires { length bytes.now ≤ 1048576 }
     ensures { Reads bytes.now result }
 {
-    let lexed = lex(alloc, bytes)?;
-    let words = read_words(alloc, bytes, lexed.as_slice())?;
-    match deep(words.tokens.as_slice()) {
+    let read = read_tokens(alloc, bytes)?;
+    match deep(read.tokens.as_slice()) {
         Some(at) => Err(ParseFault::TooDeep(at)),
-        None => Ok(words),
+        None => Ok(read),
     }
 }
 

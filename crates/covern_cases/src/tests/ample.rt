@@ -5,7 +5,7 @@ use super::{WRITER, demand, expression, program};
 use cov_ast::{NameUse, Program, StmtKind, plain};
 use cov_expr::{Expr, copy, same, subst, vars};
 use cov_lex::lex;
-use cov_parse::read_words;
+use cov_parse::read_tokens;
 use std::alloc::Global;
 use std::test::Fail;
 use typing_rules::{Count, check_thread};
@@ -13,12 +13,12 @@ use verify::{check_declared, check_program};
 
 /// The names of a text are numbered as they come.
 #[test]
-fn words(rt: HostRuntime) -> Result<(), Fail> {
+fn tokens(rt: HostRuntime) -> Result<(), Fail> {
     let text = b"b := a + b";
-    let tokens = lex(rt.alloc(), text)?;
-    let words = read_words(rt.alloc(), text, tokens.as_slice())?;
-    let names = [0, 2, 4].map(|i| words.tokens.as_slice().get(i).map(|token| token.value));
-    assert_eq!(rt; words.names.len(), 2);
+    let read = read_tokens(rt.alloc(), text)?;
+    let names = [0, 2, 4].map(|i| read.tokens.as_slice().get(i).map(|token| token.value));
+    assert_eq!(rt; lex(rt.alloc(), text)?.len(), 5);
+    assert_eq!(rt; read.names.len(), 2);
     assert_eq!(rt; names, [Some(0), Some(1), Some(0)]);
     Ok(())
 }

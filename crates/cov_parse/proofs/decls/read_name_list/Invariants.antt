@@ -1,5 +1,5 @@
 use Rattle.std.proofs.Common.{◌≡◌, ◌≤◌, length, map}
-use Rattle.cov_grammar.specs.declared.token.Kind.TheVariants as k
+use Rattle.cov_expr.specs.declared.kind.Kind.TheVariants as k
 use Rattle.cov_grammar.specs.Shapes.{many}
 use Rattle.cov_grammar.specs.Grammar.{◌▸◌, separated, name}
 use Rattle.cov_grammar.specs.Reading.{reading}

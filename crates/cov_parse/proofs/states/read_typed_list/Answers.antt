@@ -1,5 +1,5 @@
 use Rattle.std.proofs.Common.{◌∙◌, ◌∷◌, [], arith}
-use Rattle.cov_grammar.specs.declared.token.Kind.TheVariants as k
+use Rattle.cov_expr.specs.declared.kind.Kind.TheVariants as k
 use Rattle.cov_grammar.specs.Grammar.{◌▸◌, type_of_name}
 use Rattle.cov_parse.specs.StateViews as views
 use Rattle.cov_grammar.proofs.Repeats.{item_goes, behind_sign}

@@ -5,9 +5,7 @@ use Rattle.cov_lex.specs.declared.token.Token as lexed
 use Rattle.cov_lex.specs.declared.token.TokenKind.{TokenKind}
 use Rattle.cov_lex.specs.declared.token.TokenKind.TheVariants as raw
 use Rattle.cov_lex.specs.Tokens.{bytes_of}
-use Rattle.cov_grammar.specs.Words as grammar
-use Rattle.cov_grammar.specs.declared.token.Kind.{Kind}
-use Rattle.cov_grammar.specs.declared.token.Kind.TheVariants as k
+use Rattle.cov_lex.specs.Classified.{kind_of}
 use Rattle.cov_grammar.specs.declared.token.Token.{Token}
 use Rattle.cov_ast.specs.Names.{number_of, with_name}
 
@@ -33,12 +31,6 @@ names_of text ts = names_onto text [] ts
 
 -- Tokens -------------------------------------------------------------------------------------------------------
 
-abbrev pub kind_of : TokenKind → List ℕ → Kind
-kind_of raw.Name word = k.Name
-kind_of raw.Keyword word = grammar.kind_of word
-kind_of (raw.Number n) word = k.Number
-kind_of raw.Sign word = grammar.kind_of word
-
 -- the number of a name among names, the value of a number
 abbrev pub value_of : TokenKind → List ℕ → List (List ℕ) → ℕ
 value_of raw.Name word names = number_of names word
@@ -49,7 +41,7 @@ value_of raw.Sign word names = 0
 -- a token among names
 abbrev pub word_of : List ℕ → List (List ℕ) → lexed.Token → Token
 word_of text names t =
-    record { kind = kind_of t.kind (bytes_of text t); at = t.at; value = value_of t.kind (bytes_of text t) names }
+    record { kind = kind_of t.kind (bytes_of text t); at = t.at; end = t.end; value = value_of t.kind (bytes_of text t) names }
 
 abbrev pub words_of : List ℕ → List lexed.Token → List Token
 words_of text ts = map (word_of text (names_of text ts)) ts

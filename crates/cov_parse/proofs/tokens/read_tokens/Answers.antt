@@ -1,0 +1,13 @@
+use Rattle.std.proofs.Common.{◌≡◌, Err, sym, subst, rules}
+use Rattle.cov_parse.specs.Replies.{AreRead}
+use Rattle.cov_lex.proofs.Lexical.{fault_back}
+use Rattle.cov_parse.proofs.ParseLaws.{lexes_so}
+use Rattle.cov_parse.proofs.tokens.read_tokens.Goals as goal
+
+pub returns-in_err-tokens : goal.returns-in_err-tokens
+returns-in_err-tokens c =
+    let same : c.from_residual.result ≡ Err c.in_err-tokens.field-0.0 = search rules in
+    subst (AreRead c.args.bytes.now) (sym same) (fault_back c.args.bytes.now c.in_err-tokens.field-0.0 c.in_err-tokens.ensures.reading)
+
+pub returns : goal.returns
+returns c = (lexes_so c.args.bytes.now c.in_ok-tokens.ensures.tokens.read c.in_ok-tokens.ensures.tokens.lexes, c.in_ok-names.ensures.names, c.in_ok-names.ensures.tokens)
