@@ -91,21 +91,21 @@ impl From<Excess> for ParseFault {
 }
 
 /// A limit that a tree doesn't keep, and the offset where it breaks it.
-#[derive(Clone, Copy, Debug, PartialEq, Eq)]
+#[derive(Clone, Copy)]
 pub struct Excess {
     pub at: u32,
     pub limit: Limit,
 }
 
 /// A limit of trees.
-#[derive(Clone, Copy, Debug, PartialEq, Eq)]
+#[derive(Clone, Copy)]
 pub enum Limit {
     TooMany(Counted),
     TooDeep,
 }
 
 /// How many statements may still come, or the place of the first one that is too many.
-#[derive(Clone, Copy, Debug, PartialEq, Eq)]
+#[derive(Clone, Copy)]
 pub enum Counting {
     Left(u32),
     Past(u32),
