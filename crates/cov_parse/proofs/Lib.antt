@@ -2,7 +2,6 @@ pub mod NameNumbers
 pub mod Items
 pub mod BlockLaws
 pub mod ParseLaws
-pub mod MeasureLaws
 pub mod LimitLaws
 pub mod Levels
 pub mod CertLaws

@@ -9,7 +9,7 @@ ghost use Rattle.cov_parse.specs.DeclViews as decls;
 use crate::cert::{Cert, Whole};
 use crate::decl::{ClassDecl, Lock, PlacedProgram, Thread, Variable};
 use crate::fault::{Counted, Excess, Limit};
-use crate::measures::{cert_height, cert_nodes, height, nodes};
+use crate::measures::{cert_height, cert_nodes};
 use crate::numbers::{past_locks, past_statements, past_threads, past_variables};
 use crate::states::{Proof, State, Typed};
 use crate::stmt::{Braces, Stmt, StmtKind};
@@ -40,11 +40,11 @@ fn above(at: u32, most: u32, n: u32, limit: Limit, rest: Option<Excess>) -> Opti
 pub fn in_expr(e: &Whole) -> Option<Excess>
     ensures { result ≡ spec.in_expr (certs.whole e.now) }
 {
-    let deep = above(e.at, 64, height(&e.expr), Limit::TooDeep, None);
+    let deep = above(e.at, 64, e.expr.height, Limit::TooDeep, None);
     above(
         e.at,
         1000,
-        nodes(&e.expr),
+        e.expr.nodes,
         Limit::TooMany(Counted::Nodes),
         deep,
     )

@@ -1,22 +1,129 @@
-use cov_expr::{List, Op};
+ghost use Rattle.std.specs.Prelude.{◌≡◌, min, IfOk};
+ghost use Rattle.cov_expr.specs.Term.{const, var, neg, bin};
+ghost use Rattle.cov_expr.specs.Trees as tree;
+ghost use Rattle.cov_expr.specs.View.{term};
+ghost use Rattle.cov_grammar.specs.Grammar.{negated};
 
-/// An expression as it is written. The operators of one level are in one list, and marks are counted, so that it nests no
-/// deeper than its brackets do, however long it is.
-#[derive(Drop)]
-#[cycle(written)]
-pub enum Written {
-    Const(u32),
-    Var(u32),
-    /// An expression behind so many marks `!`.
-    Marked(usize, Box<Written>),
-    /// An operand and what stands behind it. Operators group to the left.
-    Chain(Box<Written>, List<Tail>),
+use crate::measures::{HEIGHT, NODES, greater, lesser};
+use cov_expr::{Expr, NoMemory, Op, boxed};
+use std::alloc::Global;
+
+/// An expression as it was read, with its measures as far as its limits ask for them.
+pub struct Written {
+    pub expr: Expr,
+    /// How many nodes it has, or 1001 where they are more.
+    pub nodes: u32,
+    /// Its height, or 65 where it is above.
+    pub height: u32,
+    ghost nodes_are: { nodes ≡ min (tree.nodes (term expr)) 1001 },
+    ghost height_is: { height ≡ min (tree.height (term expr)) 65 },
 }
 
-/// An operator and the operand behind it.
-#[derive(Drop)]
-#[cycle(written)]
-pub struct Tail {
-    pub op: Op,
-    pub operand: Written,
+impl Drop for Written {
+    fn drop(self) {
+        take_apart(self.into_expr());
+    }
+}
+
+/// Gives back the memory of an expression. Operators group to the left, as many as a text has, so the left side is taken
+/// apart in a loop; the calls nest no deeper than brackets and levels do.
+fn take_apart(expr: Expr) {
+    let mut left = expr;
+    loop {
+        match left {
+            Expr::Const(_) | Expr::Var(_) => return,
+            Expr::Not(inner) => left = Box::into_inner(inner),
+            Expr::Bin(_, first, second) => {
+                take_apart(Box::into_inner(second));
+                left = Box::into_inner(first);
+            }
+        }
+    }
+}
+
+impl Written {
+    /// The expression alone.
+    pub fn into_expr(self) -> Expr
+        ensures { result ≡ self.expr }
+    {
+        let Written {
+            expr,
+            nodes: _,
+            height: _,
+        } = self;
+        expr
+    }
+}
+
+/// A number.
+pub fn number(n: u32) -> Written
+    ensures { term result.expr ≡ const n }
+{
+    Written {
+        expr: Expr::Const(n),
+        nodes: 1,
+        height: 1,
+    }
+}
+
+/// A variable.
+pub fn variable(x: u32) -> Written
+    ensures { term result.expr ≡ var x }
+{
+    Written {
+        expr: Expr::Var(x),
+        nodes: 1,
+        height: 1,
+    }
+}
+
+/// An expression in memory that was taken for it before.
+fn placed(room: Box<Expr>, e: Expr) -> Box<Expr>
+    ensures { result.value ≡ e }
+{
+    let mut part = room;
+    *part = e;
+    part
+}
+
+/// An expression behind a mark. Memory is taken before the operand is taken apart.
+fn negation(alloc: Global, operand: Written) -> Result<Written, NoMemory>
+    ensures { IfOk result (λ made. term made.expr ≡ neg (term operand.expr)) }
+{
+    let room = boxed(alloc, Expr::Const(0))?;
+    let nodes = lesser(operand.nodes + 1, NODES);
+    let height = lesser(operand.height + 1, HEIGHT);
+    Ok(Written {
+        expr: Expr::Not(placed(room, operand.into_expr())),
+        nodes,
+        height,
+    })
+}
+
+/// An expression behind so many marks.
+pub fn negations(alloc: Global, marks: usize, operand: Written) -> Result<Written, NoMemory>
+    ensures { IfOk result (λ made. term made.expr ≡ negated marks (term operand.expr)) }
+{
+    let mut made = operand;
+    for _ in 0..marks {
+        made = negation(alloc, made)?;
+    }
+    Ok(made)
+}
+
+/// Two expressions with an operator between them. Memory is taken before the operands are taken apart.
+pub fn binary(alloc: Global, op: Op, left: Written, right: Written) -> Result<Written, NoMemory>
+    ensures { IfOk result (λ made. term made.expr ≡ bin op (term left.expr) (term right.expr)) }
+{
+    let first = boxed(alloc, Expr::Const(0))?;
+    let second = boxed(alloc, Expr::Const(0))?;
+    let nodes = lesser(left.nodes + right.nodes + 1, NODES);
+    let height = lesser(greater(left.height, right.height) + 1, HEIGHT);
+    let first = placed(first, left.into_expr());
+    let second = placed(second, right.into_expr());
+    Ok(Written {
+        expr: Expr::Bin(op, first, second),
+        nodes,
+        height,
+    })
 }
