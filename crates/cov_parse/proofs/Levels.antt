@@ -321,7 +321,7 @@ any (l ∷ ls) j = begins l j || any ls j
 none_at : (j : Kind) (ls : List Level) (i : ℕ) → i < length ls → any ls j ≡ false → begins (get_or ls i Prod) j ≡ false
 none_at j [] i inside h = absurd (omega arith)
 none_at j (l ∷ ls) zero inside h = left_false (begins l j) (any ls j) h
-none_at j (l ∷ ls) (suc i) inside h = none_at j ls i (omega arith) (or_right (begins l j) (any ls j) h)
+none_at j (l ∷ ls) (suc i) inside h = none_at j ls i (omega arith) (right_false (begins l j) (any ls j) h)
 
 none_of : (j : Kind) → any levels j ≡ false → (l : Level) → begins l j ≡ false
 none_of j h Prod = none_at j levels 0 (omega arith) h

@@ -7,6 +7,7 @@ ghost use Rattle.cov_parse.specs.StateViews as states;
 use crate::cert::Cert;
 use crate::exprs::{expr_of, exprs_of};
 use crate::states::{Proof, State, Typed};
+use crate::turned::turned;
 use cov_expr::{Expr, List, NoMemory};
 use std::alloc::Global;
 
@@ -17,111 +18,136 @@ fn boxed(alloc: Global, cert: cov_ast::Cert) -> Result<Box<cov_ast::Cert>, NoMem
 }
 
 /// A certificate without places.
-fn cert_of(alloc: Global, cert: &Cert) -> Result<cov_ast::Cert, NoMemory>
-    ensures { IfOk result (λ made. ast.cert made ≡ spec.cert_of (certs.cert cert.now)) }
+#[cycle(made)]
+fn cert_of(alloc: Global, cert: Cert) -> Result<cov_ast::Cert, NoMemory>
+    ensures { IfOk result (λ made. ast.cert made ≡ spec.cert_of (certs.cert cert)) }
 {
-    match cert {
-        Cert::Auto => Ok(cov_ast::Cert::Auto),
-        Cert::Calc => Ok(cov_ast::Cert::Calc),
-        Cert::Refl => Ok(cov_ast::Cert::Refl),
-        Cert::Ring => Ok(cov_ast::Cert::Ring),
-        Cert::Range => Ok(cov_ast::Cert::Range),
-        Cert::Hyp(i) => Ok(cov_ast::Cert::Hyp(*i)),
-        Cert::Clash(i) => Ok(cov_ast::Cert::Clash(*i)),
-        Cert::Absurd(i, j) => Ok(cov_ast::Cert::Absurd(*i, *j)),
-        Cert::And(c, d) => {
-            let first = boxed(alloc, cert_of(alloc, c)?)?;
-            Ok(cov_ast::Cert::And(first, boxed(alloc, cert_of(alloc, d)?)?))
-        }
-        Cert::Left(c) => Ok(cov_ast::Cert::Left(boxed(alloc, cert_of(alloc, c)?)?)),
-        Cert::Right(c) => Ok(cov_ast::Cert::Right(boxed(alloc, cert_of(alloc, c)?)?)),
-        Cert::Unpack(i, c) => Ok(cov_ast::Cert::Unpack(*i, boxed(alloc, cert_of(alloc, c)?)?)),
-        Cert::Cases(i, c, d) => {
-            let first = boxed(alloc, cert_of(alloc, c)?)?;
-            Ok(cov_ast::Cert::Cases(*i, first, boxed(alloc, cert_of(alloc, d)?)?))
-        }
+    Ok(match cert {
+        Cert::Auto => cov_ast::Cert::Auto,
+        Cert::Calc => cov_ast::Cert::Calc,
+        Cert::Refl => cov_ast::Cert::Refl,
+        Cert::Ring => cov_ast::Cert::Ring,
+        Cert::Range => cov_ast::Cert::Range,
+        Cert::Hyp(i) => cov_ast::Cert::Hyp(i),
+        Cert::Clash(i) => cov_ast::Cert::Clash(i),
+        Cert::Absurd(i, j) => cov_ast::Cert::Absurd(i, j),
+        Cert::And(c, d) => cov_ast::Cert::And(part_of(alloc, c)?, part_of(alloc, d)?),
+        Cert::Left(c) => cov_ast::Cert::Left(part_of(alloc, c)?),
+        Cert::Right(c) => cov_ast::Cert::Right(part_of(alloc, c)?),
+        Cert::Unpack(i, c) => cov_ast::Cert::Unpack(i, part_of(alloc, c)?),
+        Cert::Cases(i, c, d) => cov_ast::Cert::Cases(i, part_of(alloc, c)?, part_of(alloc, d)?),
         Cert::Split(e, c, d) => {
-            let e = expr_of(alloc, &e.expr)?;
-            let first = boxed(alloc, cert_of(alloc, c)?)?;
-            Ok(cov_ast::Cert::Split(e, first, boxed(alloc, cert_of(alloc, d)?)?))
+            cov_ast::Cert::Split(expr_of(e), part_of(alloc, c)?, part_of(alloc, d)?)
         }
         Cert::Have(e, c, d) => {
-            let e = expr_of(alloc, &e.expr)?;
-            let first = boxed(alloc, cert_of(alloc, c)?)?;
-            Ok(cov_ast::Cert::Have(e, first, boxed(alloc, cert_of(alloc, d)?)?))
+            cov_ast::Cert::Have(expr_of(e), part_of(alloc, c)?, part_of(alloc, d)?)
         }
-        Cert::Not(c) => Ok(cov_ast::Cert::Not(boxed(alloc, cert_of(alloc, c)?)?)),
-        Cert::Contra(c) => Ok(cov_ast::Cert::Contra(boxed(alloc, cert_of(alloc, c)?)?)),
-        Cert::Fwd(i, e, c) => {
-            let e = expr_of(alloc, &e.expr)?;
-            Ok(cov_ast::Cert::Fwd(*i, e, boxed(alloc, cert_of(alloc, c)?)?))
-        }
-        Cert::Rev(i, e, c) => {
-            let e = expr_of(alloc, &e.expr)?;
-            Ok(cov_ast::Cert::Rev(*i, e, boxed(alloc, cert_of(alloc, c)?)?))
-        }
+        Cert::Not(c) => cov_ast::Cert::Not(part_of(alloc, c)?),
+        Cert::Contra(c) => cov_ast::Cert::Contra(part_of(alloc, c)?),
+        Cert::Fwd(i, e, c) => cov_ast::Cert::Fwd(i, expr_of(e), part_of(alloc, c)?),
+        Cert::Rev(i, e, c) => cov_ast::Cert::Rev(i, expr_of(e), part_of(alloc, c)?),
         Cert::Axiom(k, es, c) => {
-            let es = exprs_of(alloc, es.as_slice())?;
-            Ok(cov_ast::Cert::Axiom(*k, es, boxed(alloc, cert_of(alloc, c)?)?))
+            cov_ast::Cert::Axiom(k, exprs_of(alloc, es)?, part_of(alloc, c)?)
         }
-    }
+    })
+}
+
+/// A part of a certificate.
+#[cycle(made)]
+fn part_of(alloc: Global, part: Box<Cert>) -> Result<Box<cov_ast::Cert>, NoMemory>
+    ensures { IfOk result (λ made. ast.cert made.value ≡ spec.cert_of (certs.cert part.value)) }
+{
+    let cert = cert_of(alloc, Box::into_inner(part))?;
+    boxed(alloc, cert)
+}
+
+/// A proof without its place.
+fn proof_of(alloc: Global, proof: Proof) -> Result<cov_ast::Proof, NoMemory>
+    ensures { IfOk result (λ made. ast.proof made ≡ spec.proof_of (states.proof proof)) }
+{
+    let Proof {
+        number,
+        at: _,
+        cert,
+    } = proof;
+    let cert = cert_of(alloc, cert)?;
+    Ok(cov_ast::Proof { number, cert })
 }
 
 /// The proofs of a statement.
-pub fn proofs_of(alloc: Global, proofs: &[Proof]) -> Result<List<cov_ast::Proof>, NoMemory>
-    ensures { IfOk result (λ made. map ast.proof made ≡ map spec.proof_of (map states.proof proofs.now)) }
+pub fn proofs_of(alloc: Global, proofs: List<Proof>) -> Result<List<cov_ast::Proof>, NoMemory>
+    ensures { IfOk result (λ made. map ast.proof made ≡ map spec.proof_of (map states.proof proofs)) }
 {
+    let mut rest = turned(alloc, proofs)?;
     let mut made = List::new(alloc);
-    for proof in proofs {
-        made.push(cov_ast::Proof {
-            number: proof.number,
-            cert: cert_of(alloc, &proof.cert)?,
-        })?;
+    while let Some(proof) = rest.pop() {
+        made.push(proof_of(alloc, proof)?)?;
     }
     Ok(made)
+}
+
+/// A new type of a variable.
+fn retype_of(pair: Typed) -> cov_ast::Retype
+    ensures { ast.retype result ≡ spec.pair_of (states.typed pair) }
+{
+    cov_ast::Retype {
+        var: pair.name,
+        class: expr_of(pair.class),
+    }
 }
 
 /// New types of variables.
-pub fn retypes_of(alloc: Global, pairs: &[Typed]) -> Result<List<cov_ast::Retype>, NoMemory>
-    ensures { IfOk result (λ made. map ast.retype made ≡ map spec.pair_of (map states.typed pairs.now)) }
+pub fn retypes_of(alloc: Global, pairs: List<Typed>) -> Result<List<cov_ast::Retype>, NoMemory>
+    ensures { IfOk result (λ made. map ast.retype made ≡ map spec.pair_of (map states.typed pairs)) }
 {
+    let mut rest = turned(alloc, pairs)?;
     let mut made = List::new(alloc);
-    for pair in pairs {
-        made.push(cov_ast::Retype {
-            var: pair.name,
-            class: expr_of(alloc, &pair.class.expr)?,
-        })?;
+    while let Some(pair) = rest.pop() {
+        made.push(retype_of(pair))?;
     }
     Ok(made)
 }
 
-/// Types of variables.
-fn types_of(alloc: Global, pairs: &[Typed]) -> Result<List<(u32, Expr)>, NoMemory>
-    ensures { IfOk result (λ made. map ast.typed made ≡ map spec.pair_of (map states.typed pairs.now)) }
+/// The type of a variable.
+fn type_of(pair: Typed) -> (u32, Expr)
+    ensures { ast.typed result ≡ spec.pair_of (states.typed pair) }
 {
+    (pair.name, expr_of(pair.class))
+}
+
+/// Types of variables.
+fn types_of(alloc: Global, pairs: List<Typed>) -> Result<List<(u32, Expr)>, NoMemory>
+    ensures { IfOk result (λ made. map ast.typed made ≡ map spec.pair_of (map states.typed pairs)) }
+{
+    let mut rest = turned(alloc, pairs)?;
     let mut made = List::new(alloc);
-    for pair in pairs {
-        made.push((pair.name, expr_of(alloc, &pair.class.expr)?))?;
+    while let Some(pair) = rest.pop() {
+        made.push(type_of(pair))?;
     }
     Ok(made)
 }
 
 /// A state without places.
-pub fn state_of(alloc: Global, state: &State) -> Result<cov_ast::State, NoMemory>
-    ensures { IfOk result (λ made. ast.state made ≡ spec.state_of (states.state state.now)) }
+pub fn state_of(alloc: Global, state: State) -> Result<cov_ast::State, NoMemory>
+    ensures { IfOk result (λ made. ast.state made ≡ spec.state_of (states.state state)) }
 {
+    let State {
+        at: _,
+        preds,
+        types,
+    } = state;
     Ok(cov_ast::State {
-        preds: exprs_of(alloc, state.preds.as_slice())?,
-        types: types_of(alloc, state.types.as_slice())?,
+        preds: exprs_of(alloc, preds)?,
+        types: types_of(alloc, types)?,
     })
 }
 
 /// A state, or one that says nothing.
-pub fn state_or_none(alloc: Global, state: &Option<Box<State>>) -> Result<cov_ast::State, NoMemory>
-    ensures { IfOk result (λ made. ast.state made ≡ spec.state_or_none (option_map (λ j. states.state j.value) state.now)) }
+pub fn state_or_none(alloc: Global, state: Option<Box<State>>) -> Result<cov_ast::State, NoMemory>
+    ensures { IfOk result (λ made. ast.state made ≡ spec.state_or_none (option_map (λ j. states.state j.value) state)) }
 {
     match state {
-        Some(state) => state_of(alloc, state),
+        Some(state) => state_of(alloc, Box::into_inner(state)),
         None => Ok(cov_ast::State {
             preds: List::new(alloc),
             types: List::new(alloc),

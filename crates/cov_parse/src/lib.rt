@@ -25,6 +25,7 @@ mod stmt;
 mod stmts;
 mod text;
 mod tokens;
+mod turned;
 mod uses;
 mod written;
 

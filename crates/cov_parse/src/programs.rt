@@ -11,64 +11,70 @@ use crate::annotations::{proofs_of, retypes_of, state_of, state_or_none};
 use crate::decl::{ClassDecl, Lock, Pair, PlacedProgram, Thread, Variable};
 use crate::exprs::{expr_of, option_of};
 use crate::stmt::{Stmt, StmtKind};
+use crate::turned::turned;
 use cov_ast::{Class, LockDecl, Modes, NameTable, NameUse, Parsed, ThreadDecl, VarDecl};
 use cov_expr::{List, Name, NoMemory};
 use std::alloc::Global;
 
 /// Statements without the places of their braces.
 #[cycle(made)]
-pub fn stmts_of(alloc: Global, body: &[Stmt]) -> Result<List<cov_ast::Stmt>, NoMemory>
-    ensures { IfOk result (λ made. ast.block made ≡ spec.stms_of (stms (map stmts.stmt body.now))) }
+fn stmts_of(alloc: Global, body: List<Stmt>) -> Result<List<cov_ast::Stmt>, NoMemory>
+    ensures { IfOk result (λ made. ast.block made ≡ spec.stms_of (stms (map stmts.stmt body))) }
 {
+    let mut rest = turned(alloc, body)?;
     let mut made = List::new(alloc);
-    for stmt in body {
-        made.push(cov_ast::Stmt {
-            at: stmt.at,
-            kind: kind_of(alloc, &stmt.kind)?,
-            proofs: stmt_proofs(alloc, &stmt.kind)?,
-        })?;
+    while let Some(stmt) = rest.pop() {
+        made.push(stmt_of(alloc, stmt)?)?;
     }
     Ok(made)
 }
 
 #[cycle(made)]
-fn kind_of(alloc: Global, kind: &StmtKind) -> Result<cov_ast::StmtKind, NoMemory>
-    ensures { IfOk result (λ made. ast.kind made ≡ spec.stm_of (stmts.kind kind.now)) }
+fn stmt_of(alloc: Global, stmt: Stmt) -> Result<cov_ast::Stmt, NoMemory>
+    ensures { IfOk result (λ made. ast.stmt made ≡ spec.stmt_of (stmts.stmt stmt)) }
 {
-    Ok(match kind {
-        StmtKind::Skip => cov_ast::StmtKind::Skip,
-        StmtKind::Assign(x, e, class, retypes, _) => {
-            let e = expr_of(alloc, &e.expr)?;
-            let class = option_of(alloc, class)?;
-            cov_ast::StmtKind::Assign(*x, e, class, retypes_of(alloc, retypes.as_slice())?)
-        }
-        StmtKind::Lock(lock) => cov_ast::StmtKind::Lock(*lock),
-        StmtKind::Unlock(lock, _) => cov_ast::StmtKind::Unlock(*lock),
-        StmtKind::If(e, _, first, _, second, join, _) => {
-            let e = expr_of(alloc, &e.expr)?;
-            let first = stmts_of(alloc, first.as_slice())?;
-            let second = stmts_of(alloc, second.as_slice())?;
-            cov_ast::StmtKind::If(e, first, second, state_or_none(alloc, join)?)
-        }
-        StmtKind::While(e, inv, _, body, _) => {
-            let e = expr_of(alloc, &e.expr)?;
-            let inv = state_or_none(alloc, inv)?;
-            cov_ast::StmtKind::While(e, inv, stmts_of(alloc, body.as_slice())?)
-        }
-        StmtKind::Note(state, _) => cov_ast::StmtKind::Note(state_of(alloc, state)?),
-    })
+    let Stmt { at, kind } = stmt;
+    let (kind, proofs) = kind_of(alloc, kind)?;
+    Ok(cov_ast::Stmt { at, kind, proofs })
 }
 
-fn stmt_proofs(alloc: Global, kind: &StmtKind) -> Result<List<cov_ast::Proof>, NoMemory>
-    ensures { IfOk result (λ made. map ast.proof made ≡ spec.proofs_of (stmts.kind kind.now)) }
+/// What a statement is, and its proofs.
+#[cycle(made)]
+fn kind_of(
+    alloc: Global,
+    kind: StmtKind,
+) -> Result<(cov_ast::StmtKind, List<cov_ast::Proof>), NoMemory>
+    ensures kind { IfOk result (λ made. ast.kind made.0 ≡ spec.stm_of (stmts.kind kind)) }
+    ensures proofs { IfOk result (λ made. map ast.proof made.1 ≡ spec.proofs_of (stmts.kind kind)) }
 {
     match kind {
-        StmtKind::Skip | StmtKind::Lock(_) => Ok(List::new(alloc)),
-        StmtKind::Assign(_, _, _, _, proofs)
-        | StmtKind::Unlock(_, proofs)
-        | StmtKind::If(_, _, _, _, _, _, proofs)
-        | StmtKind::While(_, _, _, _, proofs)
-        | StmtKind::Note(_, proofs) => proofs_of(alloc, proofs.as_slice()),
+        StmtKind::Skip => Ok((cov_ast::StmtKind::Skip, List::new(alloc))),
+        StmtKind::Assign(x, e, class, retypes, proofs) => {
+            let retypes = retypes_of(alloc, retypes)?;
+            let kind = cov_ast::StmtKind::Assign(x, expr_of(e), option_of(class), retypes);
+            Ok((kind, proofs_of(alloc, proofs)?))
+        }
+        StmtKind::Lock(lock) => Ok((cov_ast::StmtKind::Lock(lock), List::new(alloc))),
+        StmtKind::Unlock(lock, proofs) => {
+            let kind = cov_ast::StmtKind::Unlock(lock);
+            Ok((kind, proofs_of(alloc, proofs)?))
+        }
+        StmtKind::If(e, _, first, _, second, join, proofs) => {
+            let first = stmts_of(alloc, first)?;
+            let second = stmts_of(alloc, second)?;
+            let join = state_or_none(alloc, join)?;
+            let kind = cov_ast::StmtKind::If(expr_of(e), first, second, join);
+            Ok((kind, proofs_of(alloc, proofs)?))
+        }
+        StmtKind::While(e, inv, _, body, proofs) => {
+            let inv = state_or_none(alloc, inv)?;
+            let kind = cov_ast::StmtKind::While(expr_of(e), inv, stmts_of(alloc, body)?);
+            Ok((kind, proofs_of(alloc, proofs)?))
+        }
+        StmtKind::Note(state, proofs) => {
+            let kind = cov_ast::StmtKind::Note(state_of(alloc, state)?);
+            Ok((kind, proofs_of(alloc, proofs)?))
+        }
     }
 }
 
@@ -81,103 +87,124 @@ fn name_of(names: &NameTable, id: u32) -> Name
     names.name(id)
 }
 
-fn class_of(alloc: Global, class: &ClassDecl) -> Result<Class, NoMemory>
-    ensures { IfOk result (λ made. ast.class made ≡ spec.class_of (decls.class class.now)) }
+fn class_of(class: ClassDecl) -> Class
+    ensures { ast.class result ≡ spec.class_of (decls.class class) }
 {
     match class {
-        ClassDecl::Low => Ok(Class::Low),
-        ClassDecl::High => Ok(Class::High),
-        ClassDecl::When(e) => Ok(Class::When(expr_of(alloc, &e.expr)?)),
+        ClassDecl::Low => Class::Low,
+        ClassDecl::High => Class::High,
+        ClassDecl::When(e) => Class::When(expr_of(e)),
     }
 }
 
-fn vars_of(alloc: Global, names: &NameTable, vars: &[Variable]) -> Result<List<VarDecl>, NoMemory>
-    requires { All (λ v. v.name.0 < length names.now) (map decls.var vars.now) }
-    ensures { IfOk result (λ made. map ast.var made ≡ map (spec.var_of names.now) (map decls.var vars.now)) }
+fn var_of(names: &NameTable, var: Variable) -> VarDecl
+    requires { (decls.var var).name.0 < length names.now }
+    ensures { ast.var result ≡ spec.var_of names.now (decls.var var) }
 {
+    VarDecl {
+        name: name_of(names, var.name),
+        at: var.at,
+        class: class_of(var.class),
+    }
+}
+
+fn vars_of(
+    alloc: Global,
+    names: &NameTable,
+    vars: List<Variable>,
+) -> Result<List<VarDecl>, NoMemory>
+    requires { All (λ v. v.name.0 < length names.now) (map decls.var vars) }
+    ensures { IfOk result (λ made. map ast.var made ≡ map (spec.var_of names.now) (map decls.var vars)) }
+{
+    let mut rest = turned(alloc, vars)?;
     let mut made = List::new(alloc);
-    for var in vars {
-        made.push(VarDecl {
-            name: name_of(names, var.name),
-            at: var.at,
-            class: class_of(alloc, &var.class)?,
-        })?;
+    while let Some(var) = rest.pop() {
+        made.push(var_of(names, var))?;
     }
     Ok(made)
 }
 
-/// The same numbers.
 #[tactic(auto, using(crate::proofs::BlockLaws::numbers_same))]
-fn numbers_of(alloc: Global, numbers: &[u32]) -> Result<List<u32>, NoMemory>
-    ensures { IfOk result (λ made. made ≡ map decls.number numbers.now) }
+fn lock_of(names: &NameTable, lock: Lock) -> LockDecl
+    requires { (decls.lock lock).name.0 < length names.now }
+    ensures { ast.lock result ≡ spec.lock_of names.now (decls.lock lock) }
 {
-    let mut made = List::new(alloc);
-    made.extend_from_slice(numbers)?;
-    Ok(made)
+    LockDecl {
+        name: name_of(names, lock.name),
+        at: lock.at,
+        nowrite: lock.nowrite,
+        hide: lock.hide,
+        inv: option_of(lock.inv),
+    }
 }
 
-fn locks_of(alloc: Global, names: &NameTable, locks: &[Lock]) -> Result<List<LockDecl>, NoMemory>
-    requires { All (λ l. l.name.0 < length names.now) (map decls.lock locks.now) }
-    ensures { IfOk result (λ made. map ast.lock made ≡ map (spec.lock_of names.now) (map decls.lock locks.now)) }
+fn locks_of(alloc: Global, names: &NameTable, locks: List<Lock>) -> Result<List<LockDecl>, NoMemory>
+    requires { All (λ l. l.name.0 < length names.now) (map decls.lock locks) }
+    ensures { IfOk result (λ made. map ast.lock made ≡ map (spec.lock_of names.now) (map decls.lock locks)) }
 {
+    let mut rest = turned(alloc, locks)?;
     let mut made = List::new(alloc);
-    for lock in locks {
-        made.push(LockDecl {
-            name: name_of(names, lock.name),
-            at: lock.at,
-            nowrite: numbers_of(alloc, lock.nowrite.as_slice())?,
-            hide: numbers_of(alloc, lock.hide.as_slice())?,
-            inv: option_of(alloc, &lock.inv)?,
-        })?;
+    while let Some(lock) = rest.pop() {
+        made.push(lock_of(names, lock))?;
     }
     Ok(made)
 }
 
-fn modes_of(alloc: Global, assumes: &Pair, guarantees: &Pair) -> Result<Modes, NoMemory>
-    ensures { IfOk result (λ made. ast.modes made ≡ spec.modes_of (decls.modes assumes.now guarantees.now)) }
+#[tactic(auto, using(crate::proofs::BlockLaws::numbers_same))]
+fn modes_of(assumes: Pair, guarantees: Pair) -> Modes
+    ensures { ast.modes result ≡ spec.modes_of (decls.modes assumes guarantees) }
 {
-    Ok(Modes {
-        assume_nowrite: numbers_of(alloc, assumes.nowrite.as_slice())?,
-        assume_hide: numbers_of(alloc, assumes.hide.as_slice())?,
-        guarantee_nowrite: numbers_of(alloc, guarantees.nowrite.as_slice())?,
-        guarantee_hide: numbers_of(alloc, guarantees.hide.as_slice())?,
+    Modes {
+        assume_nowrite: assumes.nowrite,
+        assume_hide: assumes.hide,
+        guarantee_nowrite: guarantees.nowrite,
+        guarantee_hide: guarantees.hide,
+    }
+}
+
+fn thread_of(alloc: Global, names: &NameTable, thread: Thread) -> Result<ThreadDecl, NoMemory>
+    requires { (decls.thread thread).name.0 < length names.now }
+    ensures { IfOk result (λ made. ast.thread made ≡ spec.thread_of names.now (decls.thread thread)) }
+{
+    Ok(ThreadDecl {
+        name: name_of(names, thread.name),
+        at: thread.at,
+        modes: modes_of(thread.assumes, thread.guarantees),
+        body: stmts_of(alloc, thread.body)?,
+        end: thread.braces.end,
     })
 }
 
 fn threads_of(
     alloc: Global,
     names: &NameTable,
-    threads: &[Thread],
+    threads: List<Thread>,
 ) -> Result<List<ThreadDecl>, NoMemory>
-    requires { All (λ h. h.name.0 < length names.now) (map decls.thread threads.now) }
-    ensures { IfOk result (λ made. map ast.thread made ≡ map (spec.thread_of names.now) (map decls.thread threads.now)) }
+    requires { All (λ h. h.name.0 < length names.now) (map decls.thread threads) }
+    ensures { IfOk result (λ made. map ast.thread made ≡ map (spec.thread_of names.now) (map decls.thread threads)) }
 {
+    let mut rest = turned(alloc, threads)?;
     let mut made = List::new(alloc);
-    for thread in threads {
-        made.push(ThreadDecl {
-            name: name_of(names, thread.name),
-            at: thread.at,
-            modes: modes_of(alloc, &thread.assumes, &thread.guarantees)?,
-            body: stmts_of(alloc, thread.body.as_slice())?,
-            end: thread.braces.end,
-        })?;
+    while let Some(thread) = rest.pop() {
+        made.push(thread_of(alloc, names, thread)?)?;
     }
     Ok(made)
 }
 
-/// The tree that callers get, of a program within its limits whose declarations are named by numbers of names.
+/// The tree that callers get, of a program within its limits whose declarations are named by numbers of names. What was read
+/// is moved into it.
 pub fn parsed_of(
     alloc: Global,
     names: NameTable,
     uses: List<NameUse>,
-    program: &PlacedProgram,
+    program: PlacedProgram,
 ) -> Result<Parsed, NoMemory>
-    requires { AreNamed (length names) (decls.program program.now) }
-    ensures { IfOk result (λ made. ast.parsed made ≡ spec.parsed_of names uses (decls.program program.now)) }
+    requires { AreNamed (length names) (decls.program program) }
+    ensures { IfOk result (λ made. ast.parsed made ≡ spec.parsed_of names uses (decls.program program)) }
 {
-    let vars = vars_of(alloc, &names, program.vars.as_slice())?;
-    let locks = locks_of(alloc, &names, program.locks.as_slice())?;
-    let threads = threads_of(alloc, &names, program.threads.as_slice())?;
+    let vars = vars_of(alloc, &names, program.vars)?;
+    let locks = locks_of(alloc, &names, program.locks)?;
+    let threads = threads_of(alloc, &names, program.threads)?;
     Ok(Parsed {
         names,
         uses,

@@ -67,7 +67,7 @@ fn read_program_text(alloc: Global, bytes: &[u8]) -> Result<Parsed, ParseFault>
     let uses = uses(alloc, tokens.as_slice())?;
     // (the tree takes their memory)
     drop(tokens);
-    Ok(parsed_of(alloc, names, uses, &program)?)
+    Ok(parsed_of(alloc, names, uses, program)?)
 }
 
 /// The expression that a text of at most 1 MiB spells, or its first fault.
@@ -94,7 +94,7 @@ fn read_expr_text(alloc: Global, bytes: &[u8]) -> Result<ParsedExpr, ParseFault>
         return Err(ParseFault::from(excess));
     }
     let uses = uses(alloc, tokens.as_slice())?;
-    let expr = expr_of(alloc, &whole.expr)?;
+    let expr = expr_of(whole);
     Ok(ParsedExpr { names, uses, expr })
 }
 

@@ -1,8 +1,8 @@
 -- The canonical tokens of declarations and programs spell them.
 use Rattle.std.proofs.Common.{◌≡◌, ℕ, List, [], ◌∷◌, ◌++◌, Bool, false, Option, Some, None, map, option_map, flat_map, refl, sym, ap, subst, ◌∙◌, inl, inr}
 use Rattle.cov_expr.specs.Term.{Term}
-use Rattle.cov_grammar.specs.declared.token.Kind.{Kind}
-use Rattle.cov_grammar.specs.declared.token.Kind.TheVariants as k
+use Rattle.cov_expr.specs.declared.kind.Kind.{Kind}
+use Rattle.cov_expr.specs.declared.kind.Kind.TheVariants as k
 use Rattle.cov_grammar.specs.declared.token.Token.{Token}
 use Rattle.cov_grammar.specs.Trees as t
 use Rattle.cov_grammar.specs.Trees.{Placed}

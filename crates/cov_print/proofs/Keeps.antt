@@ -1,8 +1,8 @@
 -- What is spelled is spelled by the canonical tokens too: from right sides to their parts.
 use Rattle.std.proofs.Common.{◌≡◌, ℕ, ◌≤◌, List, [], ◌∷◌, ◌++◌, Bool, true, false, Option, Some, None, map, option_map, flat_map, refl, sym, ap, subst, ◌∙◌, append_assoc, inl, inr}
 use Rattle.cov_expr.specs.declared.expr.TheConstants.{HOLE}
-use Rattle.cov_grammar.specs.declared.token.Kind.{Kind}
-use Rattle.cov_grammar.specs.declared.token.Kind.TheVariants as k
+use Rattle.cov_expr.specs.declared.kind.Kind.{Kind}
+use Rattle.cov_expr.specs.declared.kind.Kind.TheVariants as k
 use Rattle.cov_grammar.specs.declared.token.Token.{Token}
 use Rattle.cov_grammar.specs.Shapes.{Shape, token, seq, alt, opt, many, act, placed, Each, Sense, Spells, place}
 use Rattle.cov_grammar.specs.Grammar.{◌▸◌, ◌◂◌, separated, listed, none_or, sign, name, named, number}

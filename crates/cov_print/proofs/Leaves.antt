@@ -7,14 +7,15 @@ use Rattle.std.specs.List.{list_all}
 use Rattle.std.specs.Str.{bytes_eq}
 use Rattle.cov_lex.specs.Signs.{is_blank}
 use Rattle.cov_expr.specs.Bytes.{is_lower, is_digit, is_word}
-use Rattle.cov_expr.specs.Names.{is_keyword, is_word_text, IsName}
+use Rattle.cov_expr.specs.Names.{is_word_text, IsName}
+use Rattle.cov_expr.specs.Spellings.{is_keyword}
 use Rattle.cov_lex.specs.declared.token.TokenKind.TheVariants.{Keyword, Name, Number, Sign}
 use Rattle.cov_lex.specs.declared.piece.Piece.TheVariants.{Part}
 use Rattle.cov_lex.specs.declared.fault.LexFault.TheVariants.{NameTooLong}
 use Rattle.cov_expr.specs.Term.{Term, const, var, neg, bin}
 use Rattle.cov_lex.specs.Lexing.{piece_at, word_of, number_of}
 use Rattle.cov_lex.proofs.Fronts.{Stops, run_of}
-use Rattle.cov_grammar.specs.declared.token.Kind.TheVariants as k
+use Rattle.cov_expr.specs.declared.kind.Kind.TheVariants as k
 use Rattle.cov_grammar.specs.Words.{kind_of as kind_of_word, keyword_kinds, sign_kinds}
 use Rattle.cov_print.specs.Spelling as spec
 use Rattle.cov_print.proofs.Written as w

@@ -1,7 +1,7 @@
 -- The lines of the canonical spelling have the canonical tokens.
 use Rattle.std.proofs.Common.{◌≡◌, ℕ, List, [], ◌∷◌, ◌++◌, Option, Some, None, codes, flat_map, refl, ap, ◌∙◌, append_assoc}
 use Rattle.cov_expr.specs.Term.{Term}
-use Rattle.cov_grammar.specs.declared.token.Kind.TheVariants as k
+use Rattle.cov_expr.specs.declared.kind.Kind.TheVariants as k
 use Rattle.cov_ast.specs.Syntax as s
 use Rattle.cov_print.specs.Spelling as spec
 use Rattle.cov_print.proofs.Written as w

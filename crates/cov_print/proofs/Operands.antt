@@ -5,8 +5,8 @@ use Rattle.cov_expr.specs.Trees.{occurrences}
 use Rattle.cov_expr.specs.declared.expr.Op.{Op}
 use Rattle.cov_expr.specs.declared.expr.Op.TheVariants as ops
 use Rattle.cov_expr.specs.declared.expr.TheConstants.{HOLE}
-use Rattle.cov_grammar.specs.declared.token.Kind.{Kind}
-use Rattle.cov_grammar.specs.declared.token.Kind.TheVariants as k
+use Rattle.cov_expr.specs.declared.kind.Kind.{Kind}
+use Rattle.cov_expr.specs.declared.kind.Kind.TheVariants as k
 use Rattle.cov_grammar.specs.declared.token.Token.{Token}
 use Rattle.cov_grammar.specs.Trees as t
 use Rattle.cov_grammar.specs.Shapes.{Shape, token, rule, seq, alt, opt, act, Each, Sense, Spells}

@@ -12,7 +12,7 @@ use Rattle.cov_grammar.proofs.Senses.{OfShape, gather}
 use Rattle.cov_ast.specs.declared.parsed.NameUse.{NameUse}
 use Rattle.cov_parse.specs.Depth.{deep}
 use Rattle.cov_parse.specs.Limits.{in_program}
-use Rattle.cov_parse.specs.Words as words
+use Rattle.cov_parse.specs.Numbered as words
 use Rattle.cov_parse.specs.Text.{words_of, names_of, IsText}
 use Rattle.cov_parse.specs.Trees.{parsed_of}
 use Rattle.cov_parse.proofs.ParseLaws.{lexes_so, words_are, names_are}

@@ -3,19 +3,19 @@ use Rattle.std.proofs.Common.{◌≡◌, ℕ, ◌+◌, ◌<◌, nat_lt, List, []
 use Rattle.std.proofs.Math.Seq.{drop-append_seam, take-append_seam}
 use Rattle.std.specs.List.{take_while, list_all}
 use Rattle.cov_expr.specs.Bytes.{is_word}
-use Rattle.cov_expr.specs.Names.{is_keyword}
+use Rattle.cov_expr.specs.Spellings.{is_keyword}
 use Rattle.cov_lex.specs.declared.token.Token as lexed
 use Rattle.cov_lex.specs.declared.token.TokenKind.{TokenKind}
 use Rattle.cov_lex.specs.declared.token.TokenKind.TheVariants.{Keyword, Name, Number, Sign}
-use Rattle.cov_lex.specs.declared.piece.Piece.TheVariants.{Gap, Part}
+use Rattle.cov_lex.specs.Lexing.{Gap, Part}
 use Rattle.cov_lex.specs.Lexing.{piece_at, tokens_from, before, word_of}
 use Rattle.cov_lex.specs.Tokens.{bytes_of}
 use Rattle.cov_lex.proofs.Fronts.{one_token, one_gap, Stops, run_of}
-use Rattle.cov_grammar.specs.declared.token.Kind.{Kind}
-use Rattle.cov_grammar.specs.declared.token.Kind.TheVariants as k
+use Rattle.cov_expr.specs.declared.kind.Kind.{Kind}
+use Rattle.cov_expr.specs.declared.kind.Kind.TheVariants as k
 use Rattle.cov_grammar.specs.Words.{kind_of as kind_of_word}
 use Rattle.cov_grammar.specs.Words.{keyword_kinds, sign_kinds}
-use Rattle.cov_parse.specs.Words.{kind_of}
+use Rattle.cov_parse.specs.Numbered.{kind_of}
 use Rattle.cov_print.specs.Spelling as spec
 use Rattle.cov_print.proofs.Written as w
 use Rattle.cov_print.proofs.Written.{Word, plain}

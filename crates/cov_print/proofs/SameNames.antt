@@ -9,9 +9,9 @@ use Rattle.cov_lex.specs.declared.token.TokenKind.TheVariants as raw
 use Rattle.cov_lex.specs.Lexing.{tokens_of}
 use Rattle.cov_lex.specs.Tokens.{bytes_of, Spells}
 use Rattle.cov_lex.proofs.Spelled.{are_tokens}
-use Rattle.cov_grammar.specs.declared.token.Kind.{Kind}
+use Rattle.cov_expr.specs.declared.kind.Kind.{Kind}
 use Rattle.cov_ast.specs.Names.{number_of}
-use Rattle.cov_parse.specs.Words.{with_word, with_token, names_onto, kind_of, value_of, word_of}
+use Rattle.cov_parse.specs.Numbered.{with_word, with_token, names_onto, kind_of, value_of, word_of}
 use Rattle.cov_parse.proofs.NameNumbers.{token_inside}
 use Rattle.cov_print.specs.Spelling as spec
 use Rattle.cov_print.proofs.Written as w

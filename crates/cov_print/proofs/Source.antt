@@ -4,20 +4,20 @@ use Rattle.std.proofs.lemmas.Slice.Eq.{bytes_eq-Decides}
 use Rattle.std.specs.List.{list_any, list_all, take_while}
 use Rattle.std.specs.Str.{bytes_eq}
 use Rattle.std.specs.Str.Parse.{digits_value}
-use Rattle.cov_expr.specs.Names.{is_keyword}
+use Rattle.cov_expr.specs.Spellings.{is_keyword}
 use Rattle.cov_expr.specs.Bytes.{is_lower, is_digit, is_word}
 use Rattle.cov_expr.specs.declared.expr.TheConstants.{HOLE}
 use Rattle.cov_lex.specs.Signs.{is_sign, is_blank, doubles, singles}
 use Rattle.cov_lex.specs.declared.token.Token as lexed
 use Rattle.cov_lex.specs.declared.token.TokenKind.{TokenKind}
 use Rattle.cov_lex.specs.declared.token.TokenKind.TheVariants as raw
-use Rattle.cov_lex.specs.declared.piece.Piece.{Piece}
-use Rattle.cov_lex.specs.declared.piece.Piece.TheVariants.{Gap, Part}
+use Rattle.cov_lex.specs.Lexing.{Piece}
+use Rattle.cov_lex.specs.Lexing.{Gap, Part}
 use Rattle.cov_lex.specs.declared.fault.LexFault.{LexFault}
 use Rattle.cov_lex.specs.Lexing.{Lexed, piece_at, tokens_from, tokens_of, before, behind, word_of, number_of, sign_of}
 use Rattle.cov_lex.specs.Tokens.{bytes_of, IsToken, Spells}
-use Rattle.cov_grammar.specs.declared.token.Kind.{Kind}
-use Rattle.cov_grammar.specs.declared.token.Kind.TheVariants as k
+use Rattle.cov_expr.specs.declared.kind.Kind.{Kind}
+use Rattle.cov_expr.specs.declared.kind.Kind.TheVariants as k
 use Rattle.cov_grammar.specs.Words as grammar
 use Rattle.cov_grammar.specs.Words.{keyword_kinds, sign_kinds, kind_among}
 use Rattle.cov_lex.proofs.Spelled.{are_tokens}

@@ -5,7 +5,7 @@ use Rattle.cov_expr.specs.Bytes.{is_word}
 use Rattle.cov_expr.specs.declared.expr.Op.{Op}
 use Rattle.cov_expr.specs.declared.expr.Op.TheVariants as ops
 use Rattle.cov_lex.proofs.Fronts.{Stops}
-use Rattle.cov_grammar.specs.declared.token.Kind.TheVariants as k
+use Rattle.cov_expr.specs.declared.kind.Kind.TheVariants as k
 use Rattle.cov_ast.specs.Syntax as s
 use Rattle.cov_print.specs.Spelling as spec
 use Rattle.cov_print.proofs.Written as w

@@ -1,8 +1,26 @@
-use Rattle.std.proofs.Common.{◌≡◌, ◌++◌, map, drop}
+use Rattle.std.proofs.Common.{◌≡◌, ◌≤◌, ◌+◌, ◌*◌, ◌++◌, map, reverse, length}
 use Rattle.cov_ast.specs.View as ast
+use Rattle.cov_grammar.specs.Trees.{stms}
+use Rattle.cov_parse.specs.Limits.{places, places_in}
 use Rattle.cov_parse.specs.StmtViews as stmts
 use Rattle.cov_parse.specs.Trees as spec
 use Rattle.cov_parse.proofs.programs.+made.Given as goal
 
+-- how many statements there are
+abbrev pub decreases-stmts_of : goal.decreases-stmts_of
+decreases-stmts_of l = 3 * length (places (stms (map stmts.stmt l.body)))
+
+abbrev pub decreases-stmt_of : goal.decreases-stmt_of
+decreases-stmt_of l = 3 * length (places_in (stmts.stmt l.stmt).1) + 2
+
+abbrev pub decreases-kind_of : goal.decreases-kind_of
+decreases-kind_of l = 3 * length (places_in (stmts.kind l.kind)) + 1
+
 abbrev pub invariant-stmts_of-loop-stmt : goal.invariant-stmts_of-loop-stmt
-invariant-stmts_of-loop-stmt l = map ast.stmt l.made ++ map spec.stmt_of (map stmts.stmt (drop l.stmt-index l.body)) ≡ map spec.stmt_of (map stmts.stmt l.body)
+invariant-stmts_of-loop-stmt l = record {
+  same : map ast.stmt l.made ++ map spec.stmt_of (map stmts.stmt (reverse l.rest)) ≡ map spec.stmt_of (map stmts.stmt l.fn.body);
+  few : length (places (stms (map stmts.stmt (reverse l.rest)))) ≤ length (places (stms (map stmts.stmt l.fn.body)));
+}
+
+abbrev pub decreases-stmts_of-loop-stmt : goal.decreases-stmts_of-loop-stmt
+decreases-stmts_of-loop-stmt l = length l.rest

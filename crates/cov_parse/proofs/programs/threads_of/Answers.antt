@@ -1,8 +1,18 @@
 use Rattle.std.proofs.Common.{◌<◌, length}
-use Rattle.cov_ast.proofs.WellFormedLaws.{seen_item}
+use Rattle.cov_ast.specs.View as ast
 use Rattle.cov_parse.specs.DeclViews as decls
+use Rattle.cov_parse.specs.Trees as spec
+use Rattle.cov_parse.proofs.Items.{item_moved, item_is, items_are}
 use Rattle.cov_parse.proofs.programs.threads_of.Goals as goal
 
-pub name_of-requires : goal.name_of-requires
-name_of-requires c =
-    seen_item decls.thread (λ h. h.name.0 < length c.args.names.now) c.args.threads.now c.loop-thread.thread-index c.thread-item.result c.requires c.loop-thread-test.true c.thread-item.is
+pub thread_of-requires : goal.thread_of-requires
+thread_of-requires c =
+    item_is decls.thread (λ x. x.name.0 < length c.args.names.now) c.loop-thread.rest c.pop.new.self c.in-Some.thread c.in-Some.ensures c.loop-thread.invariant.named
+
+pub loop-thread-preserved : goal.loop-thread-preserved
+loop-thread-preserved c = record {
+  same =
+      item_moved (spec.thread_of c.args.names.now) decls.thread ast.thread c.loop-thread.made c.push.new.self c.in_ok-thread_of.field-0 c.loop-thread.rest c.pop.new.self c.in-Some.thread _ c.in-Some.ensures c.in_ok-push.ensures.ok c.in_ok-thread_of.ensures
+      c.loop-thread.invariant.same;
+  named = items_are decls.thread (λ x. x.name.0 < length c.args.names.now) c.loop-thread.rest c.pop.new.self c.in-Some.thread c.in-Some.ensures c.loop-thread.invariant.named;
+}

@@ -27,7 +27,7 @@ returns c =
     let same : c.as_slice.result.now ≡ words_of c.args.bytes.now = search rules in
     let uses : c.in_ok-uses.uses ≡ uses_of (words_of c.args.bytes.now) = search rules in
     let names : c.in_ok-names.field-0.names ≡ names_of c.args.bytes.now = c.in_ok-names.ensures.1 in
-    let expr : term c.in_ok-expr.expr ≡ written c.in_ok-whole.whole.expr = c.in_ok-expr.ensures in
+    let expr : term c.expr_of-expr.result ≡ written c.in_ok-whole.whole.expr = c.expr_of-expr.ensures in
     let none : in_expr (certs.whole c.in_ok-whole.whole) ≡ None = search rules in
     answer_is whole in_expr c.args.bytes.now parsed_expr (expression_of c.args.bytes.now) certs.whole c.in_ok-whole.whole _ 0 c.as_slice.result.now
     c.in_ok-names.ensures.0 same c.in_ok-whole.ensures none (made_is _ _ _ _ _ _ names uses expr)

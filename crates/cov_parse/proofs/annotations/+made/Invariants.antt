@@ -1,0 +1,10 @@
+use Rattle.std.proofs.Common.{◌+◌, ◌*◌}
+use Rattle.cov_parse.specs.CertViews as certs
+use Rattle.cov_parse.specs.Limits.{cert_nodes}
+use Rattle.cov_parse.proofs.annotations.+made.Given as goal
+
+abbrev pub decreases-cert_of : goal.decreases-cert_of
+decreases-cert_of l = 2 * cert_nodes (certs.cert l.cert)
+
+abbrev pub decreases-part_of : goal.decreases-part_of
+decreases-part_of l = 2 * cert_nodes (certs.cert l.part.value) + 1
