@@ -12,7 +12,7 @@ use cov_lex::LexFault;
 use std::alloc::Global;
 
 /// The names of a text in the order in which they first occur, and its tokens. The value of a name is its number there.
-#[derive(Debug, Drop)]
+#[derive(Drop)]
 pub struct Tokens {
     pub names: NameTable,
     pub tokens: List<Token>,

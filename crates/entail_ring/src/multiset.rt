@@ -5,7 +5,7 @@ use std::marker::Model;
 
 /// A multiset of at most 16 atoms, as the product of two terms of normal forms has: the number of each, as often as it is a factor.
 /// Contracts see it as the list of these numbers.
-#[derive(Debug, Drop)]
+#[derive(Drop)]
 pub struct Multiset {
     numbers: [u32; 16],
     len: u8,

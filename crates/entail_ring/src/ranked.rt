@@ -6,7 +6,7 @@ use crate::monomials::{Monomial, order};
 use std::cmp::Ordering;
 
 /// A term that is lent, with its rank: the first atoms in one number, by which most pairs of terms are told apart.
-#[derive(Clone, Copy, Debug)]
+#[derive(Clone, Copy)]
 pub struct Ranked<'a> {
     rank: u64,
     /// The term.
