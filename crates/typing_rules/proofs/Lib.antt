@@ -8,7 +8,7 @@ mod Threads
 mod ListedLaws
 mod LargeTypes
 mod ReadTypes
-pub mod Statements
+pub mod StatementLaws
 pub mod Counting
 pub mod Bounds
 mod Parts

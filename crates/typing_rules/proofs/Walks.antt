@@ -22,7 +22,7 @@ use Rattle.typing_rules.specs.Blocks.{after_block, after_stm}
 use Rattle.typing_rules.specs.Obligations.{block_obligations, flat, stm_parts}
 use Rattle.typing_rules.specs.declared.walk.Walked.{Walked}
 use Rattle.typing_rules.proofs.Counting.{count_more}
-use Rattle.typing_rules.proofs.Statements.{branch_is}
+use Rattle.typing_rules.proofs.StatementLaws.{branch_is}
 
 -- what is kept is kept of one point
 pub one_point : (p : Plain) (t : ℕ) (a b : Point) (kept : declared.Point) → Keeps p t a kept → Keeps p t b kept → a ≡ b
