@@ -5,7 +5,7 @@ use Rattle.cov_expr.specs.declared.expr.Op.{Op}
 use Rattle.cov_expr.specs.declared.expr.Op.TheVariants.{Add, Sub, Mul, And, Or, Xor, Eq, Ne, Lt, Le, Both, Either}
 use Rattle.cov_expr.specs.Term.{Term, const, var, neg, bin}
 use Rattle.cov_expr.specs.Trees.{op_number, same}
-use Rattle.cov_expr.proofs.Trees.{and_left}
+use Rattle.cov_expr.proofs.Tests.{left_true}
 use Rattle.entail_range.specs.declared.interval.Bound.{Bound}
 use Rattle.entail_range.specs.Index.{IsFit}
 use Rattle.entail_range.specs.Intervals.{all, cut}
@@ -18,7 +18,7 @@ same_alike (const j) (const k) h = h
 same_alike (var x) (var y) h = h
 same_alike (neg a) (neg b) h = refl
 same_alike (bin o a b) (bin q c d) h =
-    and_left (op_number o == op_number q) (same a c) (and_left ((op_number o == op_number q) && same a c) (same b d) h)
+    left_true (op_number o == op_number q) (same a c) (left_true ((op_number o == op_number q) && same a c) (same b d) h)
 same_alike (const j) (var y) h = h
 same_alike (const j) (neg b) h = h
 same_alike (const j) (bin q c d) h = h
