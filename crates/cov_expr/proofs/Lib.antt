@@ -3,3 +3,4 @@ pub mod Spellings
 pub mod Trees
 pub mod Values
 pub mod View
+pub mod Lists

@@ -8,3 +8,4 @@ pub mod Trees
 pub mod Entailment
 pub mod View
 pub mod Inside
+pub mod Lends
