@@ -7,11 +7,12 @@ use Rattle.std.proofs.lemmas.List.{length-map}
 use Rattle.std.proofs.lemmas.List.Elements.{All-nil, All-map}
 use Rattle.std.proofs.lemmas.Bool.{and_from}
 use Rattle.cov_expr.specs.Term.{Term}
+use Rattle.cov_expr.specs.Words.{HasWords}
 use Rattle.cov_expr.proofs.Tests.{left_true, right_true}
 use Rattle.cov_ast.specs.Syntax.{Var, Lock, Proof, Stm, Block, done, more, Thread, Program}
 use Rattle.cov_ast.specs.Syntax as annotated
 use Rattle.cov_ast.specs.Plain.{no_state, in_front, bare_kind, bare_block, bare_thread, bare}
-use Rattle.cov_ast.specs.WellFormed.{IsStateInRange, IsCertInRange, IsExprInRange, IsStmInRange, IsBlockInRange, IsThreadInRange, IsBodyFine, IsWellFormed, are_distinct, places, places_within, stm_size, block_size}
+use Rattle.cov_ast.specs.WellFormed.{IsStateInRange, IsCertInRange, IsExprInRange, IsStmInRange, IsBlockInRange, IsThreadInRange, CertHasWords, StateHasWords, StmHasWords, BlockHasWords, IsBodyFine, IsWellFormed, are_distinct, places, places_within, stm_size, block_size}
 
 -- Parts of lists -----------------------------------------------------------------------------------------------
 
@@ -141,6 +142,31 @@ module _ (vars locks : ℕ) where
   thread_ids : (t : Thread) → IsThreadInRange vars locks t → IsThreadInRange vars locks (bare_thread t)
   thread_ids t h = record { modes = h.modes; body = block_ids t.body h.body }
 
+-- Words --------------------------------------------------------------------------------------------------------
+
+no_state_of_words : StateHasWords no_state
+no_state_of_words = record { preds = All-nil HasWords; types = All-nil (λ (t : ℕ × Term). HasWords t.1) }
+
+next_of_words : (at : ℕ) (s : Stm) (rest : Block) → StmHasWords s → BlockHasWords rest → BlockHasWords (more at s [] rest)
+next_of_words at s rest h k = (h, All-nil (λ (p : Proof). CertHasWords p.cert), k)
+
+mutual
+  stm_words : (s : Stm) (at : ℕ) (rest : Block) → StmHasWords s → BlockHasWords rest → BlockHasWords (in_front at (bare_kind s) rest)
+  stm_words annotated.skip at rest h k = next_of_words at annotated.skip rest h k
+  stm_words (annotated.assign x e q retypes) at rest h k =
+      next_of_words at (annotated.assign x e None []) rest (h.0, tt, All-nil (λ (t : ℕ × Term). HasWords t.1)) k
+  stm_words (annotated.lock l) at rest h k = next_of_words at (annotated.lock l) rest h k
+  stm_words (annotated.unlock l) at rest h k = next_of_words at (annotated.unlock l) rest h k
+  stm_words (annotated.branch e a b state) at rest h k =
+      next_of_words at (annotated.branch e (bare_block a) (bare_block b) no_state) rest (h.0, block_words a h.1, block_words b h.2, no_state_of_words) k
+  stm_words (annotated.loop e state b) at rest h k =
+      next_of_words at (annotated.loop e no_state (bare_block b)) rest (h.0, no_state_of_words, block_words b h.2) k
+  stm_words (annotated.note state) at rest h k = k
+
+  block_words : (b : Block) → BlockHasWords b → BlockHasWords (bare_block b)
+  block_words done h = tt
+  block_words (more at s proofs b) h = stm_words s at (bare_block b) h.0 (block_words b h.2)
+
 -- Programs -----------------------------------------------------------------------------------------------------
 
 same_names : (ts : List Thread) → map (λ t. t.name) (map bare_thread ts) ≡ map (λ t. t.name) ts
@@ -155,6 +181,11 @@ bare_is_formed p fine = record {
     of_locks = fine.ids.of_locks;
     of_threads = All-map (IsThreadInRange (length p.vars) (length p.locks)) bare_thread p.threads
         (λ i d inside. thread_ids (length p.vars) (length p.locks) _ (fine.ids.of_threads i d inside));
+  };
+  words = record {
+    classes = fine.words.classes;
+    invariants = fine.words.invariants;
+    bodies = All-map (λ (t : Thread). BlockHasWords t.body) bare_thread p.threads (λ i d inside. block_words _ (fine.words.bodies i d inside));
   };
   names_differ = subst (λ names. IsTrue (are_distinct bytes_eq (map (λ v. v.name) p.vars ++ map (λ l. l.name) p.locks ++ names))) (sym (same_names p.threads)) fine.names_differ;
   limits = record {

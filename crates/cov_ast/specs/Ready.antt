@@ -1,4 +1,4 @@
--- What reading a text promises of its tree, and what naming declarations by place asks of it.
+-- What reading a text promises of its tree, and what giving names their ids asks of it.
 use Rattle.std.specs.Prelude.{◌≡◌, ℕ, ◌<◌, ◌==◌, List, [], ◌∷◌, ◌++◌, length, map, flat_map, Bool, true, false, if◌then◌else◌, Option, Some, None, All}
 use Rattle.std.specs.List.{Contains}
 use Rattle.cov_expr.specs.Term.{Term, const, var, neg, bin}

@@ -1,10 +1,10 @@
--- Which programs are well formed: ids in range, names and places distinct, and within the limits.
+-- Which programs are well formed: ids in range, expressions of words, names and places distinct, and within the limits.
 use Rattle.std.specs.Prelude.{◌≡◌, ◌⊎◌, ℕ, ◌+◌, ◌<◌, ◌≤◌, ◌==◌, ◌&&◌, List, [], ◌∷◌, ◌++◌, length, map, sum_by, Bool, true, not, IsTrue, Option, Some, None, All}
 use Rattle.std.specs.List.{list_any}
 use Rattle.std.specs.Str.{bytes_eq}
 use Rattle.cov_expr.specs.Term.{Term, const, var, neg, bin}
 use Rattle.cov_expr.specs.Trees.{nodes}
-use Rattle.cov_expr.specs.Words.{HasVarsBelow}
+use Rattle.cov_expr.specs.Words.{HasVarsBelow, HasWords}
 use Rattle.cov_expr.specs.declared.expr.TheConstants.{HOLE}
 use Rattle.cov_ast.specs.Syntax.{Class, low, high, when, Var, Lock, Modes, State, Cert, Proof, Stm, Block, done, more, Thread, Program}
 use Rattle.cov_ast.specs.Syntax as s
@@ -96,6 +96,63 @@ module _ (vars locks : ℕ) where
     pub of_locks : All IsLockInRange declared_locks
     pub of_threads : All IsThreadInRange threads
 
+-- Words --------------------------------------------------------------------------------------------------------
+
+-- each expression of a certificate is of words
+abbrev pub CertHasWords : Cert → Type 0
+CertHasWords s.auto = Unit {0}
+CertHasWords (s.hyp i) = Unit {0}
+CertHasWords s.calc = Unit {0}
+CertHasWords (s.clash i) = Unit {0}
+CertHasWords (s.and c d) = CertHasWords c × CertHasWords d
+CertHasWords (s.left c) = CertHasWords c
+CertHasWords (s.right c) = CertHasWords c
+CertHasWords (s.unpack i c) = CertHasWords c
+CertHasWords (s.cases i c d) = CertHasWords c × CertHasWords d
+CertHasWords (s.split e c d) = HasWords e × CertHasWords c × CertHasWords d
+CertHasWords (s.have e c d) = HasWords e × CertHasWords c × CertHasWords d
+CertHasWords (s.absurdity i j) = Unit {0}
+CertHasWords (s.negation c) = CertHasWords c
+CertHasWords (s.contra c) = CertHasWords c
+CertHasWords s.reflexive = Unit {0}
+CertHasWords (s.fwd i e c) = HasWords e × CertHasWords c
+CertHasWords (s.rev i e c) = HasWords e × CertHasWords c
+CertHasWords (s.instance k es c) = All HasWords es × CertHasWords c
+CertHasWords s.ring = Unit {0}
+CertHasWords s.range = Unit {0}
+
+abbrev pub TypesHaveWords : List (ℕ × Term) → Type 0
+TypesHaveWords ts = All (λ t. HasWords t.1) ts
+
+pub record StateHasWords (j : State) : Type 0 where
+  pub preds : All HasWords j.preds
+  pub types : TypesHaveWords j.types
+
+abbrev pub TypeHasWords : Option Term → Type 0
+TypeHasWords None = Unit {0}
+TypeHasWords (Some q) = HasWords q
+
+abbrev mutual
+  pub StmHasWords : Stm → Type 0
+  StmHasWords s.skip = Unit {0}
+  StmHasWords (s.assign x e q retypes) = HasWords e × TypeHasWords q × TypesHaveWords retypes
+  StmHasWords (s.lock l) = Unit {0}
+  StmHasWords (s.unlock l) = Unit {0}
+  StmHasWords (s.branch e a b join) = HasWords e × BlockHasWords a × BlockHasWords b × StateHasWords join
+  StmHasWords (s.loop e inv b) = HasWords e × StateHasWords inv × BlockHasWords b
+  StmHasWords (s.note j) = StateHasWords j
+
+  -- each expression of statements, of what they state and of their certificates is of words
+  pub BlockHasWords : Block → Type 0
+  BlockHasWords done = Unit {0}
+  BlockHasWords (more at c proofs b) = StmHasWords c × All (λ p. CertHasWords p.cert) proofs × BlockHasWords b
+
+-- Each expression of the declarations is of words of 32 bits: as plain data, numbers may be larger.
+pub record AreOfWords (variables : List Var) (declared_locks : List Lock) (threads : List Thread) : Type 0 where
+  pub classes : All (λ v. HasWords (class_term v.class)) variables
+  pub invariants : All (λ l. HasWords (invariant_term l.inv)) declared_locks
+  pub bodies : All (λ t. BlockHasWords t.body) threads
+
 -- Names and places ---------------------------------------------------------------------------------------------
 
 -- whether no two of a list are equal
@@ -165,6 +222,7 @@ pub record IsBodyFine (b : Block) : Type 0 where
 
 pub record IsWellFormed (p : Program) : Type 0 where
   pub ids : AreIdsInRange (length p.vars) (length p.locks) p.vars p.locks p.threads
+  pub words : AreOfWords p.vars p.locks p.threads
   pub names_differ : IsTrue (are_distinct bytes_eq (names_of p.vars p.locks p.threads))
   pub limits : IsWithinLimits p.vars p.locks p.threads
   pub bodies : All (λ t. IsBodyFine t.body) p.threads

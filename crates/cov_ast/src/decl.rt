@@ -65,7 +65,7 @@ pub struct ThreadDecl {
     pub end: u32,
 }
 
-/// A program, in which variables, locks and threads are named by their place in these lists.
+/// A program, in which variables, locks and threads are named by id: how many of their kind are declared before.
 #[derive(Drop)]
 pub struct Program {
     pub vars: List<VarDecl>,

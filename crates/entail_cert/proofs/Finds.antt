@@ -4,30 +4,15 @@ use Rattle.cov_expr.specs.declared.expr.Expr.{Expr}
 use Rattle.cov_expr.specs.declared.expr.Op.TheVariants.{Both, Either}
 use Rattle.cov_expr.specs.Term.{Term, neg}
 use Rattle.cov_expr.specs.View.{term}
-use Rattle.cov_ast.specs.declared.cert.Cert.TheVariants as trees
-use Rattle.cov_ast.specs.declared.cert.Cert.TheFolds.{fold-roll-Cert}
 use Rattle.cov_ast.specs.Syntax.{Cert}
 use Rattle.cov_ast.specs.Syntax as by
-use Rattle.cov_ast.specs.View.{cert, cert_step}
+use Rattle.cov_ast.specs.View.{cert}
 use Rattle.entail_cert.specs.declared.walk.Walk.{Walk}
 use Rattle.entail_cert.specs.declared.walk.Stop.{Stop}
 use Rattle.entail_cert.specs.declared.walk.Stop.TheVariants as stop
 use Rattle.entail_cert.specs.Axioms.{numbered}
 use Rattle.entail_cert.specs.Valid.{operands, operands_of, in_child, two, only_with, first_bad}
 use Rattle.entail_cert.specs.Walks.{Finds, hypotheses}
-
--- the view of a certificate at variants with two children
-pub cert-And : (c d : _) → cert (trees.And c d) ≡ by.and (cert c.value) (cert d.value)
-cert-And c d = ap cert (sym (trees.rolls-And c d)) ∙ fold-roll-Cert Cert cert_step _
-
-pub cert-Cases : (i c d : _) → cert (trees.Cases i c d) ≡ by.cases i (cert c.value) (cert d.value)
-cert-Cases i c d = ap cert (sym (trees.rolls-Cases i c d)) ∙ fold-roll-Cert Cert cert_step _
-
-pub cert-Split : (e c d : _) → cert (trees.Split e c d) ≡ by.split (term e) (cert c.value) (cert d.value)
-cert-Split e c d = ap cert (sym (trees.rolls-Split e c d)) ∙ fold-roll-Cert Cert cert_step _
-
-pub cert-Have : (e c d : _) → cert (trees.Have e c d) ≡ by.have (term e) (cert c.value) (cert d.value)
-cert-Have e c d = ap cert (sym (trees.rolls-Have e c d)) ∙ fold-roll-Cert Cert cert_step _
 
 in_child_free : (n : ℕ) (x : Option (List ℕ)) → in_child n x ≡ None → x ≡ None
 in_child_free n None h = refl

@@ -1,18 +1,20 @@
 -- Instances of axioms hold, where they are made of words.
-use Rattle.std.proofs.Common.{◌≡◌, ◌≢◌, ℕ, zero, suc, ◌<◌, ◌==◌, ◌&&◌, not, List, [], ◌∷◌, length, map, get_or, slice_get, Bool, true, false, Option, Some, None, IfSome, refl, sym, ◌∙◌, ap, subst, if◌then◌else◌, inl, inr, arith, lit<}
+use Rattle.std.proofs.Common.{◌≡◌, ◌≢◌, ℕ, zero, suc, ◌<◌, ◌==◌, ◌&&◌, not, List, [], ◌∷◌, length, map, get_or, slice_get, Bool, true, false, Option, Some, None, IfSome, All, refl, sym, ◌∙◌, ap, subst, if◌then◌else◌, inl, inr, arith, lit<}
 use Rattle.std.proofs.lemmas.Bool.{eqb-true, or_cases}
 use Rattle.std.proofs.lemmas.Bool.Decides.{eqb_tells}
 use Rattle.std.specs.List.{list_all}
+use Rattle.std.proofs.lemmas.List.Elements.{All-head, All-tail}
 use Rattle.cov_expr.specs.Term.{Term, const, var, neg, bin, value, apply, flag, is_set}
 use Rattle.cov_expr.specs.Trees.{mentions, vars}
 use Rattle.cov_expr.specs.Words.{AreWords, HasWords}
 use Rattle.cov_expr.specs.Entailment.{Holds, Entails}
 use Rattle.cov_ast.specs.Syntax.{Cert}
 use Rattle.cov_ast.specs.Syntax as by
+use Rattle.cov_ast.specs.WellFormed.{CertHasWords}
 use Rattle.entail_cert.specs.Axioms.{axioms, numbered, instance, instance_for, axiom_for}
 use Rattle.entail_cert.specs.Valid.{first_bad, is_valid}
 use Rattle.entail_cert.specs.Walks.{InstancesHaveWords}
-use Rattle.entail_cert.specs.Words.{HaveWords, CertHasWords, is_of_words}
+use Rattle.entail_cert.specs.Words.{is_of_words}
 use Rattle.cov_expr.proofs.Values.{value_word}
 use Rattle.cov_expr.proofs.Tests.{left_true, right_true}
 use Rattle.entail_cert.proofs.Axioms.{axioms_hold}
@@ -106,12 +108,12 @@ instance_holds m m_words k es e h w =
 
 -- Certificates of words ----------------------------------------------------------------------------------------
 
-word_of : (es : List Term) (i : ℕ) → HaveWords es → HasWords (get_or es i (const 0))
-word_of [] i w = lit< tt
-word_of (e ∷ es) zero w = w.0
-word_of (e ∷ es) (suc i) w = word_of es i w.1
+word_of : (es : List Term) (i : ℕ) → All HasWords es → HasWords (get_or es i (const 0))
+word_of [] i all = lit< tt
+word_of (e ∷ es) zero all = All-head HasWords e es all
+word_of (e ∷ es) (suc i) all = word_of es i (All-tail HasWords e es all)
 
-instance_words : (t : Term) (es : List Term) → HasWords t → HaveWords es → HasWords (instance t es)
+instance_words : (t : Term) (es : List Term) → HasWords t → All HasWords es → HasWords (instance t es)
 instance_words (const k) es h w = h
 instance_words (var i) es h w = word_of es i w
 instance_words (neg t) es h w = instance_words t es h w
@@ -132,8 +134,8 @@ instances_hold m w (by.left c) h = instances_hold m w c h
 instances_hold m w (by.right c) h = instances_hold m w c h
 instances_hold m w (by.unpack i c) h = instances_hold m w c h
 instances_hold m w (by.cases i c d) h = (instances_hold m w c h.0, instances_hold m w d h.1)
-instances_hold m w (by.split e c d) h = (instances_hold m w c h.1.0, instances_hold m w d h.1.1)
-instances_hold m w (by.have e c d) h = (instances_hold m w c h.1.0, instances_hold m w d h.1.1)
+instances_hold m w (by.split e c d) h = (instances_hold m w c h.1, instances_hold m w d h.2)
+instances_hold m w (by.have e c d) h = (instances_hold m w c h.1, instances_hold m w d h.2)
 instances_hold m w (by.absurdity i j) h = tt
 instances_hold m w (by.negation c) h = instances_hold m w c h
 instances_hold m w (by.contra c) h = instances_hold m w c h

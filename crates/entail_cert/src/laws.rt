@@ -1,12 +1,13 @@
 ghost use Rattle.std.specs.Prelude.{IsTrue, List, ℕ};
 ghost use Rattle.cov_ast.specs.Syntax.{Cert};
+ghost use Rattle.cov_ast.specs.WellFormed.{CertHasWords};
 ghost use Rattle.cov_expr.specs.Entailment.{AllHold, Entails};
 ghost use Rattle.cov_expr.specs.Term.{Term};
 ghost use Rattle.cov_expr.specs.View.{term};
 ghost use Rattle.cov_expr.specs.Words.{AreWords};
 ghost use Rattle.entail_cert.specs.Axioms.{axioms};
 ghost use Rattle.entail_cert.specs.Valid.{is_valid};
-ghost use Rattle.entail_cert.specs.Words.{CertHasWords, is_of_words};
+ghost use Rattle.entail_cert.specs.Words.{is_of_words};
 
 use cov_expr::Expr;
 

@@ -13,7 +13,8 @@ use Rattle.flow_model.specs.Source.{Item, Local, local, Run, items_of, step, tur
 use Rattle.flow_model.specs.Agreement.{AreAlike, AreFitStarts, StatesAgree}
 use Rattle.flow_model.specs.Secure.{IsSecure}
 use Rattle.flow_model.specs.Game.{Copies, Move, own, outside, after_move, after_moves, opening, MeetsAssumptions, IsLawfulOutside, AreLawful, IsSecureMove, IsSecureThread}
-use Rattle.flow_model.specs.Composable.{HasWordBodies, AreControlsLow, HasCompatibleModes}
+use Rattle.flow_model.specs.Composable.{AreControlsLow, HasCompatibleModes}
+use Rattle.flow_model.proofs.WordBodies.{HasWordBodies}
 use Rattle.flow_model.proofs.Turns.{ItemsHaveWords, TurnHasWords, turn_words, long_memory, long_holders, items_words}
 
 abbrev local_of : Run → ℕ → Local

@@ -1,4 +1,5 @@
 mod Examples
+pub mod WordBodies
 pub mod Turns
 pub mod Compose
 pub mod Firsts

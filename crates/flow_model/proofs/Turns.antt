@@ -5,7 +5,7 @@ use Rattle.cov_expr.specs.Words.{IsWord, AreWords}
 use Rattle.cov_expr.proofs.Values.{value_word}
 use Rattle.cov_ast.specs.Plain.{skip, assign, lock, unlock, branch, loop, Cmds, none, next, ◌then_all◌}
 use Rattle.flow_model.specs.Source.{Item, run, put, test, Holders, holder, Local, turn, after_lock, after_unlock, items_then, is_held_by}
-use Rattle.flow_model.specs.Composable.{CmdHasWords, CmdsHaveWords}
+use Rattle.flow_model.proofs.WordBodies.{CmdHasWords, CmdsHaveWords}
 
 pub set_words : (m : List ℕ) (x w : ℕ) → AreWords m → IsWord w → AreWords (set m x w)
 set_words [] x w h k = h

@@ -1,29 +1,9 @@
--- What lets the games of all threads compose: expressions of words, controls that are low, and modes that are compatible.
+-- What lets the games of all threads of a well formed program compose: controls that are low, and modes that are compatible.
 use Rattle.std.specs.Prelude.{◌≢◌, ℕ, ◌<◌, length, IsTrue}
-use Rattle.cov_expr.specs.Words.{HasWords}
-use Rattle.cov_ast.specs.Declarations.{is_control, is_plain_low, thread_at}
-use Rattle.cov_ast.specs.Plain.{Cmd, skip, assign, lock, unlock, branch, loop, Cmds, none, next, Plain}
+use Rattle.cov_ast.specs.Declarations.{is_control, is_plain_low}
+use Rattle.cov_ast.specs.Plain.{Plain}
 use Rattle.flow_model.specs.Source.{Holders}
 use Rattle.flow_model.specs.Holdings.{IsStableNow, IsWritableNow}
-
-abbrev mutual
-  -- each expression of a statement is of words
-  pub CmdHasWords : Cmd → Type 0
-  CmdHasWords skip = Unit {0}
-  CmdHasWords (assign x e) = HasWords e
-  CmdHasWords (lock l) = Unit {0}
-  CmdHasWords (unlock l) = Unit {0}
-  CmdHasWords (branch e a b) = HasWords e × CmdsHaveWords a × CmdsHaveWords b
-  CmdHasWords (loop e b) = HasWords e × CmdsHaveWords b
-
-  -- the same of each statement, of nested ones too
-  pub CmdsHaveWords : Cmds → Type 0
-  CmdsHaveWords none = Unit {0}
-  CmdsHaveWords (next at c cs) = CmdHasWords c × CmdsHaveWords cs
-
--- Each expression of each body is of words.
-abbrev pub HasWordBodies : Plain → Type 0
-HasWordBodies p = (t : ℕ) → CmdsHaveWords (thread_at p t).body
 
 -- The class of each control is written `low`.
 abbrev pub AreControlsLow : Plain → Type 0

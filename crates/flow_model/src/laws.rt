@@ -1,17 +1,20 @@
 ghost use Rattle.std.specs.Prelude.{◌≡◌, ◌↔◌, ℕ, ◌<◌, List, length, IsNone};
-ghost use Rattle.cov_ast.specs.Plain.{Plain};
-ghost use Rattle.flow_model.specs.Composable.{AreControlsLow, HasCompatibleModes, HasWordBodies};
+ghost use Rattle.cov_ast.specs.Plain.{Plain, plain};
+ghost use Rattle.cov_ast.specs.Syntax as syntax;
+ghost use Rattle.cov_ast.specs.WellFormed.{IsWellFormed};
+ghost use Rattle.flow_model.specs.Composable.{AreControlsLow, HasCompatibleModes};
 ghost use Rattle.flow_model.specs.Agreement.{AreFitStarts, MemoriesAgree};
 ghost use Rattle.flow_model.specs.FirstDifference.{first_bad_start, first_difference};
 ghost use Rattle.flow_model.specs.Game.{IsSecureThread};
 ghost use Rattle.flow_model.specs.Secure.{IsSecure};
 ghost use Rattle.flow_model.specs.Source.{Holders};
 
-/// The games of all threads compose, over every schedule: where each thread is secure alone, controls are low and no thread
-/// writes what another has stable (modes are compatible), the program is secure (the compositionality theorem of Mantel,
-/// Sands and Sudbrock, with the locks of COVERN).
+/// The games of all threads compose, over every schedule: where each thread of a well formed program is secure alone,
+/// controls are low and no thread writes what another has stable (modes are compatible), the program is secure (the
+/// compositionality theorem of Mantel, Sands and Sudbrock, with the locks of COVERN). Of a well formed program only words of
+/// 32 bits are used.
 pub fn threads_compose()
-    ensures { (p : Plain) → HasWordBodies p → AreControlsLow p → ((t : ℕ) → t < length p.threads → IsSecureThread p t) → HasCompatibleModes p → IsSecure p }
+    ensures { (p : syntax.Program) → IsWellFormed p → AreControlsLow (plain p) → ((t : ℕ) → t < length p.threads → IsSecureThread (plain p) t) → HasCompatibleModes (plain p) → IsSecure (plain p) }
 {}
 
 /// Memories with holders, of lengths as declared, agree exactly where they have no first difference.

@@ -6,7 +6,6 @@
 //! agree first.
 //!
 //! - [`agree`] and [`starts`]: whether two memories agree, and whether they are fit to start from; where not, what comes first.
-//! - [`bodies_are_of_words`]: the numbers of all bodies are words of 32 bits, which the composition of threads asks.
 //! - [`threads_compose`] has no body: its contract is a law, and so it is with [`no_difference_is_agreement`] and
 //!   [`no_bad_start_is_fitness`].
 #![tactic(auto)]
@@ -16,10 +15,8 @@ mod laws;
 mod machine;
 mod marks;
 mod start;
-mod words;
 
 pub use agreement::{Differ, agree};
 pub use laws::{no_bad_start_is_fitness, no_difference_is_agreement, threads_compose};
 pub use machine::{Holder, Stepped};
 pub use start::{BadStart, starts};
-pub use words::bodies_are_of_words;

@@ -1,7 +1,8 @@
 use Rattle.cov_expr.specs.View.{term}
 use Rattle.cov_ast.specs.View.{cert}
 use Rattle.entail_cert.specs.Facts.{fact}
-use Rattle.entail_cert.proofs.Finds.{cert-And, cert-Cases, cert-Have, cert-Split, and_finds, cases_finds, cases_first, split_finds, split_first, have_finds, handed_on}
+use Rattle.cov_ast.proofs.CertViews.{cert-And, cert-Cases, cert-Have, cert-Split}
+use Rattle.entail_cert.proofs.Finds.{and_finds, cases_finds, cases_first, split_finds, split_first, have_finds, handed_on}
 use Rattle.entail_cert.proofs.walk.Walk.+check.Goals as goal
 
 pub node-returns-in_ok-child-in-And-clause-finds : goal.node-returns-in_ok-child-in-And-clause-finds
