@@ -1,4 +1,4 @@
--- Places of names leave the places and the size of statements as they are.
+-- Ids of names leave the places and the size of statements as they are.
 use Rattle.std.proofs.Common.{◌≡◌, ℕ, ◌+◌, ◌<◌, ◌==◌, List, [], ◌∷◌, ◌++◌, map, refl, subst, sym, ap, ap₂, ◌∙◌, Option, Some, None, All}
 use Rattle.std.specs.Prelude.{option_map, sum_by}
 use Rattle.std.proofs.lemmas.List.Sums.{sum_by-cons}
@@ -16,24 +16,24 @@ sums_same f g h [] = refl
 sums_same f g h (x ∷ xs) = sum_by-cons f (g x) (map g xs) ∙ ap₂ (λ a b. a + b) (h x) (sums_same f g h xs) ∙ sym (sum_by-cons f x xs)
 
 module _ (v l : ℕ → ℕ) where
-  nodes_same : (e : Term) → nodes (spec.placed_term v l e) ≡ nodes e
+  nodes_same : (e : Term) → nodes (spec.resolved_term v l e) ≡ nodes e
   nodes_same (const k) = refl
   nodes_same (var x) = refl
   nodes_same (neg e) = ap (λ n. n + 1) (nodes_same e)
   nodes_same (bin op a b) = ap₂ (λ m n. m + n + 1) (nodes_same a) (nodes_same b)
 
-  types_same : (ts : List (ℕ × Term)) → types_size (map (spec.placed_type v l) ts) ≡ types_size ts
-  types_same ts = sums_same (λ t. nodes t.1 + 1) (spec.placed_type v l) (λ t. ap (λ n. n + 1) (nodes_same t.1)) ts
+  types_same : (ts : List (ℕ × Term)) → types_size (map (spec.resolved_type v l) ts) ≡ types_size ts
+  types_same ts = sums_same (λ t. nodes t.1 + 1) (spec.resolved_type v l) (λ t. ap (λ n. n + 1) (nodes_same t.1)) ts
 
-  state_same : (j : State) → state_size (spec.placed_state v l j) ≡ state_size j
-  state_same j = ap₂ (λ a b. a + b) (sums_same (λ e. nodes e + 1) (spec.placed_term v l) (λ e. ap (λ n. n + 1) (nodes_same e)) j.preds) (types_same j.types)
+  state_same : (j : State) → state_size (spec.resolved_state v l j) ≡ state_size j
+  state_same j = ap₂ (λ a b. a + b) (sums_same (λ e. nodes e + 1) (spec.resolved_term v l) (λ e. ap (λ n. n + 1) (nodes_same e)) j.preds) (types_same j.types)
 
-  type_same : (q : Option Term) → type_size (option_map (spec.placed_term v l) q) ≡ type_size q
+  type_same : (q : Option Term) → type_size (option_map (spec.resolved_term v l) q) ≡ type_size q
   type_same None = refl
   type_same (Some e) = nodes_same e
 
   mutual
-    within_same : (c : Stm) → places_within (spec.placed_stm v l c) ≡ places_within c
+    within_same : (c : Stm) → places_within (spec.resolved_stm v l c) ≡ places_within c
     within_same s.skip = refl
     within_same (s.assign x e q retypes) = refl
     within_same (s.lock k) = refl
@@ -42,12 +42,12 @@ module _ (v l : ℕ → ℕ) where
     within_same (s.loop e inv b) = places_same b
     within_same (s.note j) = refl
 
-    places_same : (b : Block) → places (spec.placed_block v l b) ≡ places b
+    places_same : (b : Block) → places (spec.resolved_block v l b) ≡ places b
     places_same done = refl
     places_same (more at c proofs b) = ap₂ (λ xs ys. at ∷ xs ++ ys) (within_same c) (places_same b)
 
   mutual
-    stm_same : (c : Stm) → stm_size (spec.placed_stm v l c) ≡ stm_size c
+    stm_same : (c : Stm) → stm_size (spec.resolved_stm v l c) ≡ stm_size c
     stm_same s.skip = refl
     stm_same (s.assign x e q retypes) = λ i. nodes_same e i + type_same q i + types_same retypes i
     stm_same (s.lock k) = refl
@@ -56,15 +56,15 @@ module _ (v l : ℕ → ℕ) where
     stm_same (s.loop e inv b) = λ i. nodes_same e i + state_same inv i + block_same b i
     stm_same (s.note j) = state_same j
 
-    block_same : (b : Block) → block_size (spec.placed_block v l b) ≡ block_size b
+    block_same : (b : Block) → block_size (spec.resolved_block v l b) ≡ block_size b
     block_same done = refl
     block_same (more at c proofs b) = ap₂ (λ m n. 1 + m + n) (stm_same c) (block_same b)
 
-  body_fine : (b : Block) → IsBodyFine b → IsBodyFine (spec.placed_block v l b)
+  body_fine : (b : Block) → IsBodyFine b → IsBodyFine (spec.resolved_block v l b)
   body_fine b h = record {
     places_differ = ap (are_distinct (◌==◌)) (places_same b) ∙ h.places_differ;
     small = subst (λ n. n < 2097152) (sym (block_same b)) h.small;
   }
 
-  pub bodies_fine : (ts : List Thread) → All (λ t. IsBodyFine t.body) ts → All (λ t. IsBodyFine t.body) (map (spec.placed_thread v l) ts)
-  bodies_fine ts h = All-map (λ t. IsBodyFine t.body) (spec.placed_thread v l) ts (All-weaker _ _ (λ t. body_fine t.body) ts h)
+  pub bodies_fine : (ts : List Thread) → All (λ t. IsBodyFine t.body) ts → All (λ t. IsBodyFine t.body) (map (spec.resolved_thread v l) ts)
+  bodies_fine ts h = All-map (λ t. IsBodyFine t.body) (spec.resolved_thread v l) ts (All-weaker _ _ (λ t. body_fine t.body) ts h)

@@ -1,11 +1,12 @@
 mod PolicyLaws
-mod PlacedLaws
 mod PositionLaws
+mod WalkLaws
+mod BlockLaws
 mod NameLaws
-mod PlaceLaws
+mod IdLaws
 mod UseLaws
 mod Each
 mod Formed
 mod Bodies
 mod ResolvedLaws
-mod Rows
+mod Examples

@@ -44,25 +44,25 @@ module _ {X : Type 0} (p : X → Bool) where
       go rest true h = absurd (true≢false h)
       go rest false h = omega (arith, rest h)
 
-  -- whether the place is one of the list
+  -- whether the position is one of the list
   pub is_inside : (xs : List X) → nat_lt (position_or_len p xs) (length xs) ≡ list_any p xs
   is_inside xs = elim (cases_Bool (list_any p xs)) [
     | inl h ↦ lt-ltb (position_or_len p xs) (length xs) (present xs h) ∙ sym h
     | inr h ↦ le-ltb (position_or_len p xs) (length xs) (omega (arith, absent xs h)) ∙ sym h
   ]
 
-  -- from the place in both lists: within the first list, and past it
+  -- from the position in both lists: within the first list, and past it
   pub among_first : (xs ys : List X) → position_or_len p (xs ++ ys) < length xs → list_any p xs ≡ true
   among_first xs ys h = elim (cases_Bool (list_any p xs)) [ inl a ↦ a | inr a ↦ absurd (omega (arith, behind xs ys a)) ]
 
   pub not_among_first : (xs ys : List X) → length xs ≤ position_or_len p (xs ++ ys) → list_any p xs ≡ false
   not_among_first xs ys h = elim (cases_Bool (list_any p xs)) [ inl a ↦ absurd (omega (arith, front xs ys a, present xs a)) | inr a ↦ a ]
 
-  pub place_inside : (xs ys : List X) → position_or_len p (xs ++ ys) < length xs → position_or_len p (xs ++ ys) ≡ position_or_len p xs
-  place_inside xs ys h = front xs ys (among_first xs ys h)
+  pub position_inside : (xs ys : List X) → position_or_len p (xs ++ ys) < length xs → position_or_len p (xs ++ ys) ≡ position_or_len p xs
+  position_inside xs ys h = front xs ys (among_first xs ys h)
 
-  pub place_outside : (xs ys : List X) → length xs ≤ position_or_len p (xs ++ ys) → length xs ≡ position_or_len p xs
-  place_outside xs ys h = sym (absent xs (not_among_first xs ys h))
+  pub position_outside : (xs ys : List X) → length xs ≤ position_or_len p (xs ++ ys) → length xs ≡ position_or_len p xs
+  position_outside xs ys h = sym (absent xs (not_among_first xs ys h))
 
-  pub place_behind : (xs ys : List X) → length xs ≤ position_or_len p (xs ++ ys) → position_or_len p (xs ++ ys) ≡ length xs + position_or_len p ys
-  place_behind xs ys h = behind xs ys (not_among_first xs ys h)
+  pub position_behind : (xs ys : List X) → length xs ≤ position_or_len p (xs ++ ys) → position_or_len p (xs ++ ys) ≡ length xs + position_or_len p ys
+  position_behind xs ys h = behind xs ys (not_among_first xs ys h)

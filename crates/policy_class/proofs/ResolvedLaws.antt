@@ -10,44 +10,44 @@ use Rattle.cov_ast.specs.declared.refusal.CheckFault.{CheckFault}
 use Rattle.cov_ast.specs.Syntax.{Parsed}
 use Rattle.cov_ast.specs.Obligations.{Obligation, first_false, Decides}
 use Rattle.cov_ast.specs.Ready.{IsReady, Use, use_of, uses_in_declarations}
-use Rattle.cov_ast.specs.WellFormed.{IsWellFormed, IsWithinLimits, are_distinct, names_of}
+use Rattle.cov_ast.specs.WellFormed.{AreOfWords, IsWellFormed, IsWithinLimits, are_distinct, names_of}
 use Rattle.cov_ast.proofs.ObligationLaws.{append_refused, append_decided}
 use Rattle.policy_class.specs.DeclaredNames.{IsTableOf}
-use Rattle.policy_class.specs.Resolved.{is_among, is_declared, use_obligation, without_value, var_place, lock_place, var_names, lock_names, text_of, placed_variable, placed_lock, placed_thread, resolved}
+use Rattle.policy_class.specs.Resolved.{is_among, is_declared, use_obligation, without_value, var_id, lock_id, var_names, lock_names, text_of, resolved_variable, resolved_lock, resolved_thread, resolved}
 use Rattle.policy_class.proofs.NameLaws.{head_holds}
 use Rattle.policy_class.proofs.PositionLaws.{present}
 use Rattle.policy_class.proofs.Each.{Each, each_listed}
-use Rattle.policy_class.proofs.Formed.{ids_placed}
+use Rattle.policy_class.proofs.Formed.{ids_resolved}
 use Rattle.policy_class.proofs.Bodies.{bodies_fine}
 
 -- Uses ---------------------------------------------------------------------------------------------------------
 
 module _ (p : Parsed) where
   vars : ℕ
-  vars = length (map (placed_variable (var_place p) (lock_place p)) p.vars)
+  vars = length (map (resolved_variable (var_id p) (lock_id p)) p.vars)
 
   locks : ℕ
-  locks = length (map (placed_lock (var_place p) (lock_place p)) p.locks)
+  locks = length (map (resolved_lock (var_id p) (lock_id p)) p.locks)
 
-  abbrev IsPlacedIn : ℕ → ℕ → Use → Type 0
-  IsPlacedIn m k u = cond u.lock (lock_place p u.name) (var_place p u.name) < cond u.lock k m
+  abbrev IsDeclaredId : ℕ → ℕ → Use → Type 0
+  IsDeclaredId m k u = cond u.lock (lock_id p u.name) (var_id p u.name) < cond u.lock k m
 
-  -- a use that is declared has its place among the declarations
-  declared_placed : (u : NameUse) → is_declared p u ≡ true → IsPlacedIn vars locks (use_of u)
+  -- a use that is declared has its id among the declarations
+  declared_resolved : (u : NameUse) → is_declared p u ≡ true → IsDeclaredId vars locks (use_of u)
   unfolding vars locks
-  declared_placed u h = go u.lock h
+  declared_resolved u h = go u.lock h
     where
       go : (b : Bool) → is_among (cond b (lock_names p) (var_names p)) (text_of p u.name) ≡ true
-          → cond b (lock_place p u.name) (var_place p u.name)
-          < cond b (length (map (placed_lock (var_place p) (lock_place p)) p.locks)) (length (map (placed_variable (var_place p) (lock_place p)) p.vars))
-      go true k = omega (arith, present (bytes_eq (text_of p u.name)) (lock_names p) k, length-map p.locks (λ l. l.name), length-map p.locks (placed_lock (var_place p) (lock_place p)))
-      go false k = omega (arith, present (bytes_eq (text_of p u.name)) (var_names p) k, length-map p.vars (λ v. v.name), length-map p.vars (placed_variable (var_place p) (lock_place p)))
+          → cond b (lock_id p u.name) (var_id p u.name)
+          < cond b (length (map (resolved_lock (var_id p) (lock_id p)) p.locks)) (length (map (resolved_variable (var_id p) (lock_id p)) p.vars))
+      go true k = omega (arith, present (bytes_eq (text_of p u.name)) (lock_names p) k, length-map p.locks (λ l. l.name), length-map p.locks (resolved_lock (var_id p) (lock_id p)))
+      go false k = omega (arith, present (bytes_eq (text_of p u.name)) (var_names p) k, length-map p.vars (λ v. v.name), length-map p.vars (resolved_variable (var_id p) (lock_id p)))
 
-  all_placed : (us : List NameUse) → first_false (map (use_obligation p) us) ≡ None → Each (IsPlacedIn vars locks) (map use_of us)
-  all_placed [] h = tt
-  all_placed (u ∷ us) h =
+  all_resolved : (us : List NameUse) → first_false (map (use_obligation p) us) ≡ None → Each (IsDeclaredId vars locks) (map use_of us)
+  all_resolved [] h = tt
+  all_resolved (u ∷ us) h =
       let parts = head_holds (use_obligation p u) (map (use_obligation p) us) h in
-      (declared_placed u parts.0, all_placed us parts.1)
+      (declared_resolved u parts.0, all_resolved us parts.1)
 
   -- Names and limits -------------------------------------------------------------------------------------------
 
@@ -57,28 +57,29 @@ module _ (p : Parsed) where
 
   names_same : names_of (resolved p).vars (resolved p).locks (resolved p).threads ≡ names_of p.vars p.locks p.threads
   names_same = λ i.
-      over (λ v. v.name) (λ v. v.name) (placed_variable (var_place p) (lock_place p)) (λ v. refl) p.vars i
-      ++ over (λ l. l.name) (λ l. l.name) (placed_lock (var_place p) (lock_place p)) (λ l. refl) p.locks i
-      ++ over (λ t. t.name) (λ t. t.name) (placed_thread (var_place p) (lock_place p)) (λ t. refl) p.threads i
+      over (λ v. v.name) (λ v. v.name) (resolved_variable (var_id p) (lock_id p)) (λ v. refl) p.vars i
+      ++ over (λ l. l.name) (λ l. l.name) (resolved_lock (var_id p) (lock_id p)) (λ l. refl) p.locks i
+      ++ over (λ t. t.name) (λ t. t.name) (resolved_thread (var_id p) (lock_id p)) (λ t. refl) p.threads i
 
   limits_same : IsWithinLimits p.vars p.locks p.threads → IsWithinLimits (resolved p).vars (resolved p).locks (resolved p).threads
   limits_same h = record {
-    variables = subst (λ n. n ≤ 256) (sym (length-map p.vars (placed_variable (var_place p) (lock_place p)))) h.variables;
-    declared_locks = subst (λ n. n ≤ 64) (sym (length-map p.locks (placed_lock (var_place p) (lock_place p)))) h.declared_locks;
-    declared_threads = subst (λ n. n ≤ 16) (sym (length-map p.threads (placed_thread (var_place p) (lock_place p)))) h.declared_threads;
+    variables = subst (λ n. n ≤ 256) (sym (length-map p.vars (resolved_variable (var_id p) (lock_id p)))) h.variables;
+    declared_locks = subst (λ n. n ≤ 64) (sym (length-map p.locks (resolved_lock (var_id p) (lock_id p)))) h.declared_locks;
+    declared_threads = subst (λ n. n ≤ 16) (sym (length-map p.threads (resolved_thread (var_id p) (lock_id p)))) h.declared_threads;
   }
 
   -- where the names are in order, the program is well formed
   pub resolved_formed : (table : List (List ℕ)) → IsReady p → length p.names ≤ HOLE → IsTableOf p table → first_false (map (use_obligation p) p.uses) ≡ None
-      → IsWellFormed (resolved p)
+      → AreOfWords (resolved p).vars (resolved p).locks (resolved p).threads → IsWellFormed (resolved p)
   unfolding vars locks
-  resolved_formed table ready few t declared = record {
+  resolved_formed table ready few t declared words = record {
     ids =
-        ids_placed (length p.names) few vars locks (var_place p) (lock_place p) p.vars p.locks p.threads ready.ids
-        (each_listed (IsPlacedIn vars locks) (uses_in_declarations p) (map use_of p.uses) ready.uses (all_placed p.uses declared));
+        ids_resolved (length p.names) few vars locks (var_id p) (lock_id p) p.vars p.locks p.threads ready.ids
+        (each_listed (IsDeclaredId vars locks) (uses_in_declarations p) (map use_of p.uses) ready.uses (all_resolved p.uses declared));
+    words = words;
     names_differ = ap (are_distinct bytes_eq) (names_same ∙ sym t.names) ∙ t.differ;
     limits = limits_same ready.limits;
-    bodies = bodies_fine (var_place p) (lock_place p) p.threads ready.bodies;
+    bodies = bodies_fine (var_id p) (lock_id p) p.threads ready.bodies;
   }
 
 -- Answers ------------------------------------------------------------------------------------------------------

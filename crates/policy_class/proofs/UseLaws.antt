@@ -1,4 +1,4 @@
--- A name has a place exactly where it is declared as what it is used.
+-- A name has an id exactly where it is declared as what it is used.
 use Rattle.std.proofs.Common.{◌≡◌, ℕ, ◌<◌, List, get_or, Bool, true, false, length, refl, sym, ◌∙◌, cond}
 use Rattle.std.specs.Prelude.{nat_lt}
 use Rattle.std.specs.Str.{bytes_eq}
@@ -6,8 +6,8 @@ use Rattle.std.proofs.lemmas.List.{length-map}
 use Rattle.std.proofs.lemmas.Option.{get_or_from_slice_get, slice_get-get_or}
 use Rattle.cov_ast.specs.declared.parsed.NameUse.{NameUse}
 use Rattle.cov_ast.specs.Syntax.{Parsed}
-use Rattle.policy_class.specs.declared.places.Places.{Places}
-use Rattle.policy_class.specs.Places.{ArePlacesOf, has_place, var_in, lock_in}
+use Rattle.policy_class.specs.declared.ids.Ids.{Ids}
+use Rattle.policy_class.specs.Ids.{AreIdsOf, has_id, var_in, lock_in}
 use Rattle.policy_class.specs.Resolved.{is_declared, is_among, text_of, var_names, lock_names}
 use Rattle.policy_class.proofs.PositionLaws.{is_inside}
 
@@ -15,8 +15,8 @@ use Rattle.policy_class.proofs.PositionLaws.{is_inside}
 pub item_is : {X : Type 0} (xs : List X) (i : ℕ) (d : X) → i < length xs → get_or xs i d ≡ get_or xs i (get_or xs i d)
 item_is xs i d inside = sym (get_or_from_slice_get xs i (get_or xs i d) (get_or xs i d) (slice_get-get_or xs i d inside))
 
-pub placed_is_declared : (p : Parsed) (t : Places) (u : NameUse) → ArePlacesOf p t → has_place t u ≡ is_declared p u
-placed_is_declared p t u h =
+pub has_is_declared : (p : Parsed) (t : Ids) (u : NameUse) → AreIdsOf p t → has_id t u ≡ is_declared p u
+has_is_declared p t u h =
     (λ i. cond u.lock (as_lock i) (as_variable i)) ∙ go u.lock
   where
     as_variable : nat_lt (var_in t u.name) t.var_count ≡ is_among (var_names p) (text_of p u.name)

@@ -1,4 +1,5 @@
 pub mod Policy
 pub mod Resolved
 pub mod DeclaredNames
-pub mod Places
+pub mod Ids
+pub mod Inside

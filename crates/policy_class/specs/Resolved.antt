@@ -1,5 +1,5 @@
--- What the names of a text mean: the rules of names (W1, W2), and the program in which each use of a name is the place of
--- the declaration with that name.
+-- What the names of a text mean: the rules of names (W1, W2), and the program in which each use of a name is the id of the
+-- declaration with that name.
 use Rattle.std.specs.Prelude.{ℕ, ◌==◌, List, [], ◌∷◌, ◌++◌, map, get_or, Bool, not, if◌then◌else◌, option_map, Result, Ok, Err}
 use Rattle.std.specs.List.{list_any, position_or_len}
 use Rattle.std.specs.Str.{bytes_eq}
@@ -46,7 +46,7 @@ w1_from before (n ∷ ns) = w1_obligation before n ∷ w1_from (before ++ n.name
 
 -- the text of a name, by its number
 abbrev pub text_of : Parsed → ℕ → List ℕ
-text_of p id = get_or p.names id []
+text_of p number = get_or p.names number []
 
 abbrev pub var_names : Parsed → List (List ℕ)
 var_names p = map (λ v. v.name) p.vars
@@ -69,98 +69,98 @@ abbrev pub without_value : {X : Type 0} → Result X CheckFault → Result (Unit
 without_value (Ok x) = Ok tt
 without_value (Err fault) = Err fault
 
--- Trees by place -----------------------------------------------------------------------------------------------
+-- Trees by id --------------------------------------------------------------------------------------------------
 
 -- a variable and a lock, each by its number, become what two functions give
-module _ (variable lock_place : ℕ → ℕ) where
+module _ (to_var to_lock : ℕ → ℕ) where
   -- the hole of a template stays
-  abbrev pub placed_var : ℕ → ℕ
-  placed_var x = if x == HOLE then x else variable x
+  abbrev pub resolved_var : ℕ → ℕ
+  resolved_var x = if x == HOLE then x else to_var x
 
-  abbrev pub placed_term : Term → Term
-  placed_term (const k) = const k
-  placed_term (var x) = var (placed_var x)
-  placed_term (neg e) = neg (placed_term e)
-  placed_term (bin op a b) = bin op (placed_term a) (placed_term b)
+  abbrev pub resolved_term : Term → Term
+  resolved_term (const k) = const k
+  resolved_term (var x) = var (resolved_var x)
+  resolved_term (neg e) = neg (resolved_term e)
+  resolved_term (bin op a b) = bin op (resolved_term a) (resolved_term b)
 
-  abbrev pub placed_type : ℕ × Term → ℕ × Term
-  placed_type t = (placed_var t.0, placed_term t.1)
+  abbrev pub resolved_type : ℕ × Term → ℕ × Term
+  resolved_type t = (resolved_var t.0, resolved_term t.1)
 
-  abbrev pub placed_state : State → State
-  placed_state j = record { preds = map placed_term j.preds; types = map placed_type j.types }
+  abbrev pub resolved_state : State → State
+  resolved_state j = record { preds = map resolved_term j.preds; types = map resolved_type j.types }
 
-  abbrev pub placed_cert : Cert → Cert
-  placed_cert s.auto = s.auto
-  placed_cert (s.hyp i) = s.hyp i
-  placed_cert s.calc = s.calc
-  placed_cert (s.clash i) = s.clash i
-  placed_cert (s.and c d) = s.and (placed_cert c) (placed_cert d)
-  placed_cert (s.left c) = s.left (placed_cert c)
-  placed_cert (s.right c) = s.right (placed_cert c)
-  placed_cert (s.unpack i c) = s.unpack i (placed_cert c)
-  placed_cert (s.cases i c d) = s.cases i (placed_cert c) (placed_cert d)
-  placed_cert (s.split e c d) = s.split (placed_term e) (placed_cert c) (placed_cert d)
-  placed_cert (s.have e c d) = s.have (placed_term e) (placed_cert c) (placed_cert d)
-  placed_cert (s.absurdity i j) = s.absurdity i j
-  placed_cert (s.negation c) = s.negation (placed_cert c)
-  placed_cert (s.contra c) = s.contra (placed_cert c)
-  placed_cert s.reflexive = s.reflexive
-  placed_cert (s.fwd i e c) = s.fwd i (placed_term e) (placed_cert c)
-  placed_cert (s.rev i e c) = s.rev i (placed_term e) (placed_cert c)
-  placed_cert (s.instance k es c) = s.instance k (map placed_term es) (placed_cert c)
-  placed_cert s.ring = s.ring
-  placed_cert s.range = s.range
+  abbrev pub resolved_cert : Cert → Cert
+  resolved_cert s.auto = s.auto
+  resolved_cert (s.hyp i) = s.hyp i
+  resolved_cert s.calc = s.calc
+  resolved_cert (s.clash i) = s.clash i
+  resolved_cert (s.and c d) = s.and (resolved_cert c) (resolved_cert d)
+  resolved_cert (s.left c) = s.left (resolved_cert c)
+  resolved_cert (s.right c) = s.right (resolved_cert c)
+  resolved_cert (s.unpack i c) = s.unpack i (resolved_cert c)
+  resolved_cert (s.cases i c d) = s.cases i (resolved_cert c) (resolved_cert d)
+  resolved_cert (s.split e c d) = s.split (resolved_term e) (resolved_cert c) (resolved_cert d)
+  resolved_cert (s.have e c d) = s.have (resolved_term e) (resolved_cert c) (resolved_cert d)
+  resolved_cert (s.absurdity i j) = s.absurdity i j
+  resolved_cert (s.negation c) = s.negation (resolved_cert c)
+  resolved_cert (s.contra c) = s.contra (resolved_cert c)
+  resolved_cert s.reflexive = s.reflexive
+  resolved_cert (s.fwd i e c) = s.fwd i (resolved_term e) (resolved_cert c)
+  resolved_cert (s.rev i e c) = s.rev i (resolved_term e) (resolved_cert c)
+  resolved_cert (s.instance k es c) = s.instance k (map resolved_term es) (resolved_cert c)
+  resolved_cert s.ring = s.ring
+  resolved_cert s.range = s.range
 
-  abbrev pub placed_proof : Proof → Proof
-  placed_proof p = record { number = p.number; cert = placed_cert p.cert }
+  abbrev pub resolved_proof : Proof → Proof
+  resolved_proof p = record { number = p.number; cert = resolved_cert p.cert }
 
   abbrev mutual
-    pub placed_stm : Stm → Stm
-    placed_stm s.skip = s.skip
-    placed_stm (s.assign x e q retypes) = s.assign (placed_var x) (placed_term e) (option_map placed_term q) (map placed_type retypes)
-    placed_stm (s.lock l) = s.lock (lock_place l)
-    placed_stm (s.unlock l) = s.unlock (lock_place l)
-    placed_stm (s.branch e a b join) = s.branch (placed_term e) (placed_block a) (placed_block b) (placed_state join)
-    placed_stm (s.loop e inv b) = s.loop (placed_term e) (placed_state inv) (placed_block b)
-    placed_stm (s.note j) = s.note (placed_state j)
+    pub resolved_stm : Stm → Stm
+    resolved_stm s.skip = s.skip
+    resolved_stm (s.assign x e q retypes) = s.assign (resolved_var x) (resolved_term e) (option_map resolved_term q) (map resolved_type retypes)
+    resolved_stm (s.lock l) = s.lock (to_lock l)
+    resolved_stm (s.unlock l) = s.unlock (to_lock l)
+    resolved_stm (s.branch e a b join) = s.branch (resolved_term e) (resolved_block a) (resolved_block b) (resolved_state join)
+    resolved_stm (s.loop e inv b) = s.loop (resolved_term e) (resolved_state inv) (resolved_block b)
+    resolved_stm (s.note j) = s.note (resolved_state j)
 
-    pub placed_block : Block → Block
-    placed_block done = done
-    placed_block (more at c proofs b) = more at (placed_stm c) (map placed_proof proofs) (placed_block b)
+    pub resolved_block : Block → Block
+    resolved_block done = done
+    resolved_block (more at c proofs b) = more at (resolved_stm c) (map resolved_proof proofs) (resolved_block b)
 
-  abbrev pub placed_class : Class → Class
-  placed_class low = low
-  placed_class high = high
-  placed_class (when e) = when (placed_term e)
+  abbrev pub resolved_class : Class → Class
+  resolved_class low = low
+  resolved_class high = high
+  resolved_class (when e) = when (resolved_term e)
 
-  abbrev pub placed_variable : Var → Var
-  placed_variable v = record { name = v.name; at = v.at; class = placed_class v.class }
+  abbrev pub resolved_variable : Var → Var
+  resolved_variable v = record { name = v.name; at = v.at; class = resolved_class v.class }
 
-  abbrev pub placed_lock : Lock → Lock
-  placed_lock l = record { name = l.name; at = l.at; nowrite = map placed_var l.nowrite; hide = map placed_var l.hide; inv = option_map placed_term l.inv }
+  abbrev pub resolved_lock : Lock → Lock
+  resolved_lock l = record { name = l.name; at = l.at; nowrite = map resolved_var l.nowrite; hide = map resolved_var l.hide; inv = option_map resolved_term l.inv }
 
-  abbrev pub placed_modes : Modes → Modes
-  placed_modes m = record {
-    assume_nowrite = map placed_var m.assume_nowrite;
-    assume_hide = map placed_var m.assume_hide;
-    guarantee_nowrite = map placed_var m.guarantee_nowrite;
-    guarantee_hide = map placed_var m.guarantee_hide;
+  abbrev pub resolved_modes : Modes → Modes
+  resolved_modes m = record {
+    assume_nowrite = map resolved_var m.assume_nowrite;
+    assume_hide = map resolved_var m.assume_hide;
+    guarantee_nowrite = map resolved_var m.guarantee_nowrite;
+    guarantee_hide = map resolved_var m.guarantee_hide;
   }
 
-  abbrev pub placed_thread : Thread → Thread
-  placed_thread t = record { name = t.name; at = t.at; modes = placed_modes t.modes; body = placed_block t.body; end = t.end }
+  abbrev pub resolved_thread : Thread → Thread
+  resolved_thread t = record { name = t.name; at = t.at; modes = resolved_modes t.modes; body = resolved_block t.body; end = t.end }
 
--- the place of the declaration with a name
-abbrev pub var_place : Parsed → ℕ → ℕ
-var_place p id = position_or_len (bytes_eq (text_of p id)) (var_names p)
+-- the id of the declaration with a name, by the number of the name
+abbrev pub var_id : Parsed → ℕ → ℕ
+var_id p number = position_or_len (bytes_eq (text_of p number)) (var_names p)
 
-abbrev pub lock_place : Parsed → ℕ → ℕ
-lock_place p id = position_or_len (bytes_eq (text_of p id)) (lock_names p)
+abbrev pub lock_id : Parsed → ℕ → ℕ
+lock_id p number = position_or_len (bytes_eq (text_of p number)) (lock_names p)
 
 -- the program that a text stands for, once its names are in order
 abbrev pub resolved : Parsed → Program
 resolved p = record {
-  vars = map (placed_variable (var_place p) (lock_place p)) p.vars;
-  locks = map (placed_lock (var_place p) (lock_place p)) p.locks;
-  threads = map (placed_thread (var_place p) (lock_place p)) p.threads;
+  vars = map (resolved_variable (var_id p) (lock_id p)) p.vars;
+  locks = map (resolved_lock (var_id p) (lock_id p)) p.locks;
+  threads = map (resolved_thread (var_id p) (lock_id p)) p.threads;
 }

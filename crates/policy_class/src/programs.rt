@@ -1,165 +1,157 @@
-ghost use Rattle.std.specs.Prelude.{◌≡◌, map, IfOk};
+ghost use Rattle.std.specs.Prelude.{◌≡◌, map, All};
+ghost use Rattle.cov_expr.specs.Words.{HasWords};
 ghost use Rattle.cov_ast.specs.View as view;
+ghost use Rattle.cov_ast.specs.Plain.{class_term};
+ghost use Rattle.cov_ast.specs.Declarations.{invariant_term};
+ghost use Rattle.cov_ast.specs.WellFormed.{AreOfWords, BlockHasWords, StmHasWords};
+ghost use Rattle.cov_ast.specs.Syntax as syntax;
 ghost use Rattle.policy_class.specs.Resolved as spec;
-ghost use Rattle.policy_class.specs.Places.{ArePlacesOf, var_in, lock_in};
+ghost use Rattle.policy_class.specs.Ids.{AreIdsOf, var_in, lock_in};
+ghost use Rattle.policy_class.specs.Inside.{StmtHasWords, resolved_stmt};
 
-use crate::placed::{
-    placed_expr, placed_option, placed_proofs, placed_retypes, placed_state, placed_var,
-};
-use crate::places::Places;
+use crate::certs::resolve_proofs;
+use crate::exprs::{resolve_expr, resolve_option, resolve_retypes, resolve_state, resolved_var};
+use crate::ids::Ids;
 use cov_ast::{Class, LockDecl, Modes, Parsed, Program, Stmt, StmtKind, ThreadDecl, VarDecl};
-use cov_expr::{List, NoMemory};
-use std::alloc::Global;
 
 #[cycle(blocks)]
-fn placed_block(alloc: Global, places: &Places, body: &[Stmt]) -> Result<List<Stmt>, NoMemory>
-    ensures { IfOk result (λ made. view.block made ≡ spec.placed_block (var_in places.now) (lock_in places.now) (view.block body.now)) }
+fn resolve_block(ids: &Ids, body: &mut [Stmt])
+    ensures resolved { view.block body.new ≡ spec.resolved_block (var_in ids.now) (lock_in ids.now) (view.block body.old) }
+    ensures words { BlockHasWords (view.block body.new) }
 {
-    let mut made = List::new(alloc);
-    for stmt in body {
-        made.push(Stmt {
-            at: stmt.at,
-            kind: placed_kind(alloc, places, &stmt.kind)?,
-            proofs: placed_proofs(alloc, places, stmt.proofs.as_slice())?,
-        })?;
+    for i in 0..body.len() {
+        resolve_stmt(ids, &mut body[i]);
     }
-    Ok(made)
 }
 
 #[cycle(blocks)]
-fn placed_kind(alloc: Global, places: &Places, kind: &StmtKind) -> Result<StmtKind, NoMemory>
-    ensures { IfOk result (λ made. view.kind made ≡ spec.placed_stm (var_in places.now) (lock_in places.now) (view.kind kind.now)) }
+fn resolve_stmt(ids: &Ids, stmt: &mut Stmt)
+    ensures resolved { view.stmt stmt.new ≡ resolved_stmt (var_in ids.now) (lock_in ids.now) (view.stmt stmt.old) }
+    ensures words { StmtHasWords (view.stmt stmt.new) }
 {
-    Ok(match kind {
-        StmtKind::Skip => StmtKind::Skip,
-        StmtKind::Assign(x, e, class, retypes) => {
-            let x = placed_var(places, *x);
-            let e = placed_expr(alloc, places, e)?;
-            let class = placed_option(alloc, places, class)?;
-            StmtKind::Assign(
-                x,
-                e,
-                class,
-                placed_retypes(alloc, places, retypes.as_slice())?,
-            )
+    resolve_kind(ids, &mut stmt.kind);
+    resolve_proofs(ids, stmt.proofs.as_mut_slice());
+}
+
+#[cycle(blocks)]
+fn resolve_kind(ids: &Ids, kind: &mut StmtKind)
+    ensures resolved { view.kind kind.new ≡ spec.resolved_stm (var_in ids.now) (lock_in ids.now) (view.kind kind.old) }
+    ensures words { StmHasWords (view.kind kind.new) }
+{
+    match kind {
+        StmtKind::Skip => {}
+        StmtKind::Assign(x, e, ty, retypes) => {
+            *x = resolved_var(ids, *x);
+            resolve_expr(ids, e);
+            resolve_option(ids, ty);
+            resolve_retypes(ids, retypes.as_mut_slice());
         }
-        StmtKind::Lock(lock) => StmtKind::Lock(places.lock(*lock)),
-        StmtKind::Unlock(lock) => StmtKind::Unlock(places.lock(*lock)),
+        StmtKind::Lock(lock) => *lock = ids.lock(*lock),
+        StmtKind::Unlock(lock) => *lock = ids.lock(*lock),
         StmtKind::If(e, first, second, join) => {
-            let e = placed_expr(alloc, places, e)?;
-            let first = placed_block(alloc, places, first.as_slice())?;
-            let second = placed_block(alloc, places, second.as_slice())?;
-            StmtKind::If(e, first, second, placed_state(alloc, places, join)?)
+            resolve_expr(ids, e);
+            resolve_block(ids, first.as_mut_slice());
+            resolve_block(ids, second.as_mut_slice());
+            resolve_state(ids, join);
         }
         StmtKind::While(e, inv, body) => {
-            let e = placed_expr(alloc, places, e)?;
-            let inv = placed_state(alloc, places, inv)?;
-            StmtKind::While(e, inv, placed_block(alloc, places, body.as_slice())?)
+            resolve_expr(ids, e);
+            resolve_state(ids, inv);
+            resolve_block(ids, body.as_mut_slice());
         }
-        StmtKind::Note(state) => StmtKind::Note(placed_state(alloc, places, state)?),
-    })
-}
-
-fn placed_class(alloc: Global, places: &Places, class: &Class) -> Result<Class, NoMemory>
-    ensures { IfOk result (λ made. view.class made ≡ spec.placed_class (var_in places.now) (lock_in places.now) (view.class class.now)) }
-{
-    match class {
-        Class::Low => Ok(Class::Low),
-        Class::High => Ok(Class::High),
-        Class::When(e) => Ok(Class::When(placed_expr(alloc, places, e)?)),
+        StmtKind::Note(state) => resolve_state(ids, state),
     }
 }
 
-fn placed_vars(alloc: Global, places: &Places, vars: &[VarDecl]) -> Result<List<VarDecl>, NoMemory>
-    ensures { IfOk result (λ made.
-        map view.var made ≡ map (spec.placed_variable (var_in places.now) (lock_in places.now)) (map view.var vars.now)) }
+fn resolve_class(ids: &Ids, class: &mut Class)
+    ensures resolved { view.class class.new ≡ spec.resolved_class (var_in ids.now) (lock_in ids.now) (view.class class.old) }
+    ensures words { HasWords (class_term (view.class class.new)) }
 {
-    let mut made = List::new(alloc);
-    for var in vars {
-        made.push(VarDecl {
-            name: var.name,
-            at: var.at,
-            class: placed_class(alloc, places, &var.class)?,
-        })?;
+    if let Class::When(e) = class {
+        resolve_expr(ids, e);
     }
-    Ok(made)
 }
 
-/// The places of variables.
-fn placed_numbers(alloc: Global, places: &Places, xs: &[u32]) -> Result<List<u32>, NoMemory>
-    ensures { IfOk result (λ made. made ≡ map (spec.placed_var (var_in places.now) (lock_in places.now)) xs.now) }
+fn resolve_vars(ids: &Ids, vars: &mut [VarDecl])
+    ensures resolved { map view.var vars.new ≡ map (spec.resolved_variable (var_in ids.now) (lock_in ids.now)) (map view.var vars.old) }
+    ensures words { All (λ (v : syntax.Var). HasWords (class_term v.class)) (map view.var vars.new) }
 {
-    let mut made = List::new(alloc);
-    for x in xs {
-        made.push(placed_var(places, *x))?;
+    for var in vars.iter_mut() {
+        resolve_class(ids, &mut var.class);
     }
-    Ok(made)
 }
 
-fn placed_locks(
-    alloc: Global,
-    places: &Places,
-    locks: &[LockDecl],
-) -> Result<List<LockDecl>, NoMemory>
-    ensures { IfOk result (λ made.
-        map view.lock made ≡ map (spec.placed_lock (var_in places.now) (lock_in places.now)) (map view.lock locks.now)) }
+/// Ids of variables in a list.
+fn resolve_list(ids: &Ids, xs: &mut [u32])
+    ensures { xs.new ≡ map (spec.resolved_var (var_in ids.now) (lock_in ids.now)) xs.old }
 {
-    let mut made = List::new(alloc);
-    for lock in locks {
-        made.push(LockDecl {
-            name: lock.name,
-            at: lock.at,
-            nowrite: placed_numbers(alloc, places, lock.nowrite.as_slice())?,
-            hide: placed_numbers(alloc, places, lock.hide.as_slice())?,
-            inv: placed_option(alloc, places, &lock.inv)?,
-        })?;
+    for x in xs.iter_mut() {
+        *x = resolved_var(ids, *x);
     }
-    Ok(made)
 }
 
-fn placed_modes(alloc: Global, places: &Places, modes: &Modes) -> Result<Modes, NoMemory>
-    ensures { IfOk result (λ made. view.modes made ≡ spec.placed_modes (var_in places.now) (lock_in places.now) (view.modes modes.now)) }
+fn resolve_locks(ids: &Ids, locks: &mut [LockDecl])
+    ensures resolved { map view.lock locks.new ≡ map (spec.resolved_lock (var_in ids.now) (lock_in ids.now)) (map view.lock locks.old) }
+    ensures words { All (λ (l : syntax.Lock). HasWords (invariant_term l.inv)) (map view.lock locks.new) }
 {
-    Ok(Modes {
-        assume_nowrite: placed_numbers(alloc, places, modes.assume_nowrite.as_slice())?,
-        assume_hide: placed_numbers(alloc, places, modes.assume_hide.as_slice())?,
-        guarantee_nowrite: placed_numbers(alloc, places, modes.guarantee_nowrite.as_slice())?,
-        guarantee_hide: placed_numbers(alloc, places, modes.guarantee_hide.as_slice())?,
-    })
-}
-
-fn placed_threads(
-    alloc: Global,
-    places: &Places,
-    threads: &[ThreadDecl],
-) -> Result<List<ThreadDecl>, NoMemory>
-    ensures { IfOk result (λ made.
-        map view.thread made ≡ map (spec.placed_thread (var_in places.now) (lock_in places.now)) (map view.thread threads.now)) }
-{
-    let mut made = List::new(alloc);
-    for thread in threads {
-        made.push(ThreadDecl {
-            name: thread.name,
-            at: thread.at,
-            modes: placed_modes(alloc, places, &thread.modes)?,
-            body: placed_block(alloc, places, thread.body.as_slice())?,
-            end: thread.end,
-        })?;
+    for lock in locks.iter_mut() {
+        resolve_lock(ids, lock);
     }
-    Ok(made)
 }
 
-/// The program that a text stands for, by the places of its names.
-pub fn placed_program(alloc: Global, places: &Places, p: &Parsed) -> Result<Program, NoMemory>
-    requires { ArePlacesOf (view.parsed p.now) places.now }
-    ensures { IfOk result (λ made. view.program made ≡ spec.resolved (view.parsed p.now)) }
+fn resolve_lock(ids: &Ids, lock: &mut LockDecl)
+    ensures resolved { view.lock lock.new ≡ spec.resolved_lock (var_in ids.now) (lock_in ids.now) (view.lock lock.old) }
+    ensures words { HasWords (invariant_term (view.lock lock.new).inv) }
 {
-    let vars = placed_vars(alloc, places, p.vars.as_slice())?;
-    let locks = placed_locks(alloc, places, p.locks.as_slice())?;
-    let threads = placed_threads(alloc, places, p.threads.as_slice())?;
-    Ok(Program {
+    resolve_list(ids, lock.nowrite.as_mut_slice());
+    resolve_list(ids, lock.hide.as_mut_slice());
+    resolve_option(ids, &mut lock.inv);
+}
+
+fn resolve_modes(ids: &Ids, modes: &mut Modes)
+    ensures { view.modes modes.new ≡ spec.resolved_modes (var_in ids.now) (lock_in ids.now) (view.modes modes.old) }
+{
+    resolve_list(ids, modes.assume_nowrite.as_mut_slice());
+    resolve_list(ids, modes.assume_hide.as_mut_slice());
+    resolve_list(ids, modes.guarantee_nowrite.as_mut_slice());
+    resolve_list(ids, modes.guarantee_hide.as_mut_slice());
+}
+
+fn resolve_threads(ids: &Ids, threads: &mut [ThreadDecl])
+    ensures resolved { map view.thread threads.new ≡ map (spec.resolved_thread (var_in ids.now) (lock_in ids.now)) (map view.thread threads.old) }
+    ensures words { All (λ (t : syntax.Thread). BlockHasWords t.body) (map view.thread threads.new) }
+{
+    for thread in threads.iter_mut() {
+        resolve_thread(ids, thread);
+    }
+}
+
+fn resolve_thread(ids: &Ids, thread: &mut ThreadDecl)
+    ensures resolved { view.thread thread.new ≡ spec.resolved_thread (var_in ids.now) (lock_in ids.now) (view.thread thread.old) }
+    ensures words { BlockHasWords (view.block thread.new.body) }
+{
+    resolve_modes(ids, &mut thread.modes);
+    resolve_block(ids, thread.body.as_mut_slice());
+}
+
+/// The program that a text stands for, by the ids of its names.
+pub fn resolved_program(ids: &Ids, p: Parsed) -> Program
+    requires { AreIdsOf (view.parsed p) ids.now }
+    ensures resolved { view.program result ≡ spec.resolved (view.parsed p) }
+    ensures words { AreOfWords (view.program result).vars (view.program result).locks (view.program result).threads }
+{
+    let Parsed {
+        mut vars,
+        mut locks,
+        mut threads,
+        ..
+    } = p;
+    resolve_vars(ids, vars.as_mut_slice());
+    resolve_locks(ids, locks.as_mut_slice());
+    resolve_threads(ids, threads.as_mut_slice());
+    Program {
         vars,
         locks,
         threads,
-    })
+    }
 }

@@ -2,31 +2,31 @@ ghost use Rattle.std.specs.Prelude.{◌<◌, [], ◌∷◌, length, map, All};
 ghost use Rattle.cov_ast.specs.View as view;
 ghost use Rattle.cov_ast.specs.Obligations.{Decides};
 ghost use Rattle.policy_class.specs.Resolved as spec;
-ghost use Rattle.policy_class.specs.Places.{ArePlacesOf};
+ghost use Rattle.policy_class.specs.Ids.{AreIdsOf};
 
-use crate::places::Places;
+use crate::ids::Ids;
 use cov_ast::{CheckFault, Detail, NameUse, Parsed, Rule, refused};
 
 /// Refuses a text for the first name that is used as a variable or as a lock and isn't declared so (W2).
-pub fn check_uses(p: &Parsed, places: &Places) -> Result<(), CheckFault>
-    requires places { ArePlacesOf (view.parsed p.now) places.now }
+pub fn check_uses(p: &Parsed, ids: &Ids) -> Result<(), CheckFault>
+    requires ids { AreIdsOf (view.parsed p.now) ids.now }
     requires range { All (λ u. u.name < length p.now.names) p.now.uses }
     ensures { Decides (map (spec.use_obligation (view.parsed p.now)) p.now.uses) result }
 {
     for used in p.uses.as_slice() {
-        if let Err(fault) = check_use(p, places, used) {
+        if let Err(fault) = check_use(p, ids, used) {
             return Err(fault);
         }
     }
     Ok(())
 }
 
-fn check_use(p: &Parsed, places: &Places, used: &NameUse) -> Result<(), CheckFault>
-    requires places { ArePlacesOf (view.parsed p.now) places.now }
+fn check_use(p: &Parsed, ids: &Ids, used: &NameUse) -> Result<(), CheckFault>
+    requires ids { AreIdsOf (view.parsed p.now) ids.now }
     requires range { used.now.name < length p.now.names }
     ensures { Decides (spec.use_obligation (view.parsed p.now) used.now ∷ []) result }
 {
-    if places.has(used) {
+    if ids.has(used) {
         return Ok(());
     }
     let name = p.names.name(used.name);

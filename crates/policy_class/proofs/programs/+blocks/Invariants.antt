@@ -1,10 +1,11 @@
-use Rattle.std.proofs.Common.{◌≡◌, ◌++◌, map, drop}
 use Rattle.cov_ast.specs.View as view
-use Rattle.policy_class.specs.Places.{var_in, lock_in}
-use Rattle.policy_class.proofs.PlacedLaws.{placed_stmt}
+use Rattle.policy_class.specs.Ids.{var_in, lock_in}
+use Rattle.policy_class.specs.Inside.{resolved_stmt, StmtHasWords}
+use Rattle.policy_class.proofs.WalkLaws.{Walked}
 use Rattle.policy_class.proofs.programs.+blocks.Given as goal
 
-abbrev pub invariant-placed_block-loop-stmt : goal.invariant-placed_block-loop-stmt
-invariant-placed_block-loop-stmt l =
-    map view.stmt l.made ++ map (placed_stmt (var_in l.places) (lock_in l.places)) (map view.stmt (drop l.stmt-index l.body))
-    ≡ map (placed_stmt (var_in l.places) (lock_in l.places)) (map view.stmt l.body)
+abbrev pub invariant-resolve_block-loop-i : goal.invariant-resolve_block-loop-i
+invariant-resolve_block-loop-i l = record {
+  unvisited : goal.unvisited-resolve_block-loop-i l;
+  walked : Walked view.stmt (resolved_stmt (var_in l.ids) (lock_in l.ids)) StmtHasWords l.initial.body l.body l.i;
+}
