@@ -13,5 +13,4 @@ pub mod Sound
 pub mod FromObligations
 pub mod FromDeclarations
 pub mod Whole
-pub mod Words
 pub mod Ends

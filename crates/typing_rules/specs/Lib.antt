@@ -2,5 +2,4 @@ pub mod Blocks
 pub mod Entailments
 pub mod Obligations
 pub mod Counts
-pub mod WordThreads
 pub mod Inside

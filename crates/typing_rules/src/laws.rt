@@ -7,7 +7,6 @@ ghost use Rattle.cov_ast.specs.WellFormed.{IsWellFormed};
 ghost use Rattle.flow_model.specs.Game.{IsSecureThread};
 ghost use Rattle.mode_compat.specs.Declared.{IsDeclared, declaration_obligations};
 ghost use Rattle.typing_rules.specs.Obligations.{thread_obligations, end_point};
-ghost use Rattle.typing_rules.specs.WordThreads.{HasWordThreads};
 
 /// A thread of which every obligation holds has given back each lock at its end.
 pub fn threads_end_without_locks()
@@ -23,10 +22,9 @@ pub fn true_declarations_are_declared()
 /// the thread is secure, whatever other threads do within what it assumes of them (the soundness of the typing of COVERN,
 /// for this project's rules).
 ///
-/// Of a well formed program only ids in range are used: a statement assigns to a variable and locks a lock that are
-/// declared. Words are asked of what a thread evaluates and of its certificates, which the plain program doesn't have, so
-/// that they are said of the program with its annotations.
+/// Of a well formed program only ids in range and words of 32 bits are used: a statement assigns to a variable and locks a
+/// lock that are declared, and what it evaluates and what its certificates have is made of words.
 pub fn true_obligations_are_secure()
-    ensures { (p : syntax.Program) → IsWellFormed p → HasWordThreads p → IsTrue (all_hold (declaration_obligations p))
+    ensures { (p : syntax.Program) → IsWellFormed p → IsTrue (all_hold (declaration_obligations p))
         → (t : ℕ) → t < length p.threads → IsTrue (all_hold (thread_obligations p t)) → IsSecureThread (plain p) t }
 {}

@@ -2,12 +2,11 @@
 //!
 //! The definitions stand in `specs/`: `Blocks` has the point after a statement, `Entailments` what has to follow from the
 //! predicates of a point and by which certificate, and `Obligations` every obligation of a thread (V1 to V16) in the order
-//! in which they are tried, with what is refused where it fails. `WordThreads` says which threads have words alone.
+//! in which they are tried, with what is refused where it fails.
 //! `proofs/Examples.antt` computes worked examples.
 //!
 //! - [`check_thread`]: whether every obligation of a thread holds, else the first that doesn't; and then the thread is secure.
 //!   [`Count`]: how many statements and entailments it has.
-//! - [`threads_are_of_words`]: each number of a thread is a word of 32 bits, which the soundness of the rules asks.
 //! - [`threads_end_without_locks`], [`true_declarations_are_declared`], [`true_obligations_are_secure`]: laws, without a body. The
 //!   last is the soundness of the rules.
 //!
@@ -56,7 +55,6 @@ mod statements;
 mod thread;
 mod types;
 mod walk;
-mod word_threads;
 mod writes;
 
 pub use count::Count;
@@ -64,4 +62,3 @@ pub use laws::{
     threads_end_without_locks, true_declarations_are_declared, true_obligations_are_secure,
 };
 pub use thread::check_thread;
-pub use word_threads::threads_are_of_words;

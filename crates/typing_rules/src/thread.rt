@@ -13,7 +13,6 @@ use crate::laws::true_obligations_are_secure;
 use crate::locks::check_end;
 use crate::site::Site;
 use crate::walk::Walk;
-use crate::word_threads::threads_are_of_words;
 use cov_ast::{CheckFault, Program};
 use std::alloc::Global;
 use typing_state::Point;
@@ -32,7 +31,6 @@ pub fn check_thread(alloc: Global, p: &Program, t: u32) -> Result<Count, CheckFa
 {
     match check_statements(alloc, p, t) {
         Ok(entailments) => {
-            threads_are_of_words(p);
             true_obligations_are_secure();
             let statements = statements(p.threads.as_slice()[t as usize].body.as_slice());
             Ok(Count {

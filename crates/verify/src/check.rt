@@ -20,7 +20,7 @@ use lock_spec::check_locks;
 use mode_compat::check_modes;
 use policy_class::check_policy;
 use std::alloc::Global;
-use typing_rules::{Count, check_thread, threads_are_of_words};
+use typing_rules::{Count, check_thread};
 
 /// Checks a program whose names are in order. `Ok` comes exactly where every obligation holds (W3 to W9, V1 to V16), and then
 /// the program is secure and disciplined. The first obligation that doesn't hold is refused: of declarations by rule, and
@@ -38,7 +38,6 @@ pub fn check_program<'p>(alloc: Global, p: &'p Program) -> Result<Verdict<'p>, C
     }
     match check_threads(alloc, p) {
         Ok(count) => {
-            threads_are_of_words(p);
             accepted_is_secure();
             accepted_is_disciplined();
             Ok(Verdict { program: p, count })

@@ -2,7 +2,6 @@ ghost use Rattle.cov_ast.specs.Syntax as syntax;
 ghost use Rattle.cov_ast.specs.Plain.{plain};
 ghost use Rattle.cov_ast.specs.WellFormed.{IsWellFormed};
 ghost use Rattle.flow_model.specs.Secure.{IsSecure};
-ghost use Rattle.typing_rules.specs.WordThreads.{HasWordThreads};
 ghost use Rattle.verify.specs.Accepted.{IsAccepted};
 ghost use Rattle.verify.specs.Disciplined.{IsDisciplined};
 
@@ -16,7 +15,7 @@ use typing_rules::{
 /// every schedule, the two runs agree after each step. It rests on the security of each thread alone and on what keeps the
 /// threads apart, and opens no rule of a statement.
 pub fn accepted_is_secure()
-    ensures { (p : syntax.Program) → IsWellFormed p → HasWordThreads p → IsAccepted p → IsSecure (plain p) }
+    ensures { (p : syntax.Program) → IsWellFormed p → IsAccepted p → IsSecure (plain p) }
 {
     threads_compose();
     writable_and_stable_are_disjoint();

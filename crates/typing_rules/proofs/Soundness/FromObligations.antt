@@ -1,8 +1,9 @@
 -- Obligations of a thread that all hold give the conditions of its rules.
-use Rattle.std.proofs.Common.{◌≡◌, ◌⊎◌, ℕ, suc, ◌<◌, ◌==◌, ◌||◌, ◌&&◌, not, List, [], ◌∷◌, ◌++◌, length, map, filter, Bool, true, false, cond, Option, Some, None, refl, sym, ap, subst, arith, IsTrue, inl, inr, ⊎_elim, eq-eqb, eqb-true, option_to_list}
+use Rattle.std.proofs.Common.{◌≡◌, ◌⊎◌, ℕ, suc, ◌<◌, ◌==◌, ◌||◌, ◌&&◌, not, List, [], ◌∷◌, ◌++◌, length, map, filter, Bool, true, false, cond, Option, Some, None, refl, sym, ap, subst, arith, IsTrue, inl, inr, ⊎_elim, eq-eqb, eqb-true, option_to_list, All}
 use Rattle.std.proofs.lemmas.Bool.{or_cases, or_left, or_right, and_from, cases_lt}
 use Rattle.std.specs.List.{range_with_len}
 use Rattle.std.proofs.lemmas.List.{get_or_past}
+use Rattle.std.proofs.lemmas.List.Elements.{All-head, All-tail}
 use Rattle.cov_expr.specs.Entailment.{Entails}
 use Rattle.cov_expr.specs.Term.{Term, neg}
 use Rattle.cov_expr.specs.Trees.{has_number, mentions, vars}
@@ -12,9 +13,8 @@ use Rattle.cov_ast.specs.Declarations.{class_of, invariant_term, is_control, loc
 use Rattle.cov_ast.specs.Obligations.{Obligation, all_hold}
 use Rattle.cov_ast.specs.Plain.{Plain, class_term}
 use Rattle.cov_ast.specs.Syntax.{State, Proof, Stm, skip, assign, lock, unlock, branch, loop, note, Block, done, more}
-use Rattle.cov_ast.specs.WellFormed.{IsStmInRange, IsBlockInRange}
+use Rattle.cov_ast.specs.WellFormed.{IsStmInRange, IsBlockInRange, CertHasWords, StmHasWords, BlockHasWords}
 use Rattle.cov_ast.specs.declared.refusal.Rule.TheVariants.{V1, V5}
-use Rattle.entail_cert.specs.Words.{CertHasWords}
 use Rattle.entail_cert.proofs.Instances.{valid_entails}
 use Rattle.entail_cert.proofs.Truth.{all_both}
 use Rattle.mode_state.specs.Sets.{is_stable, is_hidden, may_read}
@@ -24,7 +24,6 @@ use Rattle.typing_state.specs.After.{with_guard, meet}
 use Rattle.typing_rules.specs.Blocks.{value_type, after_stm, after_block}
 use Rattle.typing_rules.specs.Entailments.{Entailment, from_preds, from_one_more, cert_for, is_proved, type_follows, state_follows, guard_follows, written_type, shown_value, shown_controlled, controlled_follows, controlled_values, retype_follows, assign_entailments, freed_value}
 use Rattle.typing_rules.specs.Obligations.{flat, of_var, reads, one_unstable, narrow, guard_obligations, over_stable, type_obligations, state_obligations, proved, assign_parts, unlock_parts, stm_parts, block_obligations}
-use Rattle.typing_rules.specs.WordThreads.{ProofsHaveWords, StmHasWords, BlockHasWords}
 use Rattle.typing_rules.proofs.Soundness.Conditions.{Each, EachType, Gives, StateFollows, AssignChecks, UnlockChecks, GuardChecks, StateOver, Checks, BlockChecks}
 use Rattle.typing_rules.proofs.Soundness.Exprs.{one_holds}
 use Rattle.typing_rules.proofs.Soundness.Lists.{in_vars}
@@ -76,10 +75,15 @@ parts (es ∷ ess) h = (true_left es (flat ess) h, parts ess (true_right es (fla
 
 -- Entailments --------------------------------------------------------------------------------------------------
 
+abbrev ProofsHaveWords : List Proof → Type 0
+ProofsHaveWords proofs = All (λ q. CertHasWords q.cert) proofs
+
 -- A proof with a valid certificate gives its entailment.
 cert_words : (proofs : List Proof) (n : ℕ) → ProofsHaveWords proofs → CertHasWords (cert_for proofs n)
 cert_words [] n w = tt
-cert_words (q ∷ qs) n w = cond_is CertHasWords (q.number == n) q.cert (cert_for qs n) (λ _. w.0) (λ _. cert_words qs n w.1)
+cert_words (q ∷ qs) n w =
+    cond_is CertHasWords (q.number == n) q.cert (cert_for qs n) (λ _. All-head (λ o. CertHasWords o.cert) q qs w)
+    (λ _. cert_words qs n (All-tail (λ o. CertHasWords o.cert) q qs w))
 
 follows : (proofs : List Proof) (n : ℕ) (g : Entailment) → ProofsHaveWords proofs → IsTrue (is_proved proofs n g) → Entails g.hyps g.goal
 follows proofs n g w v = valid_entails g.hyps g.goal (cert_for proofs n) (cert_words proofs n w) v
@@ -229,7 +233,7 @@ module _ (p : Plain) (t : ℕ) where
         let all = all_follow proofs 1 (assign_entailments p t a x e o rs) c h.1.1.1.1.1.1.1.1.1.0 in
         record {
           in_range = r.0;
-          words = w;
+          words = w.0;
           reads = reads_of a.held e h.0;
           writes = h.1.0.0;
           over = h.1.1.1.1.0.0;
@@ -308,7 +312,7 @@ module _ (p : Plain) (t : ℕ) where
           state_over at a.held inv h.0,
           state_gives a inv (follow_left (state_follows a inv) (guard_follows p t head e ∷ []) all),
           guard_of at head e h.1.0 (follow_right (state_follows a inv) (guard_follows p t head e ∷ []) all).0,
-          block_of b yes r.2 w.1 l.0,
+          block_of b yes r.2 w.2 l.0,
           l.1.0.0,
           state_gives body_end inv (all_follow at proofs (suc (length gs)) (state_follows body_end inv) c l.1.1.1.0),
         )

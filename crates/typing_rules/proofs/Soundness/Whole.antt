@@ -17,7 +17,6 @@ use Rattle.mode_compat.specs.Compatible as rules
 use Rattle.mode_compat.specs.Declared.{declaration_obligations}
 use Rattle.typing_state.specs.After.{start}
 use Rattle.typing_rules.specs.Obligations.{thread_obligations, block_obligations, end_obligation, end_point}
-use Rattle.typing_rules.specs.WordThreads.{HasWordThreads}
 use Rattle.typing_rules.proofs.Soundness.FromDeclarations.{declared}
 use Rattle.typing_rules.proofs.Soundness.FromObligations.{all_true, true_left, block_of}
 use Rattle.typing_rules.proofs.Soundness.Sound.{thread_secure}
@@ -25,13 +24,13 @@ use Rattle.typing_rules.proofs.Soundness.Sound.{thread_secure}
 body_is : (p : Program) (t : ℕ) → t < length p.threads → (thread_at (plain p) t).body ≡ plain_block (numbered p t).body
 body_is p t lt = ap (λ th. th.body) (get_or-map plain_thread p.threads t rules.no_thread no_thread lt)
 
-pub true_is_secure : (p : Program) → IsWellFormed p → HasWordThreads p → IsTrue (all_hold (declaration_obligations p)) → (t : ℕ)
+pub true_is_secure : (p : Program) → IsWellFormed p → IsTrue (all_hold (declaration_obligations p)) → (t : ℕ)
     → t < length p.threads
     → IsTrue (all_hold (thread_obligations p t)) → IsSecureThread (plain p) t
-true_is_secure p fine words h t t_in k =
+true_is_secure p fine h t t_in k =
     let body = (numbered p t).body in
     let obligations = block_obligations (plain p) t body (start (plain p) t) in
     let end = end_obligation (plain p) t (numbered p t).end (end_point p t).held in
     thread_secure (plain p) (declared p h) t (omega (arith, t_in, length-map p.threads plain_thread)) body (body_is p t t_in)
-    (block_of (plain p) t body (start (plain p) t) (fine.ids.of_threads t rules.no_thread t_in).body (words t)
+    (block_of (plain p) t body (start (plain p) t) (fine.ids.of_threads t rules.no_thread t_in).body (fine.words.bodies t rules.no_thread t_in)
     (true_left obligations (end ∷ []) (all_true (thread_obligations p t) k)))

@@ -28,5 +28,5 @@ returns-in-Ok-clause-secure c =
     let p = view.program c.args.p.now in
     let t = c.args.t in
     let inside : t < length p.threads = omega (arith, c.requires.thread, length-map c.args.p.now.threads view.thread) in
-    c.true_obligations_are_secure.ensures p c.requires.formed c.threads_are_of_words.ensures c.requires.declared t inside
+    c.true_obligations_are_secure.ensures p c.requires.formed c.requires.declared t inside
     (none_refused (thread_obligations p t) c.in-Ok.ensures.0)

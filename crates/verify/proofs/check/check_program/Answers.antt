@@ -32,7 +32,7 @@ invariant_of-result c =
     record {
       formed = ∣ c.requires ∣₁;
       accepted = accepted;
-      secure = ∣ c.accepted_is_secure.ensures p c.requires c.threads_are_of_words.ensures accepted ∣₁;
+      secure = ∣ c.accepted_is_secure.ensures p c.requires accepted ∣₁;
       disciplined = c.accepted_is_disciplined.ensures p c.requires accepted;
       counted = c.in-Ok.ensures.1;
     }
@@ -42,4 +42,4 @@ returns-in-Ok-clause-secure c =
     let p = view.program c.args.p.now in
     let none : first_false (program_obligations p) ≡ None =
     append_held (declaration_obligations p) (flat_map (thread_obligations p) (threads_of p)) c.in_default.ensures ∙ c.in-Ok.ensures.0 in
-    c.accepted_is_secure.ensures p c.requires c.threads_are_of_words.ensures (none_refused (program_obligations p) none)
+    c.accepted_is_secure.ensures p c.requires (none_refused (program_obligations p) none)
