@@ -73,7 +73,7 @@ fn add_declared(alloc: Global, times: u32, text: &[u8], out: &mut Blob) -> Resul
     requires { length text.now ≤ 1048576 }
 {
     let said: &[u8] = match parse(alloc, text) {
-        Ok(parsed) => match declare(alloc, times, &parsed) {
+        Ok(parsed) => match declare(alloc, times, parsed) {
             Ok(()) => b"declared\n",
             Err(CheckFault::Refused(_)) => b"refused\n",
             Err(CheckFault::NoMemory) => return Err(Failure::NoMemory),
@@ -85,8 +85,8 @@ fn add_declared(alloc: Global, times: u32, text: &[u8], out: &mut Blob) -> Resul
 }
 
 /// Tries the rules of declarations.
-fn declare(alloc: Global, times: u32, parsed: &Parsed) -> Result<(), CheckFault>
-    requires { IsReady (view.parsed parsed.now) }
+fn declare(alloc: Global, times: u32, parsed: Parsed) -> Result<(), CheckFault>
+    requires { IsReady (view.parsed parsed) }
 {
     let program = resolve(alloc, parsed)?;
     check_policy(alloc, &program)?;

@@ -36,7 +36,7 @@ fn program(alloc: Global, text: &[u8]) -> Result<Program, Fail>
     requires { length text.now ≤ 1048576 }
     ensures { IfOk result (λ p. IsWellFormed (view.program p)) }
 {
-    match resolve(alloc, &parsed(alloc, text)?) {
+    match resolve(alloc, parsed(alloc, text)?) {
         Ok(program) => Ok(program),
         Err(_) => Err("names".into()),
     }

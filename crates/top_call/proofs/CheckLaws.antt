@@ -1,25 +1,26 @@
 -- Laws of `check`: the obligations of what a text spells, and what is replied to the bytes of a file.
-use Rattle.std.proofs.Common.{◌≡◌, ◌⊎◌, ℕ, List, [], ◌∷◌, ◌++◌, Bool, true, false, ◌&&◌, Option, Some, None, Result, Ok, Err, IsErrAnd, IsTrue, inl, inr, refl, sym, ap, ◌∙◌, cond, subst}
-use Rattle.std.specs.Prelude.{MatchResult}
+use Rattle.std.proofs.Common.{◌≡◌, ◌⊎◌, ℕ, List, [], ◌∷◌, ◌++◌, Bool, true, false, ◌&&◌, Option, Some, None, Result, Ok, Err, IsTrue, inl, inr, refl, sym, ap, ◌∙◌, cond, subst, length, map, slice_get}
 use Rattle.std.proofs.lemmas.Bool.{and_parts}
+use Rattle.std.proofs.lemmas.List.{length-map}
 use Rattle.std.proofs.lemmas.List.Folds.{list_all-append}
-use Rattle.cov_ast.specs.Syntax.{Parsed, Program}
-use Rattle.cov_ast.specs.Obligations.{Obligation, all_hold, first_false, Decides}
-use Rattle.cov_ast.specs.declared.refusal.CheckFault.{CheckFault}
+use Rattle.cov_ast.specs.Plain.{plain}
+use Rattle.cov_ast.specs.Syntax.{Parsed, Program, Thread}
+use Rattle.cov_ast.specs.declared.parsed.NameUse.{NameUse}
+use Rattle.cov_ast.specs.Obligations.{Obligation, all_hold, first_false}
+use Rattle.cov_ast.specs.declared.refusal.CheckFault.TheVariants.{Refused}
 use Rattle.cov_ast.specs.declared.refusal.Refusal.{Refusal}
 use Rattle.cov_ast.proofs.ObligationLaws.{append_refused, append_decided, both_hold}
 use Rattle.cov_grammar.specs.Trees as trees
 use Rattle.cov_parse.specs.Text.{program_of}
 use Rattle.flow_model.specs.Secure.{IsSecure}
-use Rattle.policy_class.specs.Resolved.{name_obligations, resolved}
+use Rattle.policy_class.specs.Resolved.{Named, declared_names, lock_id, name_obligations, resolved, resolved_thread, use_obligation, var_id, w1_from}
 use Rattle.verify.specs.Accepted.{program_obligations, IsAccepted}
 use Rattle.verify.specs.Verdicts.{counts}
 use Rattle.top_call.specs.Check.{obligations, AreNamesInOrder, meaning, thread_name, Accepts, Refuses, Judges, IsAcceptedText}
-use Rattle.top_call.specs.Inside.{JudgesTree, Gets, LacksMemory}
+use Rattle.top_call.specs.Inside.{JudgesProgram, JudgesTree, Gets, LacksMemory, name_in}
 use Rattle.top_call.specs.Programs.{SpellsTree, IsProgramText}
 use Rattle.top_call.specs.Replies.{Reply, usage, read_fault, too_long, malformed, refused, accepted, spelled, status_of}
 use Rattle.top_call.specs.declared.answers.Answer.{Answer}
-use Rattle.top_call.specs.declared.answers.Counts.{Counts}
 use Rattle.top_call.specs.declared.answers.Fault.{Fault}
 use Rattle.top_call.specs.declared.answers.Status.TheVariants as s
 use Rattle.top_call.specs.declared.answers.Stop.{Stop}
@@ -39,12 +40,52 @@ all_true (e ∷ es) h = go (all_true es) e.holds h
 pub names_hold : (p : Parsed) → IsTrue (all_hold (obligations p)) → AreNamesInOrder p
 names_hold p h = (both_hold (name_obligations p) _ h).0
 
+-- Obligations of names are none of a thread.
+abbrev AreOfNoThread : List Obligation → Type 0
+AreOfNoThread [] = Unit {0}
+AreOfNoThread (e ∷ es) = (e.refusal.thread ≡ None) × AreOfNoThread es
+
+first_without : (es : List Obligation) (refusal : Refusal) → AreOfNoThread es → first_false es ≡ Some refusal → refusal.thread ≡ None
+first_without [] refusal h first = let e : None ≡ Some refusal = first in cc
+first_without (e ∷ es) refusal h first = go (first_without es refusal h.1) e.holds first
+  where
+    go : (first_false es ≡ Some refusal → refusal.thread ≡ None) → (b : Bool) → cond b (first_false es) (Some e.refusal) ≡ Some refusal
+        → refusal.thread ≡ None
+    go rest true first = rest first
+    go rest false first = let same : e.refusal ≡ refusal = cc in subst (λ r. r.thread ≡ None) same h.0
+
+both_without : (a b : List Obligation) → AreOfNoThread a → AreOfNoThread b → AreOfNoThread (a ++ b)
+both_without [] b h k = k
+both_without (e ∷ es) b h k = (h.0, both_without es b h.1 k)
+
+w1_without : (before : List (List ℕ)) (ns : List Named) → AreOfNoThread (w1_from before ns)
+w1_without before [] = tt
+w1_without before (n ∷ ns) = (refl, w1_without (before ++ n.name ∷ []) ns)
+
+uses_without : (p : Parsed) (us : List NameUse) → AreOfNoThread (map (use_obligation p) us)
+uses_without p [] = tt
+uses_without p (u ∷ us) = (refl, uses_without p us)
+
+names_without : (p : Parsed) → AreOfNoThread (name_obligations p)
+names_without p =
+    both_without (w1_from [] (declared_names p)) (map (use_obligation p) p.uses) (w1_without [] (declared_names p)) (uses_without p p.uses)
+
+-- A thread has in the program the name that it has in the text.
+same_name : (p : Parsed) (thread : Option ℕ) → name_in (resolved p).threads thread ≡ thread_name p thread
+same_name p None = refl
+same_name p (Some t) = ap (λ names. slice_get names t) (over p.threads)
+  where
+    over : (ts : List Thread) → map (λ th. th.name) (map (resolved_thread (var_id p) (lock_id p)) ts) ≡ map (λ th. th.name) ts
+    over [] = refl
+    over (th ∷ ths) = ap (◌∷◌ th.name) (over ths)
+
 module _ (p : Parsed) where
-  -- what refuses the names of a text refuses the text
-  pub names_refused : (r : Result Counts CheckFault) (fault : CheckFault) → IsErrAnd r (λ f. f ≡ fault) → Decides (name_obligations p) (Err fault)
-      → MatchResult r (λ counts. Accepts p counts.threads counts.statements counts.entailments) (λ f. Decides (obligations p) (Err f))
-  names_refused (Ok counts) fault e h = absurd e
-  names_refused (Err f) fault e h = append_refused (name_obligations p) _ f (subst (λ g. Decides (name_obligations p) (Err g)) (sym e) h)
+  -- what refuses the names of a text refuses the text, and no thread is named
+  pub names_refused : (refusal : Refusal) → first_false (name_obligations p) ≡ Some refusal → Refuses p refusal None
+  names_refused refusal h = record {
+    first = append_refused (name_obligations p) _ (Refused refusal) h;
+    named = sym (ap (thread_name p) (first_without (name_obligations p) refusal (names_without p) h));
+  }
 
   module _ (program : Program) (is : program ≡ resolved p) (named : first_false (name_obligations p) ≡ None) where
     -- where the names are in order, the obligations are those of names and those of the program
@@ -53,15 +94,38 @@ module _ (p : Parsed) where
         ap (λ q. name_obligations p ++ program_obligations q) is
         ∙ ap (λ b. name_obligations p ++ cond b (program_obligations (resolved p)) []) (sym (all_true (name_obligations p) named))
 
-    pub program_refused : (fault : CheckFault) → Decides (program_obligations program) (Err fault) → Decides (obligations p) (Err fault)
-    program_refused fault h =
-        subst (λ es. Decides es (Err fault)) whole (append_decided (name_obligations p) (program_obligations program) (Err fault) named h)
+    program_refused : (refusal : Refusal) → first_false (program_obligations program) ≡ Some refusal → first_false (obligations p) ≡ Some refusal
+    program_refused refusal h =
+        subst (λ es. first_false es ≡ Some refusal) whole
+        (append_decided (name_obligations p) (program_obligations program) (Err (Refused refusal)) named h)
 
-    pub all_accepted : IsAccepted program → IsTrue (all_hold (obligations p))
+    all_accepted : IsAccepted program → IsTrue (all_hold (obligations p))
     all_accepted h =
         subst (λ es. IsTrue (all_hold es)) whole
         (list_all-append (λ e. e.holds) (name_obligations p) (program_obligations program)
         ∙ ap (λ b. b && all_hold (program_obligations program)) (all_true (name_obligations p) named) ∙ h)
+
+    -- what is replied to the program is replied to the text
+    pub program_judged : (r : Result Answer Stop) → Gets (JudgesProgram program) r → Gets (JudgesTree p) r
+    program_judged r h = gets_onward (JudgesProgram program) (JudgesTree p) r each h
+      where
+        each : (reply : Reply) → JudgesProgram program reply → JudgesTree p reply
+        each usage judged = judged
+        each (read_fault file) judged = judged
+        each (too_long file) judged = judged
+        each (malformed file fault) judged = judged
+        each (refused refusal thread) judged = record {
+          first = program_refused refusal judged.0;
+          named = judged.1 ∙ ap (λ q. name_in q.threads refusal.thread) is ∙ same_name p refusal.thread;
+        }
+        each (accepted threads statements entailments) judged = record {
+          hold = all_accepted judged.is_accepted;
+          thread_count = judged.thread_count ∙ ap (λ q. length q.threads) is ∙ length-map p.threads (resolved_thread (var_id p) (lock_id p));
+          statement_count = judged.statement_count ∙ ap (λ q. (counts q).statements) is;
+          entailment_count = judged.entailment_count ∙ ap (λ q. (counts q).entailments) is;
+          secure = subst (λ q. IsSecure (plain q)) is judged.secure;
+        }
+        each (spelled text) judged = judged
 
 -- Replies ------------------------------------------------------------------------------------------------------
 

@@ -1,18 +1,17 @@
-ghost use Rattle.std.specs.Prelude.{◌≡◌, ◌≤◌, MatchResult, Err, length};
-ghost use Rattle.cov_ast.specs.Obligations.{Decides};
+ghost use Rattle.std.specs.Prelude.{◌≡◌, ◌≤◌, length, map};
 ghost use Rattle.cov_ast.specs.Ready.{IsReady};
 ghost use Rattle.cov_ast.specs.View as view;
+ghost use Rattle.cov_ast.specs.WellFormed.{IsWellFormed};
 ghost use Rattle.cov_io.specs.Shelves.{Passes};
-ghost use Rattle.top_call.specs.Check.{Accepts, Judges, obligations};
-ghost use Rattle.top_call.specs.Check as spec;
+ghost use Rattle.top_call.specs.Check.{Judges};
 ghost use Rattle.top_call.specs.Asks.{Asks, files_of};
 ghost use Rattle.top_call.specs.Commands as asked;
-ghost use Rattle.top_call.specs.Inside.{LacksMemory, Gets, JudgesTree};
+ghost use Rattle.top_call.specs.Inside.{LacksMemory, Gets, JudgesProgram, JudgesTree, name_in};
 ghost use Rattle.top_call.specs.Outcome.{Does};
 
 use crate::answers::{Answer, Counts, Stop};
 use crate::files::{PROGRAM_LIMIT, fetch, unread};
-use cov_ast::{CheckFault, Parsed};
+use cov_ast::{CheckFault, Parsed, Program, ThreadDecl};
 use cov_expr::Name;
 use cov_io::Shelf;
 use cov_parse::parse;
@@ -40,51 +39,49 @@ fn check_text<'w>(alloc: Global, name: &'w str, bytes: &[u8]) -> Result<Answer<'
     ensures { Gets (Judges name.now bytes.now) result }
 {
     match parse(alloc, bytes) {
-        Ok(parsed) => judge(alloc, &parsed),
+        Ok(parsed) => judge(alloc, parsed),
         Err(fault) => Err(unread(name, fault)),
     }
 }
 
-/// Judges what a text spells.
-fn judge<'w>(alloc: Global, parsed: &Parsed) -> Result<Answer<'w>, Stop<'w>>
-    requires { IsReady (view.parsed parsed.now) }
-    ensures { Gets (JudgesTree (view.parsed parsed.now)) result }
+/// Judges what a text spells. A name that is refused is that of no thread.
+fn judge<'w>(alloc: Global, parsed: Parsed) -> Result<Answer<'w>, Stop<'w>>
+    requires { IsReady (view.parsed parsed) }
+    ensures { Gets (JudgesTree (view.parsed parsed)) result }
 {
-    match counts_of(alloc, parsed) {
-        Ok(counts) => Ok(Answer::Accepted(counts)),
+    match resolve(alloc, parsed) {
+        Ok(program) => judge_program(alloc, &program),
+        Err(CheckFault::Refused(refusal)) => Ok(Answer::Refused(refusal, None)),
+        Err(CheckFault::NoMemory) => Err(Stop::NoMemory),
+    }
+}
+
+/// Judges a program whose names are in order.
+fn judge_program<'w>(alloc: Global, program: &Program) -> Result<Answer<'w>, Stop<'w>>
+    requires { IsWellFormed (view.program program.now) }
+    ensures { Gets (JudgesProgram (view.program program.now)) result }
+{
+    match check_program(alloc, program) {
+        Ok(verdict) => {
+            let count = verdict.count();
+            Ok(Answer::Accepted(Counts {
+                threads: program.threads.len() as u64,
+                statements: count.statements,
+                entailments: count.entailments,
+            }))
+        }
         Err(CheckFault::Refused(refusal)) => {
-            let thread = thread_name(parsed, refusal.thread);
+            let thread = thread_name(program.threads.as_slice(), refusal.thread);
             Ok(Answer::Refused(refusal, thread))
         }
         Err(CheckFault::NoMemory) => Err(Stop::NoMemory),
     }
 }
 
-/// How much a program has that is accepted.
-fn counts_of(alloc: Global, parsed: &Parsed) -> Result<Counts, CheckFault>
-    requires { IsReady (view.parsed parsed.now) }
-    ensures { MatchResult result
-        (λ counts. Accepts (view.parsed parsed.now) counts.threads counts.statements counts.entailments)
-        (λ fault. Decides (obligations (view.parsed parsed.now)) (Err fault)) }
-{
-    let program = resolve(alloc, parsed)?;
-    match check_program(alloc, &program) {
-        Ok(verdict) => {
-            let count = verdict.count();
-            Ok(Counts {
-                threads: parsed.threads.len() as u64,
-                statements: count.statements,
-                entailments: count.entailments,
-            })
-        }
-        Err(fault) => Err(fault),
-    }
-}
-
 /// The name of a thread, by its number.
-fn thread_name(parsed: &Parsed, thread: Option<u32>) -> Option<Name>
-    ensures { result ≡ spec.thread_name (view.parsed parsed.now) thread }
+fn thread_name(threads: &[ThreadDecl], thread: Option<u32>) -> Option<Name>
+    ensures { result ≡ name_in (map view.thread threads.now) thread }
 {
-    let thread = parsed.threads.as_slice().get(thread? as usize)?;
+    let thread = threads.get(thread? as usize)?;
     Some(thread.name)
 }
