@@ -151,8 +151,6 @@ large_from n (suc k) j change (q ∷ types) g is at h =
     and_right (is_small_type (option_map (change n) q)) (list_all is_small_type (updated_from (suc n) (λ x q. option_map (change x) q) types))
     (large_from (suc n) k j change types g is (omega arith) h)
 
-]
-
 -- what is hidden is stable
 hidden_stable : (p : Plain) (t : ℕ) (held : List Bool) (x : ℕ) → is_hidden p t held x ≡ true → is_stable p t held x ≡ true
 hidden_stable p t held x h = elim (or_cases (assumes_hide p t x) (list_any (λ l. has held l && hides p l x) (locks_of p)) h) [

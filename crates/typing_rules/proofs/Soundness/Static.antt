@@ -60,8 +60,6 @@ low_is (when e) h = absurd (let c : false ≡ true = h in cc)
 pub class_of_control : (p : Plain) → IsDeclared p → (c : ℕ) → IsTrue (is_control p c) → class_of p c ≡ const 1
 class_of_control p d c h = low_is _ (d.controls_low c h)
 
-]
-
 pub under_hide : (p : Plain) (l x : ℕ) → IsTrue (hides p l x) → IsTrue (under p l x)
 under_hide p l x k = or_right _ (hides p l x) k
 

@@ -52,13 +52,13 @@ pub loop-i-preserved : goal.loop-i-preserved
 loop-i-preserved c =
     let old : c.loop-i.i < length c.args.tokens.now = omega (arith, c.loop-i-test.true, c.len-i-end.ensures) in
     elim c.if-is.branch [
-      then-is+in_ok-value w ↦
-        name_goes c.args.bytes.now c.args.tokens.now c.requires.tokens c.loop-i.i old c.loop-i.names c.loop-i.tokens c.loop-i.invariant (get_or c.as_slice.result.now c.loop-i.i blank) blank (ap (λ ts. get_or ts c.loop-i.i blank) c.as_slice.ensures) (sym c.is.ensures ∙ w.if-is.true)
-        c.if-is.names c.if-is.tokens w.in_ok-value.value w.in_ok-value.ensures.number (w.names-is ∙ w.in_ok-value.ensures.names) (w.tokens-is ∙ w.set.ensures)
-    | else-is w ↦
-        subst (λ names. Numbering c.args.bytes.now names c.if-is.tokens (c.loop-i.i + 1)) (sym w.names-is)
-        (subst (λ tokens. Numbering c.args.bytes.now c.loop-i.names tokens (c.loop-i.i + 1)) (sym w.tokens-is)
-        (other_goes c.args.bytes.now c.args.tokens.now c.requires.tokens c.loop-i.i old c.loop-i.names c.loop-i.tokens c.loop-i.invariant (get_or c.as_slice.result.now c.loop-i.i blank) blank (ap (λ ts. get_or ts c.loop-i.i blank) c.as_slice.ensures) (sym c.is.ensures ∙ w.if-is.false)))
+      | then-is+in_ok-value w ↦
+          name_goes c.args.bytes.now c.args.tokens.now c.requires.tokens c.loop-i.i old c.loop-i.names c.loop-i.tokens c.loop-i.invariant (get_or c.as_slice.result.now c.loop-i.i blank) blank (ap (λ ts. get_or ts c.loop-i.i blank) c.as_slice.ensures) (sym c.is.ensures ∙ w.if-is.true)
+          c.if-is.names c.if-is.tokens w.in_ok-value.value w.in_ok-value.ensures.number (w.names-is ∙ w.in_ok-value.ensures.names) (w.tokens-is ∙ w.set.ensures)
+      | else-is w ↦
+          subst (λ names. Numbering c.args.bytes.now names c.if-is.tokens (c.loop-i.i + 1)) (sym w.names-is)
+          (subst (λ tokens. Numbering c.args.bytes.now c.loop-i.names tokens (c.loop-i.i + 1)) (sym w.tokens-is)
+          (other_goes c.args.bytes.now c.args.tokens.now c.requires.tokens c.loop-i.i old c.loop-i.names c.loop-i.tokens c.loop-i.invariant (get_or c.as_slice.result.now c.loop-i.i blank) blank (ap (λ ts. get_or ts c.loop-i.i blank) c.as_slice.ensures) (sym c.is.ensures ∙ w.if-is.false)))
     ]
 
 pub returns-clause-names : goal.returns-clause-names
