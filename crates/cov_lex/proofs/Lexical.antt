@@ -61,6 +61,13 @@ mute_kind k.Name value first h = absurd (true≢false (sym h))
 mute_kind k.Number value first h = absurd (true≢false (sym h))
 mute_kind _ value first h = refl
 
+-- a token that has the kind of a name is one
+pub only_names : (kind : TokenKind) (bytes : List ℕ) → Spells bytes kind → spec.kind_of kind bytes ≡ k.Name → kind ≡ Name
+only_names Keyword bytes is e = absurd (true≢false (sym (spelled_is_mute bytes (keyword_parts bytes is).1) ∙ ap is_mute e))
+only_names Name bytes is e = refl
+only_names (Number n) bytes is e = cc
+only_names Sign bytes is e = absurd (true≢false (sym (spelled_is_mute bytes (sign_begins bytes is).1) ∙ ap is_mute e))
+
 -- Tokens -------------------------------------------------------------------------------------------------------
 
 first_of : (b : Bool) (text : List ℕ) → 0 < length text → begins_with_letter text ≡ b → is_lower (get_or text 0 0) ≡ b

@@ -10,13 +10,15 @@ use Rattle.cov_expr.specs.Bytes.{is_lower, is_digit, is_word}
 use Rattle.cov_expr.specs.Names.{is_word_text, IsName}
 use Rattle.cov_expr.specs.Spellings.{is_keyword}
 use Rattle.cov_lex.specs.declared.token.TokenKind.TheVariants.{Keyword, Name, Number, Sign}
-use Rattle.cov_lex.specs.declared.piece.Piece.TheVariants.{Part}
+use Rattle.cov_lex.specs.Lexing.{Part}
 use Rattle.cov_lex.specs.declared.fault.LexFault.TheVariants.{NameTooLong}
 use Rattle.cov_expr.specs.Term.{Term, const, var, neg, bin}
 use Rattle.cov_lex.specs.Lexing.{piece_at, word_of, number_of}
 use Rattle.cov_lex.proofs.Fronts.{Stops, run_of}
 use Rattle.cov_expr.specs.declared.kind.Kind.TheVariants as k
-use Rattle.cov_grammar.specs.Words.{kind_of as kind_of_word, keyword_kinds, sign_kinds}
+use Rattle.cov_expr.specs.Spellings.{spellings}
+use Rattle.cov_expr.specs.Spellings as spelled
+use Rattle.cov_lex.specs.Signs.{signs, doubles, singles}
 use Rattle.cov_print.specs.Spelling as spec
 use Rattle.cov_print.proofs.Written as w
 use Rattle.cov_print.proofs.Written.{Word, plain}
@@ -115,7 +117,7 @@ module _ {all : List (List ℕ)} where
           ∙ ap (number_of at) e ∙ number_is at small ∙ ap (λ l. Ok (Part (Number n) (length l))) (sym e)
 
   hole_ : {more : List ℕ} {vs : List Word} (x : ℕ) → spec.name all x ≡ codes "_" → Reads all more vs → Reads all (spec.name all x ++ more) (w.hole x ∷ vs)
-  unfolding kind_of_word keyword_kinds sign_kinds
+  unfolding spelled.kind_of spellings signs doubles singles
   hole_ {more} {vs} x e h =
       subst (λ text. Reads all (text ++ more) (w.hole x ∷ vs)) (sym e) (token (codes "_") (w.hole x) Sign (omega arith) (λ fit at. refl) (λ fit. (tt, refl)) h)
 
@@ -201,11 +203,12 @@ module _ (all : List (List ℕ)) (valid : AreNames all) where
   }
 
   mark_piece : (text : List ℕ) → StartsWell text → (at : ℕ) → piece_at at (33 ∷ text) ≡ Ok (Part Sign 1)
+  unfolding spellings signs doubles singles
   mark_piece text h at = ap (λ t. piece_at at (33 ∷ t)) h.is ∙ rw h.other
 
   -- a mark in front of an operand
   pub mark_ : {text : List ℕ} {ws : List Word} → (AllFit (known all) ws → StartsWell text) → Reads all text ws → Reads all (33 ∷ text) (plain k.Bang ∷ ws)
-  unfolding kind_of_word keyword_kinds sign_kinds
+  unfolding spelled.kind_of spellings signs doubles singles
   mark_ {text} {ws} well h = record {
     reads = λ fit front. (token {all = all} (codes "!") (plain k.Bang) Sign (omega arith) (λ g at. mark_piece text (well fit.1) at) (λ g. (tt, refl)) h).reads fit front;
   }

@@ -11,7 +11,8 @@ use Rattle.cov_lex.specs.Tokens.{bytes_of, Spells}
 use Rattle.cov_lex.proofs.Spelled.{are_tokens}
 use Rattle.cov_expr.specs.declared.kind.Kind.{Kind}
 use Rattle.cov_ast.specs.Names.{number_of}
-use Rattle.cov_parse.specs.Numbered.{with_word, with_token, names_onto, kind_of, value_of, word_of}
+use Rattle.cov_lex.specs.Classified.{kind_of}
+use Rattle.cov_parse.specs.Numbered.{with_word, with_token, names_onto, value_of, word_of}
 use Rattle.cov_parse.proofs.NameNumbers.{token_inside}
 use Rattle.cov_print.specs.Spelling as spec
 use Rattle.cov_print.proofs.Written as w
@@ -19,7 +20,8 @@ use Rattle.cov_print.proofs.Written.{Word, plain}
 use Rattle.cov_print.proofs.Keeps.{IsAt, Are, leaf, leaves, leaf_of, leaves_of, IsGood, AreGood, AllFit}
 use Rattle.cov_print.proofs.Readings.{known, IsPlain, Shows, Show}
 use Rattle.cov_print.proofs.Named.{Every, every_append, AreDistinct, number_name, added, IsIn, number_below, name_number}
-use Rattle.cov_print.proofs.Source.{is_mute, mute_leaf, keyword_mute, sign_mute, IsSmall, IsSound}
+use Rattle.cov_lex.proofs.Lexical.{is_mute}
+use Rattle.cov_print.proofs.Source.{mute_leaf, keyword_mute, sign_mute, IsSmall, IsSound}
 
 -- Names of tokens ----------------------------------------------------------------------------------------------
 
@@ -103,7 +105,7 @@ module _ (all : List (List ℕ)) where
         (by t.kind h.0.0 h.0.1 (every_left (IsIn all) (named_bytes t.kind (bytes_of text t)) (name_bytes text ts) i), good_words ts h.1 (every_right (IsIn all) (named_bytes t.kind (bytes_of text t)) (name_bytes text ts) i))
       where
         by : (kind : TokenKind) → Spells (bytes_of text t) kind → IsSmall kind → Every (IsIn all) (named_bytes kind (bytes_of text t))
-            → IsGood (known all) (record { kind = kind_of kind (bytes_of text t); at = t.at; value = value_of kind (bytes_of text t) all })
+            → IsGood (known all) (record { kind = kind_of kind (bytes_of text t); at = t.at; end = t.end; value = value_of kind (bytes_of text t) all })
         by raw.Name s m n = record { named = λ e. number_below all (bytes_of text t) n.0; small = λ e. cc }
         by raw.Keyword s m n = record {
           named = λ e. absurd (true≢false (sym (keyword_mute (bytes_of text t) s) ∙ ap is_mute e));

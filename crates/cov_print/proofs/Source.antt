@@ -18,64 +18,25 @@ use Rattle.cov_lex.specs.Lexing.{Lexed, piece_at, tokens_from, tokens_of, before
 use Rattle.cov_lex.specs.Tokens.{bytes_of, IsToken, Spells}
 use Rattle.cov_expr.specs.declared.kind.Kind.{Kind}
 use Rattle.cov_expr.specs.declared.kind.Kind.TheVariants as k
-use Rattle.cov_grammar.specs.Words as grammar
-use Rattle.cov_grammar.specs.Words.{keyword_kinds, sign_kinds, kind_among}
+use Rattle.cov_lex.specs.Classified.{kind_of}
+use Rattle.cov_lex.proofs.Lexical.{is_mute, spelled_is_mute, keyword_parts}
+use Rattle.cov_lex.proofs.Signs.{sign_begins}
 use Rattle.cov_lex.proofs.Spelled.{are_tokens}
 use Rattle.cov_print.proofs.Named.{Every}
 use Rattle.cov_print.proofs.Keeps.{leaf}
 
 -- Kinds of keywords and signs ----------------------------------------------------------------------------------
 
--- neither a name nor a number
-abbrev pub is_mute : Kind → Bool
-is_mute k.Name = false
-is_mute k.Number = false
-is_mute _ = true
-
 pub mute_leaf : (known : ℕ → Bool) → known HOLE ≡ false → (j : Kind) (v : ℕ) → is_mute j ≡ true → (kept : List ℕ → List ℕ) → kept [] ≡ [] → kept (HOLE ∷ []) ≡ [] → kept (leaf j v) ≡ []
 mute_leaf known e k.Name v h kept g i = absurd (true≢false (sym h))
 mute_leaf known e k.Hole v h kept g i = i
 mute_leaf known e _ v h kept g i = g
 
-texts_of : List (List ℕ × Kind) → List (List ℕ)
-texts_of xs = map (λ x. x.0) xs
+pub keyword_mute : (text : List ℕ) → is_keyword text ≡ true → is_mute (kind_of raw.Keyword text) ≡ true
+keyword_mute text h = spelled_is_mute text (keyword_parts text h).1
 
-among : (xs : List (List ℕ × Kind)) (text : List ℕ) → list_all (λ x. is_mute x.1) xs ≡ true → list_any (bytes_eq text) (map (λ x. x.0) xs) ≡ true → is_mute (kind_among xs text) ≡ true
-among [] text all h = absurd (true≢false (sym h))
-among (x ∷ xs) text all h = by (bytes_eq text x.0) h (first (is_mute x.1) (list_all (λ y. is_mute y.1) xs) all) (among xs text (second (is_mute x.1) (list_all (λ y. is_mute y.1) xs) all))
-  where
-    first : (a b : Bool) → (a && b) ≡ true → a ≡ true
-    first true b e = refl
-    first false b e = e
-
-    second : (a b : Bool) → (a && b) ≡ true → b ≡ true
-    second true b e = e
-    second false b e = absurd (true≢false (sym e))
-
-    by : (c : Bool) → (c || list_any (bytes_eq text) (map (λ y. y.0) xs)) ≡ true → is_mute x.1 ≡ true → (list_any (bytes_eq text) (map (λ y. y.0) xs) ≡ true → is_mute (kind_among xs text) ≡ true)
-        → is_mute (if c then x.1 else kind_among xs text) ≡ true
-    by true g m f = m
-    by false g m f = f g
-
--- a text among some is among others, where each of them is
-within : (text : List ℕ) (xs ys : List (List ℕ)) → list_all (λ x. list_any (bytes_eq x) ys) xs ≡ true → list_any (bytes_eq text) xs ≡ true → list_any (bytes_eq text) ys ≡ true
-within text [] ys all h = absurd (true≢false (sym h))
-within text (x ∷ xs) ys all h = by (bytes_eq text x) refl h (list_any (bytes_eq x) ys) refl (list_all (λ z. list_any (bytes_eq z) ys) xs) refl all (within text xs ys)
-  where
-    by : (c : Bool) → bytes_eq text x ≡ c → (c || list_any (bytes_eq text) xs) ≡ true → (a : Bool) → list_any (bytes_eq x) ys ≡ a → (b : Bool) → list_all (λ z. list_any (bytes_eq z) ys) xs ≡ b → (a && b) ≡ true
-        → (list_all (λ z. list_any (bytes_eq z) ys) xs ≡ true → list_any (bytes_eq text) xs ≡ true → list_any (bytes_eq text) ys ≡ true) → list_any (bytes_eq text) ys ≡ true
-    by true e g true p b q r f = subst (λ t. list_any (bytes_eq t) ys ≡ true) (sym ((bytes_eq-Decides text x).0 e)) p
-    by true e g false p b q r f = absurd (true≢false (sym r))
-    by false e g true p b q r f = f (q ∙ r) g
-    by false e g false p b q r f = absurd (true≢false (sym r))
-
-pub keyword_mute : (text : List ℕ) → is_keyword text ≡ true → is_mute (grammar.kind_of text) ≡ true
-unfolding is_keyword grammar.kind_of keyword_kinds sign_kinds
-keyword_mute text h = among (sign_kinds ++ keyword_kinds) text refl (within text (map (λ x. x.0) keyword_kinds) (map (λ x. x.0) (sign_kinds ++ keyword_kinds)) refl h)
-
-pub sign_mute : (text : List ℕ) → is_sign text ≡ true → is_mute (grammar.kind_of text) ≡ true
-unfolding grammar.kind_of keyword_kinds sign_kinds
-sign_mute text h = among (sign_kinds ++ keyword_kinds) text refl (within text (doubles ++ singles) (map (λ x. x.0) (sign_kinds ++ keyword_kinds)) refl h)
+pub sign_mute : (text : List ℕ) → is_sign text ≡ true → is_mute (kind_of raw.Sign text) ≡ true
+sign_mute text h = spelled_is_mute text (sign_begins text h).1
 
 -- Numbers ------------------------------------------------------------------------------------------------------
 
