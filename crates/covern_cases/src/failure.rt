@@ -3,7 +3,7 @@ use std::alloc::{AllocError, AllocFailed};
 use std::io;
 
 /// Why the program ends with another status than 0.
-#[derive(Drop)]
+#[derive(Debug, Drop)]
 pub enum Failure {
     /// The words are neither form, or a file of a case has no name of its own.
     Usage,
