@@ -1,4 +1,3 @@
-mod AtOnce
 pub mod Soundness
 mod Examples
 mod GuardLaws

@@ -18,7 +18,6 @@ ghost use Rattle.typing_rules.specs.Entailments as spec;
 ghost use Rattle.typing_rules.specs.Obligations as rule;
 
 use crate::entailments::{Entailment, Held};
-use crate::known::holds_at_once;
 use crate::site::{Site, refused_at};
 use cov_ast::{Cert, CheckFault, Detail, Program, Proof, Rule};
 use cov_expr::{Expr, nodes_at_most};
@@ -122,7 +121,7 @@ fn try_proof(
     try_entailment(alloc, point, entailment, cert_for(proofs, number, &auto))
 }
 
-/// Tries a certificate for an entailment. Where `auto` is seen to be valid at once, the predicates aren't looked at.
+/// Tries a certificate for an entailment.
 fn try_entailment(
     alloc: Global,
     point: &Point,
@@ -132,9 +131,6 @@ fn try_entailment(
     ensures { (p : Plain) → (t : ℕ) → AtPoint p t point.now (λ a.
         Answers (first_bad (entailment_of a.preds entailment.now).hyps (entailment_of a.preds entailment.now).goal (view.cert cert.now)) result) }
 {
-    if is_auto(cert) && holds_at_once(alloc, point, entailment)? {
-        return Ok(());
-    }
     let goal = held_expr(&entailment.goal);
     match &entailment.more {
         Some(more) => check_cert_with(alloc, point.preds(), held_expr(more), goal, cert),
@@ -142,14 +138,8 @@ fn try_entailment(
     }
 }
 
-fn is_auto(cert: &Cert) -> bool
-    ensures { result ≡ true → view.cert cert.now ≡ auto }
-{
-    matches!(cert, Cert::Auto)
-}
-
 /// The expression that is lent or made.
-pub fn held_expr<'a>(held: &'a Held<'_>) -> &'a Expr
+fn held_expr<'a>(held: &'a Held<'_>) -> &'a Expr
     ensures { term result.now ≡ held_term held.now }
 {
     match held {

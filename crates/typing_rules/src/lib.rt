@@ -45,7 +45,6 @@ mod entailments_of_assignments;
 mod entailments_of_states;
 mod entailments_tried;
 mod evaluation;
-mod known;
 mod large;
 mod laws;
 mod locks;

@@ -23,11 +23,6 @@ abbrev pub entailment_from : List Term → Option Held → Term → Entailment
 entailment_from preds None goal = from_preds preds goal
 entailment_from preds (Some more) goal = from_one_more preds (held_term more) goal
 
--- whether the one expression more, if there is one, passes a test
-abbrev pub is_more : (Term → Bool) → Option Held → Bool
-is_more test None = false
-is_more test (Some more) = test (held_term more)
-
 abbrev pub entailment_of : List Term → kept.Entailment → Entailment
 entailment_of preds c = entailment_from preds c.more (held_term c.goal)
 
