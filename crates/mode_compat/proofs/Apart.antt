@@ -142,7 +142,7 @@ module _ (p : Program) (h : IsTrue (all_hold (declaration_obligations p))) where
 -- The sets of a thread that holds locks -------------------------------------------------------------------------
 
 -- a lock past the end lists nothing
-listing_is_declared : (p : Plain) (l x : ℕ) → IsTrue (under p l x) → l < length p.locks
+pub listing_is_declared : (p : Plain) (l x : ℕ) → IsTrue (under p l x) → l < length p.locks
 listing_is_declared p l x h = elim (cases_lt l (length p.locks)) [
   | inl lt ↦ lt
   | inr past ↦ absurd (true≢false (sym h ∙ ap (λ k. lists k x) (get_or_past p.locks l no_lock past)))

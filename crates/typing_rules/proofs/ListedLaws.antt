@@ -15,11 +15,11 @@ use Rattle.typing_state.specs.Point.{Point}
 use Rattle.typing_rules.specs.Inside.Listed.{entailment_of, entailments_of, is_shown_controlled}
 use Rattle.typing_rules.specs.Entailments.{Entailment, is_small_entailment, from_one_more}
 use Rattle.typing_state.specs.Terms.{is_small}
-use Rattle.typing_rules.specs.declared.entailments.Entailment as kept
+use Rattle.typing_rules.specs.declared.entailments.Entailment as rust
 
 -- One entailment more ------------------------------------------------------------------------------------------------
 
-pub added_one : (preds : List Term) (old new : List kept.Entailment) (c : kept.Entailment) (g : Entailment) → new ≡ old ++ c ∷ [] → entailment_of preds c ≡ g
+pub added_one : (preds : List Term) (old new : List rust.Entailment) (c : rust.Entailment) (g : Entailment) → new ≡ old ++ c ∷ [] → entailment_of preds c ≡ g
     → entailments_of preds new ≡ entailments_of preds old ++ g ∷ []
 added_one preds old new c g added made =
     ap (entailments_of preds) added ∙ map-append (entailment_of preds) old (c ∷ []) ∙ ap (λ h. entailments_of preds old ++ h ∷ []) made

@@ -3,7 +3,7 @@ use Rattle.std.proofs.Common.{◌≡◌, List, [], ◌∷◌, Bool, true, false,
 use Rattle.std.specs.List.{list_all}
 use Rattle.std.proofs.lemmas.List.Folds.{list_all-append}
 use Rattle.cov_expr.specs.Term.{Term}
-use Rattle.typing_rules.specs.declared.entailments.Entailment as kept
+use Rattle.typing_rules.specs.declared.entailments.Entailment as rust
 use Rattle.typing_rules.specs.declared.entailments.Held.{Held}
 use Rattle.typing_rules.specs.Inside.Listed.{entailment_of, entailment_from, entailments_of, held_term}
 use Rattle.typing_rules.specs.Entailments.{is_small_entailment}
@@ -21,13 +21,13 @@ small_parts preds (Some e) goal =
     ap (λ b. b && is_small goal) (list_all-append is_small preds (held_term e ∷ [])) ∙ regroup (list_all is_small preds) (is_small (held_term e)) (is_small goal)
 
 module _ (preds : List Term) where
-  pub small_rest : list_all is_small preds ≡ true → (cs : List kept.Entailment)
+  pub small_rest : list_all is_small preds ≡ true → (cs : List rust.Entailment)
       → list_all (λ c. is_small_entailment (entailment_of [] c)) cs ≡ list_all is_small_entailment (entailments_of preds cs)
   small_rest small [] = refl
   small_rest small (c ∷ cs) =
       λ i. sym (small_parts preds c.more (held_term c.goal) ∙ ap (λ b. b && is_small_entailment (entailment_of [] c)) small) i && small_rest small cs i
 
-  pub large_preds : list_all is_small preds ≡ false → (cs : List kept.Entailment) → (length cs == 0) ≡ false → list_all is_small_entailment (entailments_of preds cs) ≡ false
+  pub large_preds : list_all is_small preds ≡ false → (cs : List rust.Entailment) → (length cs == 0) ≡ false → list_all is_small_entailment (entailments_of preds cs) ≡ false
   large_preds large [] some = cc
   large_preds large (c ∷ cs) some =
       ap (λ b. b && list_all is_small_entailment (entailments_of preds cs))

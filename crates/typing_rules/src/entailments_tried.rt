@@ -13,7 +13,6 @@ ghost use Rattle.typing_state.specs.Point as typing;
 ghost use Rattle.typing_rules.specs.Blocks.{value_type};
 ghost use Rattle.typing_rules.specs.Inside.Listed.{AreListed, entailments_of};
 ghost use Rattle.typing_rules.specs.Entailments as spec;
-ghost use Rattle.typing_rules.specs.Entailments.{Entailment};
 ghost use Rattle.typing_rules.specs.Obligations.{flat};
 ghost use Rattle.typing_state.specs.Point.{has_small_types};
 ghost use Rattle.typing_rules.specs.Inside.Walking.{IsWalk, Stands, Tries, TriesAt, Wherever, last_parts, plain_of};
@@ -55,7 +54,7 @@ impl Tried {
     /// What came of these entailments and then of others.
     pub fn and(self, next: Tried) -> Tried
         requires { self.count + next.count < 2 ^ 32 }
-        ensures { (p : Plain) → (t at : ℕ) → (proofs : List syntax.Proof) → (n : ℕ) → (gs hs : List Entailment) → Tries p t at proofs n gs self
+        ensures { (p : Plain) → (t at : ℕ) → (proofs : List syntax.Proof) → (n : ℕ) → (gs hs : List spec.Entailment) → Tries p t at proofs n gs self
             → Tries p t at proofs (n + self.count) hs next → Tries p t at proofs n (gs ++ hs) result }
     {
         Tried {
@@ -167,7 +166,7 @@ impl Walk<'_> {
         entailments: &Option<List<Entailment<'_>>>,
     ) -> Tried
         requires { MatchOption entailments.now (Unit {0}) (λ made. from + length made < 2 ^ 32) }
-        ensures { Wherever self.now point.now (λ a. (gs : List Entailment) → AreListed a.preds gs entailments.now
+        ensures { Wherever self.now point.now (λ a. (gs : List spec.Entailment) → AreListed a.preds gs entailments.now
             → TriesAt self.now at (map view.proof proofs.now) from gs result) }
     {
         match entailments {
@@ -230,7 +229,7 @@ impl Walk<'_> {
         tried: Tried,
         types: bool,
     ) -> Result<(), CheckFault>
-        ensures { (gs : List Entailment) → (points : List typing.Point) → (count : ℕ) → TriesAt self.now at (map view.proof proofs.now) (suc before) gs tried
+        ensures { (gs : List spec.Entailment) → (points : List typing.Point) → (count : ℕ) → TriesAt self.now at (map view.proof proofs.now) (suc before) gs tried
             → types ≡ list_all has_small_types points → before + length gs ≡ count
             → Decides (flat (last_parts (plain_of self.now) self.now.thread at (map view.proof proofs.now) (suc before) count gs points)) result }
     {

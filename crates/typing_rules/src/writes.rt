@@ -1,6 +1,6 @@
 //! Obligations of an assignment beside its types: what it reads and writes (V2, V5).
 
-ghost use Rattle.std.specs.Prelude.{◌<◌, [], ◌∷◌, length, map};
+ghost use Rattle.std.specs.Prelude.{◌<◌, [], ◌∷◌, length, map, if◌then◌else◌};
 ghost use Rattle.cov_expr.specs.Trees as tree;
 ghost use Rattle.cov_expr.specs.View.{term};
 ghost use Rattle.cov_expr.specs.Words.{HasVarsBelow};

@@ -11,7 +11,7 @@ use Rattle.typing_state.specs.Point.{Point}
 use Rattle.typing_rules.specs.Entailments.{Entailment, from_preds, from_one_more, is_small_entailment}
 use Rattle.typing_rules.specs.declared.entailments.Held.{Held}
 use Rattle.typing_rules.specs.declared.entailments.Held.TheVariants.{Lent, Made}
-use Rattle.typing_rules.specs.declared.entailments.Entailment as kept
+use Rattle.typing_rules.specs.declared.entailments.Entailment as rust
 
 -- the expression that is lent or made
 abbrev pub held_term : Held → Term
@@ -23,14 +23,14 @@ abbrev pub entailment_from : List Term → Option Held → Term → Entailment
 entailment_from preds None goal = from_preds preds goal
 entailment_from preds (Some more) goal = from_one_more preds (held_term more) goal
 
-abbrev pub entailment_of : List Term → kept.Entailment → Entailment
+abbrev pub entailment_of : List Term → rust.Entailment → Entailment
 entailment_of preds c = entailment_from preds c.more (held_term c.goal)
 
-abbrev pub entailments_of : List Term → List kept.Entailment → List Entailment
+abbrev pub entailments_of : List Term → List rust.Entailment → List Entailment
 entailments_of preds entailments = map (entailment_of preds) entailments
 
 -- The entailments are these entailments, or there are none since some entailment is too large to be built.
-abbrev pub AreListed : List Term → List Entailment → Option (List kept.Entailment) → Type 0
+abbrev pub AreListed : List Term → List Entailment → Option (List rust.Entailment) → Type 0
 AreListed preds gs (Some entailments) = entailments_of preds entailments ≡ gs
 AreListed preds gs None = list_all is_small_entailment gs ≡ false
 

@@ -6,11 +6,11 @@ use Rattle.cov_ast.specs.View as view
 use Rattle.typing_rules.specs.Inside.Listed.{AreListed, entailment_of}
 use Rattle.typing_rules.specs.Entailments.{Entailment, assign_entailments}
 use Rattle.typing_rules.specs.Inside.Walking.{plain_of}
-use Rattle.typing_rules.specs.declared.entailments.Entailment as kept
+use Rattle.typing_rules.specs.declared.entailments.Entailment as rust
 use Rattle.typing_rules.proofs.Bounds.{few_entailments_assign}
 use Rattle.typing_rules.proofs.walk.Walk.try_assign.Goals as goal
 
-few_made : (preds : List Term) (gs : List Entailment) (n : ℕ) (made : Option (List kept.Entailment)) → AreListed preds gs made → 1 + length gs < n
+few_made : (preds : List Term) (gs : List Entailment) (n : ℕ) (made : Option (List rust.Entailment)) → AreListed preds gs made → 1 + length gs < n
     → MatchOption made (Unit {0}) (λ entailments. 1 + length entailments < n)
 few_made preds gs n None is few = tt
 few_made preds gs n (Some entailments) is few = omega (arith, ap length is, length-map entailments (entailment_of preds), few)
