@@ -28,7 +28,7 @@ use Rattle.typing_rules.proofs.Soundness.Exprs.{one_holds, not_const_zero}
 use Rattle.typing_rules.proofs.Soundness.Assign.{assign_ok}
 use Rattle.typing_rules.proofs.Soundness.Others.{met, noted_ok, guard_ok, lock_ok, unlock_ok}
 
-agreed : (a b : Bool) → IsTrue (agree a b) → a ≡ b
+pub agreed : (a b : Bool) → IsTrue (agree a b) → a ≡ b
 agreed true b h = sym h
 agreed false true h = h
 agreed false false h = refl
