@@ -1,3 +1,7 @@
+use Rattle.std.proofs.Common.{None, Err, sym, subst}
+use Rattle.cov_ast.specs.Obligations.{Decides}
+use Rattle.policy_class.specs.Resolved.{name_obligations}
+use Rattle.top_call.specs.Check.{Refuses}
 use Rattle.cov_ast.specs.View as view
 use Rattle.top_call.proofs.CheckLaws.{names_refused, program_judged}
 use Rattle.top_call.proofs.check.judge.Goals as goal
@@ -6,3 +10,10 @@ pub returns-in-Ok : goal.returns-in-Ok
 returns-in-Ok c =
     program_judged (view.parsed c.args.parsed) (view.program c.in-Ok.program) c.in-Ok.ensures.program c.in-Ok.ensures.names
     c.judge_program.result c.judge_program.ensures
+
+pub returns-in-Err-Refused : goal.returns-in-Err-Refused
+returns-in-Err-Refused c =
+    let p = view.parsed c.args.parsed in
+    subst (λ refusal. Refuses p refusal None) (sym c.in-Err-Refused.refusal-is)
+    (names_refused p c.in-Err-Refused.refusal
+    (subst (λ fault. Decides (name_obligations p) (Err fault)) c.in-Err-Refused.field-0-is c.in-Err-Refused.ensures.names))
