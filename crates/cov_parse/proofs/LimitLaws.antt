@@ -1,12 +1,12 @@
 -- The fault of least place, and numbers.
 use Rattle.std.proofs.Common.{◌≡◌, ℕ, zero, suc, ◌+◌, ◌≤◌, ◌<◌, nat_lt, nat_le, min, List, [], ◌∷◌, ◌++◌, length, map, flat_map, drop, get_or, Bool, true, false, if◌then◌else◌, Option, Some, None, refl, sym, ap, ◌∙◌, arith}
 use Rattle.cov_grammar.specs.Trees.{stms, Placed, Stm}
-use Rattle.cov_parse.specs.declared.fault.Counted.{Counted}
-use Rattle.cov_parse.specs.declared.fault.Limit.TheVariants.{TooMany}
-use Rattle.cov_parse.specs.declared.fault.Excess.{Excess}
-use Rattle.cov_parse.specs.declared.fault.Counting.{Counting}
-use Rattle.cov_parse.specs.declared.fault.Counting.TheVariants.{Left, Past}
-use Rattle.cov_parse.specs.Limits.{sooner, least, in_stm, in_stms, past, places, places_in}
+use Rattle.cov_text.specs.declared.fault.Counted.{Counted}
+use Rattle.cov_text.specs.declared.fault.Limit.TheVariants.{TooMany}
+use Rattle.cov_text.specs.declared.fault.Excess.{Excess}
+use Rattle.cov_parse.specs.declared.numbers.Counting.{Counting}
+use Rattle.cov_parse.specs.declared.numbers.Counting.TheVariants.{Left, Past}
+use Rattle.cov_text.specs.Limits.{sooner, least, in_stm, in_stms, past, places, places_in}
 use Rattle.cov_parse.specs.Measures.{counted, onward}
 use Rattle.cov_parse.proofs.Items.{item_ahead}
 

@@ -19,20 +19,20 @@ use Rattle.cov_grammar.specs.ReaderAnswers as answers
 use Rattle.cov_grammar.proofs.TableLaws.{fine_program}
 use Rattle.cov_grammar.proofs.Wholes.{finish_stands, whole_answers, value_one}
 use Rattle.cov_grammar.proofs.Unique.{spelled_right}
-use Rattle.cov_parse.specs.declared.fault.ParseFault.{ParseFault}
-use Rattle.cov_parse.specs.declared.fault.ParseFault.TheVariants as faults
-use Rattle.cov_parse.specs.declared.fault.Limit.{Limit}
-use Rattle.cov_parse.specs.declared.fault.Limit.TheVariants.{TooMany, TooDeep}
-use Rattle.cov_parse.specs.declared.fault.Excess.{Excess}
-use Rattle.cov_parse.specs.Depth.{deep}
-use Rattle.cov_parse.specs.Numbered as words
+use Rattle.cov_text.specs.declared.fault.ParseFault.{ParseFault}
+use Rattle.cov_text.specs.declared.fault.ParseFault.TheVariants as faults
+use Rattle.cov_text.specs.declared.fault.Limit.{Limit}
+use Rattle.cov_text.specs.declared.fault.Limit.TheVariants.{TooMany, TooDeep}
+use Rattle.cov_text.specs.declared.fault.Excess.{Excess}
+use Rattle.cov_text.specs.Depth.{deep}
+use Rattle.cov_text.specs.Numbered as words
 use Rattle.cov_parse.specs.declared.tokens.Tokens.{Tokens}
-use Rattle.cov_parse.specs.declared.decl.PlacedProgram.{PlacedProgram}
-use Rattle.cov_parse.specs.declared.cert.Whole.{Whole}
-use Rattle.cov_parse.specs.CertViews as certs
-use Rattle.cov_parse.specs.DeclViews as decls
-use Rattle.cov_parse.specs.Text.{lexed_of, words_of, names_of, lexical, fault_at, fault_of, IsFirstFault, IsShallow, IsText, IsUnexpected, IsPastLimit, IsFault, Answers, Only}
-use Rattle.cov_parse.specs.Replies.{Reads, AreRead, unexpected}
+use Rattle.cov_read.specs.declared.decl.PlacedProgram.{PlacedProgram}
+use Rattle.cov_read.specs.declared.cert.Whole.{Whole}
+use Rattle.cov_read.specs.CertViews as certs
+use Rattle.cov_read.specs.DeclViews as decls
+use Rattle.cov_text.specs.Text.{words_of, lexical, unexpected, fault_at, fault_of, IsFirstFault, IsShallow, IsText, IsUnexpected, IsPastLimit, IsFault, Answers, Only}
+use Rattle.cov_parse.specs.Replies.{Reads, AreRead}
 
 -- All tokens ---------------------------------------------------------------------------------------------------
 
@@ -47,22 +47,6 @@ expr_answers end ts left read r h e =
     subst (answers.Answers whole certs.whole end ts) (sym e) (whole_answers whole refl certs.whole end ts (answers.whole_answer end left read) (finish_stands certs.whole end left read (reading whole ts) h))
 
 -- Bytes --------------------------------------------------------------------------------------------------------
-
-pub lexes_so : (text : List ℕ) (ts : List lexed.Token) → tokens_of text ≡ Ok ts → tokens_of text ≡ Ok (lexed_of text)
-unfolding lexed_of
-lexes_so text ts e = e ∙ ap (λ r. Ok (Rattle.cov_parse.specs.Text.or_none r)) (sym e)
-
-pub lexed_is : (text : List ℕ) (ts : List lexed.Token) → tokens_of text ≡ Ok ts → lexed_of text ≡ ts
-unfolding lexed_of
-lexed_is text ts e = ap Rattle.cov_parse.specs.Text.or_none e
-
-pub words_are : (text : List ℕ) (ts : List lexed.Token) → tokens_of text ≡ Ok ts → words_of text ≡ words.words_of text ts
-unfolding words_of
-words_are text ts e = ap (words.words_of text) (lexed_is text ts e)
-
-pub names_are : (text : List ℕ) (ts : List lexed.Token) → tokens_of text ≡ Ok ts → names_of text ≡ words.names_of text ts
-unfolding names_of
-names_are text ts e = ap (words.names_of text) (lexed_is text ts e)
 
 pub lexical_fault : (text : List ℕ) (e : LexFault) → lexing.Gives (Err e) (tokens_of text) → Reads text (Err (lexical e))
 lexical_fault text (lex.BadByte at) h = subst (λ r. IsFirstFault r (words_of text) (faults.BadByte at)) (sym h) refl
@@ -113,26 +97,3 @@ module _ {A X B : Type 0} (a : Shape A) (limits : A → Option Excess) (text : L
   pub answer_is : {Y : Type 0} (shown : Y → A) (y : Y) (x : X) (end : ℕ) (ws : List Token) → IsShallow text → ws ≡ words_of text → answers.Answers a shown end ws (Ok y) → limits (shown y) ≡ None → view x ≡ made (shown y)
       → Answers a limits text view made (Ok x)
   answer_is shown y x end ws shallow same h g e = (shown y, record { tokens = shallow; spelled = subst (Is a (shown y)) same h; small = g }, e)
-
-  -- a text that spells a tree within the limits has no fault
-  no_fault : fine first_of more_of a ≡ true → (tree : A) → IsText a limits text tree → (fault : ParseFault) → IsFault a limits text fault → ⊥
-  no_fault f tree is fault h =
-      ⊎_elim (λ first. by_first (tokens_of text) is.tokens.lexes first)
-      (⊎_elim (λ g. spelled_right a tree (words_of text) g.bad is.spelled g.first)
-      (λ g. let same : tree ≡ g.tree = value_one a f (words_of text) tree g.tree is.spelled g.spelled in
-      let no : None ≡ Some g.excess = sym is.small ∙ ap limits same ∙ g.least in cc))
-      h
-    where
-      by_first : (r : Result (List lexed.Token) LexFault) → r ≡ Ok (lexed_of text) → IsFirstFault r (words_of text) fault → ⊥
-      by_first (Ok ts) e g = let no : None ≡ Some g.0 = sym is.tokens.shallow ∙ g.1 in cc
-      by_first (Err x) e g = cc
-
-  pub only_is : fine first_of more_of a ≡ true → (tree : A) → IsText a limits text tree → (r : Result X ParseFault) → Answers a limits text view made r → Only view (made tree) r
-  only_is f tree is (Ok x) h = h.2 ∙ ap made (value_one a f (words_of text) h.0 tree h.1.spelled is.spelled)
-  only_is f tree is (Err (faults.BadByte at)) h = no_fault f tree is (faults.BadByte at) h
-  only_is f tree is (Err (faults.NumberTooLarge at)) h = no_fault f tree is (faults.NumberTooLarge at) h
-  only_is f tree is (Err (faults.NameTooLong at)) h = no_fault f tree is (faults.NameTooLong at) h
-  only_is f tree is (Err (faults.Unexpected at)) h = no_fault f tree is (faults.Unexpected at) h
-  only_is f tree is (Err (faults.TooMany c at)) h = no_fault f tree is (faults.TooMany c at) h
-  only_is f tree is (Err (faults.TooDeep at)) h = no_fault f tree is (faults.TooDeep at) h
-  only_is f tree is (Err faults.NoMemory) h = tt

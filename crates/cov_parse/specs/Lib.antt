@@ -1,15 +1,2 @@
-pub mod Numbered
-pub mod Text
 pub mod Replies
-pub mod Trees
-pub mod Named
-pub mod Uses
 pub mod Measures
-pub mod Limits
-pub mod Depth
-pub mod WrittenViews
-pub mod CertViews
-pub mod StateViews
-pub mod StmtViews
-pub mod DeclViews
-pub mod Levels

@@ -1,15 +1,13 @@
 -- What parts of the code answer. These are words of the code's contracts.
 use Rattle.std.specs.Prelude.{◌≡◌, ℕ, List, Result, Ok, Err}
 use Rattle.cov_expr.specs.View.{term}
-use Rattle.cov_grammar.specs.declared.fault.TokenFault.{TokenFault}
-use Rattle.cov_grammar.specs.declared.fault.TokenFault.TheVariants as tokens
 use Rattle.cov_lex.specs.Lexing.{tokens_of, Gives}
 use Rattle.cov_lex.specs.declared.fault.LexFault.{LexFault}
-use Rattle.cov_parse.specs.declared.fault.ParseFault.{ParseFault}
-use Rattle.cov_parse.specs.declared.fault.ParseFault.TheVariants as faults
+use Rattle.cov_text.specs.declared.fault.ParseFault.{ParseFault}
+use Rattle.cov_text.specs.declared.fault.ParseFault.TheVariants as faults
 use Rattle.cov_parse.specs.declared.tokens.Tokens.{Tokens}
 use Rattle.cov_parse.specs.declared.text.ParsedExpr.{ParsedExpr}
-use Rattle.cov_parse.specs.Text.{lexed_of, words_of, names_of, IsShallow, IsFirstFault, Expression}
+use Rattle.cov_text.specs.Text.{lexed_of, words_of, names_of, IsShallow, IsFirstFault, Expression}
 
 -- the tokens of the text and its names, or its lexical fault
 abbrev pub AreRead : (text : List ℕ) → Result Tokens LexFault → Type 0
@@ -21,10 +19,6 @@ abbrev pub Reads : (text : List ℕ) → Result Tokens ParseFault → Type 0
 Reads text (Ok w) = IsShallow text × (w.names ≡ names_of text) × (w.tokens ≡ words_of text)
 Reads text (Err faults.NoMemory) = Unit {0}
 Reads text (Err fault) = IsFirstFault (tokens_of text) (words_of text) fault
-
-abbrev pub unexpected : TokenFault → ParseFault
-unexpected (tokens.Unexpected at) = faults.Unexpected at
-unexpected tokens.NoMemory = faults.NoMemory
 
 -- what callers get of one expression
 abbrev pub parsed_expr : ParsedExpr → Expression

@@ -1,14 +1,13 @@
 ghost use Rattle.std.specs.Prelude.{◌≡◌, map, option_map, IfOk};
 ghost use Rattle.cov_ast.specs.View as ast;
-ghost use Rattle.cov_parse.specs.Trees as spec;
-ghost use Rattle.cov_parse.specs.CertViews as certs;
-ghost use Rattle.cov_parse.specs.StateViews as states;
+ghost use Rattle.cov_text.specs.Trees as spec;
+ghost use Rattle.cov_read.specs.CertViews as certs;
+ghost use Rattle.cov_read.specs.StateViews as states;
 
-use crate::cert::Cert;
 use crate::exprs::{expr_of, exprs_of};
-use crate::states::{Proof, State, Typed};
 use crate::turned::turned;
 use cov_expr::{Expr, List, NoMemory};
+use cov_read::{Cert, Proof, State, Typed};
 use std::alloc::Global;
 
 fn boxed(alloc: Global, cert: cov_ast::Cert) -> Result<Box<cov_ast::Cert>, NoMemory>

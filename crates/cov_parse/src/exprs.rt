@@ -1,11 +1,11 @@
 ghost use Rattle.std.specs.Prelude.{◌≡◌, map, option_map, IfOk};
 ghost use Rattle.cov_expr.specs.View.{term};
-ghost use Rattle.cov_parse.specs.Trees as spec;
-ghost use Rattle.cov_parse.specs.CertViews as certs;
+ghost use Rattle.cov_text.specs.Trees as spec;
+ghost use Rattle.cov_read.specs.CertViews as certs;
 
-use crate::cert::Whole;
 use crate::turned::turned;
 use cov_expr::{Expr, List, NoMemory};
+use cov_read::Whole;
 use std::alloc::Global;
 
 /// An expression without its place.

@@ -1,18 +1,18 @@
 ghost use Rattle.std.specs.Prelude.{◌≡◌, map, option_map};
 ghost use Rattle.cov_grammar.specs.Trees.{stms};
-ghost use Rattle.cov_parse.specs.Limits as spec;
-ghost use Rattle.cov_parse.specs.CertViews as certs;
-ghost use Rattle.cov_parse.specs.StateViews as states;
-ghost use Rattle.cov_parse.specs.StmtViews as stmts;
-ghost use Rattle.cov_parse.specs.DeclViews as decls;
+ghost use Rattle.cov_text.specs.Limits as spec;
+ghost use Rattle.cov_read.specs.CertViews as certs;
+ghost use Rattle.cov_read.specs.StateViews as states;
+ghost use Rattle.cov_read.specs.StmtViews as stmts;
+ghost use Rattle.cov_read.specs.DeclViews as decls;
 
-use crate::cert::{Cert, Whole};
-use crate::decl::{ClassDecl, Lock, PlacedProgram, Thread, Variable};
-use crate::fault::{Counted, Excess, Limit};
 use crate::measures::{cert_height, cert_nodes};
 use crate::numbers::{past_locks, past_statements, past_threads, past_variables};
-use crate::states::{Proof, State, Typed};
-use crate::stmt::{Braces, Stmt, StmtKind};
+use cov_read::{
+    Braces, Cert, ClassDecl, Lock, PlacedProgram, Proof, State, Stmt, StmtKind, Thread, Typed,
+    Variable, Whole,
+};
+use cov_text::{Counted, Excess, Limit};
 
 /// The one of two faults that has the lesser place; at one place the first.
 fn sooner(a: Option<Excess>, b: Option<Excess>) -> Option<Excess>

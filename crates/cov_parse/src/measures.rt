@@ -1,31 +1,11 @@
 ghost use Rattle.std.specs.Prelude.{◌≡◌, min, max};
-ghost use Rattle.cov_parse.specs.Limits as spec;
-ghost use Rattle.cov_parse.specs.CertViews as certs;
+ghost use Rattle.cov_text.specs.Limits as spec;
+ghost use Rattle.cov_read.specs.CertViews as certs;
 
-use crate::cert::Cert;
-
-/// One node above the most that an expression may have.
-pub const NODES: u32 = 1001;
-
-/// One above the most that an expression or a certificate may nest.
-pub const HEIGHT: u32 = 65;
+use cov_read::{Cert, HEIGHT, greater, lesser};
 
 /// One node above the most that a certificate may have.
 const CERT_NODES: u32 = 10001;
-
-/// The lesser of two numbers.
-pub fn lesser(n: u32, most: u32) -> u32
-    ensures { result ≡ min n most }
-{
-    if n < most { n } else { most }
-}
-
-/// The greater of two numbers.
-pub fn greater(a: u32, b: u32) -> u32
-    ensures { result ≡ max a b }
-{
-    if a < b { b } else { a }
-}
 
 /// The nodes of a certificate, or 10,001 if they are more.
 pub fn cert_nodes(cert: &Cert) -> u32

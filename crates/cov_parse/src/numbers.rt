@@ -1,13 +1,19 @@
 ghost use Rattle.std.specs.Prelude.{◌≡◌, map, flat_map};
 ghost use Rattle.cov_grammar.specs.Trees.{stms};
-ghost use Rattle.cov_parse.specs.Limits as spec;
+ghost use Rattle.cov_text.specs.Limits as spec;
 ghost use Rattle.cov_parse.specs.Measures.{counted, onward};
-ghost use Rattle.cov_parse.specs.StmtViews as stmts;
-ghost use Rattle.cov_parse.specs.DeclViews as decls;
+ghost use Rattle.cov_read.specs.StmtViews as stmts;
+ghost use Rattle.cov_read.specs.DeclViews as decls;
 
-use crate::decl::{PlacedProgram, Thread};
-use crate::fault::{Counted, Counting, Excess, Limit};
-use crate::stmt::{Stmt, StmtKind};
+use cov_read::{PlacedProgram, Stmt, StmtKind, Thread};
+use cov_text::{Counted, Excess, Limit};
+
+/// How many statements may still come, or the place of the first one that is too many.
+#[derive(Clone, Copy)]
+pub enum Counting {
+    Left(u32),
+    Past(u32),
+}
 
 /// The fault of the variable past the 256th.
 pub fn past_variables(program: &PlacedProgram) -> Option<Excess>

@@ -1,20 +1,27 @@
-ghost use Rattle.std.specs.Prelude.{◌≡◌, ◌<◌, length, map, All, IfOk};
+ghost use Rattle.std.specs.Prelude.{◌≡◌, ◌<◌, length, map, option_map, All, IfOk};
 ghost use Rattle.cov_ast.specs.View as ast;
 ghost use Rattle.cov_ast.specs.Syntax as syntax;
 ghost use Rattle.cov_grammar.specs.Trees.{stms};
-ghost use Rattle.cov_parse.specs.Named.{AreNamed};
-ghost use Rattle.cov_parse.specs.Trees as spec;
-ghost use Rattle.cov_parse.specs.StmtViews as stmts;
-ghost use Rattle.cov_parse.specs.DeclViews as decls;
+ghost use Rattle.cov_text.specs.Named.{AreNamed};
+ghost use Rattle.cov_text.specs.Trees as spec;
+ghost use Rattle.cov_read.specs.CertViews as certs;
+ghost use Rattle.cov_read.specs.StateViews as states;
+ghost use Rattle.cov_read.specs.StmtViews as stmts;
+ghost use Rattle.cov_read.specs.DeclViews as decls;
 
 use crate::annotations::{proofs_of, retypes_of, state_of, state_or_none};
-use crate::decl::{ClassDecl, Lock, Pair, PlacedProgram, Thread, Variable};
 use crate::exprs::{expr_of, option_of};
-use crate::stmt::{Stmt, StmtKind};
 use crate::turned::turned;
 use cov_ast::{Class, LockDecl, Modes, NameTable, NameUse, Parsed, ThreadDecl, VarDecl};
 use cov_expr::{List, Name, NoMemory};
+use cov_read::{
+    ClassDecl, Lock, Pair, PlacedProgram, Proof, State, Stmt, StmtKind, Thread, Typed, Variable,
+    Whole,
+};
 use std::alloc::Global;
+
+/// What a statement is, and the proofs behind it.
+type Made = (cov_ast::StmtKind, List<cov_ast::Proof>);
 
 /// Statements without the places of their braces.
 #[cycle(made)]
@@ -40,42 +47,100 @@ fn stmt_of(alloc: Global, stmt: Stmt) -> Result<cov_ast::Stmt, NoMemory>
 
 /// What a statement is, and its proofs.
 #[cycle(made)]
-fn kind_of(
-    alloc: Global,
-    kind: StmtKind,
-) -> Result<(cov_ast::StmtKind, List<cov_ast::Proof>), NoMemory>
+fn kind_of(alloc: Global, kind: StmtKind) -> Result<Made, NoMemory>
     ensures kind { IfOk result (λ made. ast.kind made.0 ≡ spec.stm_of (stmts.kind kind)) }
     ensures proofs { IfOk result (λ made. map ast.proof made.1 ≡ spec.proofs_of (stmts.kind kind)) }
 {
     match kind {
         StmtKind::Skip => Ok((cov_ast::StmtKind::Skip, List::new(alloc))),
         StmtKind::Assign(x, e, class, retypes, proofs) => {
-            let retypes = retypes_of(alloc, retypes)?;
-            let kind = cov_ast::StmtKind::Assign(x, expr_of(e), option_of(class), retypes);
-            Ok((kind, proofs_of(alloc, proofs)?))
+            assignment(alloc, x, e, class, retypes, proofs)
         }
         StmtKind::Lock(lock) => Ok((cov_ast::StmtKind::Lock(lock), List::new(alloc))),
-        StmtKind::Unlock(lock, proofs) => {
-            let kind = cov_ast::StmtKind::Unlock(lock);
-            Ok((kind, proofs_of(alloc, proofs)?))
-        }
+        StmtKind::Unlock(lock, proofs) => with_proofs(
+            alloc,
+            cov_ast::StmtKind::Unlock(lock),
+            proofs,
+        ),
         StmtKind::If(e, _, first, _, second, join, proofs) => {
             let first = stmts_of(alloc, first)?;
             let second = stmts_of(alloc, second)?;
-            let join = state_or_none(alloc, join)?;
-            let kind = cov_ast::StmtKind::If(expr_of(e), first, second, join);
-            Ok((kind, proofs_of(alloc, proofs)?))
+            branch(alloc, e, first, second, join, proofs)
         }
         StmtKind::While(e, inv, _, body, proofs) => {
-            let inv = state_or_none(alloc, inv)?;
-            let kind = cov_ast::StmtKind::While(expr_of(e), inv, stmts_of(alloc, body)?);
-            Ok((kind, proofs_of(alloc, proofs)?))
+            let body = stmts_of(alloc, body)?;
+            repetition(alloc, e, inv, body, proofs)
         }
         StmtKind::Note(state, proofs) => {
             let kind = cov_ast::StmtKind::Note(state_of(alloc, state)?);
-            Ok((kind, proofs_of(alloc, proofs)?))
+            with_proofs(alloc, kind, proofs)
         }
     }
+}
+
+/// What a statement is, with the proofs behind it.
+fn with_proofs(
+    alloc: Global,
+    kind: cov_ast::StmtKind,
+    proofs: List<Proof>,
+) -> Result<Made, NoMemory>
+    ensures kind { IfOk result (λ made. made.0 ≡ kind) }
+    ensures proofs { IfOk result (λ made. map ast.proof made.1 ≡ map spec.proof_of (map states.proof proofs)) }
+{
+    Ok((kind, proofs_of(alloc, proofs)?))
+}
+
+/// An assignment, and its proofs.
+fn assignment(
+    alloc: Global,
+    x: u32,
+    e: Whole,
+    class: Option<Whole>,
+    retypes: List<Typed>,
+    proofs: List<Proof>,
+) -> Result<Made, NoMemory>
+    ensures kind { IfOk result (λ made. ast.kind made.0 ≡ syntax.assign x (spec.expr_of (certs.whole e))
+        (option_map spec.expr_of (option_map certs.whole class)) (map spec.pair_of (map states.typed retypes))) }
+    ensures proofs { IfOk result (λ made. map ast.proof made.1 ≡ map spec.proof_of (map states.proof proofs)) }
+{
+    let retypes = retypes_of(alloc, retypes)?;
+    let kind = cov_ast::StmtKind::Assign(x, expr_of(e), option_of(class), retypes);
+    with_proofs(alloc, kind, proofs)
+}
+
+/// A branch whose blocks are made, and its proofs.
+fn branch(
+    alloc: Global,
+    guard: Whole,
+    first: List<cov_ast::Stmt>,
+    second: List<cov_ast::Stmt>,
+    join: Option<Box<State>>,
+    proofs: List<Proof>,
+) -> Result<Made, NoMemory>
+    ensures kind { IfOk result (λ made. ast.kind made.0 ≡ syntax.branch (spec.expr_of (certs.whole guard)) (ast.block first) (ast.block second)
+        (spec.state_or_none (option_map (λ j. states.state j.value) join))) }
+    ensures proofs { IfOk result (λ made. map ast.proof made.1 ≡ map spec.proof_of (map states.proof proofs)) }
+{
+    let join = state_or_none(alloc, join)?;
+    let kind = cov_ast::StmtKind::If(expr_of(guard), first, second, join);
+    with_proofs(alloc, kind, proofs)
+}
+
+/// A loop whose block is made, and its proofs.
+fn repetition(
+    alloc: Global,
+    guard: Whole,
+    inv: Option<Box<State>>,
+    body: List<cov_ast::Stmt>,
+    proofs: List<Proof>,
+) -> Result<Made, NoMemory>
+    ensures kind { IfOk result (λ made. ast.kind made.0 ≡ syntax.loop (spec.expr_of (certs.whole guard))
+        (spec.state_or_none (option_map (λ j. states.state j.value) inv)) (ast.block body)) }
+    ensures proofs { IfOk result (λ made. map ast.proof made.1 ≡ map spec.proof_of (map states.proof proofs)) }
+{
+    let inv = state_or_none(alloc, inv)?;
+    let kind = cov_ast::StmtKind::While(expr_of(guard), inv, body);
+    with_proofs(alloc, kind, proofs)
 }
 
 /// The name of a number.

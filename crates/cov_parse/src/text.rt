@@ -7,20 +7,14 @@ ghost use Rattle.cov_grammar.specs.ReaderAnswers as answers;
 ghost use Rattle.cov_expr.specs.Term.{Term};
 ghost use Rattle.cov_expr.specs.View.{term};
 ghost use Rattle.cov_expr.specs.Words.{HasVarsBelow};
-ghost use Rattle.cov_parse.specs.CertViews as certs;
-ghost use Rattle.cov_parse.specs.DeclViews as decls;
-ghost use Rattle.cov_parse.specs.Limits as limits;
-ghost use Rattle.cov_parse.specs.Text.{IsText, Answers, Only, program_of, expression_of};
+ghost use Rattle.cov_read.specs.CertViews as certs;
+ghost use Rattle.cov_read.specs.DeclViews as decls;
+ghost use Rattle.cov_text.specs.Limits as limits;
+ghost use Rattle.cov_text.specs.Text.{IsText, Answers, Only, program_of, expression_of};
 ghost use Rattle.cov_parse.specs.Replies.{Reads, parsed_expr};
-ghost use Rattle.cov_parse.specs.Uses.{AreUsesOf};
+ghost use Rattle.cov_text.specs.Uses.{AreUsesOf};
 
-use crate::cert::Whole;
-use crate::certs::read_whole;
-use crate::decl::PlacedProgram;
-use crate::decls::read_program;
-use crate::depth::deep;
 use crate::exprs::expr_of;
-use crate::fault::ParseFault;
 use crate::limits::{in_expr, in_program};
 use crate::programs::parsed_of;
 use crate::tokens::{Tokens, read_tokens};
@@ -28,6 +22,8 @@ use crate::uses::uses;
 use cov_ast::{NameTable, NameUse, Parsed};
 use cov_expr::{Expr, List};
 use cov_grammar::{Token, TokenFault, TokenReader};
+use cov_read::{PlacedProgram, Whole, read_program, read_whole};
+use cov_text::{ParseFault, deep};
 use std::alloc::Global;
 
 /// What a text spells that is one expression.

@@ -3,7 +3,7 @@ ghost use Rattle.cov_ast.specs.Names.{number_of, with_name};
 ghost use Rattle.cov_expr.specs.Names.{IsName};
 ghost use Rattle.cov_lex.specs.Classified.{AreClassified};
 ghost use Rattle.cov_parse.specs.Replies.{AreRead};
-ghost use Rattle.cov_parse.specs.Text.{names_of, words_of};
+ghost use Rattle.cov_text.specs.Text.{names_of, words_of};
 
 use cov_ast::NameTable;
 use cov_expr::{List, Name, NoMemory};

@@ -1,5 +1,5 @@
 ghost use Rattle.std.specs.Prelude.{◌≡◌, ◌++◌, IfOk, OnOk};
-ghost use Rattle.cov_parse.specs.Uses as spec;
+ghost use Rattle.cov_text.specs.Uses as spec;
 
 use cov_ast::NameUse;
 use cov_expr::{List, NoMemory};

@@ -12,7 +12,7 @@ use Rattle.cov_grammar.specs.Spelling.{Within}
 use Rattle.cov_grammar.proofs.Senses.{OfShape, close}
 use Rattle.cov_print.proofs.Operands.{expr_keeps, template_keeps}
 use Rattle.cov_ast.specs.Syntax as s
-use Rattle.cov_parse.specs.Trees.{expr_of, cert_of}
+use Rattle.cov_text.specs.Trees.{expr_of, cert_of}
 use Rattle.cov_print.proofs.Written as w
 use Rattle.cov_print.proofs.Written.{Word, plain, enclosed, commas}
 use Rattle.cov_print.specs.Spelling.{is_word}

@@ -10,7 +10,7 @@ use Rattle.cov_grammar.specs.Shapes.{rule, seq, act, Sense, Spells}
 use Rattle.cov_grammar.specs.Grammar.{◌▸◌, listed, names, class, low_or, var_decl, lock_decl, two_lists, modes_behind, two_modes, thread_decl, program}
 use Rattle.cov_grammar.specs.Spelling.{Within, Is}
 use Rattle.cov_ast.specs.Syntax as s
-use Rattle.cov_parse.specs.Trees.{expr_of, class_of, block_of, name_of, var_of, lock_of, modes_of, thread_of}
+use Rattle.cov_text.specs.Trees.{expr_of, class_of, block_of, name_of, var_of, lock_of, modes_of, thread_of}
 use Rattle.cov_print.specs.Unplaced.{unplaced_block, unplaced_var, unplaced_lock, unplaced_thread}
 use Rattle.cov_print.proofs.Written as w
 use Rattle.cov_print.proofs.Written.{Word, plain}

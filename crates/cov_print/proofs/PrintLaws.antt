@@ -7,11 +7,11 @@ use Rattle.cov_ast.specs.Syntax as s
 use Rattle.cov_ast.specs.Ready as ready
 use Rattle.cov_ast.specs.Ready.{Use, uses_in_stm, uses_in_block, uses_in_class, uses_in_lock, uses_in_thread, uses_in_declarations}
 use Rattle.cov_ast.specs.declared.parsed.NameUse.{NameUse}
-use Rattle.cov_parse.specs.Limits.{in_program}
-use Rattle.cov_parse.specs.Text.{lexed_of, words_of, names_of, IsText, program_of}
-use Rattle.cov_parse.specs.Uses.{uses_of}
-use Rattle.cov_parse.specs.Trees.{var_of, lock_of, thread_of, parsed_of}
-use Rattle.cov_parse.proofs.NamesInOrder.{uses_in_order}
+use Rattle.cov_text.specs.Limits.{in_program}
+use Rattle.cov_text.specs.Text.{lexed_of, words_of, names_of, IsText, program_of}
+use Rattle.cov_text.specs.Uses.{uses_of}
+use Rattle.cov_text.specs.Trees.{var_of, lock_of, thread_of, parsed_of}
+use Rattle.cov_text.proofs.NamesInOrder.{uses_in_order}
 use Rattle.cov_print.specs.Spelling as spec
 use Rattle.cov_print.specs.Unplaced.{unplaced, unplaced_stm, unplaced_block, unplaced_var, unplaced_lock, unplaced_thread, unplaced_use}
 use Rattle.cov_print.specs.ReadBack.{SpellsProgram, SpellsAgain}

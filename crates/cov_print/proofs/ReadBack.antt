@@ -10,12 +10,12 @@ use Rattle.cov_grammar.specs.Grammar.{program}
 use Rattle.cov_grammar.specs.Spelling.{Is}
 use Rattle.cov_grammar.proofs.Senses.{OfShape, gather}
 use Rattle.cov_ast.specs.declared.parsed.NameUse.{NameUse}
-use Rattle.cov_parse.specs.Depth.{deep}
-use Rattle.cov_parse.specs.Limits.{in_program}
-use Rattle.cov_parse.specs.Numbered as words
-use Rattle.cov_parse.specs.Text.{words_of, names_of, IsText}
-use Rattle.cov_parse.specs.Trees.{parsed_of}
-use Rattle.cov_parse.proofs.ParseLaws.{lexes_so, words_are, names_are}
+use Rattle.cov_text.specs.Depth.{deep}
+use Rattle.cov_text.specs.Limits.{in_program}
+use Rattle.cov_text.specs.Numbered as words
+use Rattle.cov_text.specs.Text.{words_of, names_of, IsText}
+use Rattle.cov_text.specs.Trees.{parsed_of}
+use Rattle.cov_text.proofs.TextLaws.{lexes_so, words_are, names_are}
 use Rattle.cov_print.specs.Spelling as spec
 use Rattle.cov_print.proofs.Written.{Word}
 use Rattle.cov_print.proofs.Keeps.{Are, AreGood, AllFit, Kept}

@@ -12,8 +12,8 @@ use Rattle.cov_lex.proofs.Spelled.{are_tokens}
 use Rattle.cov_expr.specs.declared.kind.Kind.{Kind}
 use Rattle.cov_ast.specs.Names.{number_of}
 use Rattle.cov_lex.specs.Classified.{kind_of}
-use Rattle.cov_parse.specs.Numbered.{with_word, with_token, names_onto, value_of, word_of}
-use Rattle.cov_parse.proofs.NameNumbers.{token_inside}
+use Rattle.cov_text.specs.Numbered.{with_word, with_token, names_onto, value_of, word_of}
+use Rattle.cov_text.proofs.NameNumbers.{token_inside}
 use Rattle.cov_print.specs.Spelling as spec
 use Rattle.cov_print.proofs.Written as w
 use Rattle.cov_print.proofs.Written.{Word, plain}

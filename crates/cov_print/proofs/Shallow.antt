@@ -11,7 +11,7 @@ use Rattle.cov_expr.specs.declared.kind.Kind.TheVariants as k
 use Rattle.cov_grammar.specs.declared.token.Token.{Token}
 use Rattle.cov_grammar.specs.LookAhead.{kind_is}
 use Rattle.cov_ast.specs.Syntax as s
-use Rattle.cov_parse.specs.Depth.{Effect, opens, closes, marks, other, effect, counted, deep}
+use Rattle.cov_text.specs.Depth.{Effect, opens, closes, marks, other, effect, counted, deep}
 use Rattle.cov_print.specs.Spelling.{is_word}
 use Rattle.cov_print.specs.Unplaced.{unplaced_stm, unplaced_block}
 use Rattle.cov_print.proofs.Written as w

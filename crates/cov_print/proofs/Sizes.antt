@@ -6,12 +6,12 @@ use Rattle.cov_expr.specs.Trees.{nodes, height}
 use Rattle.cov_grammar.specs.Trees as t
 use Rattle.cov_grammar.specs.Trees.{Placed}
 use Rattle.cov_ast.specs.Syntax as s
-use Rattle.cov_parse.specs.declared.fault.Counted.{Counted}
-use Rattle.cov_parse.specs.declared.fault.Limit.{Limit}
-use Rattle.cov_parse.specs.declared.fault.Excess.{Excess}
-use Rattle.cov_parse.specs.Limits as l
-use Rattle.cov_parse.specs.Limits.{sooner, least, above, past}
-use Rattle.cov_parse.specs.Trees.{expr_of, cert_of, proof_of, pair_of, state_of, state_or_none, stm_of, proofs_of, block_of, stms_of, class_of}
+use Rattle.cov_text.specs.declared.fault.Counted.{Counted}
+use Rattle.cov_text.specs.declared.fault.Limit.{Limit}
+use Rattle.cov_text.specs.declared.fault.Excess.{Excess}
+use Rattle.cov_text.specs.Limits as l
+use Rattle.cov_text.specs.Limits.{sooner, least, above, past}
+use Rattle.cov_text.specs.Trees.{expr_of, cert_of, proof_of, pair_of, state_of, state_or_none, stm_of, proofs_of, block_of, stms_of, class_of}
 use Rattle.cov_print.specs.Unplaced.{unplaced_stm, unplaced_block}
 use Rattle.cov_print.proofs.Declarations.{seen_var, seen_lock, seen_thread, seen_program}
 
@@ -165,7 +165,7 @@ height_same (t.split e c d) = λ i. 1 + max (height_same c i) (height_same d i)
 height_same (t.have e c d) = λ i. 1 + max (height_same c i) (height_same d i)
 
 expr_same : (e : Placed Term) → fine (l.in_expr e) ≡ term_fine (expr_of e)
-expr_same e = fine_two e.0 1000 (nodes e.1) e.0 64 (height e.1) (Rattle.cov_parse.specs.declared.fault.Limit.TheVariants.TooMany Rattle.cov_parse.specs.declared.fault.Counted.TheVariants.Nodes) Rattle.cov_parse.specs.declared.fault.Limit.TheVariants.TooDeep
+expr_same e = fine_two e.0 1000 (nodes e.1) e.0 64 (height e.1) (Rattle.cov_text.specs.declared.fault.Limit.TheVariants.TooMany Rattle.cov_text.specs.declared.fault.Counted.TheVariants.Nodes) Rattle.cov_text.specs.declared.fault.Limit.TheVariants.TooDeep
 
 inside_same : (c : t.Cert) → fine (l.inside_cert c) ≡ inside_fine (cert_of c)
 inside_same t.auto = refl
@@ -201,10 +201,10 @@ proof_same p =
     (fine_two p.1.0 10000 (l.cert_nodes p.1.1) p.1.0 64 (l.cert_height p.1.1) many deep ∙ (λ i. not (nat_lt 10000 (nodes_same p.1.1 i)) && (not (nat_lt 64 (height_same p.1.1 i)) && true))) (inside_same p.1.1)
   where
     many : Limit
-    many = Rattle.cov_parse.specs.declared.fault.Limit.TheVariants.TooMany Rattle.cov_parse.specs.declared.fault.Counted.TheVariants.CertNodes
+    many = Rattle.cov_text.specs.declared.fault.Limit.TheVariants.TooMany Rattle.cov_text.specs.declared.fault.Counted.TheVariants.CertNodes
 
     deep : Limit
-    deep = Rattle.cov_parse.specs.declared.fault.Limit.TheVariants.TooDeep
+    deep = Rattle.cov_text.specs.declared.fault.Limit.TheVariants.TooDeep
 
 proofs_same : (ps : t.Proofs) → fine (least l.in_proof ps) ≡ list_all proof_fine (map proof_of ps)
 proofs_same ps = fine_least l.in_proof proof_of proof_fine proof_same ps
@@ -225,10 +225,10 @@ state_same j =
     (fine_least l.in_pair pair_of pair_fine (λ x. expr_same x.1) j.types))
   where
     preds : Limit
-    preds = Rattle.cov_parse.specs.declared.fault.Limit.TheVariants.TooMany Rattle.cov_parse.specs.declared.fault.Counted.TheVariants.Predicates
+    preds = Rattle.cov_text.specs.declared.fault.Limit.TheVariants.TooMany Rattle.cov_text.specs.declared.fault.Counted.TheVariants.Predicates
 
     types : Limit
-    types = Rattle.cov_parse.specs.declared.fault.Limit.TheVariants.TooMany Rattle.cov_parse.specs.declared.fault.Counted.TheVariants.Types
+    types = Rattle.cov_text.specs.declared.fault.Limit.TheVariants.TooMany Rattle.cov_text.specs.declared.fault.Counted.TheVariants.Types
 
 stated_same : (j : Option t.State) → fine (l.in_state_option j) ≡ state_fine (state_or_none j)
 stated_same None = refl
@@ -258,10 +258,10 @@ abbrev mutual
   block_fine room s.done = true
   block_fine room (s.more at x ps rest) = stm_fine room x ps && block_fine room rest
 
-fine_room : (room at : ℕ) → fine (if room == 0 then Some (record { at = at; limit = Rattle.cov_parse.specs.declared.fault.Limit.TheVariants.TooDeep }) else None) ≡ not (room == 0)
+fine_room : (room at : ℕ) → fine (if room == 0 then Some (record { at = at; limit = Rattle.cov_text.specs.declared.fault.Limit.TheVariants.TooDeep }) else None) ≡ not (room == 0)
 fine_room room at = by (room == 0)
   where
-    by : (b : Bool) → fine (if b then Some (record { at = at; limit = Rattle.cov_parse.specs.declared.fault.Limit.TheVariants.TooDeep }) else None) ≡ not b
+    by : (b : Bool) → fine (if b then Some (record { at = at; limit = Rattle.cov_text.specs.declared.fault.Limit.TheVariants.TooDeep }) else None) ≡ not b
     by true = refl
     by false = refl
 
@@ -391,10 +391,10 @@ few most c place view xs = fine_past most c (map place xs) ∙ ap (λ n. not (na
 pub limits_same : (all : List (List ℕ)) (p : t.Program) → fine (l.in_program p) ≡ program_fine (seen_program all p)
 unfolding l.past_variables l.past_locks l.past_threads l.past_statements
 limits_same all p =
-    both_fine _ _ _ _ (few 256 Rattle.cov_parse.specs.declared.fault.Counted.TheVariants.Variables (λ v. v.name.1) (seen_var all) p.vars)
-    (both_fine _ _ _ _ (few 64 Rattle.cov_parse.specs.declared.fault.Counted.TheVariants.Locks (λ v. v.name.1) (seen_lock all) p.locks)
-    (both_fine _ _ _ _ (few 16 Rattle.cov_parse.specs.declared.fault.Counted.TheVariants.Threads (λ v. v.name.1) (seen_thread all) p.threads)
-    (both_fine _ _ _ _ (fine_past 20000 Rattle.cov_parse.specs.declared.fault.Counted.TheVariants.Statements (flat_map (λ h. l.places_of h.body) p.threads) ∙ ap (λ n. not (nat_lt 20000 n)) (counts_same all p.threads))
+    both_fine _ _ _ _ (few 256 Rattle.cov_text.specs.declared.fault.Counted.TheVariants.Variables (λ v. v.name.1) (seen_var all) p.vars)
+    (both_fine _ _ _ _ (few 64 Rattle.cov_text.specs.declared.fault.Counted.TheVariants.Locks (λ v. v.name.1) (seen_lock all) p.locks)
+    (both_fine _ _ _ _ (few 16 Rattle.cov_text.specs.declared.fault.Counted.TheVariants.Threads (λ v. v.name.1) (seen_thread all) p.threads)
+    (both_fine _ _ _ _ (fine_past 20000 Rattle.cov_text.specs.declared.fault.Counted.TheVariants.Statements (flat_map (λ h. l.places_of h.body) p.threads) ∙ ap (λ n. not (nat_lt 20000 n)) (counts_same all p.threads))
     (both_fine _ _ _ _ (fine_least l.in_var (seen_var all) var_fine (var_same all) p.vars)
     (both_fine _ _ _ _ (fine_least l.in_lock (seen_lock all) lock_fine (λ x. option_same x.inv) p.locks)
     (fine_least l.in_thread (seen_thread all) thread_fine (λ x. block_same 64 x.body) p.threads))))))

@@ -11,7 +11,7 @@ use Rattle.cov_grammar.specs.Grammar.{◌▸◌, ◌◂◌, separated, listed, w
 use Rattle.cov_grammar.specs.Spelling.{Within}
 use Rattle.cov_grammar.proofs.Senses.{close}
 use Rattle.cov_ast.specs.Syntax as s
-use Rattle.cov_parse.specs.Trees.{expr_of, cert_of, proof_of, pair_of, state_of, state_or_none, stm_of, proofs_of, block_of, stms_of}
+use Rattle.cov_text.specs.Trees.{expr_of, cert_of, proof_of, pair_of, state_of, state_or_none, stm_of, proofs_of, block_of, stms_of}
 use Rattle.cov_print.specs.Unplaced.{unplaced_stm, unplaced_block}
 use Rattle.cov_print.proofs.Written as w
 use Rattle.cov_print.proofs.Written.{Word, plain, commas}

@@ -3,8 +3,8 @@ use Rattle.std.specs.Prelude.{◌≡◌, ℕ, ◌≤◌, List, length}
 use Rattle.cov_ast.specs.Syntax.{Parsed}
 use Rattle.cov_grammar.specs.Trees.{Program}
 use Rattle.cov_grammar.specs.Grammar.{program}
-use Rattle.cov_parse.specs.Limits.{in_program}
-use Rattle.cov_parse.specs.Text.{IsText, program_of}
+use Rattle.cov_text.specs.Limits.{in_program}
+use Rattle.cov_text.specs.Text.{IsText, program_of}
 use Rattle.cov_print.specs.Unplaced.{unplaced}
 
 -- A text spells a program, places aside: within the limits, by the tokens and the grammar of the language.

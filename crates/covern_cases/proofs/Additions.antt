@@ -3,8 +3,8 @@ use Rattle.std.proofs.Common.{◌≡◌, ℕ, List, ◌++◌, map, Ok, inl, ap, 
 use Rattle.cov_ast.specs.declared.parsed.Parsed.{Parsed}
 use Rattle.cov_ast.specs.View as view
 use Rattle.cov_grammar.specs.Grammar as grammar
-use Rattle.cov_parse.specs.Limits as limits
-use Rattle.cov_parse.specs.Text.{Answers, program_of}
+use Rattle.cov_text.specs.Limits as limits
+use Rattle.cov_text.specs.Text.{Answers, program_of}
 use Rattle.covern_cases.specs.Claims.{AddsLines, thread_lines}
 
 pub adds_lines : (text before after : List ℕ) (parsed : Parsed) → Answers grammar.program limits.in_program text view.parsed (program_of text) (Ok parsed)

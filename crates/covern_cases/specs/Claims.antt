@@ -6,8 +6,8 @@ use Rattle.cov_ast.specs.Syntax.{State, Cert, Proof, Stm, Block, Thread}
 use Rattle.cov_ast.specs.Syntax as s
 use Rattle.cov_grammar.specs.Trees.{Program}
 use Rattle.cov_grammar.specs.Grammar as grammar
-use Rattle.cov_parse.specs.Limits as limits
-use Rattle.cov_parse.specs.Text.{IsText, program_of}
+use Rattle.cov_text.specs.Limits as limits
+use Rattle.cov_text.specs.Text.{IsText, program_of}
 use Rattle.entail_cert.specs.Valid.{first_bad}
 
 -- Claims -------------------------------------------------------------------------------------------------------

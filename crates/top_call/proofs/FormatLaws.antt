@@ -1,6 +1,6 @@
 -- Laws of `fmt`: what is replied to the bytes of a file.
 use Rattle.std.proofs.Common.{◌≡◌, ◌⊎◌, ℕ, List, Result, inl, inr, refl, sym, ap, ◌∙◌}
-use Rattle.cov_parse.specs.Text.{program_of}
+use Rattle.cov_text.specs.Text.{program_of}
 use Rattle.cov_print.specs.Spelling.{spelling}
 use Rattle.top_call.specs.Format.{Formats}
 use Rattle.top_call.specs.Inside.{Gets, LacksMemory}

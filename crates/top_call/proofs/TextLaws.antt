@@ -8,10 +8,10 @@ use Rattle.cov_grammar.specs.Trees as trees
 use Rattle.cov_grammar.specs.Grammar as grammar
 use Rattle.cov_grammar.specs.declared.token.Token.{Token}
 use Rattle.cov_grammar.proofs.Exactness.{program_decided}
-use Rattle.cov_parse.specs.Limits.{in_program}
-use Rattle.cov_parse.specs.Text.{IsShallow, IsFirstFault, IsFault, fault_of, words_of}
-use Rattle.cov_parse.specs.declared.fault.ParseFault.{ParseFault}
-use Rattle.cov_parse.specs.declared.fault.ParseFault.TheVariants as faults
+use Rattle.cov_text.specs.Limits.{in_program}
+use Rattle.cov_text.specs.Text.{IsShallow, IsFirstFault, IsFault, fault_of, words_of}
+use Rattle.cov_text.specs.declared.fault.ParseFault.{ParseFault}
+use Rattle.cov_text.specs.declared.fault.ParseFault.TheVariants as faults
 use Rattle.top_call.specs.Programs.{SpellsTree, IsShownFault, shown}
 use Rattle.top_call.specs.declared.answers.Fault.{Fault}
 

@@ -2,7 +2,7 @@
 use Rattle.std.specs.Prelude.{◌≡◌, ℕ, List, Some}
 use Rattle.cov_grammar.specs.Trees as trees
 use Rattle.cov_io.specs.Shelves.{File, held}
-use Rattle.cov_parse.specs.Text.{program_of}
+use Rattle.cov_text.specs.Text.{program_of}
 use Rattle.flow_model.specs.Secure.{IsSecure}
 use Rattle.top_call.specs.Check.{AreNamesInOrder, meaning}
 use Rattle.top_call.specs.Commands.{Command, check, fmt, nothing}

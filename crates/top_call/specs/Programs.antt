@@ -2,10 +2,10 @@
 use Rattle.std.specs.Prelude.{◌≡◌, ℕ, List, Option, Some, None}
 use Rattle.cov_grammar.specs.Trees as trees
 use Rattle.cov_grammar.specs.Grammar as grammar
-use Rattle.cov_parse.specs.Limits.{in_program}
-use Rattle.cov_parse.specs.Text.{IsText, IsFault}
-use Rattle.cov_parse.specs.declared.fault.ParseFault.{ParseFault}
-use Rattle.cov_parse.specs.declared.fault.ParseFault.TheVariants as faults
+use Rattle.cov_text.specs.Limits.{in_program}
+use Rattle.cov_text.specs.Text.{IsText, IsFault}
+use Rattle.cov_text.specs.declared.fault.ParseFault.{ParseFault}
+use Rattle.cov_text.specs.declared.fault.ParseFault.TheVariants as faults
 use Rattle.top_call.specs.declared.answers.Fault.{Fault}
 use Rattle.top_call.specs.declared.answers.FaultKind.{FaultKind}
 use Rattle.top_call.specs.declared.answers.FaultKind.TheVariants as k

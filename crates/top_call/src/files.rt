@@ -10,7 +10,7 @@ ghost use Rattle.top_call.specs.Replies.{malformed};
 use crate::answers::{Answer, Fault, FaultKind, Stop};
 use cov_expr::Blob;
 use cov_io::{Fetched, Shelf, ShelfFault};
-use cov_parse::ParseFault;
+use cov_text::ParseFault;
 use std::alloc::Global;
 
 /// The most bytes of a program file.

@@ -1,6 +1,6 @@
 use Rattle.std.proofs.Common.{◌+◌, ◌*◌}
-use Rattle.cov_parse.specs.CertViews as certs
-use Rattle.cov_parse.specs.Limits.{cert_nodes}
+use Rattle.cov_read.specs.CertViews as certs
+use Rattle.cov_text.specs.Limits.{cert_nodes}
 use Rattle.cov_parse.proofs.annotations.+made.Given as goal
 
 abbrev pub decreases-cert_of : goal.decreases-cert_of

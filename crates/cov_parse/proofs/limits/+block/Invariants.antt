@@ -1,7 +1,7 @@
 use Rattle.std.proofs.Common.{◌≡◌, map, drop}
 use Rattle.cov_grammar.specs.Trees.{stms}
-use Rattle.cov_parse.specs.Limits as spec
-use Rattle.cov_parse.specs.StmtViews as views
+use Rattle.cov_text.specs.Limits as spec
+use Rattle.cov_read.specs.StmtViews as views
 use Rattle.cov_parse.proofs.limits.+block.Given as goal
 
 abbrev pub invariant-in_stms-loop-stmt : goal.invariant-in_stms-loop-stmt

@@ -1,6 +1,6 @@
 use Rattle.std.proofs.Common.{◌∙◌, rules}
-use Rattle.cov_parse.specs.Limits as spec
-use Rattle.cov_parse.specs.CertViews as views
+use Rattle.cov_text.specs.Limits as spec
+use Rattle.cov_read.specs.CertViews as views
 use Rattle.cov_parse.proofs.LimitLaws.{found_step}
 use Rattle.cov_parse.proofs.limits.in_exprs.Goals as goal
 

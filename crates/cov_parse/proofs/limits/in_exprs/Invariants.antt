@@ -1,6 +1,6 @@
 use Rattle.std.proofs.Common.{◌≡◌, map, drop}
-use Rattle.cov_parse.specs.Limits as spec
-use Rattle.cov_parse.specs.CertViews as views
+use Rattle.cov_text.specs.Limits as spec
+use Rattle.cov_read.specs.CertViews as views
 use Rattle.cov_parse.proofs.limits.in_exprs.Given as goal
 
 abbrev pub invariant-loop-e : goal.invariant-loop-e

@@ -1,6 +1,6 @@
 use Rattle.std.proofs.Common.{◌∙◌, rules}
-use Rattle.cov_parse.specs.Limits as spec
-use Rattle.cov_parse.specs.StateViews as views
+use Rattle.cov_text.specs.Limits as spec
+use Rattle.cov_read.specs.StateViews as views
 use Rattle.cov_parse.proofs.LimitLaws.{found_step}
 use Rattle.cov_parse.proofs.limits.in_pairs.Goals as goal
 

@@ -1,6 +1,6 @@
 use Rattle.std.proofs.Common.{◌≡◌, map, drop}
-use Rattle.cov_parse.specs.Limits as spec
-use Rattle.cov_parse.specs.DeclViews as views
+use Rattle.cov_text.specs.Limits as spec
+use Rattle.cov_read.specs.DeclViews as views
 use Rattle.cov_parse.proofs.limits.in_vars.Given as goal
 
 abbrev pub invariant-loop-var : goal.invariant-loop-var

@@ -1,7 +1,7 @@
 use Rattle.std.proofs.Common.{◌∙◌, sym, ap, arith, length, map}
-use Rattle.cov_parse.specs.declared.fault.Counted.TheVariants.{Locks}
-use Rattle.cov_parse.specs.Limits.{past, past_locks}
-use Rattle.cov_parse.specs.DeclViews as views
+use Rattle.cov_text.specs.declared.fault.Counted.TheVariants.{Locks}
+use Rattle.cov_text.specs.Limits.{past, past_locks}
+use Rattle.cov_read.specs.DeclViews as views
 use Rattle.cov_parse.proofs.LimitLaws.{past_none, past_some}
 use Rattle.cov_parse.proofs.numbers.past_locks.Goals as goal
 

@@ -1,10 +1,10 @@
 use Rattle.cov_ast.specs.View as ast
 use Rattle.cov_grammar.specs.Grammar.{program}
 use Rattle.cov_grammar.proofs.TableLaws.{fine_program}
-use Rattle.cov_parse.specs.Limits.{in_program}
-use Rattle.cov_parse.specs.Text.{program_of}
-use Rattle.cov_parse.proofs.ParseLaws.{only_is}
-use Rattle.cov_parse.proofs.ReadyLaws.{parsed_ready, parsed_in_order}
+use Rattle.cov_text.specs.Limits.{in_program}
+use Rattle.cov_text.specs.Text.{program_of}
+use Rattle.cov_text.proofs.TextLaws.{only_is}
+use Rattle.cov_text.proofs.ReadyLaws.{parsed_ready, parsed_in_order}
 use Rattle.cov_parse.proofs.text.parse.Goals as goal
 
 pub returns-clause-ready : goal.returns-clause-ready

@@ -2,12 +2,12 @@ use Rattle.std.proofs.Common.{◌≡◌, ◌∙◌, ℕ, List, None, Err, sym, a
 use Rattle.cov_expr.specs.Term.{Term}
 use Rattle.cov_expr.specs.View.{term}
 use Rattle.cov_ast.specs.declared.parsed.NameUse.{NameUse}
-use Rattle.cov_parse.specs.Uses.{uses_of}
-use Rattle.cov_parse.specs.WrittenViews.{written}
+use Rattle.cov_text.specs.Uses.{uses_of}
+use Rattle.cov_read.specs.WrittenViews.{written}
 use Rattle.cov_grammar.specs.Grammar.{whole}
-use Rattle.cov_parse.specs.CertViews as certs
-use Rattle.cov_parse.specs.Limits.{in_expr}
-use Rattle.cov_parse.specs.Text.{Expression, Answers, expression_of, words_of, names_of}
+use Rattle.cov_read.specs.CertViews as certs
+use Rattle.cov_text.specs.Limits.{in_expr}
+use Rattle.cov_text.specs.Text.{Expression, Answers, expression_of, words_of, names_of}
 use Rattle.cov_parse.specs.Replies.{parsed_expr}
 use Rattle.cov_parse.proofs.ParseLaws.{fault_past, answer_is}
 use Rattle.cov_parse.proofs.text.read_expr_text.Goals as goal

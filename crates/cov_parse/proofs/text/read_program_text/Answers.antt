@@ -1,8 +1,8 @@
 use Rattle.std.proofs.Common.{◌≡◌, rules}
-use Rattle.cov_parse.specs.DeclViews as decls
-use Rattle.cov_parse.specs.Text.{words_of}
-use Rattle.cov_parse.proofs.NamesInOrder.{declarations_named}
-use Rattle.cov_parse.proofs.WordLaws.{names_few}
+use Rattle.cov_read.specs.DeclViews as decls
+use Rattle.cov_text.specs.Text.{words_of}
+use Rattle.cov_text.proofs.NamesInOrder.{declarations_named}
+use Rattle.cov_text.proofs.WordLaws.{names_few}
 use Rattle.cov_parse.proofs.text.read_program_text.Goals as goal
 
 pub parsed_of-requires : goal.parsed_of-requires

@@ -1,5 +1,5 @@
 use Rattle.std.proofs.Common.{◌∙◌, sym, ap}
-use Rattle.cov_parse.specs.Depth.{deep}
+use Rattle.cov_text.specs.Depth.{deep}
 use Rattle.cov_parse.proofs.ParseLaws.{deep_fault, reads_tokens}
 use Rattle.cov_parse.proofs.text.read_text.Goals as goal
 

@@ -1,4 +1,4 @@
-use Rattle.cov_parse.proofs.NameNumbers.{Numbering}
+use Rattle.cov_text.proofs.NameNumbers.{Numbering}
 use Rattle.cov_parse.proofs.tokens.number_names.Given as goal
 
 -- the names so far have their numbers

@@ -1,5 +1,5 @@
 use Rattle.std.proofs.Common.{◌≡◌, ◌++◌, drop}
-use Rattle.cov_parse.specs.Uses.{uses_behind, uses_of}
+use Rattle.cov_text.specs.Uses.{uses_behind, uses_of}
 use Rattle.cov_parse.proofs.uses.uses.Given as goal
 
 -- the uses so far, and those of what is left, are all of them

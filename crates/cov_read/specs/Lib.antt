@@ -1,0 +1,6 @@
+pub mod WrittenViews
+pub mod CertViews
+pub mod StateViews
+pub mod StmtViews
+pub mod DeclViews
+pub mod Levels

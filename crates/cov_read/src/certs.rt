@@ -1,0 +1,224 @@
+ghost use Rattle.std.specs.Prelude.{◌≡◌, ◌≤◌, length, map, IfOk};
+ghost use Rattle.cov_expr.specs.View.{term};
+ghost use Rattle.cov_expr.specs.declared.kind.Kind.TheVariants as kinds;
+ghost use Rattle.cov_grammar.specs.Trees as trees;
+ghost use Rattle.cov_grammar.specs.Shapes.{seq, rule, placed};
+ghost use Rattle.cov_grammar.specs.Grammar as grammar;
+ghost use Rattle.cov_grammar.specs.Reading.{reading};
+ghost use Rattle.cov_grammar.specs.ReaderAnswers.{Gives, Shorter};
+ghost use Rattle.cov_read.specs.Levels.{rule_for};
+ghost use Rattle.cov_read.specs.CertViews as views;
+
+use crate::cert::{Cert, Whole};
+use crate::expressions::read_expr;
+use cov_expr::{List, NoMemory};
+use cov_grammar::{Kind, Stop, TokenReader};
+use std::alloc::Global;
+
+fn boxed_cert(alloc: Global, cert: Cert) -> Result<Box<Cert>, NoMemory>
+    ensures { IfOk result (λ b. b.value ≡ cert) }
+{
+    Ok(Box::new(alloc, cert)?)
+}
+
+/// The value of a number.
+pub fn read_number(reader: &mut TokenReader<'_>) -> Result<u32, Stop>
+    ensures reads { Gives (λ n. n) reader.new result (reading grammar.number reader.old) }
+    ensures shorter { Shorter reader.old reader.new result }
+{
+    Ok(reader.expect(Kind::Number)?.value)
+}
+
+/// An expression or a template with its place.
+pub fn read_whole(reader: &mut TokenReader<'_>, alloc: Global, holes: bool) -> Result<Whole, Stop>
+    ensures reads { Gives views.whole reader.new result (reading (placed (rule_for holes)) reader.old) }
+    ensures shorter { length reader.new ≤ length reader.old }
+{
+    let at = reader.place(0);
+    let expr = read_expr(reader, alloc, holes)?;
+    Ok(Whole { at, expr })
+}
+
+/// An expression or a template in square brackets.
+fn read_in_brackets(reader: &mut TokenReader<'_>, alloc: Global, holes: bool) -> Result<Whole, Stop>
+    ensures reads { Gives views.whole reader.new result (reading (grammar.in_brackets (placed (rule_for holes))) reader.old) }
+    ensures shorter { length reader.new ≤ length reader.old }
+{
+    reader.expect(Kind::OpenBracket)?;
+    let whole = read_whole(reader, alloc, holes)?;
+    reader.expect(Kind::CloseBracket)?;
+    Ok(whole)
+}
+
+#[cycle(cert)]
+#[tactic(auto, unfolding(cov_grammar::specs::Grammar::part))]
+fn read_part(reader: &mut TokenReader<'_>, alloc: Global) -> Result<Cert, Stop>
+    ensures reads { Gives views.cert reader.new result (reading grammar.part reader.old) }
+    ensures shorter { length reader.new ≤ length reader.old }
+{
+    if let Some(_) = reader.take(Kind::Auto) {
+        return Ok(Cert::Auto);
+    }
+    if let Some(_) = reader.take(Kind::Calc) {
+        return Ok(Cert::Calc);
+    }
+    if let Some(_) = reader.take(Kind::Refl) {
+        return Ok(Cert::Refl);
+    }
+    if let Some(_) = reader.take(Kind::Ring) {
+        return Ok(Cert::Ring);
+    }
+    if let Some(_) = reader.take(Kind::Range) {
+        return Ok(Cert::Range);
+    }
+    reader.expect(Kind::OpenParen)?;
+    let inside = read_cert(reader, alloc)?;
+    reader.expect(Kind::CloseParen)?;
+    Ok(inside)
+}
+
+#[cycle(cert)]
+fn read_one_part(reader: &mut TokenReader<'_>, alloc: Global) -> Result<Box<Cert>, Stop>
+    ensures reads { Gives views.boxed reader.new result (reading grammar.part reader.old) }
+    ensures shorter { length reader.new ≤ length reader.old }
+{
+    let part = read_part(reader, alloc)?;
+    Ok(boxed_cert(alloc, part)?)
+}
+
+#[cycle(cert)]
+fn read_two_parts(
+    reader: &mut TokenReader<'_>,
+    alloc: Global,
+) -> Result<(Box<Cert>, Box<Cert>), Stop>
+    ensures reads { Gives views.two reader.new result (reading (seq grammar.part grammar.part) reader.old) }
+    ensures shorter { length reader.new ≤ length reader.old }
+{
+    let first = read_one_part(reader, alloc)?;
+    let second = read_one_part(reader, alloc)?;
+    Ok((first, second))
+}
+
+#[cycle(cert)]
+#[tactic(auto, using(crate::proofs::CertLaws::rule_cert))]
+pub fn read_cert(reader: &mut TokenReader<'_>, alloc: Global) -> Result<Cert, Stop>
+    ensures reads { Gives views.cert reader.new result (reading (rule trees.cert) reader.old) }
+    ensures shorter { length reader.new ≤ length reader.old }
+{
+    read_certificate(reader, alloc)
+}
+
+#[cycle(cert)]
+#[tactic(auto, unfolding(cov_grammar::specs::Grammar::certificate))]
+fn read_certificate(reader: &mut TokenReader<'_>, alloc: Global) -> Result<Cert, Stop>
+    ensures reads { Gives views.cert reader.new result (reading grammar.certificate reader.old) }
+    ensures shorter { length reader.new ≤ length reader.old }
+{
+    if let Some(_) = reader.take(Kind::Hyp) {
+        return Ok(Cert::Hyp(read_number(reader)?));
+    }
+    if let Some(_) = reader.take(Kind::Clash) {
+        return Ok(Cert::Clash(read_number(reader)?));
+    }
+    if let Some(_) = reader.take(Kind::Absurd) {
+        let first = read_number(reader)?;
+        let second = read_number(reader)?;
+        return Ok(Cert::Absurd(first, second));
+    }
+    if let Some(_) = reader.take(Kind::And) {
+        let (first, second) = read_two_parts(reader, alloc)?;
+        return Ok(Cert::And(first, second));
+    }
+    read_more_certs(reader, alloc)
+}
+
+#[cycle(cert)]
+#[tactic(auto, unfolding(cov_grammar::specs::Grammar::more_certs))]
+fn read_more_certs(reader: &mut TokenReader<'_>, alloc: Global) -> Result<Cert, Stop>
+    ensures reads { Gives views.cert reader.new result (reading grammar.more_certs reader.old) }
+    ensures shorter { length reader.new ≤ length reader.old }
+{
+    if let Some(_) = reader.take(Kind::Left) {
+        return Ok(Cert::Left(read_one_part(reader, alloc)?));
+    }
+    if let Some(_) = reader.take(Kind::Right) {
+        return Ok(Cert::Right(read_one_part(reader, alloc)?));
+    }
+    if let Some(_) = reader.take(Kind::Use) {
+        let number = read_number(reader)?;
+        return Ok(Cert::Unpack(number, read_one_part(reader, alloc)?));
+    }
+    if let Some(_) = reader.take(Kind::Cases) {
+        let number = read_number(reader)?;
+        let (first, second) = read_two_parts(reader, alloc)?;
+        return Ok(Cert::Cases(number, first, second));
+    }
+    if let Some(_) = reader.take(Kind::Split) {
+        let whole = read_in_brackets(reader, alloc, false)?;
+        let (first, second) = read_two_parts(reader, alloc)?;
+        return Ok(Cert::Split(whole, first, second));
+    }
+    read_last_certs(reader, alloc)
+}
+
+#[cycle(cert)]
+#[tactic(auto, unfolding(cov_grammar::specs::Grammar::last_certs))]
+fn read_last_certs(reader: &mut TokenReader<'_>, alloc: Global) -> Result<Cert, Stop>
+    ensures reads { Gives views.cert reader.new result (reading grammar.last_certs reader.old) }
+    ensures shorter { length reader.new ≤ length reader.old }
+{
+    if let Some(_) = reader.take(Kind::Have) {
+        let whole = read_in_brackets(reader, alloc, false)?;
+        let (first, second) = read_two_parts(reader, alloc)?;
+        return Ok(Cert::Have(whole, first, second));
+    }
+    if let Some(_) = reader.take(Kind::Not) {
+        return Ok(Cert::Not(read_one_part(reader, alloc)?));
+    }
+    if let Some(_) = reader.take(Kind::Contra) {
+        return Ok(Cert::Contra(read_one_part(reader, alloc)?));
+    }
+    if let Some(_) = reader.take(Kind::Fwd) {
+        let number = read_number(reader)?;
+        let template = read_in_brackets(reader, alloc, true)?;
+        return Ok(Cert::Fwd(number, template, read_one_part(reader, alloc)?));
+    }
+    if let Some(_) = reader.take(Kind::Rev) {
+        let number = read_number(reader)?;
+        let template = read_in_brackets(reader, alloc, true)?;
+        return Ok(Cert::Rev(number, template, read_one_part(reader, alloc)?));
+    }
+    if let Some(_) = reader.take(Kind::Axiom) {
+        let number = read_number(reader)?;
+        let arguments = read_arguments(reader, alloc)?;
+        return Ok(Cert::Axiom(number, arguments, read_one_part(reader, alloc)?));
+    }
+    read_part(reader, alloc)
+}
+
+/// Expressions in round brackets.
+#[tactic(auto, unfolding(cov_grammar::specs::Grammar::arguments))]
+fn read_arguments(reader: &mut TokenReader<'_>, alloc: Global) -> Result<List<Whole>, Stop>
+    ensures reads { Gives (map views.whole) reader.new result (reading grammar.arguments reader.old) }
+    ensures shorter { length reader.new ≤ length reader.old }
+{
+    reader.expect(Kind::OpenParen)?;
+    let list = read_wholes(reader, alloc)?;
+    reader.expect(Kind::CloseParen)?;
+    Ok(list)
+}
+
+/// One expression, or several with commas between them.
+pub fn read_wholes(reader: &mut TokenReader<'_>, alloc: Global) -> Result<List<Whole>, Stop>
+    ensures reads { Gives (map views.whole) reader.new result (reading (grammar.separated kinds.Comma grammar.whole) reader.old) }
+    ensures shorter { length reader.new ≤ length reader.old }
+{
+    let mut list = List::new(alloc);
+    let first = read_whole(reader, alloc, false)?;
+    list.push(first)?;
+    'items: while let Some(_) = reader.take(Kind::Comma) {
+        let next = read_whole(reader, alloc, false)?;
+        list.push(next)?;
+    }
+    Ok(list)
+}

@@ -1,0 +1,202 @@
+ghost use Rattle.std.specs.Prelude.{◌≡◌, ◌≤◌, length, map, List, option_map};
+ghost use Rattle.cov_expr.specs.declared.kind.Kind.TheVariants as kinds;
+ghost use Rattle.cov_grammar.specs.Trees as trees;
+ghost use Rattle.cov_grammar.specs.Shapes.{opt, many, rule, placed};
+ghost use Rattle.cov_grammar.specs.Grammar as grammar;
+ghost use Rattle.cov_grammar.specs.Reading.{reading};
+ghost use Rattle.cov_grammar.specs.ReaderAnswers.{Gives, Shorter};
+ghost use Rattle.cov_read.specs.CertViews as views;
+ghost use Rattle.cov_read.specs.StateViews as states;
+ghost use Rattle.cov_read.specs.StmtViews as stmts;
+
+use crate::cert::Whole;
+use crate::certs::read_whole;
+use crate::states::{Proof, Typed, read_proofs, read_state, read_state_behind};
+use crate::stmt::{Braces, Stmt, StmtKind};
+use cov_expr::List;
+use cov_grammar::{Kind, Stop, TokenReader};
+use std::alloc::Global;
+
+/// An expression behind a word, if the word is next.
+pub fn read_whole_behind(
+    reader: &mut TokenReader<'_>,
+    alloc: Global,
+    word: Kind,
+) -> Result<Option<Whole>, Stop>
+    ensures reads { Gives (option_map views.whole) reader.new result (reading (opt (grammar.◌▸◌ word grammar.whole)) reader.old) }
+    ensures shorter { length reader.new ≤ length reader.old }
+{
+    if let Some(_) = reader.take(word) {
+        Ok(Some(read_whole(reader, alloc, false)?))
+    } else {
+        Ok(None)
+    }
+}
+
+#[tactic(auto, unfolding(cov_grammar::specs::Grammar::retype))]
+fn read_retype(reader: &mut TokenReader<'_>, alloc: Global) -> Result<Typed, Stop>
+    ensures reads { Gives states.typed reader.new result (reading grammar.retype reader.old) }
+    ensures shorter { Shorter reader.old reader.new result }
+{
+    reader.expect(Kind::Retype)?;
+    let name = reader.expect(Kind::Name)?;
+    reader.expect(Kind::As)?;
+    let class = read_whole(reader, alloc, false)?;
+    Ok(Typed {
+        name: name.value,
+        class,
+    })
+}
+
+fn read_retypes(reader: &mut TokenReader<'_>, alloc: Global) -> Result<List<Typed>, Stop>
+    ensures reads { Gives (map states.typed) reader.new result (reading (many grammar.retype) reader.old) }
+    ensures shorter { length reader.new ≤ length reader.old }
+{
+    let mut list = List::new(alloc);
+    'items: while reader.at(Kind::Retype) {
+        let next = read_retype(reader, alloc)?;
+        list.push(next)?;
+    }
+    Ok(list)
+}
+
+/// What stands behind the name of an assignment.
+#[tactic(auto, unfolding(cov_grammar::specs::Grammar::assigned))]
+fn read_assigned(
+    reader: &mut TokenReader<'_>,
+    alloc: Global,
+) -> Result<(Whole, Option<Whole>, List<Typed>, List<Proof>), Stop>
+    ensures reads { Gives stmts.assigned reader.new result (reading grammar.assigned reader.old) }
+    ensures shorter { length reader.new ≤ length reader.old }
+{
+    reader.expect(Kind::Assign)?;
+    let value = read_whole(reader, alloc, false)?;
+    let class = read_whole_behind(reader, alloc, Kind::As)?;
+    let retypes = read_retypes(reader, alloc)?;
+    let proofs = read_proofs(reader, alloc)?;
+    reader.expect(Kind::Semicolon)?;
+    Ok((value, class, retypes, proofs))
+}
+
+/// A block in braces.
+#[cycle(block)]
+#[tactic(auto, using(crate::proofs::StmtLaws::rule_block))]
+pub fn read_block(reader: &mut TokenReader<'_>, alloc: Global) -> Result<(Braces, List<Stmt>), Stop>
+    ensures reads { Gives stmts.block reader.new result (reading (rule trees.block) reader.old) }
+    ensures shorter { length reader.new ≤ length reader.old }
+{
+    read_braces(reader, alloc)
+}
+
+#[cycle(block)]
+#[tactic(auto, unfolding(cov_grammar::specs::Grammar::braces))]
+fn read_braces(reader: &mut TokenReader<'_>, alloc: Global) -> Result<(Braces, List<Stmt>), Stop>
+    ensures reads { Gives stmts.block reader.new result (reading grammar.braces reader.old) }
+    ensures shorter { length reader.new ≤ length reader.old }
+{
+    let begin = reader.expect(Kind::OpenBrace)?;
+    let body = read_body(reader, alloc)?;
+    let end = reader.expect(Kind::CloseBrace)?;
+    let braces = Braces {
+        begin: begin.at,
+        end: end.at,
+    };
+    Ok((braces, body))
+}
+
+#[cycle(block)]
+fn read_body(reader: &mut TokenReader<'_>, alloc: Global) -> Result<List<Stmt>, Stop>
+    ensures reads { Gives (map stmts.stmt) reader.new result (reading (many (placed grammar.statement)) reader.old) }
+    ensures shorter { length reader.new ≤ length reader.old }
+{
+    let mut list = List::new(alloc);
+    'items: while reader.at_any(&[
+        Kind::Skip,
+        Kind::Name,
+        Kind::Lock,
+        Kind::Unlock,
+        Kind::If,
+        Kind::While,
+        Kind::Note,
+    ]) {
+        let next = read_stmt(reader, alloc)?;
+        list.push(next)?;
+    }
+    Ok(list)
+}
+
+#[cycle(block)]
+fn read_stmt(reader: &mut TokenReader<'_>, alloc: Global) -> Result<Stmt, Stop>
+    ensures reads { Gives stmts.stmt reader.new result (reading (placed grammar.statement) reader.old) }
+    ensures shorter { Shorter reader.old reader.new result }
+{
+    let at = reader.place(0);
+    let kind = read_statement(reader, alloc)?;
+    Ok(Stmt { at, kind })
+}
+
+#[cycle(block)]
+#[tactic(auto, unfolding(cov_grammar::specs::Grammar::statement))]
+fn read_statement(reader: &mut TokenReader<'_>, alloc: Global) -> Result<StmtKind, Stop>
+    ensures reads { Gives stmts.kind reader.new result (reading grammar.statement reader.old) }
+    ensures shorter { Shorter reader.old reader.new result }
+{
+    if let Some(_) = reader.take(Kind::Skip) {
+        reader.expect(Kind::Semicolon)?;
+        return Ok(StmtKind::Skip);
+    }
+    if let Some(name) = reader.take(Kind::Name) {
+        let (value, class, retypes, proofs) = read_assigned(reader, alloc)?;
+        return Ok(StmtKind::Assign(name.value, value, class, retypes, proofs));
+    }
+    if let Some(_) = reader.take(Kind::Lock) {
+        let lock = reader.expect(Kind::Name)?;
+        reader.expect(Kind::Semicolon)?;
+        return Ok(StmtKind::Lock(lock.value));
+    }
+    if let Some(_) = reader.take(Kind::Unlock) {
+        let lock = reader.expect(Kind::Name)?;
+        let proofs = read_proofs(reader, alloc)?;
+        reader.expect(Kind::Semicolon)?;
+        return Ok(StmtKind::Unlock(lock.value, proofs));
+    }
+    if let Some(_) = reader.take(Kind::If) {
+        return read_branched(reader, alloc);
+    }
+    if let Some(_) = reader.take(Kind::While) {
+        return read_looped(reader, alloc);
+    }
+    reader.expect(Kind::Note)?;
+    let state = read_state(reader, alloc)?;
+    let proofs = read_proofs(reader, alloc)?;
+    reader.expect(Kind::Semicolon)?;
+    Ok(StmtKind::Note(state, proofs))
+}
+
+#[cycle(block)]
+#[tactic(auto, unfolding(cov_grammar::specs::Grammar::branched))]
+fn read_branched(reader: &mut TokenReader<'_>, alloc: Global) -> Result<StmtKind, Stop>
+    ensures reads { Gives stmts.kind reader.new result (reading grammar.branched reader.old) }
+    ensures shorter { length reader.new ≤ length reader.old }
+{
+    let guard = read_whole(reader, alloc, false)?;
+    let (first, first_body) = read_block(reader, alloc)?;
+    reader.expect(Kind::Else)?;
+    let (second, second_body) = read_block(reader, alloc)?;
+    let state = read_state_behind(reader, alloc, Kind::Join)?;
+    let proofs = read_proofs(reader, alloc)?;
+    Ok(StmtKind::If(guard, first, first_body, second, second_body, state, proofs))
+}
+
+#[cycle(block)]
+#[tactic(auto, unfolding(cov_grammar::specs::Grammar::looped))]
+fn read_looped(reader: &mut TokenReader<'_>, alloc: Global) -> Result<StmtKind, Stop>
+    ensures reads { Gives stmts.kind reader.new result (reading grammar.looped reader.old) }
+    ensures shorter { length reader.new ≤ length reader.old }
+{
+    let guard = read_whole(reader, alloc, false)?;
+    let state = read_state_behind(reader, alloc, Kind::Inv)?;
+    let (braces, body) = read_block(reader, alloc)?;
+    let proofs = read_proofs(reader, alloc)?;
+    Ok(StmtKind::While(guard, state, braces, body, proofs))
+}

@@ -1,0 +1,12 @@
+pub mod TextLaws
+pub mod NameNumbers
+pub mod UseLaws
+pub mod Summaries
+pub mod ShapeSummaries
+pub mod TermSummaries
+pub mod CertSummaries
+pub mod StmtSummaries
+pub mod DeclSummaries
+pub mod WordLaws
+pub mod NamesInOrder
+pub mod ReadyLaws

@@ -1,0 +1,104 @@
+ghost use Rattle.std.specs.Prelude.{◌≡◌};
+ghost use Rattle.cov_text.specs.declared.fault.ParseFault.TheVariants as faults;
+ghost use Rattle.cov_text.specs.Text.{lexical, unexpected, fault_of};
+
+use cov_expr::NoMemory;
+use cov_grammar::TokenFault;
+use cov_lex::LexFault;
+
+/// What a text may have only so many of.
+#[derive(Clone, Copy, Debug, PartialEq, Eq)]
+pub enum Counted {
+    /// Variables: 256.
+    Variables,
+    /// Locks: 64.
+    Locks,
+    /// Threads: 16.
+    Threads,
+    /// Statements of all threads, nested ones included: 20,000.
+    Statements,
+    /// Nodes of an expression: 1,000.
+    Nodes,
+    /// Nodes of a certificate, without the expressions inside: 10,000.
+    CertNodes,
+    /// Predicates of a state: 64.
+    Predicates,
+    /// Types of a state: 256.
+    Types,
+}
+
+/// Why a text isn't read. Each fault but the last has the offset of a byte.
+#[derive(Clone, Copy, Debug, PartialEq, Eq)]
+pub enum ParseFault {
+    /// A byte that begins no token, blank or comment.
+    BadByte(u32),
+    /// A number above 4294967295, at its first digit.
+    NumberTooLarge(u32),
+    /// A word of more than 32 bytes, at its first letter.
+    NameTooLong(u32),
+    /// The first token with which no text of the language goes on, or the length of the text, whose tokens can go on.
+    Unexpected(u32),
+    /// The first of too many.
+    TooMany(Counted, u32),
+    /// Brackets, marks, blocks, an expression or a certificate that nest too deep.
+    TooDeep(u32),
+    /// Memory ran out.
+    NoMemory,
+}
+
+impl From<NoMemory> for ParseFault {
+    ghost from_gives = { λ _ fault. fault ≡ faults.NoMemory };
+
+    fn from(_error: NoMemory) -> Self {
+        ParseFault::NoMemory
+    }
+}
+
+impl From<LexFault> for ParseFault {
+    ghost from_gives = { λ error fault. fault ≡ lexical error };
+
+    fn from(error: LexFault) -> Self {
+        match error {
+            LexFault::BadByte(at) => ParseFault::BadByte(at),
+            LexFault::NumberTooLarge(at) => ParseFault::NumberTooLarge(at),
+            LexFault::NameTooLong(at) => ParseFault::NameTooLong(at),
+            LexFault::NoMemory => ParseFault::NoMemory,
+        }
+    }
+}
+
+impl From<TokenFault> for ParseFault {
+    ghost from_gives = { λ error fault. fault ≡ unexpected error };
+
+    fn from(error: TokenFault) -> Self {
+        match error {
+            TokenFault::Unexpected(at) => ParseFault::Unexpected(at),
+            TokenFault::NoMemory => ParseFault::NoMemory,
+        }
+    }
+}
+
+impl From<Excess> for ParseFault {
+    ghost from_gives = { λ error fault. fault ≡ fault_of error };
+
+    fn from(error: Excess) -> Self {
+        match error.limit {
+            Limit::TooMany(counted) => ParseFault::TooMany(counted, error.at),
+            Limit::TooDeep => ParseFault::TooDeep(error.at),
+        }
+    }
+}
+
+/// A limit that a tree doesn't keep, and the offset where it breaks it.
+#[derive(Clone, Copy)]
+pub struct Excess {
+    pub at: u32,
+    pub limit: Limit,
+}
+
+/// A limit of trees.
+#[derive(Clone, Copy)]
+pub enum Limit {
+    TooMany(Counted),
+    TooDeep,
+}
