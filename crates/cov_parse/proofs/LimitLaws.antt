@@ -7,7 +7,7 @@ use Rattle.cov_text.specs.declared.fault.Excess.{Excess}
 use Rattle.cov_parse.specs.declared.numbers.Counting.{Counting}
 use Rattle.cov_parse.specs.declared.numbers.Counting.TheVariants.{Left, Past}
 use Rattle.cov_text.specs.Limits.{sooner, least, in_stm, in_stms, past, places, places_in}
-use Rattle.cov_parse.specs.Measures.{counted, onward}
+use Rattle.cov_parse.specs.Inside.Measures.{counted, onward}
 use Rattle.cov_parse.proofs.Items.{item_ahead}
 
 pub sooner_none : (a : Option Excess) → sooner a None ≡ a

@@ -1,7 +1,7 @@
 ghost use Rattle.std.specs.Prelude.{◌≡◌, map, flat_map};
 ghost use Rattle.cov_grammar.specs.Trees.{stms};
 ghost use Rattle.cov_text.specs.Limits as spec;
-ghost use Rattle.cov_parse.specs.Measures.{counted, onward};
+ghost use Rattle.cov_parse.specs.Inside.Measures.{counted, onward};
 ghost use Rattle.cov_read.specs.StmtViews as stmts;
 ghost use Rattle.cov_read.specs.DeclViews as decls;
 

@@ -2,7 +2,7 @@ ghost use Rattle.std.specs.Prelude.{◌≡◌, ◌<◌, length, map, option_map,
 ghost use Rattle.cov_ast.specs.View as ast;
 ghost use Rattle.cov_ast.specs.Syntax as syntax;
 ghost use Rattle.cov_grammar.specs.Trees.{stms};
-ghost use Rattle.cov_text.specs.Named.{AreNamed};
+ghost use Rattle.cov_text.specs.Inside.Named.{AreNamed};
 ghost use Rattle.cov_text.specs.Trees as spec;
 ghost use Rattle.cov_read.specs.CertViews as certs;
 ghost use Rattle.cov_read.specs.StateViews as states;

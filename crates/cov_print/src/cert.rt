@@ -1,6 +1,7 @@
 ghost use Rattle.std.specs.Prelude.{◌≡◌, ◌++◌, OnOk, map, codes, decimal};
 ghost use Rattle.cov_expr.specs.View.{term};
 ghost use Rattle.cov_ast.specs.View as view;
+ghost use Rattle.cov_print.specs.Inside.{front};
 ghost use Rattle.cov_print.specs.Spelling as spec;
 
 use crate::expr::{add_expr, add_exprs};
@@ -49,10 +50,9 @@ fn is_word(c: &Cert) -> bool
     }
 }
 
-/// Adds a certificate.
-#[cycle(certs)]
-pub fn add_cert(names: &NameTable, c: &Cert, out: &mut List<u8>) -> Result<(), NoMemory>
-    ensures { OnOk result (out.new ≡ out.old ++ spec.cert names.now (view.cert c.now)) }
+/// Adds what stands in a certificate before those inside of it.
+fn add_front(names: &NameTable, c: &Cert, out: &mut List<u8>) -> Result<(), NoMemory>
+    ensures { OnOk result (out.new ≡ out.old ++ front names.now (view.cert c.now)) }
 {
     match c {
         Cert::Auto => out.extend_from_slice(b"auto"),
@@ -66,63 +66,53 @@ pub fn add_cert(names: &NameTable, c: &Cert, out: &mut List<u8>) -> Result<(), N
             add_numbered(b"absurd ", *i, out)?;
             add_numbered(b" ", *j, out)
         }
-        Cert::And(c, d) => {
-            out.extend_from_slice(b"and")?;
-            add_inner(names, c, out)?;
-            add_inner(names, d, out)
-        }
-        Cert::Left(c) => {
-            out.extend_from_slice(b"left")?;
-            add_inner(names, c, out)
-        }
-        Cert::Right(c) => {
-            out.extend_from_slice(b"right")?;
-            add_inner(names, c, out)
-        }
-        Cert::Unpack(i, c) => {
-            add_numbered(b"use ", *i, out)?;
-            add_inner(names, c, out)
-        }
-        Cert::Cases(i, c, d) => {
-            add_numbered(b"cases ", *i, out)?;
-            add_inner(names, c, out)?;
-            add_inner(names, d, out)
-        }
-        Cert::Split(e, c, d) => {
-            add_bracketed(names, b"split", e, out)?;
-            add_inner(names, c, out)?;
-            add_inner(names, d, out)
-        }
-        Cert::Have(e, c, d) => {
-            add_bracketed(names, b"have", e, out)?;
-            add_inner(names, c, out)?;
-            add_inner(names, d, out)
-        }
-        Cert::Not(c) => {
-            out.extend_from_slice(b"not")?;
-            add_inner(names, c, out)
-        }
-        Cert::Contra(c) => {
-            out.extend_from_slice(b"contra")?;
-            add_inner(names, c, out)
-        }
-        Cert::Fwd(i, e, c) => {
+        Cert::And(..) => out.extend_from_slice(b"and"),
+        Cert::Left(_) => out.extend_from_slice(b"left"),
+        Cert::Right(_) => out.extend_from_slice(b"right"),
+        Cert::Unpack(i, _) => add_numbered(b"use ", *i, out),
+        Cert::Cases(i, ..) => add_numbered(b"cases ", *i, out),
+        Cert::Split(e, ..) => add_bracketed(names, b"split", e, out),
+        Cert::Have(e, ..) => add_bracketed(names, b"have", e, out),
+        Cert::Not(_) => out.extend_from_slice(b"not"),
+        Cert::Contra(_) => out.extend_from_slice(b"contra"),
+        Cert::Fwd(i, e, _) => {
             add_numbered(b"fwd ", *i, out)?;
-            add_bracketed(names, b"", e, out)?;
-            add_inner(names, c, out)
+            add_bracketed(names, b"", e, out)
         }
-        Cert::Rev(i, e, c) => {
+        Cert::Rev(i, e, _) => {
             add_numbered(b"rev ", *i, out)?;
-            add_bracketed(names, b"", e, out)?;
-            add_inner(names, c, out)
+            add_bracketed(names, b"", e, out)
         }
-        Cert::Axiom(k, es, c) => {
+        Cert::Axiom(k, es, _) => {
             add_numbered(b"axiom ", *k, out)?;
             out.extend_from_slice(b" (")?;
             add_exprs(names, es.as_slice(), out)?;
-            out.extend_from_slice(b")")?;
-            add_inner(names, c, out)
+            out.extend_from_slice(b")")
         }
+    }
+}
+
+/// Adds a certificate.
+#[cycle(certs)]
+pub fn add_cert(names: &NameTable, c: &Cert, out: &mut List<u8>) -> Result<(), NoMemory>
+    ensures { OnOk result (out.new ≡ out.old ++ spec.cert names.now (view.cert c.now)) }
+{
+    add_front(names, c, out)?;
+    match c {
+        Cert::Auto | Cert::Calc | Cert::Refl | Cert::Ring | Cert::Range => Ok(()),
+        Cert::Hyp(_) | Cert::Clash(_) | Cert::Absurd(..) => Ok(()),
+        Cert::And(c, d) | Cert::Cases(_, c, d) | Cert::Split(_, c, d) | Cert::Have(_, c, d) => {
+            add_inner(names, c, out)?;
+            add_inner(names, d, out)
+        }
+        Cert::Left(c)
+        | Cert::Right(c)
+        | Cert::Unpack(_, c)
+        | Cert::Not(c)
+        | Cert::Contra(c)
+        | Cert::Fwd(_, _, c)
+        | Cert::Rev(_, _, c)
+        | Cert::Axiom(_, _, c) => add_inner(names, c, out),
     }
 }
 

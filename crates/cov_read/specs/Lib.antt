@@ -3,4 +3,4 @@ pub mod CertViews
 pub mod StateViews
 pub mod StmtViews
 pub mod DeclViews
-pub mod Levels
+pub mod Inside

@@ -6,7 +6,7 @@ ghost use Rattle.cov_grammar.specs.Shapes.{seq, rule, placed};
 ghost use Rattle.cov_grammar.specs.Grammar as grammar;
 ghost use Rattle.cov_grammar.specs.Reading.{reading};
 ghost use Rattle.cov_grammar.specs.ReaderAnswers.{Gives, Shorter};
-ghost use Rattle.cov_read.specs.Levels.{rule_for};
+ghost use Rattle.cov_read.specs.Inside.Levels.{rule_for};
 ghost use Rattle.cov_read.specs.CertViews as views;
 
 use crate::cert::{Cert, Whole};

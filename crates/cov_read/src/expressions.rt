@@ -3,8 +3,8 @@ ghost use Rattle.cov_grammar.specs.Grammar.{unary};
 ghost use Rattle.cov_grammar.specs.Reading.{reading};
 ghost use Rattle.cov_grammar.specs.ReaderAnswers.{Gives};
 ghost use Rattle.cov_read.specs.declared.level.Level.TheVariants as levels;
-ghost use Rattle.cov_read.specs.Levels as spec;
-ghost use Rattle.cov_read.specs.Levels.{atom_of, rule_for, SignOf, SignAt, Finds, Ends, levelled};
+ghost use Rattle.cov_read.specs.Inside.Levels as spec;
+ghost use Rattle.cov_read.specs.Inside.Levels.{atom_of, rule_for, SignOf, SignAt, Finds, Ends, levelled};
 ghost use Rattle.cov_read.specs.WrittenViews.{written};
 
 use crate::level::{LEVELS, Level, repeats};

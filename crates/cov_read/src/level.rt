@@ -1,5 +1,5 @@
 ghost use Rattle.std.specs.Prelude.{◌≡◌};
-ghost use Rattle.cov_read.specs.Levels as spec;
+ghost use Rattle.cov_read.specs.Inside.Levels as spec;
 
 /// A level of binary operators, the tightest first.
 #[derive(Clone, Copy)]

@@ -1,7 +1,7 @@
 pub mod Numbered
 pub mod Text
 pub mod Trees
-pub mod Named
 pub mod Uses
 pub mod Limits
 pub mod Depth
+pub mod Inside

@@ -10,11 +10,11 @@ use Rattle.cov_expr.specs.Trees.{same}
 use Rattle.cov_expr.proofs.Trees.{same_is}
 use Rattle.entail_range.specs.declared.interval.Bound.{Bound}
 use Rattle.entail_range.specs.declared.interval.Bound.TheVariants.{Empty, Within}
-use Rattle.entail_range.specs.Index.{IsFit, FindsAll, Gains, added}
+use Rattle.entail_range.specs.Inside.Index.{IsFit, FindsAll, Gains, added}
 use Rattle.entail_range.specs.Intervals.{all, cut, from_to}
-use Rattle.entail_range.specs.Slots.{slot, key, left_side, right_side}
+use Rattle.entail_range.specs.Inside.Slots.{slot, key, left_side, right_side}
 use Rattle.entail_range.specs.Range.{number_beside, given, limited}
-use Rattle.entail_range.specs.Speaks.{is_number}
+use Rattle.entail_range.specs.Inside.Speaks.{is_number}
 use Rattle.entail_range.proofs.Sound.{limited_append}
 
 -- Bounds -------------------------------------------------------------------------------------------------------

@@ -7,10 +7,10 @@ use Rattle.cov_expr.specs.Term.{Term, const, var, neg, bin}
 use Rattle.cov_expr.specs.Trees.{op_number, same}
 use Rattle.cov_expr.proofs.Tests.{left_true}
 use Rattle.entail_range.specs.declared.interval.Bound.{Bound}
-use Rattle.entail_range.specs.Index.{IsFit}
+use Rattle.entail_range.specs.Inside.Index.{IsFit}
 use Rattle.entail_range.specs.Intervals.{all, cut}
 use Rattle.entail_range.specs.Range.{number_beside, given}
-use Rattle.entail_range.specs.Speaks.{is_number, are_alike, speaks_of}
+use Rattle.entail_range.specs.Inside.Speaks.{is_number, are_alike, speaks_of}
 use Rattle.entail_range.proofs.Buckets.{cut_all}
 
 same_alike : (a e : Term) → same a e ≡ true → are_alike a e ≡ true

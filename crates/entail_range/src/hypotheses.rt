@@ -1,7 +1,7 @@
 ghost use Rattle.std.specs.Prelude.{◌≡◌, ◌++◌, IfOk, map};
 ghost use Rattle.cov_expr.specs.View.{term};
-ghost use Rattle.entail_range.specs.Index.{IsFit, IsIndexed, listed};
-ghost use Rattle.entail_range.specs.Slots as slots;
+ghost use Rattle.entail_range.specs.Inside.Index.{IsFit, IsIndexed, listed};
+ghost use Rattle.entail_range.specs.Inside.Slots as slots;
 ghost use Rattle.entail_range.specs.Range.{lent};
 ghost use Rattle.entail_range.specs.Range as spec;
 

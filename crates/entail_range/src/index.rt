@@ -1,8 +1,8 @@
 ghost use Rattle.std.specs.Prelude.{◌≡◌, ◌<◌, [], ◌++◌, ◌%◌, IfOk, IfSome, OnOk, map, option_map, vec_len};
 ghost use Rattle.cov_expr.specs.Trees.{op_number};
 ghost use Rattle.cov_expr.specs.View.{term};
-ghost use Rattle.entail_range.specs.Index.{FindsAll, Gains, added, terms};
-ghost use Rattle.entail_range.specs.Slots as spec;
+ghost use Rattle.entail_range.specs.Inside.Index.{FindsAll, Gains, added, terms};
+ghost use Rattle.entail_range.specs.Inside.Slots as spec;
 ghost use Rattle.entail_range.specs.Range.{lent};
 
 use crate::bounds::is_number;

@@ -5,8 +5,8 @@ use Rattle.cov_ast.specs.Syntax.{more, Var, Lock, Thread, Program, Parsed}
 use Rattle.cov_ast.specs.View.{Placed, block_of}
 use Rattle.cov_ast.specs.WellFormed.{BlockHasWords}
 use Rattle.policy_class.specs.declared.ids.Ids.{Ids}
-use Rattle.policy_class.specs.Inside.{StmtHasWords, resolved_stmt}
-use Rattle.policy_class.specs.Ids.{AreIdsOf, var_in, lock_in}
+use Rattle.policy_class.specs.Inside.Statements.{StmtHasWords, resolved_stmt}
+use Rattle.policy_class.specs.Inside.Ids.{AreIdsOf, var_in, lock_in}
 use Rattle.policy_class.specs.Resolved.{resolved_stm, resolved_proof, resolved_block, resolved_variable, resolved_lock, resolved_thread, resolved}
 
 module _ (to_var to_lock : ℕ → ℕ) where

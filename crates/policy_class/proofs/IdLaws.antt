@@ -12,9 +12,9 @@ use Rattle.cov_ast.specs.declared.parsed.Parsed.{Parsed}
 use Rattle.cov_ast.specs.Ready.{IsReady}
 use Rattle.cov_ast.specs.View as view
 use Rattle.cov_ast.specs.WellFormed.{are_distinct}
-use Rattle.policy_class.specs.DeclaredNames.{IsTableOf}
+use Rattle.policy_class.specs.Inside.DeclaredNames.{IsTableOf}
 use Rattle.policy_class.specs.declared.ids.Ids.{Ids}
-use Rattle.policy_class.specs.Ids.{AreIdsOf}
+use Rattle.policy_class.specs.Inside.Ids.{AreIdsOf}
 use Rattle.policy_class.specs.Resolved.{is_among, var_names, lock_names}
 use Rattle.policy_class.proofs.NameLaws.{or_parts, apart}
 use Rattle.policy_class.proofs.PositionLaws.{absent, among_first, position_inside, position_outside, position_behind}

@@ -15,7 +15,7 @@ use Rattle.cov_ast.specs.Obligations.{Obligation, first_false, Decides}
 use Rattle.cov_ast.specs.Syntax.{Parsed}
 use Rattle.cov_ast.specs.WellFormed.{are_distinct, names_of}
 use Rattle.policy_class.specs.declared.names.Declared.{Declared}
-use Rattle.policy_class.specs.DeclaredNames.{IsTableOf, named}
+use Rattle.policy_class.specs.Inside.DeclaredNames.{IsTableOf, named}
 use Rattle.policy_class.specs.Resolved.{Named, is_among, without_value, w1_obligation, w1_from, declared_names, var_named, lock_named, thread_named}
 use Rattle.policy_class.proofs.PositionLaws.{is_inside, absent}
 

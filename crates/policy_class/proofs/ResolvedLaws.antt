@@ -12,7 +12,7 @@ use Rattle.cov_ast.specs.Obligations.{Obligation, first_false, Decides}
 use Rattle.cov_ast.specs.Ready.{IsReady, Use, use_of, uses_in_declarations}
 use Rattle.cov_ast.specs.WellFormed.{AreOfWords, IsWellFormed, IsWithinLimits, are_distinct, names_of}
 use Rattle.cov_ast.proofs.ObligationLaws.{append_refused, append_decided}
-use Rattle.policy_class.specs.DeclaredNames.{IsTableOf}
+use Rattle.policy_class.specs.Inside.DeclaredNames.{IsTableOf}
 use Rattle.policy_class.specs.Resolved.{is_among, is_declared, use_obligation, without_value, var_id, lock_id, var_names, lock_names, text_of, resolved_variable, resolved_lock, resolved_thread, resolved}
 use Rattle.policy_class.proofs.NameLaws.{head_holds}
 use Rattle.policy_class.proofs.PositionLaws.{present}

@@ -7,7 +7,7 @@ use Rattle.std.proofs.lemmas.Option.{get_or_from_slice_get, slice_get-get_or}
 use Rattle.cov_ast.specs.declared.parsed.NameUse.{NameUse}
 use Rattle.cov_ast.specs.Syntax.{Parsed}
 use Rattle.policy_class.specs.declared.ids.Ids.{Ids}
-use Rattle.policy_class.specs.Ids.{AreIdsOf, has_id, var_in, lock_in}
+use Rattle.policy_class.specs.Inside.Ids.{AreIdsOf, has_id, var_in, lock_in}
 use Rattle.policy_class.specs.Resolved.{is_declared, is_among, text_of, var_names, lock_names}
 use Rattle.policy_class.proofs.PositionLaws.{is_inside}
 

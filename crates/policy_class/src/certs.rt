@@ -2,7 +2,7 @@ ghost use Rattle.std.specs.Prelude.{◌≡◌, map, All};
 ghost use Rattle.cov_ast.specs.View as view;
 ghost use Rattle.cov_ast.specs.WellFormed.{CertHasWords};
 ghost use Rattle.policy_class.specs.Resolved as spec;
-ghost use Rattle.policy_class.specs.Ids.{var_in, lock_in};
+ghost use Rattle.policy_class.specs.Inside.Ids.{var_in, lock_in};
 
 use crate::exprs::{resolve_expr, resolve_exprs};
 use crate::ids::Ids;

@@ -4,7 +4,7 @@ ghost use Rattle.cov_expr.specs.Words.{HasWords};
 ghost use Rattle.cov_ast.specs.View as view;
 ghost use Rattle.cov_ast.specs.WellFormed.{StateHasWords, TypeHasWords, TypesHaveWords};
 ghost use Rattle.policy_class.specs.Resolved as spec;
-ghost use Rattle.policy_class.specs.Ids.{var_in, lock_in};
+ghost use Rattle.policy_class.specs.Inside.Ids.{var_in, lock_in};
 
 use crate::ids::Ids;
 use cov_ast::{Retype, State};

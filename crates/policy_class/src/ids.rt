@@ -5,8 +5,8 @@ ghost use Rattle.cov_ast.specs.View as view;
 ghost use Rattle.cov_ast.specs.Names as names;
 ghost use Rattle.cov_ast.specs.Ready.{IsReady};
 ghost use Rattle.policy_class.specs.Resolved as spec;
-ghost use Rattle.policy_class.specs.DeclaredNames.{IsTableOf};
-ghost use Rattle.policy_class.specs.Ids.{AreIdsOf, has_id, var_in, lock_in};
+ghost use Rattle.policy_class.specs.Inside.DeclaredNames.{IsTableOf};
+ghost use Rattle.policy_class.specs.Inside.Ids.{AreIdsOf, has_id, var_in, lock_in};
 
 use cov_ast::{NameTable, NameUse, Parsed};
 use cov_expr::{List, Name, NoMemory};

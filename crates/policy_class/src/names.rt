@@ -4,7 +4,7 @@ ghost use Rattle.cov_ast.specs.View as view;
 ghost use Rattle.cov_ast.specs.Ready.{IsReady};
 ghost use Rattle.cov_ast.specs.Obligations.{Decides};
 ghost use Rattle.policy_class.specs.Resolved as spec;
-ghost use Rattle.policy_class.specs.DeclaredNames.{IsTableOf, named};
+ghost use Rattle.policy_class.specs.Inside.DeclaredNames.{IsTableOf, named};
 
 use cov_ast::{
     CheckFault, Detail, LockDecl, NameTable, Parsed, Rule, ThreadDecl, VarDecl, refused,

@@ -6,8 +6,8 @@ ghost use Rattle.cov_ast.specs.Declarations.{invariant_term};
 ghost use Rattle.cov_ast.specs.WellFormed.{AreOfWords, BlockHasWords, StmHasWords};
 ghost use Rattle.cov_ast.specs.Syntax as syntax;
 ghost use Rattle.policy_class.specs.Resolved as spec;
-ghost use Rattle.policy_class.specs.Ids.{AreIdsOf, var_in, lock_in};
-ghost use Rattle.policy_class.specs.Inside.{StmtHasWords, resolved_stmt};
+ghost use Rattle.policy_class.specs.Inside.Ids.{AreIdsOf, var_in, lock_in};
+ghost use Rattle.policy_class.specs.Inside.Statements.{StmtHasWords, resolved_stmt};
 
 use crate::certs::resolve_proofs;
 use crate::exprs::{resolve_expr, resolve_option, resolve_retypes, resolve_state, resolved_var};

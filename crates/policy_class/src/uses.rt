@@ -2,7 +2,7 @@ ghost use Rattle.std.specs.Prelude.{◌<◌, [], ◌∷◌, length, map, All};
 ghost use Rattle.cov_ast.specs.View as view;
 ghost use Rattle.cov_ast.specs.Obligations.{Decides};
 ghost use Rattle.policy_class.specs.Resolved as spec;
-ghost use Rattle.policy_class.specs.Ids.{AreIdsOf};
+ghost use Rattle.policy_class.specs.Inside.Ids.{AreIdsOf};
 
 use crate::ids::Ids;
 use cov_ast::{CheckFault, Detail, NameUse, Parsed, Rule, refused};

@@ -2,7 +2,7 @@ use Rattle.std.proofs.Common.{◌≡◌, ◌∙◌, ◌-◌, ◌++◌, sym, ap, 
 use Rattle.cov_grammar.specs.Trees.{stms}
 use Rattle.cov_read.specs.declared.stmt.Stmt.{the_lemmas}
 use Rattle.cov_text.specs.Limits.{places, places_in}
-use Rattle.cov_parse.specs.Measures.{counted, onward}
+use Rattle.cov_parse.specs.Inside.Measures.{counted, onward}
 use Rattle.cov_read.specs.StmtViews as views
 use Rattle.cov_parse.proofs.LimitLaws.{counted_append, stmts_go, stmts_past}
 use Rattle.cov_parse.proofs.numbers.+count.Goals as goal

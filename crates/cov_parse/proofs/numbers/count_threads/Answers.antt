@@ -1,7 +1,7 @@
 use Rattle.std.proofs.Common.{◌∙◌, sym, ap, map}
 use Rattle.cov_grammar.specs.Trees.{stms}
 use Rattle.cov_text.specs.Limits.{places, places_of}
-use Rattle.cov_parse.specs.Measures.{counted}
+use Rattle.cov_parse.specs.Inside.Measures.{counted}
 use Rattle.cov_read.specs.StmtViews.{stmt}
 use Rattle.cov_read.specs.DeclViews as views
 use Rattle.cov_parse.proofs.LimitLaws.{lists_go, lists_past}

@@ -1,7 +1,7 @@
 use Rattle.std.proofs.Common.{◌∙◌, sym, ap, map, flat_map}
 use Rattle.cov_text.specs.declared.fault.Counted.TheVariants.{Statements}
 use Rattle.cov_text.specs.Limits.{places_of, past_statements}
-use Rattle.cov_parse.specs.Measures.{counted}
+use Rattle.cov_parse.specs.Inside.Measures.{counted}
 use Rattle.cov_read.specs.DeclViews as views
 use Rattle.cov_parse.proofs.LimitLaws.{excess_of, past_counted}
 use Rattle.cov_parse.proofs.numbers.past_statements.Goals as goal

@@ -1,5 +1,5 @@
 use Rattle.std.proofs.Common.{◌≡◌}
-use Rattle.cov_read.specs.Levels.{Skips}
+use Rattle.cov_read.specs.Inside.Levels.{Skips}
 use Rattle.cov_read.proofs.expressions.operator.Given as goal
 
 -- no operator of the levels so far is next

@@ -1,6 +1,6 @@
 use Rattle.std.proofs.Common.{map, take, ◌++◌}
 use Rattle.cov_expr.specs.View.{term}
-use Rattle.entail_range.specs.Index.{FindsAll, terms}
+use Rattle.entail_range.specs.Inside.Index.{FindsAll, terms}
 use Rattle.entail_range.specs.Range.{lent}
 use Rattle.entail_range.proofs.index.buckets_of.Given as goal
 

@@ -1,6 +1,6 @@
 use Rattle.std.proofs.Common.{arith}
 use Rattle.std.proofs.lemmas.List.{length-map}
-use Rattle.entail_range.specs.Index.{terms}
+use Rattle.entail_range.specs.Inside.Index.{terms}
 use Rattle.entail_range.specs.Range.{lent}
 use Rattle.entail_range.proofs.Buckets.{empty_push, finds_none}
 use Rattle.entail_range.proofs.index.empty.Goals as goal

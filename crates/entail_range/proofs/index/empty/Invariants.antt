@@ -1,5 +1,5 @@
 use Rattle.std.proofs.Common.{◌≡◌, ℕ, ◌-◌, [], get_or, vec_len}
-use Rattle.entail_range.specs.Index.{terms}
+use Rattle.entail_range.specs.Inside.Index.{terms}
 use Rattle.entail_range.proofs.index.empty.Given as goal
 
 -- nothing lies anywhere

@@ -1,8 +1,8 @@
 use Rattle.std.proofs.Common.{◌≡◌, length, map, option_map, ap, sym, ◌∙◌, rules}
 use Rattle.std.proofs.lemmas.List.{length-map}
 use Rattle.cov_expr.specs.View.{term}
-use Rattle.entail_range.specs.Index.{terms}
-use Rattle.entail_range.specs.Slots.{slot}
+use Rattle.entail_range.specs.Inside.Index.{terms}
+use Rattle.entail_range.specs.Inside.Slots.{slot}
 use Rattle.entail_range.specs.Range.{lent}
 use Rattle.entail_range.proofs.Buckets.{gains_one, gains_two, ok_gains}
 use Rattle.entail_range.proofs.index.put.Goals as goal

@@ -4,7 +4,7 @@ use Rattle.cov_expr.specs.Words.{HasWords}
 use Rattle.cov_ast.specs.Syntax as s
 use Rattle.cov_ast.specs.View as view
 use Rattle.cov_ast.specs.WellFormed.{CertHasWords}
-use Rattle.policy_class.specs.Ids.{var_in, lock_in}
+use Rattle.policy_class.specs.Inside.Ids.{var_in, lock_in}
 use Rattle.policy_class.specs.Resolved.{resolved_cert, resolved_term}
 use Rattle.cov_ast.proofs.CertViews.{cert-And, cert-Left, cert-Right, cert-Unpack, cert-Cases, cert-Split, cert-Have, cert-Not, cert-Contra, cert-Fwd, cert-Rev, cert-Axiom}
 use Rattle.policy_class.proofs.WalkLaws.{lent_changed, lent_words}

@@ -3,7 +3,7 @@ use Rattle.cov_expr.specs.Term.{neg, bin}
 use Rattle.cov_expr.specs.View.{term}
 use Rattle.cov_expr.specs.Words.{HasWords}
 use Rattle.cov_expr.proofs.View.{term-Not, term-Bin}
-use Rattle.policy_class.specs.Ids.{var_in, lock_in}
+use Rattle.policy_class.specs.Inside.Ids.{var_in, lock_in}
 use Rattle.policy_class.specs.Resolved.{resolved_term}
 use Rattle.policy_class.proofs.exprs.+resolve_expr.Goals as goal
 

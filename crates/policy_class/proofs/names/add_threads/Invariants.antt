@@ -1,6 +1,6 @@
 use Rattle.std.proofs.Common.{◌≡◌, ◌++◌, map, drop}
 use Rattle.cov_ast.specs.View as view
-use Rattle.policy_class.specs.DeclaredNames.{named}
+use Rattle.policy_class.specs.Inside.DeclaredNames.{named}
 use Rattle.policy_class.specs.Resolved.{thread_named}
 use Rattle.policy_class.proofs.names.add_threads.Given as goal
 

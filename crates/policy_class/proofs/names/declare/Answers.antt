@@ -1,6 +1,6 @@
 use Rattle.std.proofs.Common.{◌∙◌, ap, cond, Some, None}
 use Rattle.std.specs.Prelude.{not}
-use Rattle.policy_class.specs.DeclaredNames.{named}
+use Rattle.policy_class.specs.Inside.DeclaredNames.{named}
 use Rattle.policy_class.specs.Resolved.{w1_obligation}
 use Rattle.policy_class.proofs.NameLaws.{found_among, missing_among, added_last}
 use Rattle.policy_class.proofs.names.declare.Goals as goal

@@ -1,7 +1,7 @@
 use Rattle.std.proofs.Common.{◌≡◌, ◌++◌, [], All, map, drop}
 use Rattle.cov_expr.specs.Names.{IsName}
 use Rattle.cov_ast.specs.Obligations.{first_false}
-use Rattle.policy_class.specs.DeclaredNames.{named}
+use Rattle.policy_class.specs.Inside.DeclaredNames.{named}
 use Rattle.policy_class.specs.Resolved.{w1_from}
 use Rattle.policy_class.proofs.names.table_of.Given as goal
 

@@ -1,7 +1,7 @@
 use Rattle.std.proofs.Common.{◌≢◌, ◌≤◌, ◌+◌, ◌∙◌, ap, arith, length, length-set, get_or-set_other, map, refl}
 use Rattle.cov_ast.specs.View as view
-use Rattle.policy_class.specs.Ids.{var_in, lock_in}
-use Rattle.policy_class.specs.Inside.{resolved_stmt, StmtHasWords}
+use Rattle.policy_class.specs.Inside.Ids.{var_in, lock_in}
+use Rattle.policy_class.specs.Inside.Statements.{resolved_stmt, StmtHasWords}
 use Rattle.policy_class.proofs.BlockLaws.{block_resolved, block_words}
 use Rattle.policy_class.proofs.WalkLaws.{walked_none, walked_more, walked_all}
 use Rattle.policy_class.proofs.programs.+blocks.Goals as goal

@@ -1,6 +1,6 @@
 use Rattle.cov_ast.specs.View as view
-use Rattle.policy_class.specs.Ids.{var_in, lock_in}
-use Rattle.policy_class.specs.Inside.{resolved_stmt, StmtHasWords}
+use Rattle.policy_class.specs.Inside.Ids.{var_in, lock_in}
+use Rattle.policy_class.specs.Inside.Statements.{resolved_stmt, StmtHasWords}
 use Rattle.policy_class.proofs.WalkLaws.{Walked}
 use Rattle.policy_class.proofs.programs.+blocks.Given as goal
 

@@ -1,7 +1,7 @@
 use Rattle.std.proofs.Common.{◌<◌, ◌∙◌, ap, arith, get_or, length, set}
 use Rattle.std.proofs.lemmas.List.{get_or_default}
 use Rattle.std.proofs.lemmas.List.Edits.{map_over_more}
-use Rattle.policy_class.specs.Ids.{var_in, lock_in}
+use Rattle.policy_class.specs.Inside.Ids.{var_in, lock_in}
 use Rattle.policy_class.specs.Resolved.{resolved_var}
 use Rattle.policy_class.proofs.programs.resolve_list.Goals as goal
 

@@ -1,5 +1,5 @@
 use Rattle.std.proofs.Common.{◌≡◌, ◌++◌, map, take, drop}
-use Rattle.policy_class.specs.Ids.{var_in, lock_in}
+use Rattle.policy_class.specs.Inside.Ids.{var_in, lock_in}
 use Rattle.policy_class.specs.Resolved.{resolved_var}
 use Rattle.policy_class.proofs.programs.resolve_list.Given as goal
 

@@ -1,5 +1,5 @@
 use Rattle.cov_ast.specs.View as view
-use Rattle.policy_class.specs.Ids.{var_in, lock_in}
+use Rattle.policy_class.specs.Inside.Ids.{var_in, lock_in}
 use Rattle.policy_class.specs.Resolved.{resolved_lock}
 use Rattle.cov_expr.specs.Words.{HasWords}
 use Rattle.cov_ast.specs.Declarations.{invariant_term}

@@ -1,7 +1,7 @@
 use Rattle.std.proofs.Common.{arith}
 use Rattle.cov_ast.specs.View as view
 use Rattle.cov_ast.specs.WellFormed.{BlockHasWords}
-use Rattle.policy_class.specs.Ids.{var_in, lock_in}
+use Rattle.policy_class.specs.Inside.Ids.{var_in, lock_in}
 use Rattle.policy_class.specs.Resolved.{resolved_thread}
 use Rattle.policy_class.proofs.WalkLaws.{walked_none, walked_more, walked_all}
 use Rattle.policy_class.proofs.programs.resolve_threads.Goals as goal

@@ -5,7 +5,7 @@ use Rattle.cov_ast.specs.Declarations.{invariant_term}
 use Rattle.cov_ast.specs.Plain.{class_term}
 use Rattle.cov_ast.specs.View as view
 use Rattle.cov_ast.specs.WellFormed.{BlockHasWords}
-use Rattle.policy_class.specs.Ids.{var_in, lock_in}
+use Rattle.policy_class.specs.Inside.Ids.{var_in, lock_in}
 use Rattle.policy_class.specs.Resolved.{resolved_variable, resolved_lock, resolved_thread}
 use Rattle.policy_class.proofs.BlockLaws.{tables_resolve}
 use Rattle.policy_class.proofs.WalkLaws.{lent_changed, lent_words}

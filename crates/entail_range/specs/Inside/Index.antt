@@ -8,7 +8,7 @@ use Rattle.entail_range.specs.declared.interval.Bound.{Bound}
 use Rattle.entail_range.specs.declared.interval.Bound.TheVariants.{Empty, Within}
 use Rattle.entail_range.specs.declared.hypotheses.Hypotheses.{Hypotheses}
 use Rattle.entail_range.specs.Intervals.{IsProper, greatest}
-use Rattle.entail_range.specs.Slots.{slot}
+use Rattle.entail_range.specs.Inside.Slots.{slot}
 use Rattle.entail_range.specs.Range.{lent, limited}
 
 -- No number but words lies within it.

@@ -3,7 +3,7 @@
 use Rattle.std.specs.Prelude.{ℕ, ◌+◌, ◌*◌, ◌%◌, ◌^◌, Option, Some, None, if◌then◌else◌}
 use Rattle.cov_expr.specs.Term.{Term, const, var, neg, bin}
 use Rattle.cov_expr.specs.Trees.{op_number}
-use Rattle.entail_range.specs.Speaks.{is_number}
+use Rattle.entail_range.specs.Inside.Speaks.{is_number}
 
 -- a word of two numbers, mostly another one of others
 abbrev pub mixed : ℕ → ℕ → ℕ
