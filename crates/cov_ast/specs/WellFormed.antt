@@ -6,6 +6,7 @@ use Rattle.cov_expr.specs.Term.{Term, const, var, neg, bin}
 use Rattle.cov_expr.specs.Trees.{nodes}
 use Rattle.cov_expr.specs.Words.{HasVarsBelow, HasWords}
 use Rattle.cov_expr.specs.declared.expr.TheConstants.{HOLE}
+use Rattle.cov_expr.specs.declared.limits.TheConstants.{MOST_VARIABLES, MOST_LOCKS, MOST_THREADS}
 use Rattle.cov_ast.specs.Syntax.{Class, low, high, when, Var, Lock, Modes, State, Cert, Proof, Stm, Block, done, more, Thread, Program}
 use Rattle.cov_ast.specs.Syntax as s
 use Rattle.cov_ast.specs.Plain.{class_term}
@@ -182,9 +183,9 @@ abbrev mutual
 -- Limits -------------------------------------------------------------------------------------------------------
 
 pub record IsWithinLimits (vars : List Var) (locks : List Lock) (threads : List Thread) : Type 0 where
-  pub variables : length vars ≤ 256
-  pub declared_locks : length locks ≤ 64
-  pub declared_threads : length threads ≤ 16
+  pub variables : length vars ≤ MOST_VARIABLES
+  pub declared_locks : length locks ≤ MOST_LOCKS
+  pub declared_threads : length threads ≤ MOST_THREADS
 
 -- types with the nodes of their expressions
 abbrev pub types_size : List (ℕ × Term) → ℕ

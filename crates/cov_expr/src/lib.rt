@@ -6,6 +6,7 @@
 //! - [`eval`]: its value in a memory. [`same`]: whether two trees are equal.
 //! - [`closed`], [`mentions`], [`has_conjunct`], [`vars`]: its parts. [`copy`], [`subst`]: trees made from others.
 //! - [`width_at_most`], [`height_at_most`], [`nodes_at_most`]: its measures.
+//! - [`MOST_BYTES`] and the constants beside it: the limits of texts and programs.
 //! - [`same_is_equality`] and the functions beside it have no body: their contracts are laws.
 #![tactic(auto)]
 
@@ -14,6 +15,7 @@ mod byte;
 mod expr;
 mod kind;
 mod laws;
+mod limits;
 mod list;
 mod measures;
 mod name;
@@ -27,6 +29,10 @@ pub use kind::Kind;
 pub use laws::{
     closed_mentions_nothing, same_is_equality, substitution_is_a_store, value_depends_on_mentioned,
     values_are_words,
+};
+pub use limits::{
+    MOST_BLOCKS, MOST_BRACKETS, MOST_BYTES, MOST_CERT_NODES, MOST_HEIGHT, MOST_LOCKS, MOST_MARKS,
+    MOST_NODES, MOST_PREDICATES, MOST_STATEMENTS, MOST_THREADS, MOST_TYPES, MOST_VARIABLES,
 };
 pub use list::{Blob, List, NoMemory};
 pub use measures::{height_at_most, nodes_at_most, width_at_most};

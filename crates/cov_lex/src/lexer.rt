@@ -1,4 +1,5 @@
 ghost use Rattle.std.specs.Prelude.{◌≡◌, ◌≤◌, ◌<◌, length, map, IfOk};
+ghost use Rattle.cov_expr.specs.declared.limits.TheConstants.{MOST_BYTES};
 ghost use Rattle.cov_lex.specs.Classified.{classified_of, AreClassified};
 ghost use Rattle.cov_lex.specs.Inside as inside;
 ghost use Rattle.cov_lex.specs.Lexing.{Gives, tokens_of};
@@ -15,7 +16,7 @@ use std::alloc::Global;
 /// takes memory for the tokens alone.
 #[tactic(auto, unfolding(crate::specs::Classified::classified_of, crate::specs::Lexing::tokens_of))]
 pub fn tokens(alloc: Global, bytes: &[u8]) -> Result<List<cov_grammar::Token>, LexFault>
-    requires { length bytes.now ≤ 1048576 }
+    requires { length bytes.now ≤ MOST_BYTES }
     ensures reading { Gives result (classified_of bytes.now) }
     ensures tokens { IfOk result (AreClassified bytes.now) }
 {
@@ -41,7 +42,7 @@ pub fn tokens(alloc: Global, bytes: &[u8]) -> Result<List<cov_grammar::Token>, L
 /// The tokens of a text of at most 1 MiB, in order, or its lexical fault of least offset. It reads each byte once, and
 /// takes memory for the tokens alone.
 pub fn lex(alloc: Global, bytes: &[u8]) -> Result<List<Token>, LexFault>
-    requires { length bytes.now ≤ 1048576 }
+    requires { length bytes.now ≤ MOST_BYTES }
     ensures reading { Gives result (tokens_of bytes.now) }
     ensures tokens { IfOk result (AreTokens bytes.now) }
 {

@@ -8,6 +8,9 @@ ghost use Rattle.cov_read.specs.DeclViews as decls;
 
 use crate::measures::{cert_height, cert_nodes};
 use crate::numbers::{past_locks, past_statements, past_threads, past_variables};
+use cov_expr::{
+    MOST_BLOCKS, MOST_CERT_NODES, MOST_HEIGHT, MOST_NODES, MOST_PREDICATES, MOST_TYPES,
+};
 use cov_read::{
     Braces, Cert, ClassDecl, Lock, PlacedProgram, Proof, State, Stmt, StmtKind, Thread, Typed,
     Variable, Whole,
@@ -40,10 +43,10 @@ fn above(at: u32, most: u32, n: u32, limit: Limit, rest: Option<Excess>) -> Opti
 pub fn in_expr(e: &Whole) -> Option<Excess>
     ensures { result ≡ spec.in_expr (certs.whole e.now) }
 {
-    let deep = above(e.at, 64, e.expr.height, Limit::TooDeep, None);
+    let deep = above(e.at, MOST_HEIGHT, e.expr.height, Limit::TooDeep, None);
     above(
         e.at,
-        1000,
+        MOST_NODES,
         e.expr.nodes,
         Limit::TooMany(Counted::Nodes),
         deep,
@@ -102,10 +105,16 @@ fn in_proof(proof: &Proof) -> Option<Excess>
     ensures { result ≡ spec.in_proof (states.proof proof.now) }
 {
     let at = proof.at;
-    let deep = above(at, 64, cert_height(&proof.cert), Limit::TooDeep, None);
+    let deep = above(
+        at,
+        MOST_HEIGHT,
+        cert_height(&proof.cert),
+        Limit::TooDeep,
+        None,
+    );
     let whole = above(
         at,
-        10000,
+        MOST_CERT_NODES,
         cert_nodes(&proof.cert),
         Limit::TooMany(Counted::CertNodes),
         deep,
@@ -139,14 +148,14 @@ fn in_state(state: &State) -> Option<Excess>
 {
     let types = crowd(
         state.at,
-        256,
+        MOST_TYPES,
         state.types.len(),
         Limit::TooMany(Counted::Types),
         None,
     );
     let preds = crowd(
         state.at,
-        64,
+        MOST_PREDICATES,
         state.preds.len(),
         Limit::TooMany(Counted::Predicates),
         types,
@@ -256,7 +265,10 @@ fn in_threads(threads: &[Thread]) -> Option<Excess>
 {
     let mut found = None;
     for thread in threads {
-        found = sooner(found, in_block(64, thread.braces, thread.body.as_slice()));
+        found = sooner(
+            found,
+            in_block(MOST_BLOCKS, thread.braces, thread.body.as_slice()),
+        );
     }
     found
 }

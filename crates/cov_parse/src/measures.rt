@@ -1,15 +1,17 @@
-ghost use Rattle.std.specs.Prelude.{◌≡◌, min, max};
+ghost use Rattle.std.specs.Prelude.{◌≡◌, ◌+◌, min};
+ghost use Rattle.cov_expr.specs.declared.limits.TheConstants.{MOST_CERT_NODES, MOST_HEIGHT};
 ghost use Rattle.cov_text.specs.Limits as spec;
 ghost use Rattle.cov_read.specs.CertViews as certs;
 
+use cov_expr::MOST_CERT_NODES;
 use cov_read::{Cert, HEIGHT, greater, lesser};
 
 /// One node above the most that a certificate may have.
-const CERT_NODES: u32 = 10001;
+const CERT_NODES: u32 = MOST_CERT_NODES + 1;
 
-/// The nodes of a certificate, or 10,001 if they are more.
+/// The nodes of a certificate, or one above the most.
 pub fn cert_nodes(cert: &Cert) -> u32
-    ensures { result ≡ min (spec.cert_nodes (certs.cert cert.now)) 10001 }
+    ensures { result ≡ min (spec.cert_nodes (certs.cert cert.now)) (MOST_CERT_NODES + 1) }
 {
     match cert {
         Cert::Auto | Cert::Calc | Cert::Refl | Cert::Ring | Cert::Range => 1,
@@ -28,9 +30,9 @@ pub fn cert_nodes(cert: &Cert) -> u32
     }
 }
 
-/// The height of a certificate, or 65 if it is above.
+/// The height of a certificate, or one above the most.
 pub fn cert_height(cert: &Cert) -> u32
-    ensures { result ≡ min (spec.cert_height (certs.cert cert.now)) 65 }
+    ensures { result ≡ min (spec.cert_height (certs.cert cert.now)) (MOST_HEIGHT + 1) }
 {
     match cert {
         Cert::Auto | Cert::Calc | Cert::Refl | Cert::Ring | Cert::Range => 1,

@@ -5,6 +5,7 @@ ghost use Rattle.cov_parse.specs.Inside.Measures.{counted, onward};
 ghost use Rattle.cov_read.specs.StmtViews as stmts;
 ghost use Rattle.cov_read.specs.DeclViews as decls;
 
+use cov_expr::{MOST_LOCKS, MOST_STATEMENTS, MOST_THREADS, MOST_VARIABLES};
 use cov_read::{PlacedProgram, Stmt, StmtKind, Thread};
 use cov_text::{Counted, Excess, Limit};
 
@@ -15,53 +16,53 @@ pub enum Counting {
     Past(u32),
 }
 
-/// The fault of the variable past the 256th.
+/// The fault of the first variable past the most.
 pub fn past_variables(program: &PlacedProgram) -> Option<Excess>
     ensures { result ≡ spec.past_variables (decls.program program.now) }
 {
     let vars = program.vars.as_slice();
-    if vars.len() <= 256 {
+    if vars.len() <= MOST_VARIABLES {
         return None;
     }
     Some(Excess {
-        at: vars[256].at,
+        at: vars[MOST_VARIABLES].at,
         limit: Limit::TooMany(Counted::Variables),
     })
 }
 
-/// The fault of the lock past the 64th.
+/// The fault of the first lock past the most.
 pub fn past_locks(program: &PlacedProgram) -> Option<Excess>
     ensures { result ≡ spec.past_locks (decls.program program.now) }
 {
     let locks = program.locks.as_slice();
-    if locks.len() <= 64 {
+    if locks.len() <= MOST_LOCKS {
         return None;
     }
     Some(Excess {
-        at: locks[64].at,
+        at: locks[MOST_LOCKS].at,
         limit: Limit::TooMany(Counted::Locks),
     })
 }
 
-/// The fault of the thread past the 16th.
+/// The fault of the first thread past the most.
 pub fn past_threads(program: &PlacedProgram) -> Option<Excess>
     ensures { result ≡ spec.past_threads (decls.program program.now) }
 {
     let threads = program.threads.as_slice();
-    if threads.len() <= 16 {
+    if threads.len() <= MOST_THREADS {
         return None;
     }
     Some(Excess {
-        at: threads[16].at,
+        at: threads[MOST_THREADS].at,
         limit: Limit::TooMany(Counted::Threads),
     })
 }
 
-/// The fault of the statement past the 20,000th.
+/// The fault of the first statement past the most.
 pub fn past_statements(program: &PlacedProgram) -> Option<Excess>
     ensures { result ≡ spec.past_statements (decls.program program.now) }
 {
-    match count_threads(program.threads.as_slice(), 20000) {
+    match count_threads(program.threads.as_slice(), MOST_STATEMENTS) {
         Counting::Left(_) => None,
         Counting::Past(at) => Some(Excess {
             at,

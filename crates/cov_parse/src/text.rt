@@ -1,4 +1,5 @@
 ghost use Rattle.std.specs.Prelude.{◌≡◌, ◌≤◌, ◌<◌, length, All, IfOk};
+ghost use Rattle.cov_expr.specs.declared.limits.TheConstants.{MOST_BYTES};
 ghost use Rattle.cov_ast.specs.Ready.{HasUsesInOrder, IsReady};
 ghost use Rattle.cov_ast.specs.View as ast;
 ghost use Rattle.cov_grammar.specs.Trees.{Program, Placed};
@@ -38,7 +39,7 @@ pub struct ParsedExpr {
 
 /// The program that a text of at most 1 MiB spells, or its first fault.
 pub fn parse(alloc: Global, bytes: &[u8]) -> Result<Parsed, ParseFault>
-    requires { length bytes.now ≤ 1048576 }
+    requires { length bytes.now ≤ MOST_BYTES }
     // What is answered is what the text spells, within the limits; else its first fault.
     ensures answer { Answers grammar.program limits.in_program bytes.now ast.parsed (program_of bytes.now) result }
     // Ids of the tree are numbers of names, its declarations are within bounds, the places of a thread's statements differ,
@@ -52,7 +53,7 @@ pub fn parse(alloc: Global, bytes: &[u8]) -> Result<Parsed, ParseFault>
 }
 
 fn read_program_text(alloc: Global, bytes: &[u8]) -> Result<Parsed, ParseFault>
-    requires { length bytes.now ≤ 1048576 }
+    requires { length bytes.now ≤ MOST_BYTES }
     ensures { Answers grammar.program limits.in_program bytes.now ast.parsed (program_of bytes.now) result }
 {
     let Tokens { names, tokens } = read_text(alloc, bytes)?;
@@ -68,7 +69,7 @@ fn read_program_text(alloc: Global, bytes: &[u8]) -> Result<Parsed, ParseFault>
 
 /// The expression that a text of at most 1 MiB spells, or its first fault.
 pub fn parse_expr(alloc: Global, bytes: &[u8]) -> Result<ParsedExpr, ParseFault>
-    requires { length bytes.now ≤ 1048576 }
+    requires { length bytes.now ≤ MOST_BYTES }
     ensures answer { Answers grammar.whole limits.in_expr bytes.now parsed_expr (expression_of bytes.now) result }
     // Each variable, and each name of the list of uses, is the number of a name.
     ensures below { IfOk result (λ p. HasVarsBelow (term p.expr) (length p.names)) }
@@ -81,7 +82,7 @@ pub fn parse_expr(alloc: Global, bytes: &[u8]) -> Result<ParsedExpr, ParseFault>
 }
 
 fn read_expr_text(alloc: Global, bytes: &[u8]) -> Result<ParsedExpr, ParseFault>
-    requires { length bytes.now ≤ 1048576 }
+    requires { length bytes.now ≤ MOST_BYTES }
     ensures { Answers grammar.whole limits.in_expr bytes.now parsed_expr (expression_of bytes.now) result }
 {
     let Tokens { names, tokens } = read_text(alloc, bytes)?;
@@ -96,7 +97,7 @@ fn read_expr_text(alloc: Global, bytes: &[u8]) -> Result<ParsedExpr, ParseFault>
 
 /// The tokens of a text and its names, or the first fault of its bytes or its brackets.
 fn read_text(alloc: Global, bytes: &[u8]) -> Result<Tokens, ParseFault>
-    requires { length bytes.now ≤ 1048576 }
+    requires { length bytes.now ≤ MOST_BYTES }
     ensures { Reads bytes.now result }
 {
     let read = read_tokens(alloc, bytes)?;

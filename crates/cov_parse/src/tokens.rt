@@ -1,4 +1,5 @@
 ghost use Rattle.std.specs.Prelude.{◌≡◌, ◌≤◌, ◌<◌, ◌-◌, length, take, drop, IfOk, OnOk};
+ghost use Rattle.cov_expr.specs.declared.limits.TheConstants.{MOST_BYTES};
 ghost use Rattle.cov_ast.specs.Names.{number_of, with_name};
 ghost use Rattle.cov_expr.specs.Names.{IsName};
 ghost use Rattle.cov_lex.specs.Classified.{AreClassified};
@@ -21,7 +22,7 @@ pub struct Tokens {
 /// The tokens of a text of at most 1 MiB as the grammar takes them, and its names, or the lexical fault of least offset. Names are
 /// looked up by hashing.
 pub fn read_tokens(alloc: Global, bytes: &[u8]) -> Result<Tokens, LexFault>
-    requires { length bytes.now ≤ 1048576 }
+    requires { length bytes.now ≤ MOST_BYTES }
     ensures { AreRead bytes.now result }
 {
     let mut tokens = cov_lex::tokens(alloc, bytes)?;
@@ -35,7 +36,7 @@ fn number_names(
     bytes: &[u8],
     tokens: &mut List<Token>,
 ) -> Result<NameTable, NoMemory>
-    requires short { length bytes.now ≤ 1048576 }
+    requires short { length bytes.now ≤ MOST_BYTES }
     requires tokens { AreClassified bytes.now tokens.old }
     ensures names { IfOk result (λ names. names ≡ names_of bytes.now) }
     ensures tokens { OnOk result (tokens.new ≡ words_of bytes.now) }

@@ -1,5 +1,6 @@
 -- What is printed is read back to the same program, places aside.
 use Rattle.std.proofs.Common.{◌≡◌, ℕ, ◌≤◌, List, [], ◌∷◌, ◌++◌, length, map, flat_map, codes, refl, sym, ap, ap₂, subst, ◌∙◌, arith}
+use Rattle.cov_expr.specs.declared.limits.TheConstants.{MOST_BYTES}
 use Rattle.cov_expr.specs.declared.expr.TheConstants.{HOLE}
 use Rattle.cov_grammar.specs.Trees.{Program}
 use Rattle.cov_grammar.specs.Grammar.{program}
@@ -110,7 +111,7 @@ uses_of_seen names us vs p q e =
 -- The law ------------------------------------------------------------------------------------------------------
 
 -- what is printed of the tree of a text
-of_text : (text : List ℕ) (tree : Program) → IsText program in_program text tree → length (spec.spelling (program_of text tree)) ≤ 1048576 → SpellsProgram (spec.spelling (program_of text tree)) (program_of text tree)
+of_text : (text : List ℕ) (tree : Program) → IsText program in_program text tree → length (spec.spelling (program_of text tree)) ≤ MOST_BYTES → SpellsProgram (spec.spelling (program_of text tree)) (program_of text tree)
 unfolding names_of words_of
 of_text text tree is short =
     let raw = lexed_of text in
@@ -139,5 +140,5 @@ pub spells_again : (p : s.Parsed) (printed : List ℕ) → printed ≡ spec.spel
 unfolding SpellsAgain
 spells_again p printed e text h short =
     let same : spec.spelling (program_of text h.tree) ≡ printed = sym (spelling_unplaced (program_of text h.tree)) ∙ ap spec.spelling h.same ∙ spelling_unplaced p ∙ sym e in
-    let r = of_text text h.tree h.is_text (subst (λ t. length t ≤ 1048576) (sym same) short) in
+    let r = of_text text h.tree h.is_text (subst (λ t. length t ≤ MOST_BYTES) (sym same) short) in
     subst (λ t. SpellsProgram t p) same (record { tree = r.tree; is_text = r.is_text; same = r.same ∙ h.same })

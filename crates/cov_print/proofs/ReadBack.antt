@@ -1,5 +1,6 @@
 -- What is written of a tree is read back to it, places aside.
 use Rattle.std.proofs.Common.{◌≡◌, ℕ, ◌≤◌, List, [], length, map, Bool, true, false, codes, Ok, refl, sym, ap, subst, ◌∙◌, arith, None}
+use Rattle.cov_expr.specs.declared.limits.TheConstants.{MOST_BYTES}
 use Rattle.cov_expr.specs.Names.{IsName}
 use Rattle.cov_expr.specs.declared.expr.TheConstants.{HOLE}
 use Rattle.cov_lex.specs.declared.token.Token as lexed
@@ -51,7 +52,7 @@ module _ (text : List ℕ) (raw : List lexed.Token) (lexes : tokens_of text ≡ 
   good : AreGood (known all) (words.words_of text raw)
   good = good_words all text raw sound in_all
 
-  module _ (tree : Program) (is : Is program tree (words.words_of text raw)) (small : in_program tree ≡ None) (uses : List NameUse) (short : length (spec.spelling (parsed_of all uses tree)) ≤ 1048576) where
+  module _ (tree : Program) (is : Is program tree (words.words_of text raw)) (small : in_program tree ≡ None) (uses : List NameUse) (short : length (spec.spelling (parsed_of all uses tree)) ≤ MOST_BYTES) where
     abbrev pub out : List ℕ
     out = spec.spelling (parsed_of all uses tree)
 
@@ -72,11 +73,11 @@ module _ (text : List ℕ) (raw : List lexed.Token) (lexes : tokens_of text ≡ 
       pub tree_again : Program
       pub is_text : IsText program in_program out tree_again
       pub names_again : names_of out ≡ all
-      pub names_few : length all ≤ 1048576
+      pub names_few : length all ≤ MOST_BYTES
       pub seen_again : seen_program all tree_again ≡ seen_program all tree
 
     module _ (ts : List lexed.Token) (tokens : tokens_of out ≡ Ok ts) (show : Show all out written ts) where
-      few : length all ≤ 1048576
+      few : length all ≤ MOST_BYTES
       few =
           omega (arith, ap length names_is, added_length [] (name_bytes text raw), name_leaves all text raw, ap length keeps.same, leaves_few all out written ts show, tokens_few out ts tokens, short)
 

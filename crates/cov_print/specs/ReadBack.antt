@@ -1,5 +1,6 @@
 -- What it means that a printed program is read back.
 use Rattle.std.specs.Prelude.{◌≡◌, ℕ, ◌≤◌, List, length}
+use Rattle.cov_expr.specs.declared.limits.TheConstants.{MOST_BYTES}
 use Rattle.cov_ast.specs.Syntax.{Parsed}
 use Rattle.cov_grammar.specs.Trees.{Program}
 use Rattle.cov_grammar.specs.Grammar.{program}
@@ -15,4 +16,4 @@ pub record SpellsProgram (text : List ℕ) (p : Parsed) : Type 0 where
 
 -- A text spells a program where some text does, however long that one is, unless it is longer itself than a text may be.
 unfoldable pub SpellsAgain : (printed : List ℕ) → Parsed → Type 0
-SpellsAgain printed p = (text : List ℕ) → SpellsProgram text p → length printed ≤ 1048576 → SpellsProgram printed p
+SpellsAgain printed p = (text : List ℕ) → SpellsProgram text p → length printed ≤ MOST_BYTES → SpellsProgram printed p

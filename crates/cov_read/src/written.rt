@@ -1,4 +1,5 @@
-ghost use Rattle.std.specs.Prelude.{◌≡◌, min, IfOk};
+ghost use Rattle.std.specs.Prelude.{◌≡◌, ◌+◌, min, IfOk};
+ghost use Rattle.cov_expr.specs.declared.limits.TheConstants.{MOST_HEIGHT, MOST_NODES};
 ghost use Rattle.cov_expr.specs.Term.{const, var, neg, bin};
 ghost use Rattle.cov_expr.specs.Trees as tree;
 ghost use Rattle.cov_expr.specs.View.{term};
@@ -11,12 +12,12 @@ use std::alloc::Global;
 /// An expression as it was read, with its measures as far as its limits ask for them.
 pub struct Written {
     pub expr: Expr,
-    /// How many nodes it has, or 1001 where they are more.
+    /// How many nodes it has, or one above the most.
     pub nodes: u32,
-    /// Its height, or 65 where it is above.
+    /// Its height, or one above the most.
     pub height: u32,
-    ghost nodes_are: { nodes ≡ min (tree.nodes (term expr)) 1001 },
-    ghost height_is: { height ≡ min (tree.height (term expr)) 65 },
+    ghost nodes_are: { nodes ≡ min (tree.nodes (term expr)) (MOST_NODES + 1) },
+    ghost height_is: { height ≡ min (tree.height (term expr)) (MOST_HEIGHT + 1) },
 }
 
 impl Drop for Written {

@@ -3,6 +3,7 @@ use Rattle.std.proofs.Common.{◌≡◌, ℕ, zero, suc, ◌≤◌, ◌<◌, Lis
 use Rattle.std.specs.Prelude.{nat_le}
 use Rattle.std.specs.List.{All, Contains}
 use Rattle.std.proofs.lemmas.List.{length-map}
+use Rattle.cov_expr.specs.declared.limits.TheConstants.{MOST_BYTES}
 use Rattle.cov_expr.specs.Words.{HasVarsBelow}
 use Rattle.cov_grammar.specs.Trees.{Program}
 use Rattle.cov_grammar.specs.Grammar.{program, whole}
@@ -61,7 +62,7 @@ within_limits ns p h =
 
 -- Trees --------------------------------------------------------------------------------------------------------
 
-pub text_ready : (text : List ℕ) → length text ≤ 1048576 → (tree : Program) → IsText program in_program text tree → IsReady (program_of text tree)
+pub text_ready : (text : List ℕ) → length text ≤ MOST_BYTES → (tree : Program) → IsText program in_program text tree → IsReady (program_of text tree)
 text_ready text short tree is =
     let few = names_few text is.tokens.lexes short in
     let known = text_summary text few tree is.tokens is.spelled in
@@ -74,16 +75,16 @@ text_ready text short tree is =
       uses = λ u inside. subst (λ us. Contains us u) (sym (uses_in_order text few tree is)) inside;
     }
 
-pub parsed_ready : {X : Type 0} (text : List ℕ) → length text ≤ 1048576 → (view : X → Parsed) (r : Result X ParseFault) → Answers program in_program text view (program_of text) r → IfOk r (λ x. IsReady (view x))
+pub parsed_ready : {X : Type 0} (text : List ℕ) → length text ≤ MOST_BYTES → (view : X → Parsed) (r : Result X ParseFault) → Answers program in_program text view (program_of text) r → IfOk r (λ x. IsReady (view x))
 parsed_ready text short view (Ok x) h = subst IsReady (sym h.2) (text_ready text short h.0 h.1)
 parsed_ready text short view (Err fault) h = tt
 
-pub parsed_in_order : {X : Type 0} (text : List ℕ) → length text ≤ 1048576 → (view : X → Parsed) (r : Result X ParseFault) → Answers program in_program text view (program_of text) r
+pub parsed_in_order : {X : Type 0} (text : List ℕ) → length text ≤ MOST_BYTES → (view : X → Parsed) (r : Result X ParseFault) → Answers program in_program text view (program_of text) r
     → IfOk r (λ x. HasUsesInOrder (view x))
 parsed_in_order text short view (Ok x) h = subst HasUsesInOrder (sym h.2) (uses_in_order text (names_few text h.1.tokens.lexes short) h.0 h.1)
 parsed_in_order text short view (Err fault) h = tt
 
-pub parsed_below : {X : Type 0} (text : List ℕ) → length text ≤ 1048576 → (view : X → Expression) (r : Result X ParseFault) → Answers whole in_expr text view (expression_of text) r
+pub parsed_below : {X : Type 0} (text : List ℕ) → length text ≤ MOST_BYTES → (view : X → Expression) (r : Result X ParseFault) → Answers whole in_expr text view (expression_of text) r
     → IfOk r (λ x. HasVarsBelow (view x).expr (length (view x).names))
 parsed_below text short view (Ok x) h = subst (λ e. HasVarsBelow e.expr (length e.names)) (sym h.2) (expr_below text (names_few text h.1.tokens.lexes short) h.0 h.1)
 parsed_below text short view (Err fault) h = tt
@@ -92,7 +93,7 @@ pub parsed_used : {X : Type 0} (text : List ℕ) (view : X → Expression) (r : 
 parsed_used text view (Ok x) h = subst (λ e. All (λ u. u.name < length e.names) e.uses) (sym h.2) (uses_named text h.1.tokens)
 parsed_used text view (Err fault) h = tt
 
-pub parsed_expr_uses : {X : Type 0} (text : List ℕ) → length text ≤ 1048576 → (view : X → Expression) (r : Result X ParseFault) → Answers whole in_expr text view (expression_of text) r
+pub parsed_expr_uses : {X : Type 0} (text : List ℕ) → length text ≤ MOST_BYTES → (view : X → Expression) (r : Result X ParseFault) → Answers whole in_expr text view (expression_of text) r
     → IfOk r (λ x. AreUsesOf (view x).uses (view x).expr)
 parsed_expr_uses text short view (Ok x) h = subst (λ e. AreUsesOf e.uses e.expr) (sym h.2) (expr_uses text (names_few text h.1.tokens.lexes short) h.0 h.1)
 parsed_expr_uses text short view (Err fault) h = tt

@@ -5,6 +5,7 @@ use Rattle.std.specs.List.{AllByRecursion, list_any}
 use Rattle.std.specs.Str.{bytes_eq}
 use Rattle.std.proofs.lemmas.Slice.Eq.{bytes_eq-Decides}
 use Rattle.std.proofs.lemmas.List.Elements.{recursion_from_All}
+use Rattle.cov_expr.specs.declared.limits.TheConstants.{MOST_BYTES}
 use Rattle.cov_expr.specs.declared.expr.TheConstants.{HOLE}
 use Rattle.cov_lex.specs.declared.token.Token as lexed
 use Rattle.cov_lex.specs.declared.token.TokenKind.{TokenKind}
@@ -162,12 +163,12 @@ module _ (text : List ℕ) (lexes : tokens_of text ≡ Ok (lexed_of text)) where
     order = subst (AreWithin 0 (length text)) (same_places text (names_of text) (lexed_of text)) order;
   }
 
-  module _ (short : length text ≤ 1048576) where
+  module _ (short : length text ≤ MOST_BYTES) where
     -- there are fewer names than the hole's number
     pub names_few : length (names_of text) ≤ HOLE
     unfolding names_of
     names_few = omega (arith, few_names text [] (lexed_of text), few_tokens)
 
-    pub words_few : length (words_of text) ≤ 1048576
+    pub words_few : length (words_of text) ≤ MOST_BYTES
     unfolding names_of words_of
     words_few = omega (arith, few_tokens, length-map (lexed_of text) (word_of text (names_of text)))

@@ -1,5 +1,6 @@
 -- How deep the brackets of a text are, and how many marks it has in a row.
 use Rattle.std.specs.Prelude.{◌≡◌, ℕ, ◌+◌, ◌-◌, ◌==◌, List, [], ◌∷◌, if◌then◌else◌, Option, Some, None}
+use Rattle.cov_expr.specs.declared.limits.TheConstants.{MOST_BRACKETS, MOST_MARKS}
 use Rattle.cov_expr.specs.declared.kind.Kind.{Kind}
 use Rattle.cov_expr.specs.declared.kind.Kind.TheVariants as k
 use Rattle.cov_grammar.specs.declared.token.Token.{Token}
@@ -28,12 +29,12 @@ Shows rust.Other e = e ≡ other
 
 -- what a token does behind so many open brackets and so many marks in a row, and what comes behind it
 abbrev pub counted : Effect → (n m at : ℕ) → (ℕ → ℕ → Option ℕ) → Option ℕ
-counted opens n m at go = if n == 200 then Some at else go (n + 1) 0
+counted opens n m at go = if n == MOST_BRACKETS then Some at else go (n + 1) 0
 counted closes n m at go = go (n - 1) 0
-counted marks n m at go = if m == 64 then Some at else go n (m + 1)
+counted marks n m at go = if m == MOST_MARKS then Some at else go n (m + 1)
 counted other n m at go = go n 0
 
--- The place of the first token that opens bracket 201 or is mark 65 in a row, behind so many open brackets and marks.
+-- The place of the first token that opens a bracket past the most, or is a mark past the most in a row, behind so many open brackets and marks.
 abbrev pub deep : (n m : ℕ) → List Token → Option ℕ
 deep n m [] = None
 deep n m (t ∷ ts) = counted (effect t.kind) n m t.at (λ x y. deep x y ts)

@@ -1,5 +1,6 @@
 -- Limits of trees with places: the fault of least place.
 use Rattle.std.specs.Prelude.{ℕ, zero, suc, ◌+◌, ◌-◌, ◌==◌, max, nat_lt, nat_le, List, [], ◌∷◌, ◌++◌, length, map, flat_map, if◌then◌else◌, Option, Some, None}
+use Rattle.cov_expr.specs.declared.limits.TheConstants.{MOST_VARIABLES, MOST_LOCKS, MOST_THREADS, MOST_STATEMENTS, MOST_BLOCKS, MOST_NODES, MOST_HEIGHT, MOST_CERT_NODES, MOST_PREDICATES, MOST_TYPES}
 use Rattle.cov_expr.specs.Term.{Term}
 use Rattle.cov_expr.specs.Trees.{nodes, height}
 use Rattle.cov_grammar.specs.Trees.{Placed, Class, low, high, low_when, Var, Lock, State, Cert, Proofs, Stm, Block, Stms, Thread, Program, skip, assign, lock, unlock, branch, loop, note, block, none, next}
@@ -75,7 +76,7 @@ abbrev pub above : (at most n : ℕ) → Limit → Option Excess → Option Exce
 above at most n limit rest = if nat_lt most n then Some (record { at = at; limit = limit }) else rest
 
 abbrev pub in_expr : Placed Term → Option Excess
-in_expr e = above e.0 1000 (nodes e.1) (TooMany Nodes) (above e.0 64 (height e.1) TooDeep None)
+in_expr e = above e.0 MOST_NODES (nodes e.1) (TooMany Nodes) (above e.0 MOST_HEIGHT (height e.1) TooDeep None)
 
 abbrev pub in_option : Option (Placed Term) → Option Excess
 in_option None = None
@@ -110,11 +111,11 @@ inside_cert (t.instance i es c) = sooner (least in_expr es) (inside_cert c)
 
 -- a proof, by its number
 abbrev pub in_proof : ℕ × Placed Cert → Option Excess
-in_proof p = sooner (above p.1.0 10000 (cert_nodes p.1.1) (TooMany CertNodes) (above p.1.0 64 (cert_height p.1.1) TooDeep None)) (inside_cert p.1.1)
+in_proof p = sooner (above p.1.0 MOST_CERT_NODES (cert_nodes p.1.1) (TooMany CertNodes) (above p.1.0 MOST_HEIGHT (cert_height p.1.1) TooDeep None)) (inside_cert p.1.1)
 
 abbrev pub in_state : State → Option Excess
 in_state s =
-    sooner (above s.at 64 (length s.preds) (TooMany Predicates) (above s.at 256 (length s.types) (TooMany Types) None))
+    sooner (above s.at MOST_PREDICATES (length s.preds) (TooMany Predicates) (above s.at MOST_TYPES (length s.types) (TooMany Types) None))
     (sooner (least in_expr s.preds) (least in_pair s.types))
 
 abbrev pub in_state_option : Option State → Option Excess
@@ -180,19 +181,19 @@ abbrev pub in_lock : Lock → Option Excess
 in_lock l = in_option l.inv
 
 abbrev pub in_thread : Thread → Option Excess
-in_thread h = in_block 64 h.body
+in_thread h = in_block MOST_BLOCKS h.body
 
 unfoldable pub past_variables : Program → Option Excess
-past_variables p = past 256 Variables (map (λ v. v.name.1) p.vars)
+past_variables p = past MOST_VARIABLES Variables (map (λ v. v.name.1) p.vars)
 
 unfoldable pub past_locks : Program → Option Excess
-past_locks p = past 64 Locks (map (λ l. l.name.1) p.locks)
+past_locks p = past MOST_LOCKS Locks (map (λ l. l.name.1) p.locks)
 
 unfoldable pub past_threads : Program → Option Excess
-past_threads p = past 16 Threads (map (λ h. h.name.1) p.threads)
+past_threads p = past MOST_THREADS Threads (map (λ h. h.name.1) p.threads)
 
 unfoldable pub past_statements : Program → Option Excess
-past_statements p = past 20000 Statements (flat_map (λ h. places_of h.body) p.threads)
+past_statements p = past MOST_STATEMENTS Statements (flat_map (λ h. places_of h.body) p.threads)
 
 abbrev pub in_program : Program → Option Excess
 in_program p =

@@ -1,6 +1,7 @@
 ghost use Rattle.std.specs.Prelude.{◌≡◌};
 ghost use Rattle.cov_text.specs.Depth as spec;
 
+use cov_expr::{MOST_BRACKETS, MOST_MARKS};
 use cov_grammar::{Kind, Token, is};
 
 /// What a token does to the count of open brackets and of marks in a row.
@@ -29,7 +30,7 @@ fn effect_of(kind: Kind) -> Effect
     }
 }
 
-/// The place of the first token that opens bracket 201, or is mark 65 in a row.
+/// The place of the first token that opens a bracket past the most, or is a mark past the most in a row.
 pub fn deep(tokens: &[Token]) -> Option<u32>
     ensures { result ≡ spec.deep 0 0 tokens.now }
 {
@@ -38,7 +39,7 @@ pub fn deep(tokens: &[Token]) -> Option<u32>
     for token in tokens {
         match effect_of(token.kind) {
             Effect::Opens => {
-                if open == 200 {
+                if open == MOST_BRACKETS {
                     return Some(token.at);
                 }
                 open += 1;
@@ -49,7 +50,7 @@ pub fn deep(tokens: &[Token]) -> Option<u32>
                 marks = 0;
             }
             Effect::Marks => {
-                if marks == 64 {
+                if marks == MOST_MARKS {
                     return Some(token.at);
                 }
                 marks += 1;

@@ -9,21 +9,21 @@ use cov_lex::LexFault;
 /// What a text may have only so many of.
 #[derive(Clone, Copy, Debug, PartialEq, Eq)]
 pub enum Counted {
-    /// Variables: 256.
+    /// Variables: `MOST_VARIABLES`.
     Variables,
-    /// Locks: 64.
+    /// Locks: `MOST_LOCKS`.
     Locks,
-    /// Threads: 16.
+    /// Threads: `MOST_THREADS`.
     Threads,
-    /// Statements of all threads, nested ones included: 20,000.
+    /// Statements of all threads, nested ones included: `MOST_STATEMENTS`.
     Statements,
-    /// Nodes of an expression: 1,000.
+    /// Nodes of an expression: `MOST_NODES`.
     Nodes,
-    /// Nodes of a certificate, without the expressions inside: 10,000.
+    /// Nodes of a certificate, without the expressions inside: `MOST_CERT_NODES`.
     CertNodes,
-    /// Predicates of a state: 64.
+    /// Predicates of a state: `MOST_PREDICATES`.
     Predicates,
-    /// Types of a state: 256.
+    /// Types of a state: `MOST_TYPES`.
     Types,
 }
 

@@ -1,4 +1,5 @@
 ghost use Rattle.std.specs.Prelude.{◌≡◌, ◌++◌, ◌≤◌, OnOk, length, map};
+ghost use Rattle.cov_expr.specs.declared.limits.TheConstants.{MOST_BYTES};
 ghost use Rattle.cov_ast.specs.View as view;
 ghost use Rattle.covern_cases.specs.Views.{claim as said};
 ghost use Rattle.covern_cases.specs.Claims as spec;
@@ -17,7 +18,7 @@ use std::alloc::Global;
 /// certificate is checked so many times, and at least once.
 #[tactic(auto, using(crate::proofs::Additions::adds_lines))]
 pub fn add_claims(alloc: Global, times: u32, text: &[u8], out: &mut Blob) -> Result<(), Failure>
-    requires { length text.now ≤ 1048576 }
+    requires { length text.now ≤ MOST_BYTES }
     ensures { OnOk result (spec.AddsLines text.now out.old out.new) }
 {
     match parse(alloc, text) {

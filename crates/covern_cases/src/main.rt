@@ -44,12 +44,9 @@ mod top;
 use crate::failure::Failure;
 use crate::parts::add_part;
 use crate::play::play;
-use cov_expr::{Blob, List};
+use cov_expr::{Blob, List, MOST_BYTES};
 use cov_io::{Fetched, FileShelf, Shelf, ShelfFault, StdSink, write_whole};
 use std::env;
-
-/// The most bytes of a file of cases, and of a program that is measured.
-const FILE_LIMIT: usize = 1_048_576;
 
 fn main(rt: HostRuntime) -> Result<(), Failure> {
     let words: Vec<String> = env::args(&rt)?.skip(1).collect(rt.alloc())?;
@@ -88,7 +85,7 @@ fn play_each(rt: &HostRuntime, names: &[String], shown: &mut Blob) -> Result<(),
 
 /// The bytes of a file.
 fn fetch(rt: &HostRuntime, name: &str) -> Result<Blob, Failure> {
-    match FileShelf::new(rt).fetch(rt.alloc(), name, FILE_LIMIT) {
+    match FileShelf::new(rt).fetch(rt.alloc(), name, MOST_BYTES) {
         Ok(Fetched::Whole(bytes)) => Ok(bytes),
         Ok(Fetched::TooLong) => Err(Failure::TooLong),
         Err(ShelfFault::Failed) => Err(Failure::Unreadable),

@@ -1,12 +1,13 @@
 //! Parts of the product by themselves.
 ghost use Rattle.std.specs.Prelude.{◌≤◌, length};
+ghost use Rattle.cov_expr.specs.declared.limits.TheConstants.{MOST_BYTES};
 ghost use Rattle.cov_ast.specs.View as view;
 ghost use Rattle.cov_ast.specs.Ready.{IsReady};
 
 use crate::certificates::add_claims;
 use crate::failure::Failure;
 use cov_ast::{CheckFault, Parsed};
-use cov_expr::Blob;
+use cov_expr::{Blob, MOST_BYTES};
 use cov_lex::{LexFault, lex};
 use cov_parse::parse;
 use cov_text::ParseFault;
@@ -14,9 +15,6 @@ use lock_spec::check_locks;
 use mode_compat::check_modes;
 use policy_class::{check_policy, resolve};
 use std::alloc::{AllocError, Global};
-
-/// The most bytes of a text.
-const TEXT_LIMIT: usize = 1_048_576;
 
 /// Adds what a part of the product shows of a text. What is measured is done so many times, and at least once.
 ///
@@ -32,7 +30,7 @@ pub fn add_part(
     text: &[u8],
     out: &mut Blob,
 ) -> Result<(), Failure> {
-    if text.len() > TEXT_LIMIT {
+    if text.len() > MOST_BYTES {
         return Err(Failure::TooLong);
     }
     match part {
@@ -45,7 +43,7 @@ pub fn add_part(
 }
 
 fn add_tokens(alloc: Global, text: &[u8], out: &mut Blob) -> Result<(), Failure>
-    requires { length text.now ≤ 1048576 }
+    requires { length text.now ≤ MOST_BYTES }
 {
     match lex(alloc, text) {
         Ok(tokens) => {
@@ -61,7 +59,7 @@ fn add_tokens(alloc: Global, text: &[u8], out: &mut Blob) -> Result<(), Failure>
 }
 
 fn add_parsed(alloc: Global, text: &[u8], out: &mut Blob) -> Result<(), Failure>
-    requires { length text.now ≤ 1048576 }
+    requires { length text.now ≤ MOST_BYTES }
 {
     match parse(alloc, text) {
         Ok(_) => Ok(out.extend_from_slice(b"parsed\n")?),
@@ -71,7 +69,7 @@ fn add_parsed(alloc: Global, text: &[u8], out: &mut Blob) -> Result<(), Failure>
 }
 
 fn add_declared(alloc: Global, times: u32, text: &[u8], out: &mut Blob) -> Result<(), Failure>
-    requires { length text.now ≤ 1048576 }
+    requires { length text.now ≤ MOST_BYTES }
 {
     let said: &[u8] = match parse(alloc, text) {
         Ok(parsed) => match declare(alloc, times, parsed) {

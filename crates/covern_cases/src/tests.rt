@@ -1,5 +1,6 @@
 //! What only code can show: calls of the crates below by themselves, and files and outputs that fail.
 ghost use Rattle.std.specs.Prelude.{◌≤◌, IfOk, length};
+ghost use Rattle.cov_expr.specs.declared.limits.TheConstants.{MOST_BYTES};
 ghost use Rattle.cov_ast.specs.Ready.{IsReady};
 ghost use Rattle.cov_ast.specs.View as view;
 ghost use Rattle.cov_ast.specs.WellFormed.{IsWellFormed};
@@ -23,7 +24,7 @@ const WRITER: &[u8] =
     b"var mode: low; var buf: low when mode == 0; var key: high; lock l hide mode, buf; thread w { lock l; buf := key; mode := 1; unlock l by { 1: have [1 == 0] (rev 1 [_ == 0] (hyp 2)) (clash 3) }; }";
 
 fn parsed(alloc: Global, text: &[u8]) -> Result<Parsed, Fail>
-    requires { length text.now ≤ 1048576 }
+    requires { length text.now ≤ MOST_BYTES }
     ensures { IfOk result (λ p. IsReady (view.parsed p)) }
 {
     match parse(alloc, text) {
@@ -33,7 +34,7 @@ fn parsed(alloc: Global, text: &[u8]) -> Result<Parsed, Fail>
 }
 
 fn program(alloc: Global, text: &[u8]) -> Result<Program, Fail>
-    requires { length text.now ≤ 1048576 }
+    requires { length text.now ≤ MOST_BYTES }
     ensures { IfOk result (λ p. IsWellFormed (view.program p)) }
 {
     match resolve(alloc, parsed(alloc, text)?) {
@@ -43,7 +44,7 @@ fn program(alloc: Global, text: &[u8]) -> Result<Program, Fail>
 }
 
 fn expression(alloc: Global, text: &[u8]) -> Result<ParsedExpr, Fail>
-    requires { length text.now ≤ 1048576 }
+    requires { length text.now ≤ MOST_BYTES }
 {
     match parse_expr(alloc, text) {
         Ok(parsed) => Ok(parsed),

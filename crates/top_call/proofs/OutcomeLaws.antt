@@ -6,7 +6,7 @@ use Rattle.cov_io.specs.Sinks.{Sunk}
 use Rattle.top_call.specs.Check.{Judges, IsAcceptedText}
 use Rattle.top_call.specs.Commands.{Command, check, fmt, nothing}
 use Rattle.top_call.specs.Ends.{Ends}
-use Rattle.top_call.specs.Files.{program_limit}
+use Rattle.cov_expr.specs.declared.limits.TheConstants.{MOST_BYTES}
 use Rattle.top_call.specs.Format.{Formats}
 use Rattle.top_call.specs.Headline.{HoldsSecure}
 use Rattle.top_call.specs.Outcome.{Does, Outcome, IsMet, IsSuccess}
@@ -23,14 +23,14 @@ use Rattle.top_call.proofs.FormatLaws.{formatted_no_fault, formatted_done}
 
 does_exact : (before after : Shelved) (files : List File) (command : Command) (reply : Reply) → before.told ≡ Some files → Reliable before after
     → Does before after command reply → Outcome files command reply
-does_exact before after files (check name) reply told reliable h = reads_exact name program_limit (Judges name) before after files reply told reliable h
-does_exact before after files (fmt name) reply told reliable h = reads_exact name program_limit (Formats name) before after files reply told reliable h
+does_exact before after files (check name) reply told reliable h = reads_exact name MOST_BYTES (Judges name) before after files reply told reliable h
+does_exact before after files (fmt name) reply told reliable h = reads_exact name MOST_BYTES (Formats name) before after files reply told reliable h
 does_exact before after files nothing reply told reliable h = h
 
 does_secure : (before after : Shelved) (command : Command) (reply : Reply) → Does before after command reply → status_of reply ≡ s.Done
     → (files : List File) → before.told ≡ Some files → HoldsSecure files command
 does_secure before after (check name) reply h done files told =
-    let read = done_read before after name program_limit (Judges name) reply h done in
+    let read = done_read before after name MOST_BYTES (Judges name) reply h done in
     let at : held files name ≡ Some read.0 = subst (λ t. IfSome t (λ fs. held fs name ≡ Some read.0)) told read.1.1 in
     let secure = judged_secure name read.0 reply read.2 done in
     (read.0, at, secure.0, secure.1, secure.2, secure.3)
@@ -39,16 +39,16 @@ does_secure before after nothing reply h done files told = let wrong : s.Usage �
 
 does_fault : (before after : Shelved) (command : Command) (reply : Reply) → Does before after command reply → status_of reply ≡ s.ReadFault
     → Rose before.faults after.faults
-does_fault before after (check name) reply h e = fault_rose before after name program_limit (Judges name) reply (λ bytes. judged_no_fault name bytes reply) h e
-does_fault before after (fmt name) reply h e = fault_rose before after name program_limit (Formats name) reply (λ bytes. formatted_no_fault name bytes reply) h e
+does_fault before after (check name) reply h e = fault_rose before after name MOST_BYTES (Judges name) reply (λ bytes. judged_no_fault name bytes reply) h e
+does_fault before after (fmt name) reply h e = fault_rose before after name MOST_BYTES (Formats name) reply (λ bytes. formatted_no_fault name bytes reply) h e
 does_fault before after nothing reply h e = let wrong : s.Usage ≡ s.ReadFault = sym (ap status_of h) ∙ e in cc
 
 met_success : (files : List File) (command : Command) (reply : Reply) → IsMet files command → Outcome files command reply → IsSuccess command (status_of reply)
 met_success files (check name) reply met h =
-    let given = held_given name program_limit (Judges name) files IsAcceptedText reply met h in
+    let given = held_given name MOST_BYTES (Judges name) files IsAcceptedText reply met h in
     judged_done name given.0 reply given.1 given.2
 met_success files (fmt name) reply met h =
-    let given = held_given name program_limit (Formats name) files IsProgramText reply met h in
+    let given = held_given name MOST_BYTES (Formats name) files IsProgramText reply met h in
     formatted_done name given.0 reply given.1 given.2
 met_success files nothing reply met h = absurd met
 

@@ -6,7 +6,7 @@ use Rattle.cov_io.specs.declared.shelf.Fetched.{Fetched}
 use Rattle.cov_io.specs.declared.shelf.Fetched.TheVariants.{Whole}
 use Rattle.cov_io.specs.declared.shelf.ShelfFault.{ShelfFault}
 use Rattle.top_call.specs.Commands.{Command, check, fmt, nothing}
-use Rattle.top_call.specs.Files.{program_limit}
+use Rattle.cov_expr.specs.declared.limits.TheConstants.{MOST_BYTES}
 use Rattle.top_call.specs.Programs.{IsProgramText}
 
 -- a file that a command takes: what its bytes are to be, and its name
@@ -18,7 +18,7 @@ name_of (program name) = name
 
 -- the most bytes of a file
 abbrev pub limit_of : Wanted → ℕ
-limit_of (program name) = program_limit
+limit_of (program name) = MOST_BYTES
 
 -- The bytes are in the grammar of the file and its limits.
 abbrev pub IsFit : Wanted → List ℕ → Type 0

@@ -5,10 +5,6 @@ use Rattle.cov_io.specs.declared.shelf.Fetched.TheVariants.{Whole, TooLong}
 use Rattle.cov_io.specs.declared.shelf.ShelfFault.TheVariants as faults
 use Rattle.top_call.specs.Replies.{Reply, read_fault, too_long}
 
--- the most bytes of a program file
-abbrev pub program_limit : ℕ
-program_limit = 1048576
-
 -- A file isn't fetched: it is too long, or the shelf fails.
 abbrev pub Misses : (before after : Shelved) (name : List ℕ) (most : ℕ) → Reply → Type 0
 Misses before after name most reply =

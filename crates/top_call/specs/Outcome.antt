@@ -3,7 +3,8 @@ use Rattle.std.specs.Prelude.{◌≡◌, ◌≤◌, ℕ, List, length, Some}
 use Rattle.cov_io.specs.Shelves.{File, Shelved, held}
 use Rattle.top_call.specs.Check.{Judges, IsAcceptedText}
 use Rattle.top_call.specs.Commands.{Command, check, fmt, nothing}
-use Rattle.top_call.specs.Files.{Reads, GivenBy, program_limit}
+use Rattle.cov_expr.specs.declared.limits.TheConstants.{MOST_BYTES}
+use Rattle.top_call.specs.Files.{Reads, GivenBy}
 use Rattle.top_call.specs.Format.{Formats}
 use Rattle.top_call.specs.Programs.{IsProgramText}
 use Rattle.top_call.specs.Replies.{Reply, usage}
@@ -13,14 +14,14 @@ use Rattle.top_call.specs.declared.answers.Status.TheVariants as s
 -- What a command may reply, by the shelf before and after the call. It is a relation, so that it speaks of shelves that
 -- tell nothing and of faults in mid-call too.
 abbrev pub Does : (before after : Shelved) → Command → Reply → Type 0
-Does before after (check name) reply = Reads before after name program_limit (Judges name) reply
-Does before after (fmt name) reply = Reads before after name program_limit (Formats name) reply
+Does before after (check name) reply = Reads before after name MOST_BYTES (Judges name) reply
+Does before after (fmt name) reply = Reads before after name MOST_BYTES (Formats name) reply
 Does before after nothing reply = reply ≡ usage
 
 -- the reply to a command where all files are told, and no call fails but for a name that isn't told
 abbrev pub Outcome : List File → Command → Reply → Type 0
-Outcome files (check name) reply = GivenBy (held files name) name program_limit (Judges name) reply
-Outcome files (fmt name) reply = GivenBy (held files name) name program_limit (Formats name) reply
+Outcome files (check name) reply = GivenBy (held files name) name MOST_BYTES (Judges name) reply
+Outcome files (fmt name) reply = GivenBy (held files name) name MOST_BYTES (Formats name) reply
 Outcome files nothing reply = reply ≡ usage
 
 -- All that is asked is there --------------------------------------------------------------------------------------
@@ -31,8 +32,8 @@ HoldsFile files name most IsFit = (bytes : List ℕ) × (held files name ≡ Som
 
 -- All that a command asks holds of the files.
 abbrev pub IsMet : List File → Command → Type 0
-IsMet files (check name) = HoldsFile files name program_limit IsAcceptedText
-IsMet files (fmt name) = HoldsFile files name program_limit IsProgramText
+IsMet files (check name) = HoldsFile files name MOST_BYTES IsAcceptedText
+IsMet files (fmt name) = HoldsFile files name MOST_BYTES IsProgramText
 IsMet files nothing = ⊥
 
 -- The status says that a command did all its work.

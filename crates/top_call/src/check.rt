@@ -1,4 +1,5 @@
 ghost use Rattle.std.specs.Prelude.{◌≡◌, ◌≤◌, length, map};
+ghost use Rattle.cov_expr.specs.declared.limits.TheConstants.{MOST_BYTES};
 ghost use Rattle.cov_ast.specs.Ready.{IsReady};
 ghost use Rattle.cov_ast.specs.View as view;
 ghost use Rattle.cov_ast.specs.WellFormed.{IsWellFormed};
@@ -10,9 +11,9 @@ ghost use Rattle.top_call.specs.Inside.{LacksMemory, Gets, JudgesProgram, Judges
 ghost use Rattle.top_call.specs.Outcome.{Does};
 
 use crate::answers::{Answer, Counts, Stop};
-use crate::files::{PROGRAM_LIMIT, fetch, unread};
+use crate::files::{fetch, unread};
 use cov_ast::{CheckFault, Parsed, Program, ThreadDecl};
-use cov_expr::Name;
+use cov_expr::{MOST_BYTES, Name};
 use cov_io::Shelf;
 use cov_parse::parse;
 use policy_class::resolve;
@@ -29,13 +30,13 @@ pub fn check<'w, S: Shelf>(
     ensures asks { Asks (S.shelved shelf.old) (S.shelved shelf.new) (files_of (asked.check name.now)) (LacksMemory result) }
     ensures passes { Passes (S.shelved shelf.old) (S.shelved shelf.new) }
 {
-    let bytes = fetch(alloc, name, PROGRAM_LIMIT, shelf)?;
+    let bytes = fetch(alloc, name, MOST_BYTES, shelf)?;
     check_text(alloc, name, bytes.as_slice())
 }
 
 /// Checks the program of a text.
 fn check_text<'w>(alloc: Global, name: &'w str, bytes: &[u8]) -> Result<Answer<'w>, Stop<'w>>
-    requires { length bytes.now ≤ 1048576 }
+    requires { length bytes.now ≤ MOST_BYTES }
     ensures { Gets (Judges name.now bytes.now) result }
 {
     match parse(alloc, bytes) {

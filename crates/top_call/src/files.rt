@@ -13,9 +13,6 @@ use cov_io::{Fetched, Shelf, ShelfFault};
 use cov_text::ParseFault;
 use std::alloc::Global;
 
-/// The most bytes of a program file.
-pub const PROGRAM_LIMIT: usize = 1_048_576;
-
 /// The bytes of a file.
 pub fn fetch<'w, S: Shelf>(
     alloc: Global,

@@ -1,4 +1,5 @@
 ghost use Rattle.std.specs.Prelude.{length, ◌≤◌};
+ghost use Rattle.cov_expr.specs.declared.limits.TheConstants.{MOST_BYTES};
 ghost use Rattle.cov_io.specs.Shelves.{Passes};
 ghost use Rattle.top_call.specs.Asks.{Asks, files_of};
 ghost use Rattle.top_call.specs.Commands as asked;
@@ -7,7 +8,8 @@ ghost use Rattle.top_call.specs.Inside.{LacksMemory, Gets};
 ghost use Rattle.top_call.specs.Outcome.{Does};
 
 use crate::answers::{Answer, Stop};
-use crate::files::{PROGRAM_LIMIT, fetch, unread};
+use crate::files::{fetch, unread};
+use cov_expr::MOST_BYTES;
 use cov_io::Shelf;
 use cov_parse::parse;
 use cov_print::print;
@@ -23,13 +25,13 @@ pub fn format<'w, S: Shelf>(
     ensures asks { Asks (S.shelved shelf.old) (S.shelved shelf.new) (files_of (asked.fmt name.now)) (LacksMemory result) }
     ensures passes { Passes (S.shelved shelf.old) (S.shelved shelf.new) }
 {
-    let bytes = fetch(alloc, name, PROGRAM_LIMIT, shelf)?;
+    let bytes = fetch(alloc, name, MOST_BYTES, shelf)?;
     format_text(alloc, name, bytes.as_slice())
 }
 
 /// Formats the program of a text.
 fn format_text<'w>(alloc: Global, name: &'w str, bytes: &[u8]) -> Result<Answer<'w>, Stop<'w>>
-    requires { length bytes.now ≤ 1048576 }
+    requires { length bytes.now ≤ MOST_BYTES }
     ensures { Gets (Formats name.now bytes.now) result }
 {
     match parse(alloc, bytes) {

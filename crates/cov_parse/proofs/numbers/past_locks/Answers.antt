@@ -5,13 +5,13 @@ use Rattle.cov_read.specs.DeclViews as views
 use Rattle.cov_parse.proofs.LimitLaws.{past_none, past_some}
 use Rattle.cov_parse.proofs.numbers.past_locks.Goals as goal
 
-pub returns-then-locks-le64 : goal.returns-then-locks-le64
+pub returns-then-locks-le-MOST_LOCKS : goal.returns-then-locks-le-MOST_LOCKS
 unfolding past_locks
-returns-then-locks-le64 c =
-    sym (past_none (λ v. v.name.1) views.lock 64 Locks c.args.program.now.locks (omega (arith, ap length c.as_slice-locks.ensures, c.if-locks-le64.true)))
+returns-then-locks-le-MOST_LOCKS c =
+    sym (past_none (λ v. v.name.1) views.lock 64 Locks c.args.program.now.locks (omega (arith, ap length c.as_slice-locks.ensures, c.if-locks-le-MOST_LOCKS.true)))
 
 pub returns : goal.returns
 unfolding past_locks
 returns c =
-    sym (past_some (λ v. v.name.1) views.lock 64 Locks c.as_slice-locks.result.now c.index-locks-64.result c.if-locks-le64.false)
+    sym (past_some (λ v. v.name.1) views.lock 64 Locks c.as_slice-locks.result.now c.index-locks-64.result c.if-locks-le-MOST_LOCKS.false)
     ∙ ap (λ xs. past 64 Locks (map (λ v. v.name.1) (map views.lock xs))) c.as_slice-locks.ensures

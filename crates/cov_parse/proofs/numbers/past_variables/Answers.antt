@@ -5,13 +5,13 @@ use Rattle.cov_read.specs.DeclViews as views
 use Rattle.cov_parse.proofs.LimitLaws.{past_none, past_some}
 use Rattle.cov_parse.proofs.numbers.past_variables.Goals as goal
 
-pub returns-then-vars-le256 : goal.returns-then-vars-le256
+pub returns-then-vars-le-MOST_VARIABLES : goal.returns-then-vars-le-MOST_VARIABLES
 unfolding past_variables
-returns-then-vars-le256 c =
-    sym (past_none (λ v. v.name.1) views.var 256 Variables c.args.program.now.vars (omega (arith, ap length c.as_slice-vars.ensures, c.if-vars-le256.true)))
+returns-then-vars-le-MOST_VARIABLES c =
+    sym (past_none (λ v. v.name.1) views.var 256 Variables c.args.program.now.vars (omega (arith, ap length c.as_slice-vars.ensures, c.if-vars-le-MOST_VARIABLES.true)))
 
 pub returns : goal.returns
 unfolding past_variables
 returns c =
-    sym (past_some (λ v. v.name.1) views.var 256 Variables c.as_slice-vars.result.now c.index-vars-256.result c.if-vars-le256.false)
+    sym (past_some (λ v. v.name.1) views.var 256 Variables c.as_slice-vars.result.now c.index-vars-256.result c.if-vars-le-MOST_VARIABLES.false)
     ∙ ap (λ xs. past 256 Variables (map (λ v. v.name.1) (map views.var xs))) c.as_slice-vars.ensures

@@ -1,7 +1,7 @@
 use Rattle.std.proofs.Common.{subst, sym, Ok}
 use Rattle.cov_io.specs.declared.shelf.Fetched.TheVariants.{Whole}
 use Rattle.cov_io.specs.Shelves.{Gives}
-use Rattle.top_call.specs.Files.{program_limit}
+use Rattle.cov_expr.specs.declared.limits.TheConstants.{MOST_BYTES}
 use Rattle.top_call.specs.Format.{Formats}
 use Rattle.top_call.specs.Asks.{program}
 use Rattle.top_call.specs.Inside.{LacksMemory}
@@ -13,7 +13,7 @@ use Rattle.top_call.proofs.fmt.format.Goals as goal
 pub returns-clause-does : goal.returns-clause-does
 returns-clause-does g c =
     let shelved = g.S.Shelf.shelved in
-    bytes_read (shelved c.args.shelf.now) (shelved c.fetch.new.shelf) c.args.name.now program_limit (Formats c.args.name.now)
+    bytes_read (shelved c.args.shelf.now) (shelved c.fetch.new.shelf) c.args.name.now MOST_BYTES (Formats c.args.name.now)
     c.in_ok-bytes.bytes c.as_slice.result.now c.format_text.result c.in_ok-bytes.ensures.answer c.as_slice.ensures c.format_text.ensures
 
 pub returns-in_err-bytes-clause-asks : goal.returns-in_err-bytes-clause-asks
@@ -29,5 +29,5 @@ returns-clause-asks g c =
     let after = shelved c.fetch.new.shelf in
     let read = c.as_slice.result.now in
     asks_got before after (program c.args.name.now) (LacksMemory c.format_text.result) c.fetch.ensures.counted read
-    (subst (λ bytes. Gives before after c.args.name.now program_limit (Ok (Whole bytes))) (sym c.as_slice.ensures) c.in_ok-bytes.ensures.answer)
+    (subst (λ bytes. Gives before after c.args.name.now MOST_BYTES (Ok (Whole bytes))) (sym c.as_slice.ensures) c.in_ok-bytes.ensures.answer)
     (gets_formatted_fit c.args.name.now read c.format_text.result c.format_text.ensures)
