@@ -1,13 +1,12 @@
 -- Laws of keys: no two expressions have the same, and no key goes on as another.
-use Rattle.std.proofs.Common.{◌≡◌, ℕ, suc, ◌+◌, ◌&&◌, ◌||◌, List, [], ◌∷◌, ◌++◌, Bool, true, false, true≢false, map, length, refl, sym, ap, subst, ◌∙◌, append_assoc, arith}
+use Rattle.std.proofs.Common.{◌≡◌, ℕ, ◌||◌, List, [], ◌∷◌, ◌++◌, Bool, true, false, true≢false, map, refl, sym, ap, subst, ◌∙◌, append_assoc, arith}
 use Rattle.std.specs.List.{list_any}
 use Rattle.std.specs.Str.{bytes_eq}
 use Rattle.std.proofs.lemmas.Bool.{false_from_ne_true}
 use Rattle.std.proofs.lemmas.Slice.Eq.{bytes_eq-Decides}
 use Rattle.cov_expr.specs.declared.expr.Op.TheVariants.{Add, Eq, Both, Either}
-use Rattle.cov_expr.specs.declared.expr.Op.{Op}
 use Rattle.cov_expr.specs.Term.{Term, const, var, neg, bin}
-use Rattle.cov_expr.specs.Trees.{has_term, op_number, same}
+use Rattle.cov_expr.specs.Trees.{has_term, same}
 use Rattle.cov_expr.proofs.Trees.{op_is, same_is, same_refl}
 use Rattle.typing_state.specs.Keys.{key}
 

@@ -1,3 +1,4 @@
+mod DropLaws
 mod ForgetLaws
 mod KeyLaws
 mod LockLaws

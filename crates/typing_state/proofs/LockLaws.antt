@@ -1,5 +1,5 @@
 -- Laws of locks that are taken and given back.
-use Rattle.std.proofs.Common.{◌≡◌, ℕ, ◌<◌, ◌&&◌, ◌||◌, List, [], ◌∷◌, Bool, true, false, not, length, map, get_or, set, refl, sym, ap, ◌∙◌, arith, Option, Some, None, option_map, is_some, if◌then◌else◌, inl, inr, ◌⊎◌}
+use Rattle.std.proofs.Common.{◌≡◌, ℕ, ◌<◌, ◌&&◌, ◌||◌, List, [], ◌∷◌, Bool, true, false, not, length, map, get_or, set, refl, sym, ap, ◌∙◌, arith, Option, Some, None, option_map, is_some, if◌then◌else◌, inl, inr}
 use Rattle.std.specs.List.{list_any}
 use Rattle.std.proofs.lemmas.List.{length-set, get_or-map, get_or-set_same, get_or-set_other}
 use Rattle.std.proofs.lemmas.Bool.{cases_eq, and_parts, not-true}

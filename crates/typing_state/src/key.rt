@@ -1,4 +1,4 @@
-ghost use Rattle.std.specs.Prelude.{◌≡◌, ◌+◌, [], ◌∷◌, ◌++◌, IfOk, OnOk};
+ghost use Rattle.std.specs.Prelude.{◌≡◌, ◌+◌, [], ◌∷◌, ◌++◌, length, min, IfOk, OnOk};
 ghost use Rattle.cov_expr.specs.Trees.{op_number};
 ghost use Rattle.cov_expr.specs.View.{term};
 ghost use Rattle.typing_state.specs.Keys.{digest_from, key};
@@ -88,9 +88,20 @@ fn digest(words: &[u32]) -> u64
 pub fn key_of(alloc: Global, e: &Expr) -> Result<Key, NoMemory>
     ensures { IfOk result (λ made. made ≡ key (term e.now)) }
 {
-    let mut words = Vec::new(alloc);
+    let mut words = Vec::with_capacity(alloc, key_len(e))?;
     add_words(e, &mut words)?;
     Ok(Key { words })
+}
+
+/// How many words the key of an expression has, up to the largest number.
+fn key_len(e: &Expr) -> usize
+    ensures { result ≡ min (length (key (term e.now))) 18446744073709551615 }
+{
+    match e {
+        Expr::Const(_) | Expr::Var(_) => 2,
+        Expr::Not(a) => key_len(a).saturating_add(1),
+        Expr::Bin(_, a, b) => key_len(a).saturating_add(key_len(b)).saturating_add(1),
+    }
 }
 
 /// Adds the words of an expression at the end.

@@ -1,45 +1,45 @@
-ghost use Rattle.std.specs.Prelude.{◌≡◌, ◌<◌, ◌++◌, ◌∷◌, [], ◌&&◌, ℕ, is_some, length, map, not, filter, position, remove, reverse, slice_get, IfOk, OnOk, Some, if◌then◌else◌};
+ghost use Rattle.std.specs.Prelude.{◌≡◌, ◌<◌, [], if◌then◌else◌, is_some, length, map, not, filter, position, remove, IfOk, OnOk};
 ghost use Rattle.std.specs.List.{list_all, list_any};
 ghost use Rattle.cov_expr.specs.Trees as tree;
 ghost use Rattle.cov_expr.specs.View.{term};
 ghost use Rattle.cov_ast.specs.Plain.{plain};
 ghost use Rattle.cov_ast.specs.View as view;
 ghost use Rattle.cov_ast.specs.WellFormed.{IsWellFormed};
-ghost use Rattle.indexmap.specs.IndexMap.{keys, values};
-ghost use Rattle.typing_state.specs.Keys.{key};
 ghost use Rattle.typing_state.specs.Kept.{AtModes};
 ghost use Rattle.typing_state.specs.Point as point;
-ghost use Rattle.typing_state.specs.Terms.{distinct_terms, is_false, with_term};
+ghost use Rattle.typing_state.specs.Terms.{distinct_terms, is_false, is_small, with_term};
 
 use crate::copies::copy_preds;
 use crate::key::{Key, key_of};
-use crate::retain::{is_kept, put_back};
+use crate::retain::is_kept;
+use crate::types::MOST_NODES;
 use cov_ast::Program;
-use cov_expr::{Expr, List, NoMemory, closed, copy, eval, mentions};
-use indexmap::IndexMap;
+use cov_expr::{Expr, List, NoMemory, closed, copy, eval, mentions, nodes_at_most};
+use indexmap::IndexSet;
 use mode_state::ModeState;
 use std::alloc::Global;
 use std::marker::Model;
 
-/// Expressions, each once, and the place of each by its key. Contracts see the list of the expressions.
+/// Expressions, each once, and their keys in the same order, by which the place of one is found. Contracts see the list of the
+/// expressions.
 #[derive(Drop)]
 pub struct Predicates {
     list: List<Expr>,
-    places: IndexMap<Key, usize>,
-    /// Whether one of them is closed and doesn't hold.
-    has_false: bool,
+    index: IndexSet<Key>,
+    /// How many of them are closed and don't hold.
+    false_ones: usize,
+    /// How many of them have more than 1,000 nodes.
+    large_ones: usize,
 }
 
 impl Model for Predicates {
-    ghost use Rattle.std.specs.Prelude.{◌≡◌, ◌<◌, ℕ, List, Some, length, map, slice_get};
-    ghost use Rattle.std.specs.List.{list_any};
+    ghost use Rattle.std.specs.Prelude.{◌≡◌, List, count_by, map, not};
     ghost use Rattle.std.specs.Coded.{codes};
     ghost use Rattle.cov_expr.specs.contracts.expr.Expr as e;
     ghost use Rattle.cov_expr.specs.declared.expr.Expr.{Expr};
     ghost use Rattle.cov_expr.specs.View.{term};
-    ghost use Rattle.indexmap.specs.IndexMap.{keys, values};
     ghost use Rattle.typing_state.specs.Keys.{key};
-    ghost use Rattle.typing_state.specs.Terms.{is_false};
+    ghost use Rattle.typing_state.specs.Terms.{is_false, is_small};
 
     ghost Value = { List Expr };
 
@@ -47,9 +47,9 @@ impl Model for Predicates {
 
     ghost view = { λ s. s.list };
 
-    ghost invariant = { λ s. (keys s.places ≡ map key (map term s.list))
-        × ((i : ℕ) → i < length s.list → slice_get (values s.places) i ≡ Some i)
-        × (s.has_false ≡ list_any is_false (map term s.list)) };
+    ghost invariant = { λ s. (s.index.keys ≡ map key (map term s.list))
+        × (s.false_ones ≡ count_by is_false (map term s.list))
+        × (s.large_ones ≡ count_by (λ e. not (is_small e)) (map term s.list)) };
 }
 
 impl Predicates {
@@ -59,9 +59,22 @@ impl Predicates {
     {
         Predicates {
             list: List::new(alloc),
-            places: IndexMap::new(alloc),
-            has_false: false,
+            index: IndexSet::new(alloc),
+            false_ones: 0,
+            large_ones: 0,
         }
+    }
+
+    /// None, with room for so many.
+    fn with_capacity(alloc: Global, room: usize) -> Result<Self, NoMemory>
+        ensures { IfOk result (λ made. made ≡ []) }
+    {
+        Ok(Predicates {
+            list: List::with_capacity(alloc, room)?,
+            index: IndexSet::with_capacity(alloc, room)?,
+            false_ones: 0,
+            large_ones: 0,
+        })
     }
 
     /// The expressions, in the order in which they were added.
@@ -75,7 +88,14 @@ impl Predicates {
     pub fn has_false(&self) -> bool
         ensures { result ≡ list_any is_false (map term self.now) }
     {
-        self.has_false
+        self.false_ones > 0
+    }
+
+    /// Whether each has at most 1,000 nodes.
+    pub fn are_small(&self) -> bool
+        ensures { result ≡ list_all is_small (map term self.now) }
+    {
+        self.large_ones == 0
     }
 
     /// The place of an expression, if it is there.
@@ -84,10 +104,7 @@ impl Predicates {
         ensures found { IfOk result (λ place. is_some place ≡ tree.has_term (map term self.now) (term e.now)) }
     {
         let key = key_of(alloc, e)?;
-        match self.places.get_full(&key) {
-            Some((_, _, place)) => Ok(Some(*place)),
-            None => Ok(None),
-        }
+        Ok(self.index.get_index_of(&key))
     }
 
     /// The same expressions.
@@ -96,8 +113,9 @@ impl Predicates {
     {
         Ok(Predicates {
             list: copy_preds(alloc, self.list.as_slice())?,
-            places: self.places.clone()?,
-            has_false: self.has_false,
+            index: self.index.clone()?,
+            false_ones: self.false_ones,
+            large_ones: self.large_ones,
         })
     }
 
@@ -106,60 +124,58 @@ impl Predicates {
         ensures { OnOk result (map term self.new ≡ with_term (map term self.old) (term e)) }
     {
         let key = key_of(alloc, &e)?;
-        if self.places.get_index_of(&key).is_some() {
+        if self.index.contains(&key) {
             return Ok(());
         }
-        self.places.reserve(1)?;
-        let place = self.list.len();
-        let has_false = self.has_false || is_false(&e);
+        self.index.reserve(1)?;
+        let false_ones = count_false(&e);
+        let large_ones = count_large(&e);
         self.list.push(e)?;
-        self.places.insert(key, place).unwrap();
-        self.has_false = has_false;
+        self.index.insert(key).unwrap();
+        // (there are no more of either than expressions)
+        let _count = self.list.len();
+        self.false_ones += false_ones;
+        self.large_ones += large_ones;
         Ok(())
     }
 
-    /// Those that don't mention a variable.
-    pub fn without(self, alloc: Global, x: u32) -> Result<Self, NoMemory>
-        ensures { IfOk result (λ made. map term made ≡ filter (λ r. not (tree.mentions r x)) (map term self)) }
+    /// Drops those that mention a variable.
+    pub fn drop_mentioning(&mut self, x: u32)
+        ensures { map term self.new ≡ filter (λ r. not (tree.mentions r x)) (map term self.old) }
     {
-        if !any_mentions(self.list.as_slice(), x) {
-            return Ok(self);
+        let mut end = self.list().len();
+        while end > 0 {
+            end -= 1;
+            if mentions(&self.list().as_slice()[end], x) {
+                self.remove(end);
+            }
         }
-        let Predicates {
-            mut list,
-            mut places,
-            has_false: _,
-        } = self;
-        let mut kept = List::new(alloc);
-        while let Some(e) = list.pop() {
-            let keep = !mentions(&e, x);
-            keep_if(keep, e, list.len(), &mut kept, &mut places)?;
-        }
-        put_back(&mut list, kept)?;
-        Ok(numbered(list, places))
     }
 
-    /// Those over stable variables.
-    pub fn stable(self, alloc: Global, p: &Program, modes: &ModeState) -> Result<Self, NoMemory>
+    /// Drops those that aren't over stable variables.
+    pub fn drop_unstable(&mut self, p: &Program, modes: &ModeState)
         requires { IsWellFormed (view.program p.now) }
-        ensures { IfOk result (λ made. AtModes (plain (view.program p.now)) modes.now (λ t held.
-            map term made ≡ filter (point.is_over_stable (plain (view.program p.now)) t held) (map term self))) }
+        ensures { AtModes (plain (view.program p.now)) modes.now (λ t held.
+            map term self.new ≡ filter (point.is_over_stable (plain (view.program p.now)) t held) (map term self.old)) }
     {
-        if are_kept(self.list.as_slice(), p, modes) {
-            return Ok(self);
+        let mut end = self.list().len();
+        while end > 0 {
+            end -= 1;
+            if !is_kept(p, modes, &self.list().as_slice()[end]) {
+                self.remove(end);
+            }
         }
-        let Predicates {
-            mut list,
-            mut places,
-            has_false: _,
-        } = self;
-        let mut kept = List::new(alloc);
-        while let Some(e) = list.pop() {
-            let keep = is_kept(p, modes, &e);
-            keep_if(keep, e, list.len(), &mut kept, &mut places)?;
-        }
-        put_back(&mut list, kept)?;
-        Ok(numbered(list, places))
+    }
+
+    /// Drops the one at a place.
+    fn remove(&mut self, place: usize)
+        requires { place < length self.old }
+        ensures { self.new ≡ remove self.old place }
+    {
+        let e = self.list.remove(place);
+        self.index.shift_remove_index(place);
+        self.false_ones -= count_false(&e);
+        self.large_ones -= count_large(&e);
     }
 }
 
@@ -167,7 +183,7 @@ impl Predicates {
 pub fn distinct_preds(alloc: Global, preds: &[Expr]) -> Result<Predicates, NoMemory>
     ensures { IfOk result (λ made. map term made ≡ distinct_terms (map term preds.now)) }
 {
-    let mut made = Predicates::new(alloc);
+    let mut made = Predicates::with_capacity(alloc, preds.len())?;
     for e in preds {
         let copied = copy(alloc, e)?;
         made.add(alloc, copied)?;
@@ -175,89 +191,16 @@ pub fn distinct_preds(alloc: Global, preds: &[Expr]) -> Result<Predicates, NoMem
     Ok(made)
 }
 
-/// Whether an expression is closed and doesn't hold.
-fn is_false(e: &Expr) -> bool
-    ensures { result ≡ is_false (term e.now) }
+/// One for an expression that is closed and doesn't hold.
+fn count_false(e: &Expr) -> usize
+    ensures { result ≡ (if is_false (term e.now) then 1 else 0) }
 {
-    closed(e) && eval(e, &[]) == 0
+    (closed(e) && eval(e, &[]) == 0) as usize
 }
 
-fn any_false(list: &[Expr]) -> bool
-    ensures { result ≡ list_any is_false (map term list.now) }
+/// One for an expression of more than 1,000 nodes.
+fn count_large(e: &Expr) -> usize
+    ensures { result ≡ (if not (is_small (term e.now)) then 1 else 0) }
 {
-    for e in list {
-        if is_false(e) {
-            return true;
-        }
-    }
-    false
-}
-
-/// Whether an expression mentions a variable.
-fn any_mentions(list: &[Expr], x: u32) -> bool
-    ensures { result ≡ list_any (λ r. tree.mentions r x) (map term list.now) }
-{
-    for e in list {
-        if mentions(e, x) {
-            return true;
-        }
-    }
-    false
-}
-
-/// Whether each expression is over stable variables.
-fn are_kept(list: &[Expr], p: &Program, modes: &ModeState) -> bool
-    requires { IsWellFormed (view.program p.now) }
-    ensures { AtModes (plain (view.program p.now)) modes.now (λ t held.
-        result ≡ list_all (point.is_over_stable (plain (view.program p.now)) t held) (map term list.now)) }
-{
-    for e in list {
-        if !is_kept(p, modes, e) {
-            return false;
-        }
-    }
-    true
-}
-
-/// Moves an expression to others, or takes the key at its place out.
-fn keep_if(
-    keep: bool,
-    e: Expr,
-    place: usize,
-    kept: &mut List<Expr>,
-    places: &mut IndexMap<Key, usize>,
-) -> Result<(), NoMemory>
-    ensures kept { OnOk result (kept.new ≡ (if keep then kept.old ++ e ∷ [] else kept.old)) }
-    ensures keys { OnOk result (keys places.new ≡ (if keep then keys places.old else remove (keys places.old) place)) }
-{
-    if keep {
-        kept.push(e)?;
-    } else {
-        places.shift_remove_index(place);
-    }
-    Ok(())
-}
-
-/// Expressions with a map that has their keys in order: each gets its place.
-fn numbered(list: List<Expr>, mut places: IndexMap<Key, usize>) -> Predicates
-    requires { keys places ≡ map key (map term list) }
-    ensures { result ≡ list }
-{
-    number_all(&mut places);
-    let has_false = any_false(list.as_slice());
-    Predicates {
-        list,
-        places,
-        has_false,
-    }
-}
-
-/// Gives each key its place.
-fn number_all(places: &mut IndexMap<Key, usize>)
-    ensures keys { keys places.new ≡ keys places.old }
-    ensures values { (i : ℕ) → i < length (keys places.old) → slice_get (values places.new) i ≡ Some i }
-{
-    for i in 0..places.len() {
-        places[i] = i;
-    }
+    !nodes_at_most(e, MOST_NODES) as usize
 }

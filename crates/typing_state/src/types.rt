@@ -14,8 +14,8 @@ use std::alloc::Global;
 use std::marker::Model;
 use std::rc::Rc;
 
-/// The most nodes of a small type.
-const MOST_NODES: u32 = 1000;
+/// The most nodes of a small type or predicate.
+pub const MOST_NODES: u32 = 1000;
 
 /// A type of a variable, whether it is small, and whether it mentions no variable. Contracts see it as its expression.
 #[derive(Drop)]

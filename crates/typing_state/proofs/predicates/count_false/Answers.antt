@@ -1,10 +1,10 @@
-use Rattle.std.proofs.Common.{◌≡◌, ◌∙◌, ℕ, true, false, sym, true≢false}
+use Rattle.std.proofs.Common.{◌≡◌, ◌∙◌, true, sym, true≢false}
 use Rattle.std.proofs.lemmas.Bool.{and_parts}
 use Rattle.cov_expr.specs.Term.{Term, const, var, neg, bin}
 use Rattle.cov_expr.specs.Trees.{is_closed}
 use Rattle.cov_expr.specs.View.{term}
 use Rattle.cov_expr.specs.Words.{HasVarsBelow}
-use Rattle.typing_state.proofs.predicates.is_false.Goals as goal
+use Rattle.typing_state.proofs.predicates.count_false.Goals as goal
 
 -- what is closed needs no memory
 needs_none : (e : Term) → is_closed e ≡ true → HasVarsBelow e 0
