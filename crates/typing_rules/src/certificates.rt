@@ -11,7 +11,6 @@ ghost use Rattle.cov_ast.specs.declared.refusal.Detail.TheVariants.{Number};
 ghost use Rattle.cov_ast.specs.declared.refusal.Rule.TheVariants.{V9};
 ghost use Rattle.entail_cert.specs.Answers.{Answers};
 ghost use Rattle.entail_cert.specs.Valid.{first_bad};
-ghost use Rattle.typing_state.specs.Terms.{is_small};
 ghost use Rattle.typing_rules.specs.Inside.Walking.{AtPoint};
 ghost use Rattle.typing_rules.specs.Inside.Listed.{entailment_of, entailments_of, held_term};
 ghost use Rattle.typing_rules.specs.Entailments as spec;
@@ -25,21 +24,14 @@ use entail_cert::{CertFault, check_cert, check_cert_with};
 use std::alloc::Global;
 use typing_state::Point;
 
-/// Whether no entailment has a hypothesis or a goal of more than 1,000 nodes.
+/// Whether no entailment has a hypothesis or a goal of more than 1,000 nodes. The point knows it of its predicates.
 pub fn are_small(point: &Point, entailments: &[Entailment<'_>]) -> bool
     ensures { (p : Plain) → (t : ℕ) → AtPoint p t point.now (λ a. result ≡ list_all spec.is_small_entailment (entailments_of a.preds entailments.now)) }
 {
     if entailments.is_empty() {
         return true;
     }
-    are_small_exprs(point.preds().as_slice()) && are_small_entailments(entailments)
-}
-
-/// Whether each expression has at most 1,000 nodes.
-fn are_small_exprs(es: &[Expr]) -> bool
-    ensures { result ≡ list_all (λ e. is_small (term e)) es.now }
-{
-    es.iter().all(|e| nodes_at_most(e, 1000))
+    point.has_small_preds() && are_small_entailments(entailments)
 }
 
 /// Whether what entailments have beside predicates is small.
