@@ -3,7 +3,7 @@ use Rattle.std.proofs.Common.{◌≡◌, ℕ, suc, Some, map, slice_get, ◌+◌
 use Rattle.std.specs.Prelude.{filter}
 use Rattle.std.specs.List.{count_by, list_all, list_any}
 use Rattle.std.proofs.lemmas.Bool.{lt-ltb, ne_eqb}
-use Rattle.std.proofs.lemmas.List.{get_or-map, length-map, length-take-le}
+use Rattle.std.proofs.lemmas.List.{get_or-map, length-map, length-take-le, take-append-drop, take-append-le, take_all}
 use Rattle.std.proofs.lemmas.List.Edits.{length-remove}
 use Rattle.std.proofs.lemmas.List.Elements.{filter_more}
 use Rattle.std.proofs.lemmas.List.Sums.{sum_by-cons, sum_by-remove}
@@ -100,3 +100,19 @@ module _ (es : List Expr) (end : ℕ) (some : 0 < end) (within : end ≤ length 
     dropped_at new gone fails =
         ap (λ l. left_from f (map term l) (end - 1)) gone ∙ ap (λ l. left_from f l (end - 1)) (map-remove term es (end - 1))
         ∙ sym (left_dropped f (map term es) (end - 1) (term e) inside (ap f last_is ∙ fails)) ∙ ap (left_from f (map term es)) next ∙ so_far
+
+-- Those from a place on are dropped ----------------------------------------------------------------------------
+
+-- the last one goes
+pub cut_step : (es new : List Expr) (end len : ℕ) → length es ≡ end → len < end → new ≡ remove es (end - 1)
+    → (length new ≡ end - 1) × (take len new ≡ take len es)
+cut_step es new end len long more gone =
+    let i = end - 1 in
+    let inside : len ≤ length (take i es) = omega (arith, length-take-le i es (omega arith)) in (
+      omega (arith, ap length gone, length-remove es i (omega arith)),
+      ap (take len) gone ∙ take-append-le len (take i es) (drop (suc i) es) inside ∙ sym (take-append-le len (take i es) (drop i es) inside) ∙ ap (take len) (take-append-drop i es),
+    )
+
+-- until so many are left
+pub cut_end : (es whole : List Expr) (len : ℕ) → length es ≤ len → take len es ≡ whole → es ≡ whole
+cut_end es whole len short e = sym (take_all len es short) ∙ e

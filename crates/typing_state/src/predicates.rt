@@ -1,4 +1,4 @@
-ghost use Rattle.std.specs.Prelude.{◌≡◌, ◌<◌, [], if◌then◌else◌, is_some, length, map, not, filter, position, remove, IfOk, OnOk};
+ghost use Rattle.std.specs.Prelude.{◌≡◌, ◌<◌, ◌≤◌, [], if◌then◌else◌, is_some, length, map, not, filter, position, remove, take, IfOk, OnOk};
 ghost use Rattle.std.specs.List.{list_all, list_any};
 ghost use Rattle.cov_expr.specs.Trees as tree;
 ghost use Rattle.cov_expr.specs.View.{term};
@@ -7,14 +7,14 @@ ghost use Rattle.cov_ast.specs.View as view;
 ghost use Rattle.cov_ast.specs.WellFormed.{IsWellFormed};
 ghost use Rattle.typing_state.specs.Kept.{AtModes};
 ghost use Rattle.typing_state.specs.Point as point;
-ghost use Rattle.typing_state.specs.Terms.{distinct_terms, is_false, is_small, with_term};
+ghost use Rattle.typing_state.specs.Terms.{distinct_terms, is_false, is_small, with_term, with_terms};
 
 use crate::copies::copy_preds;
 use crate::key::{Key, key_of};
 use crate::retain::is_kept;
 use crate::types::MOST_NODES;
 use cov_ast::Program;
-use cov_expr::{Expr, List, NoMemory, closed, copy, eval, mentions, nodes_at_most};
+use cov_expr::{Expr, List, NoMemory, closed, copy, eval, mentions, nodes_at_most, same};
 use indexmap::IndexSet;
 use mode_state::ModeState;
 use std::alloc::Global;
@@ -63,18 +63,6 @@ impl Predicates {
             false_ones: 0,
             large_ones: 0,
         }
-    }
-
-    /// None, with room for so many.
-    fn with_capacity(alloc: Global, room: usize) -> Result<Self, NoMemory>
-        ensures { IfOk result (λ made. made ≡ []) }
-    {
-        Ok(Predicates {
-            list: List::with_capacity(alloc, room)?,
-            index: IndexSet::with_capacity(alloc, room)?,
-            false_ones: 0,
-            large_ones: 0,
-        })
     }
 
     /// The expressions, in the order in which they were added.
@@ -139,6 +127,47 @@ impl Predicates {
         Ok(())
     }
 
+    /// Puts others in their place, each once, by first occurrence. Those with which both begin stay where they are, and no
+    /// copy of them is made.
+    pub fn replace(&mut self, alloc: Global, preds: &[Expr]) -> Result<(), NoMemory>
+        ensures { OnOk result (map term self.new ≡ distinct_terms (map term preds.now)) }
+    {
+        let kept = same_beginning(self.list().as_slice(), preds);
+        self.truncate(kept);
+        self.tell_once();
+        self.add_all(alloc, &preds[kept..])?;
+        Ok(())
+    }
+
+    /// Drops those from a place on.
+    fn truncate(&mut self, len: usize)
+        ensures { self.new ≡ take len self.old }
+    {
+        let mut end = self.list().len();
+        while end > len {
+            end -= 1;
+            self.remove(end);
+        }
+    }
+
+    /// Each is there once.
+    fn tell_once(&self)
+        ensures { distinct_terms (map term self.now) ≡ map term self.now }
+    {
+        let _count = self.index.len();
+    }
+
+    /// Adds copies at the end, each unless an equal one is there.
+    fn add_all(&mut self, alloc: Global, preds: &[Expr]) -> Result<(), NoMemory>
+        ensures { OnOk result (map term self.new ≡ with_terms (map term self.old) (map term preds.now)) }
+    {
+        for e in preds {
+            let copied = copy(alloc, e)?;
+            self.add(alloc, copied)?;
+        }
+        Ok(())
+    }
+
     /// Drops those that mention a variable.
     pub fn drop_mentioning(&mut self, x: u32)
         ensures { map term self.new ≡ filter (λ r. not (tree.mentions r x)) (map term self.old) }
@@ -179,16 +208,19 @@ impl Predicates {
     }
 }
 
-/// Expressions, each once, by first occurrence.
-pub fn distinct_preds(alloc: Global, preds: &[Expr]) -> Result<Predicates, NoMemory>
-    ensures { IfOk result (λ made. map term made ≡ distinct_terms (map term preds.now)) }
+/// With how many equal expressions two lists begin.
+fn same_beginning(list: &[Expr], preds: &[Expr]) -> usize
+    ensures within { (result ≤ length list.now) × (result ≤ length preds.now) }
+    ensures same { map term (take result list.now) ≡ map term (take result preds.now) }
 {
-    let mut made = Predicates::with_capacity(alloc, preds.len())?;
-    for e in preds {
-        let copied = copy(alloc, e)?;
-        made.add(alloc, copied)?;
+    let mut kept = 0;
+    while kept < list.len() && kept < preds.len() {
+        if !same(&list[kept], &preds[kept]) {
+            return kept;
+        }
+        kept += 1;
     }
-    Ok(made)
+    kept
 }
 
 /// One for an expression that is closed and doesn't hold.
