@@ -1,6 +1,7 @@
 pub mod Soundness
 mod Examples
 mod GuardLaws
+mod SeenLaws
 mod StateLaws
 mod TryLaws
 mod Threads

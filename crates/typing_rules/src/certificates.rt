@@ -12,11 +12,12 @@ ghost use Rattle.cov_ast.specs.declared.refusal.Rule.TheVariants.{V9};
 ghost use Rattle.entail_cert.specs.Answers.{Answers};
 ghost use Rattle.entail_cert.specs.Valid.{first_bad};
 ghost use Rattle.typing_rules.specs.Inside.Walking.{AtPoint};
-ghost use Rattle.typing_rules.specs.Inside.Listed.{entailment_of, entailments_of, held_term};
+ghost use Rattle.typing_rules.specs.Inside.Listed.{entailment_of, entailments_of};
 ghost use Rattle.typing_rules.specs.Entailments as spec;
 ghost use Rattle.typing_rules.specs.Obligations as rule;
 
-use crate::entailments::{Entailment, Held};
+use crate::entailments::Entailment;
+use crate::known::is_seen;
 use crate::site::{Site, refused_at};
 use cov_ast::{Cert, CheckFault, Detail, Program, Proof, Rule};
 use cov_expr::{Expr, nodes_at_most};
@@ -46,10 +47,10 @@ fn is_small(entailment: &Entailment<'_>) -> bool
     ensures { result ≡ spec.is_small_entailment (entailment_of [] entailment.now) }
 {
     let small_more = match &entailment.more {
-        Some(more) => nodes_at_most(held_expr(more), 1000),
+        Some(more) => nodes_at_most(more.expr(), 1000),
         None => true,
     };
-    small_more && nodes_at_most(held_expr(&entailment.goal), 1000)
+    small_more && nodes_at_most(entailment.goal.expr(), 1000)
 }
 
 /// Each entailment has a valid certificate (V9). They are numbered from a number on.
@@ -67,8 +68,11 @@ pub fn check_entailments(
         (rule.proved (plain (view.program p.now)) site.thread site.place (map view.proof proofs.now) from (entailments_of a.preds entailments.now)) result) }
 {
     let mut number = from;
+    let mut next = 0;
     for entailment in entailments {
-        if let Err(fault) = check_entailment(alloc, p, site, point, proofs, number, entailment) {
+        if let Err(fault) = check_entailment(
+            alloc, p, site, point, proofs, number, entailment, &mut next,
+        ) {
             return Err(fault);
         }
         number += 1;
@@ -76,7 +80,7 @@ pub fn check_entailments(
     Ok(())
 }
 
-/// An entailment has a valid certificate (V9).
+/// An entailment has a valid certificate (V9). The predicate at the place `next` is looked at first.
 fn check_entailment(
     alloc: Global,
     p: &Program,
@@ -85,13 +89,14 @@ fn check_entailment(
     proofs: &[Proof],
     number: u32,
     entailment: &Entailment<'_>,
+    next: &mut usize,
 ) -> Result<(), CheckFault>
     ensures { AtPoint (plain (view.program p.now)) site.thread point.now (λ a. Decides
         (rule.obligation (plain (view.program p.now)) site.thread site.place V9 (Number number)
         (spec.is_proved (map view.proof proofs.now) number (entailment_of a.preds entailment.now)) ∷ [])
         result) }
 {
-    match try_proof(alloc, point, proofs, number, entailment) {
+    match try_proof(alloc, point, proofs, number, entailment, next) {
         Ok(()) => Ok(()),
         Err(CertFault::Invalid(_)) => Err(refused_at(site, Rule::V9, Detail::Number(number))),
         Err(CertFault::NoMemory) => Err(CheckFault::NoMemory),
@@ -105,16 +110,42 @@ fn try_proof(
     proofs: &[Proof],
     number: u32,
     entailment: &Entailment<'_>,
+    next: &mut usize,
 ) -> Result<(), CertFault>
     ensures { (p : Plain) → (t : ℕ) → AtPoint p t point.now (λ a. Answers
         (first_bad (entailment_of a.preds entailment.now).hyps (entailment_of a.preds entailment.now).goal (spec.cert_for (map view.proof proofs.now) number)) result) }
 {
     let auto = Cert::Auto;
-    try_entailment(alloc, point, entailment, cert_for(proofs, number, &auto))
+    try_entailment(
+        alloc,
+        point,
+        entailment,
+        cert_for(proofs, number, &auto),
+        next,
+    )
 }
 
-/// Tries a certificate for an entailment.
+/// Tries a certificate for an entailment. Where it is `auto`, what is seen to hold needs no walk.
 fn try_entailment(
+    alloc: Global,
+    point: &Point,
+    entailment: &Entailment<'_>,
+    cert: &Cert,
+    next: &mut usize,
+) -> Result<(), CertFault>
+    ensures { (p : Plain) → (t : ℕ) → AtPoint p t point.now (λ a.
+        Answers (first_bad (entailment_of a.preds entailment.now).hyps (entailment_of a.preds entailment.now).goal (view.cert cert.now)) result) }
+{
+    if let Cert::Auto = cert {
+        if is_seen(alloc, point, entailment, next)? {
+            return Ok(());
+        }
+    }
+    walk_entailment(alloc, point, entailment, cert)
+}
+
+/// Walks over a certificate for an entailment.
+fn walk_entailment(
     alloc: Global,
     point: &Point,
     entailment: &Entailment<'_>,
@@ -123,20 +154,10 @@ fn try_entailment(
     ensures { (p : Plain) → (t : ℕ) → AtPoint p t point.now (λ a.
         Answers (first_bad (entailment_of a.preds entailment.now).hyps (entailment_of a.preds entailment.now).goal (view.cert cert.now)) result) }
 {
-    let goal = held_expr(&entailment.goal);
+    let goal = entailment.goal.expr();
     match &entailment.more {
-        Some(more) => check_cert_with(alloc, point.preds(), held_expr(more), goal, cert),
+        Some(more) => check_cert_with(alloc, point.preds(), more.expr(), goal, cert),
         None => check_cert(alloc, point.preds(), goal, cert),
-    }
-}
-
-/// The expression that is lent or made.
-fn held_expr<'a>(held: &'a Held<'_>) -> &'a Expr
-    ensures { term result.now ≡ held_term held.now }
-{
-    match held {
-        Held::Lent(e) => e,
-        Held::Made(e) => e,
     }
 }
 

@@ -8,7 +8,7 @@ ghost use Rattle.cov_ast.specs.View as view;
 ghost use Rattle.cov_ast.specs.WellFormed.{AreTypesInRange, IsWellFormed};
 ghost use Rattle.typing_rules.specs.Inside.Walking.{AtPoint};
 ghost use Rattle.typing_rules.specs.Blocks.{value_type};
-ghost use Rattle.typing_rules.specs.Inside.Listed.{AreListed, entailments_of};
+ghost use Rattle.typing_rules.specs.Inside.Listed.{AreListed, entailments_of, held_term};
 ghost use Rattle.typing_rules.specs.Entailments as spec;
 
 use crate::entailments_of_assignments::{add_controlled, add_retypes, add_shown, add_written};
@@ -24,6 +24,18 @@ use typing_state::Point;
 pub enum Held<'a> {
     Lent(&'a Expr),
     Made(Expr),
+}
+
+impl Held<'_> {
+    /// The expression that is lent or made.
+    pub fn expr(&self) -> &Expr
+        ensures { term result.now ≡ held_term self.now }
+    {
+        match self {
+            Held::Lent(e) => e,
+            Held::Made(e) => e,
+        }
+    }
 }
 
 /// What has to follow from the predicates of a point and, where there is one, from one expression more.

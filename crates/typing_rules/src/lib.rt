@@ -33,7 +33,7 @@
 //! | V16 | `require_small` | `sizes.rt` |
 //!
 //! What a statement asks to follow is collected by `entailments.rt` (its parts by `entailments_of_states.rt` and
-//! `entailments_of_assignments.rt`) and tried by `entailments_tried.rt`.
+//! `entailments_of_assignments.rt`) and tried by `entailments_tried.rt`. `known.rt` sees at once which of them need no walk over the predicates.
 #![tactic(auto)]
 
 mod branches;
@@ -45,6 +45,7 @@ mod entailments_of_assignments;
 mod entailments_of_states;
 mod entailments_tried;
 mod evaluation;
+mod known;
 mod large;
 mod laws;
 mod locks;

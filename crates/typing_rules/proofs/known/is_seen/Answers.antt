@@ -1,0 +1,37 @@
+use Rattle.std.proofs.Common.{◌≡◌, ◌∙◌, ◌++◌, List, Bool, Option, Result, Ok, Err, true, subst, sym}
+use Rattle.std.specs.Prelude.{IfOk}
+use Rattle.cov_expr.specs.declared.list.NoMemory.{NoMemory}
+use Rattle.cov_expr.specs.Term.{Term}
+use Rattle.entail_cert.specs.Valid.{is_all_known, is_plain}
+use Rattle.typing_state.specs.declared.point.Point.{Point}
+use Rattle.typing_rules.specs.declared.entailments.Held.{Held}
+use Rattle.typing_rules.specs.Inside.Listed.{entailment_from, held_term}
+use Rattle.typing_rules.specs.Inside.Seen.{Shows}
+use Rattle.typing_rules.proofs.SeenLaws.{false_plain, known_plain, stated_plain}
+use Rattle.typing_rules.proofs.known.is_seen.Goals as goal
+use Rattle.typing_rules.proofs.known.is_seen.Goals.{then-is_number_set-via-then-is_number_set, then-is_number_set-via-else-is_number_set+then-has_false_pred, then-is_number_set-via-else-is_number_set+else-has_false_pred+then-is_more}
+
+known_shows : (kept : Point) (more : Option Held) (goal : Term) (result : Result Bool NoMemory)
+    → ((others : List Term) → IfOk result (λ known. Shows kept known (λ preds. is_all_known (preds ++ others) goal)))
+    → IfOk result (λ seen. Shows kept seen (λ preds. is_plain (entailment_from preds more goal).hyps (entailment_from preds more goal).goal))
+known_shows kept more goal (Ok seen) h = λ p t a keeps is. known_plain a.preds more goal (λ others. h others p t a keeps is)
+known_shows kept more goal (Err e) h = tt
+
+pub returns-then-is_number_set : goal.returns-then-is_number_set
+returns-then-is_number_set c p t a kept _ =
+    let more = c.args.entailment.now.more in
+    let goal = held_term c.args.entailment.now.goal in
+    elim c.then-is_number_set.branch [
+      | then-is_number_set-via-then-is_number_set w ↦
+          known_plain a.preds more goal (λ others. subst (λ g. is_all_known (a.preds ++ others) g ≡ true) c.expr-goal.ensures (c.is_number_set.ensures (a.preds ++ others) w.if-is_number_set.true))
+      | then-is_number_set-via-else-is_number_set+then-has_false_pred w ↦
+          false_plain a.preds more goal (sym (w.has_false_pred.ensures p t a kept) ∙ w.if-has_false_pred.true)
+      | then-is_number_set-via-else-is_number_set+else-has_false_pred+then-is_more w ↦
+          stated_plain a.preds more goal (w.is_more.ensures a.preds w.if-is_more.true)
+    ]
+
+pub returns : goal.returns
+returns c =
+    known_shows c.args.point.now c.args.entailment.now.more (held_term c.args.entailment.now.goal) c.is_known.result
+    (subst (λ goal. (others : List Term) → IfOk c.is_known.result (λ known. Shows c.args.point.now known (λ preds. is_all_known (preds ++ others) goal)))
+    c.expr-goal.ensures c.is_known.ensures)
