@@ -1,4 +1,4 @@
-ghost use Rattle.std.specs.Prelude.{◌≡◌, IfOk, option_map};
+ghost use Rattle.std.specs.Prelude.{◌≡◌, IfOk, false, option_map, true};
 ghost use Rattle.cov_expr.specs.declared.expr.TheConstants.{HOLE};
 ghost use Rattle.cov_expr.specs.Term.{neg};
 ghost use Rattle.cov_expr.specs.Trees as tree;
@@ -13,14 +13,41 @@ use cov_expr::{Expr, HOLE, Op, closed, eval, same};
 pub fn is_true(e: &Expr) -> bool
     ensures { result ≡ is_true (term e.now) }
 {
-    closed(e) && eval(e, &[]) != 0
+    is_closed(e) && eval(e, &[]) != 0
 }
 
 /// Whether an expression is closed and doesn't hold.
 pub fn is_false(e: &Expr) -> bool
     ensures { result ≡ is_false (term e.now) }
 {
-    closed(e) && eval(e, &[]) == 0
+    is_closed(e) && eval(e, &[]) == 0
+}
+
+/// Whether there is no variable. Most expressions have one at the head, which is seen first.
+fn is_closed(e: &Expr) -> bool
+    ensures { result ≡ tree.is_closed (term e.now) }
+{
+    !begins_with_variable(e) && closed(e)
+}
+
+/// Whether an expression is a variable, or an operator with a variable for its first operand.
+fn begins_with_variable(e: &Expr) -> bool
+    ensures { result ≡ true → tree.is_closed (term e.now) ≡ false }
+{
+    match e {
+        Expr::Var(_) => true,
+        Expr::Const(_) => false,
+        Expr::Not(a) | Expr::Bin(_, a, _) => is_variable(a),
+    }
+}
+
+fn is_variable(e: &Expr) -> bool
+    ensures { result ≡ true → tree.is_closed (term e.now) ≡ false }
+{
+    match e {
+        Expr::Var(_) => true,
+        Expr::Const(_) | Expr::Not(_) | Expr::Bin(..) => false,
+    }
 }
 
 /// The operands, where the expression has this operator.

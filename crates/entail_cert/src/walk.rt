@@ -143,13 +143,13 @@ impl<'a> Walk<'a> {
         }
     }
 
-    /// Whether a hypothesis is false, or each conjunct of the goal is true or known.
+    /// Whether each conjunct of the goal is true or known, or a hypothesis is false.
     fn is_plain(&self, given: &[Expr], goal: &Expr) -> bool
         ensures { result ≡ is_plain (hypotheses given.now self.now) (term goal.now) }
     {
-        has_false(given)
+        knows_each(goal, given, self.added.as_slice())
+            || has_false(given)
             || has_false_fact(self.added.as_slice())
-            || knows_each(goal, given, self.added.as_slice())
     }
 
     /// Whether the goal is this hypothesis.
