@@ -54,7 +54,8 @@ pub fn state_entailments<'a>(
 ) -> Result<List<Entailment<'a>>, NoMemory>
     ensures { IfOk result (λ made. (p : Plain) → (t : ℕ) → AtPoint p t point.now (λ a. entailments_of a.preds made ≡ spec.state_follows a (view.state s.now))) }
 {
-    let mut entailments = List::new(alloc);
+    let room = s.preds.len().saturating_add(s.types.len());
+    let mut entailments = List::with_capacity(alloc, room)?;
     add_preds(s.preds.as_slice(), &mut entailments)?;
     add_types(point, s.types.as_slice(), &mut entailments)?;
     Ok(entailments)
