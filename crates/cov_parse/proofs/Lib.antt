@@ -1,3 +1,4 @@
+pub mod NameLaws
 pub mod Items
 pub mod BlockLaws
 pub mod ParseLaws

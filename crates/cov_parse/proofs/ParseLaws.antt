@@ -1,6 +1,5 @@
 -- From tokens and trees to the answer for a text.
-use Rattle.std.proofs.Common.{◌≡◌, ℕ, List, length, inl, inr, true, Option, Some, None, Result, Ok, Err, refl, sym, ap, subst, ◌∙◌, ⊎_elim}
-use Rattle.cov_lex.specs.declared.token.Token as lexed
+use Rattle.std.proofs.Common.{◌≡◌, ℕ, List, length, inl, inr, Option, Some, None, Result, Ok, Err, refl, sym, ap, subst, ◌∙◌}
 use Rattle.cov_lex.specs.declared.fault.LexFault.{LexFault}
 use Rattle.cov_lex.specs.declared.fault.LexFault.TheVariants as lex
 use Rattle.cov_lex.specs.Lexing.{tokens_of}
@@ -12,26 +11,22 @@ use Rattle.cov_grammar.specs.declared.fault.TokenFault.TheVariants as tokens
 use Rattle.cov_grammar.specs.Shapes.{Shape}
 use Rattle.cov_grammar.specs.Grammar.{program, whole}
 use Rattle.cov_grammar.specs.Spelling.{Is, FirstWrong, spot}
-use Rattle.cov_grammar.specs.LookAhead.{fine}
-use Rattle.cov_grammar.specs.Tables.{first_of, more_of}
 use Rattle.cov_grammar.specs.Reading.{reading}
 use Rattle.cov_grammar.specs.ReaderAnswers as answers
 use Rattle.cov_grammar.proofs.TableLaws.{fine_program}
-use Rattle.cov_grammar.proofs.Wholes.{finish_stands, whole_answers, value_one}
-use Rattle.cov_grammar.proofs.Unique.{spelled_right}
+use Rattle.cov_grammar.proofs.Wholes.{finish_stands, whole_answers}
 use Rattle.cov_text.specs.declared.fault.ParseFault.{ParseFault}
 use Rattle.cov_text.specs.declared.fault.ParseFault.TheVariants as faults
 use Rattle.cov_text.specs.declared.fault.Limit.{Limit}
 use Rattle.cov_text.specs.declared.fault.Limit.TheVariants.{TooMany, TooDeep}
 use Rattle.cov_text.specs.declared.fault.Excess.{Excess}
 use Rattle.cov_text.specs.Depth.{deep}
-use Rattle.cov_text.specs.Numbered as words
 use Rattle.cov_parse.specs.declared.tokens.Tokens.{Tokens}
 use Rattle.cov_read.specs.declared.decl.PlacedProgram.{PlacedProgram}
 use Rattle.cov_read.specs.declared.cert.Whole.{Whole}
 use Rattle.cov_read.specs.CertViews as certs
 use Rattle.cov_read.specs.DeclViews as decls
-use Rattle.cov_text.specs.Text.{words_of, lexical, unexpected, fault_at, fault_of, IsFirstFault, IsShallow, IsText, IsUnexpected, IsPastLimit, IsFault, Answers, Only}
+use Rattle.cov_text.specs.Text.{words_of, lexical, unexpected, fault_at, IsFirstFault, IsShallow, Answers}
 use Rattle.cov_parse.specs.Replies.{Reads, AreRead}
 
 -- All tokens ---------------------------------------------------------------------------------------------------

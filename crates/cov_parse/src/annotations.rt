@@ -77,7 +77,7 @@ fn proof_of(alloc: Global, proof: Proof) -> Result<cov_ast::Proof, NoMemory>
 pub fn proofs_of(alloc: Global, proofs: List<Proof>) -> Result<List<cov_ast::Proof>, NoMemory>
     ensures { IfOk result (λ made. map ast.proof made ≡ map spec.proof_of (map states.proof proofs)) }
 {
-    let mut rest = turned(alloc, proofs)?;
+    let mut rest = turned(proofs);
     let mut made = List::new(alloc);
     while let Some(proof) = rest.pop() {
         made.push(proof_of(alloc, proof)?)?;
@@ -99,7 +99,7 @@ fn retype_of(pair: Typed) -> cov_ast::Retype
 pub fn retypes_of(alloc: Global, pairs: List<Typed>) -> Result<List<cov_ast::Retype>, NoMemory>
     ensures { IfOk result (λ made. map ast.retype made ≡ map spec.pair_of (map states.typed pairs)) }
 {
-    let mut rest = turned(alloc, pairs)?;
+    let mut rest = turned(pairs);
     let mut made = List::new(alloc);
     while let Some(pair) = rest.pop() {
         made.push(retype_of(pair))?;
@@ -118,7 +118,7 @@ fn type_of(pair: Typed) -> (u32, Expr)
 fn types_of(alloc: Global, pairs: List<Typed>) -> Result<List<(u32, Expr)>, NoMemory>
     ensures { IfOk result (λ made. map ast.typed made ≡ map spec.pair_of (map states.typed pairs)) }
 {
-    let mut rest = turned(alloc, pairs)?;
+    let mut rest = turned(pairs);
     let mut made = List::new(alloc);
     while let Some(pair) = rest.pop() {
         made.push(type_of(pair))?;

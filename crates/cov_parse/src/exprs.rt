@@ -20,7 +20,7 @@ pub fn expr_of(e: Whole) -> Expr
 pub fn exprs_of(alloc: Global, es: List<Whole>) -> Result<List<Expr>, NoMemory>
     ensures { IfOk result (λ made. map term made ≡ map spec.expr_of (map certs.whole es)) }
 {
-    let mut rest = turned(alloc, es)?;
+    let mut rest = turned(es);
     let mut made = List::new(alloc);
     while let Some(e) = rest.pop() {
         made.push(expr_of(e))?;

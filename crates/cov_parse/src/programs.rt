@@ -28,7 +28,7 @@ type Made = (cov_ast::StmtKind, List<cov_ast::Proof>);
 fn stmts_of(alloc: Global, body: List<Stmt>) -> Result<List<cov_ast::Stmt>, NoMemory>
     ensures { IfOk result (λ made. ast.block made ≡ spec.stms_of (stms (map stmts.stmt body))) }
 {
-    let mut rest = turned(alloc, body)?;
+    let mut rest = turned(body);
     let mut made = List::new(alloc);
     while let Some(stmt) = rest.pop() {
         made.push(stmt_of(alloc, stmt)?)?;
@@ -181,7 +181,7 @@ fn vars_of(
     requires { All (λ v. v.name.0 < length names.now) (map decls.var vars) }
     ensures { IfOk result (λ made. map ast.var made ≡ map (spec.var_of names.now) (map decls.var vars)) }
 {
-    let mut rest = turned(alloc, vars)?;
+    let mut rest = turned(vars);
     let mut made = List::new(alloc);
     while let Some(var) = rest.pop() {
         made.push(var_of(names, var))?;
@@ -207,7 +207,7 @@ fn locks_of(alloc: Global, names: &NameTable, locks: List<Lock>) -> Result<List<
     requires { All (λ l. l.name.0 < length names.now) (map decls.lock locks) }
     ensures { IfOk result (λ made. map ast.lock made ≡ map (spec.lock_of names.now) (map decls.lock locks)) }
 {
-    let mut rest = turned(alloc, locks)?;
+    let mut rest = turned(locks);
     let mut made = List::new(alloc);
     while let Some(lock) = rest.pop() {
         made.push(lock_of(names, lock))?;
@@ -248,7 +248,7 @@ fn threads_of(
     requires { All (λ h. h.name.0 < length names.now) (map decls.thread threads) }
     ensures { IfOk result (λ made. map ast.thread made ≡ map (spec.thread_of names.now) (map decls.thread threads)) }
 {
-    let mut rest = turned(alloc, threads)?;
+    let mut rest = turned(threads);
     let mut made = List::new(alloc);
     while let Some(thread) = rest.pop() {
         made.push(thread_of(alloc, names, thread)?)?;

@@ -1,7 +1,6 @@
-use Rattle.std.proofs.Common.{◌≡◌, ◌+◌, ◌<◌, ◌∙◌, length, get_or, arith, sym, ap, subst, rules}
+use Rattle.std.proofs.Common.{◌+◌, ◌<◌, ◌∙◌, length, get_or, arith, sym, ap, subst}
 use Rattle.cov_expr.specs.declared.kind.Kind.TheVariants as k
 use Rattle.cov_grammar.specs.declared.token.Token.{Token}
-use Rattle.cov_text.specs.Text.{lexed_of}
 use Rattle.cov_text.proofs.NameNumbers.{Numbering, started, numbered_names, numbered_tokens, classified_are, as_many, within_now, within_text, ordered, within, is_name, name_goes, other_goes}
 use Rattle.cov_parse.proofs.tokens.number_names.Goals.{then-is+in_ok-value, else-is}
 use Rattle.cov_parse.proofs.tokens.number_names.Goals as goal
