@@ -1,4 +1,5 @@
 pub mod Digits
+pub mod Short
 pub mod Signs
 pub mod Pieces
 pub mod Steps

@@ -6,7 +6,7 @@ ghost use Rattle.cov_expr.specs.Bytes as class;
 ghost use Rattle.cov_expr.specs.Spellings.{begins_with_letter};
 ghost use Rattle.cov_lex.specs.Signs as signs;
 ghost use Rattle.cov_lex.specs.Lexing as spec;
-ghost use Rattle.cov_lex.specs.Inside.{with_kind, is_in, IsWithin};
+ghost use Rattle.cov_lex.specs.Inside.{with_kind, is_in, one_kind, two_kind, IsWithin};
 
 use crate::fault::LexFault;
 use cov_expr::{Kind, is_digit, is_lower, is_word, kind_of};
@@ -135,12 +135,54 @@ fn sign(bytes: &[u8], at: u32) -> Result<Piece, LexFault>
     ensures within { IfOk result (IsWithin (length bytes.now)) }
 {
     if bytes.len() > 1 {
-        if let Some(kind) = kind_of(&bytes[..2]) {
+        if let Some(kind) = double(bytes[0], bytes[1]) {
             return Ok(Piece::Part(kind, 0, 2));
         }
     }
-    match kind_of(&bytes[..1]) {
+    match single(bytes[0]) {
         Some(kind) => Ok(Piece::Part(kind, 0, 1)),
         None => Err(LexFault::BadByte(at)),
+    }
+}
+
+/// The sign of two bytes.
+fn double(first: u8, second: u8) -> Option<Kind>
+    ensures { result ≡ two_kind first second }
+{
+    match (first, second) {
+        (b'!', b'=') => Some(Kind::Differs),
+        (b'&', b'&') => Some(Kind::Both),
+        (b':', b'=') => Some(Kind::Assign),
+        (b'<', b'=') => Some(Kind::AtMost),
+        (b'=', b'=') => Some(Kind::Equal),
+        (b'|', b'|') => Some(Kind::Either),
+        _ => None,
+    }
+}
+
+/// The sign of one byte.
+fn single(byte: u8) -> Option<Kind>
+    ensures { result ≡ one_kind byte }
+{
+    match byte {
+        b'!' => Some(Kind::Bang),
+        b'&' => Some(Kind::Ampersand),
+        b'(' => Some(Kind::OpenParen),
+        b')' => Some(Kind::CloseParen),
+        b'*' => Some(Kind::Star),
+        b'+' => Some(Kind::Plus),
+        b',' => Some(Kind::Comma),
+        b'-' => Some(Kind::Minus),
+        b':' => Some(Kind::Colon),
+        b';' => Some(Kind::Semicolon),
+        b'<' => Some(Kind::Less),
+        b'[' => Some(Kind::OpenBracket),
+        b']' => Some(Kind::CloseBracket),
+        b'^' => Some(Kind::Caret),
+        b'_' => Some(Kind::Hole),
+        b'{' => Some(Kind::OpenBrace),
+        b'|' => Some(Kind::Bar),
+        b'}' => Some(Kind::CloseBrace),
+        _ => None,
     }
 }
