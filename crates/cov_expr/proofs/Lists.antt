@@ -1,5 +1,5 @@
 -- A list with other items in the place of its own.
-use Rattle.std.proofs.Common.{◌≡◌, ◌++◌, List, length, take, drop, refl, sym, ◌∙◌, ap, arith, append-nil}
+use Rattle.std.proofs.Common.{◌≡◌, ◌++◌, List, length, take, ◌∙◌, ap, arith, append-nil}
 use Rattle.std.proofs.lemmas.List.{drop_all, take_all}
 use Rattle.cov_expr.specs.Lends.{refilled}
 

@@ -1,10 +1,9 @@
 -- The spellings that begin with a byte stand side by side in the table.
-use Rattle.std.proofs.Common.{◌≡◌, ℕ, zero, suc, ◌+◌, ◌-◌, ◌<◌, ◌≤◌, nat_le, nat_lt, nat_eq, List, [], ◌∷◌, length, map, take, drop, Bor, Bool, true, false, not, ◌&&◌, Option, Some, None, if◌then◌else◌, refl, sym, ap, subst, ◌∙◌, arith}
+use Rattle.std.proofs.Common.{◌≡◌, ℕ, zero, suc, ◌+◌, ◌-◌, ◌<◌, ◌≤◌, nat_le, nat_lt, nat_eq, List, [], ◌∷◌, length, map, take, drop, Bor, Bool, true, false, not, ◌&&◌, Some, None, if◌then◌else◌, refl, sym, ap, ◌∙◌, arith}
 use Rattle.std.proofs.lemmas.List.{drop-drop, drop-map, length-map}
 use Rattle.std.specs.List.{list_all}
 use Rattle.std.specs.Str.{bytes_eq}
 use Rattle.cov_expr.specs.declared.kind.Kind.{Kind}
-use Rattle.cov_expr.specs.declared.spelling.TheConstants.{SPELLINGS}
 use Rattle.cov_expr.specs.Inside.{start_of}
 use Rattle.cov_expr.specs.Spellings.{spellings, kind_among, kind_of}
 
@@ -57,11 +56,11 @@ before_end b rest (suc n) (s ∷ ss) h = ap (λ k. if bytes_eq (b ∷ rest) s.0 
 
 -- The table ----------------------------------------------------------------------------------------------------
 
-abbrev all_below : (ℕ → Bool) → ℕ → Bool
+abbrev pub all_below : (ℕ → Bool) → ℕ → Bool
 all_below test zero = true
 all_below test (suc n) = test n && all_below test n
 
-is_below : (test : ℕ → Bool) (n k : ℕ) → all_below test n ≡ true → k < n → test k ≡ true
+pub is_below : (test : ℕ → Bool) (n k : ℕ) → all_below test n ≡ true → k < n → test k ≡ true
 is_below test zero k h l = let no : ⊥ = omega arith in absurd no
 is_below test (suc n) k h l = by (nat_eq k n) refl (is_below test n k (and_right (test n) (all_below test n) h))
   where

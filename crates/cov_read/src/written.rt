@@ -79,6 +79,7 @@ pub fn variable(x: u32) -> Written
 }
 
 /// An expression in memory that was taken for it before.
+#[inline(always)]
 fn placed(room: Box<Expr>, e: Expr) -> Box<Expr>
     ensures { result.value ≡ e }
 {
