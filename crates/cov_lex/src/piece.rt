@@ -39,12 +39,12 @@ pub fn front(bytes: &[u8], at: u32) -> Result<Piece, LexFault>
     let first = bytes[0];
     if is_blank(first) {
         Ok(Piece::Gap(1))
-    } else if is_comment(bytes) {
-        Ok(Piece::Gap(run(Class::Line, bytes).len()))
     } else if is_lower(first) {
         word(run(Class::Word, bytes), at)
     } else if is_digit(first) {
         number(run(Class::Digit, bytes), at)
+    } else if is_comment(bytes) {
+        Ok(Piece::Gap(run(Class::Line, bytes).len()))
     } else {
         sign(bytes, at)
     }
