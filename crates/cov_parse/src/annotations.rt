@@ -78,7 +78,7 @@ pub fn proofs_of(alloc: Global, proofs: List<Proof>) -> Result<List<cov_ast::Pro
     ensures { IfOk result (λ made. map ast.proof made ≡ map spec.proof_of (map states.proof proofs)) }
 {
     let mut rest = turned(proofs);
-    let mut made = List::new(alloc);
+    let mut made = List::with_capacity(alloc, rest.len())?;
     while let Some(proof) = rest.pop() {
         made.push(proof_of(alloc, proof)?)?;
     }
@@ -100,7 +100,7 @@ pub fn retypes_of(alloc: Global, pairs: List<Typed>) -> Result<List<cov_ast::Ret
     ensures { IfOk result (λ made. map ast.retype made ≡ map spec.pair_of (map states.typed pairs)) }
 {
     let mut rest = turned(pairs);
-    let mut made = List::new(alloc);
+    let mut made = List::with_capacity(alloc, rest.len())?;
     while let Some(pair) = rest.pop() {
         made.push(retype_of(pair))?;
     }
@@ -119,7 +119,7 @@ fn types_of(alloc: Global, pairs: List<Typed>) -> Result<List<(u32, Expr)>, NoMe
     ensures { IfOk result (λ made. map ast.typed made ≡ map spec.pair_of (map states.typed pairs)) }
 {
     let mut rest = turned(pairs);
-    let mut made = List::new(alloc);
+    let mut made = List::with_capacity(alloc, rest.len())?;
     while let Some(pair) = rest.pop() {
         made.push(type_of(pair))?;
     }

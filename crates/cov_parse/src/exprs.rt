@@ -21,7 +21,7 @@ pub fn exprs_of(alloc: Global, es: List<Whole>) -> Result<List<Expr>, NoMemory>
     ensures { IfOk result (λ made. map term made ≡ map spec.expr_of (map certs.whole es)) }
 {
     let mut rest = turned(es);
-    let mut made = List::new(alloc);
+    let mut made = List::with_capacity(alloc, rest.len())?;
     while let Some(e) = rest.pop() {
         made.push(expr_of(e))?;
     }

@@ -29,7 +29,7 @@ fn stmts_of(alloc: Global, body: List<Stmt>) -> Result<List<cov_ast::Stmt>, NoMe
     ensures { IfOk result (λ made. ast.block made ≡ spec.stms_of (stms (map stmts.stmt body))) }
 {
     let mut rest = turned(body);
-    let mut made = List::new(alloc);
+    let mut made = List::with_capacity(alloc, rest.len())?;
     while let Some(stmt) = rest.pop() {
         made.push(stmt_of(alloc, stmt)?)?;
     }
@@ -182,7 +182,7 @@ fn vars_of(
     ensures { IfOk result (λ made. map ast.var made ≡ map (spec.var_of names.now) (map decls.var vars)) }
 {
     let mut rest = turned(vars);
-    let mut made = List::new(alloc);
+    let mut made = List::with_capacity(alloc, rest.len())?;
     while let Some(var) = rest.pop() {
         made.push(var_of(names, var))?;
     }
@@ -208,7 +208,7 @@ fn locks_of(alloc: Global, names: &NameTable, locks: List<Lock>) -> Result<List<
     ensures { IfOk result (λ made. map ast.lock made ≡ map (spec.lock_of names.now) (map decls.lock locks)) }
 {
     let mut rest = turned(locks);
-    let mut made = List::new(alloc);
+    let mut made = List::with_capacity(alloc, rest.len())?;
     while let Some(lock) = rest.pop() {
         made.push(lock_of(names, lock))?;
     }
@@ -249,7 +249,7 @@ fn threads_of(
     ensures { IfOk result (λ made. map ast.thread made ≡ map (spec.thread_of names.now) (map decls.thread threads)) }
 {
     let mut rest = turned(threads);
-    let mut made = List::new(alloc);
+    let mut made = List::with_capacity(alloc, rest.len())?;
     while let Some(thread) = rest.pop() {
         made.push(thread_of(alloc, names, thread)?)?;
     }
