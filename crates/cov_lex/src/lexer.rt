@@ -1,4 +1,4 @@
-ghost use Rattle.std.specs.Prelude.{◌≡◌, ◌≤◌, ◌<◌, length, map, IfOk};
+ghost use Rattle.std.specs.Prelude.{◌≡◌, [], ◌∷◌, ◌++◌, ◌≤◌, ◌<◌, length, map, IfOk, OnOk};
 ghost use Rattle.cov_expr.specs.declared.limits.TheConstants.{MOST_BYTES};
 ghost use Rattle.cov_lex.specs.Classified.{classified_of, AreClassified};
 ghost use Rattle.cov_lex.specs.Inside as inside;
@@ -26,17 +26,31 @@ pub fn tokens(alloc: Global, bytes: &[u8]) -> Result<List<cov_grammar::Token>, L
         match front(&bytes[at..], at as u32)? {
             Piece::Gap(len) => at += len,
             Piece::Part(kind, value, len) => {
-                tokens.push(cov_grammar::Token {
-                    kind,
-                    at: at as u32,
-                    end: (at + len) as u32,
-                    value,
-                })?;
+                add_token(&mut tokens, kind, at as u32, (at + len) as u32, value)?;
                 at += len;
             }
         }
     }
     Ok(tokens)
+}
+
+/// Adds a token at the end.
+#[inline(always)]
+fn add_token(
+    tokens: &mut List<cov_grammar::Token>,
+    kind: Kind,
+    at: u32,
+    end: u32,
+    value: u32,
+) -> Result<(), NoMemory>
+    ensures ok { OnOk result (tokens.new ≡ tokens.old ++ (record { kind = kind; at = at; end = end; value = value }) ∷ []) }
+{
+    tokens.push(cov_grammar::Token {
+        kind,
+        at,
+        end,
+        value,
+    })
 }
 
 /// The tokens of a text of at most 1 MiB, in order, or its lexical fault of least offset. It reads each byte once, and

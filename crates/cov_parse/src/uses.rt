@@ -41,6 +41,7 @@ fn add_use(
 }
 
 /// Whether a name behind such a token is declared there.
+#[inline(never)]
 fn declares(in_thread: bool, before: Kind) -> bool
     ensures { result ≡ spec.declares in_thread before }
 {

@@ -16,7 +16,7 @@ pub loop-at-preserved : goal.loop-at-preserved
 loop-at-preserved c =
     let e = ap Ok (sym c.in-Part.is) ∙ c.in_ok-len.ensures.piece in record {
       same =
-          part_read c.loop-at.at c.args.bytes.now c.loop-at-test.true c.loop-at.tokens c.push.new.self c.in-Part.kind c.in-Part.value c.in-Part.len e c.in_ok-push-in-Part.ensures.ok
+          part_read c.loop-at.at c.args.bytes.now c.loop-at-test.true c.loop-at.tokens c.add_token.new.tokens c.in-Part.kind c.in-Part.value c.in-Part.len e c.in_ok-add_token-in-Part.ensures.ok
           ∙ c.loop-at.invariant.same;
       within = part_fits c.loop-at.at c.args.bytes.now c.loop-at-test.true c.in-Part.kind c.in-Part.value c.in-Part.len e;
     }
