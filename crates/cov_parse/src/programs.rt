@@ -1,11 +1,8 @@
-ghost use Rattle.std.specs.Prelude.{◌≡◌, ◌<◌, length, map, option_map, All, IfOk};
+ghost use Rattle.std.specs.Prelude.{◌≡◌, [], ◌∷◌, ◌++◌, ◌<◌, length, map, All, IfOk, OnOk};
 ghost use Rattle.cov_ast.specs.View as ast;
-ghost use Rattle.cov_ast.specs.Syntax as syntax;
 ghost use Rattle.cov_grammar.specs.Trees.{stms};
 ghost use Rattle.cov_text.specs.Inside.Named.{AreNamed};
 ghost use Rattle.cov_text.specs.Trees as spec;
-ghost use Rattle.cov_read.specs.CertViews as certs;
-ghost use Rattle.cov_read.specs.StateViews as states;
 ghost use Rattle.cov_read.specs.StmtViews as stmts;
 ghost use Rattle.cov_read.specs.DeclViews as decls;
 
@@ -14,14 +11,8 @@ use crate::exprs::{expr_of, option_of};
 use crate::turned::turned;
 use cov_ast::{Class, LockDecl, Modes, NameTable, NameUse, Parsed, ThreadDecl, VarDecl};
 use cov_expr::{List, Name, NoMemory};
-use cov_read::{
-    ClassDecl, Lock, Pair, PlacedProgram, Proof, State, Stmt, StmtKind, Thread, Typed, Variable,
-    Whole,
-};
+use cov_read::{ClassDecl, Lock, Pair, PlacedProgram, Stmt, StmtKind, Thread, Variable};
 use std::alloc::Global;
-
-/// What a statement is, and the proofs behind it.
-type Made = (cov_ast::StmtKind, List<cov_ast::Proof>);
 
 /// Statements without the places of their braces.
 #[cycle(made)]
@@ -31,116 +22,68 @@ fn stmts_of(alloc: Global, body: List<Stmt>) -> Result<List<cov_ast::Stmt>, NoMe
     let mut rest = turned(body);
     let mut made = List::with_capacity(alloc, rest.len())?;
     while let Some(stmt) = rest.pop() {
-        made.push(stmt_of(alloc, stmt)?)?;
+        add_stmt(alloc, stmt, &mut made)?;
     }
     Ok(made)
 }
 
+/// Adds a statement, and its proofs.
 #[cycle(made)]
-fn stmt_of(alloc: Global, stmt: Stmt) -> Result<cov_ast::Stmt, NoMemory>
-    ensures { IfOk result (λ made. ast.stmt made ≡ spec.stmt_of (stmts.stmt stmt)) }
+fn add_stmt(alloc: Global, stmt: Stmt, made: &mut List<cov_ast::Stmt>) -> Result<(), NoMemory>
+    ensures { OnOk result (map ast.stmt made.new ≡ map ast.stmt made.old ++ spec.stmt_of (stmts.stmt stmt) ∷ []) }
 {
     let Stmt { at, kind } = stmt;
-    let (kind, proofs) = kind_of(alloc, kind)?;
-    Ok(cov_ast::Stmt { at, kind, proofs })
-}
-
-/// What a statement is, and its proofs.
-#[cycle(made)]
-fn kind_of(alloc: Global, kind: StmtKind) -> Result<Made, NoMemory>
-    ensures kind { IfOk result (λ made. ast.kind made.0 ≡ spec.stm_of (stmts.kind kind)) }
-    ensures proofs { IfOk result (λ made. map ast.proof made.1 ≡ spec.proofs_of (stmts.kind kind)) }
-{
     match kind {
-        StmtKind::Skip => Ok((cov_ast::StmtKind::Skip, List::new(alloc))),
+        StmtKind::Skip => add_made(made, at, cov_ast::StmtKind::Skip, List::new(alloc)),
         StmtKind::Assign(x, e, class, retypes, proofs) => {
-            assignment(alloc, x, e, class, retypes, proofs)
+            let retypes = retypes_of(alloc, retypes)?;
+            let proofs = proofs_of(alloc, proofs)?;
+            let kind = cov_ast::StmtKind::Assign(x, expr_of(e), option_of(class), retypes);
+            add_made(made, at, kind, proofs)
         }
-        StmtKind::Lock(lock) => Ok((cov_ast::StmtKind::Lock(lock), List::new(alloc))),
-        StmtKind::Unlock(lock, proofs) => with_proofs(
-            alloc,
-            cov_ast::StmtKind::Unlock(lock),
-            proofs,
-        ),
+        StmtKind::Lock(lock) => add_made(made, at, cov_ast::StmtKind::Lock(lock), List::new(alloc)),
+        StmtKind::Unlock(lock, proofs) => {
+            let proofs = proofs_of(alloc, proofs)?;
+            add_made(made, at, cov_ast::StmtKind::Unlock(lock), proofs)
+        }
         StmtKind::If(e, _, first, _, second, join, proofs) => {
             let first = stmts_of(alloc, first)?;
             let second = stmts_of(alloc, second)?;
-            branch(alloc, e, first, second, join, proofs)
+            let join = state_or_none(alloc, join)?;
+            let proofs = proofs_of(alloc, proofs)?;
+            let kind = cov_ast::StmtKind::If(expr_of(e), first, second, join);
+            add_made(made, at, kind, proofs)
         }
         StmtKind::While(e, inv, _, body, proofs) => {
             let body = stmts_of(alloc, body)?;
-            repetition(alloc, e, inv, body, proofs)
+            let inv = state_or_none(alloc, inv)?;
+            let proofs = proofs_of(alloc, proofs)?;
+            add_made(
+                made,
+                at,
+                cov_ast::StmtKind::While(expr_of(e), inv, body),
+                proofs,
+            )
         }
         StmtKind::Note(state, proofs) => {
-            let kind = cov_ast::StmtKind::Note(state_of(alloc, state)?);
-            with_proofs(alloc, kind, proofs)
+            let state = state_of(alloc, state)?;
+            let proofs = proofs_of(alloc, proofs)?;
+            add_made(made, at, cov_ast::StmtKind::Note(state), proofs)
         }
     }
 }
 
-/// What a statement is, with the proofs behind it.
-fn with_proofs(
-    alloc: Global,
+/// Adds a statement whose parts are made.
+#[inline(always)]
+fn add_made(
+    made: &mut List<cov_ast::Stmt>,
+    at: u32,
     kind: cov_ast::StmtKind,
-    proofs: List<Proof>,
-) -> Result<Made, NoMemory>
-    ensures kind { IfOk result (λ made. made.0 ≡ kind) }
-    ensures proofs { IfOk result (λ made. map ast.proof made.1 ≡ map spec.proof_of (map states.proof proofs)) }
+    proofs: List<cov_ast::Proof>,
+) -> Result<(), NoMemory>
+    ensures { OnOk result (map ast.stmt made.new ≡ map ast.stmt made.old ++ (record { at = at; stm = ast.kind kind; proofs = map ast.proof proofs }) ∷ []) }
 {
-    Ok((kind, proofs_of(alloc, proofs)?))
-}
-
-/// An assignment, and its proofs.
-fn assignment(
-    alloc: Global,
-    x: u32,
-    e: Whole,
-    class: Option<Whole>,
-    retypes: List<Typed>,
-    proofs: List<Proof>,
-) -> Result<Made, NoMemory>
-    ensures kind { IfOk result (λ made. ast.kind made.0 ≡ syntax.assign x (spec.expr_of (certs.whole e))
-        (option_map spec.expr_of (option_map certs.whole class)) (map spec.pair_of (map states.typed retypes))) }
-    ensures proofs { IfOk result (λ made. map ast.proof made.1 ≡ map spec.proof_of (map states.proof proofs)) }
-{
-    let retypes = retypes_of(alloc, retypes)?;
-    let kind = cov_ast::StmtKind::Assign(x, expr_of(e), option_of(class), retypes);
-    with_proofs(alloc, kind, proofs)
-}
-
-/// A branch whose blocks are made, and its proofs.
-fn branch(
-    alloc: Global,
-    guard: Whole,
-    first: List<cov_ast::Stmt>,
-    second: List<cov_ast::Stmt>,
-    join: Option<Box<State>>,
-    proofs: List<Proof>,
-) -> Result<Made, NoMemory>
-    ensures kind { IfOk result (λ made. ast.kind made.0 ≡ syntax.branch (spec.expr_of (certs.whole guard)) (ast.block first) (ast.block second)
-        (spec.state_or_none (option_map (λ j. states.state j.value) join))) }
-    ensures proofs { IfOk result (λ made. map ast.proof made.1 ≡ map spec.proof_of (map states.proof proofs)) }
-{
-    let join = state_or_none(alloc, join)?;
-    let kind = cov_ast::StmtKind::If(expr_of(guard), first, second, join);
-    with_proofs(alloc, kind, proofs)
-}
-
-/// A loop whose block is made, and its proofs.
-fn repetition(
-    alloc: Global,
-    guard: Whole,
-    inv: Option<Box<State>>,
-    body: List<cov_ast::Stmt>,
-    proofs: List<Proof>,
-) -> Result<Made, NoMemory>
-    ensures kind { IfOk result (λ made. ast.kind made.0 ≡ syntax.loop (spec.expr_of (certs.whole guard))
-        (spec.state_or_none (option_map (λ j. states.state j.value) inv)) (ast.block body)) }
-    ensures proofs { IfOk result (λ made. map ast.proof made.1 ≡ map spec.proof_of (map states.proof proofs)) }
-{
-    let inv = state_or_none(alloc, inv)?;
-    let kind = cov_ast::StmtKind::While(expr_of(guard), inv, body);
-    with_proofs(alloc, kind, proofs)
+    made.push(cov_ast::Stmt { at, kind, proofs })
 }
 
 /// The name of a number.

@@ -10,11 +10,8 @@ use Rattle.cov_parse.proofs.programs.+made.Given as goal
 abbrev pub decreases-stmts_of : goal.decreases-stmts_of
 decreases-stmts_of l = 3 * length (places (stms (map stmts.stmt l.body)))
 
-abbrev pub decreases-stmt_of : goal.decreases-stmt_of
-decreases-stmt_of l = 3 * length (places_in (stmts.stmt l.stmt).1) + 2
-
-abbrev pub decreases-kind_of : goal.decreases-kind_of
-decreases-kind_of l = 3 * length (places_in (stmts.kind l.kind)) + 1
+abbrev pub decreases-add_stmt : goal.decreases-add_stmt
+decreases-add_stmt l = 3 * length (places_in (stmts.stmt l.stmt).1) + 1
 
 abbrev pub invariant-stmts_of-loop-stmt : goal.invariant-stmts_of-loop-stmt
 invariant-stmts_of-loop-stmt l = record {
