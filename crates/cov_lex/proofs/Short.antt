@@ -1,5 +1,9 @@
 -- Spellings of one byte and of two, looked up by their bytes.
-use Rattle.std.proofs.Common.{◌≡◌, ℕ, ◌<◌, nat_eq, List, [], ◌∷◌, length, take, slice_index, Bool, true, false, ◌&&◌, Some, if◌then◌else◌, refl, sym, ap, ◌∙◌, arith, true≢false, eqb-true}
+use Rattle.std.proofs.Common.{◌≡◌, ℕ, ◌<◌, nat_eq, nat_le, List, [], ◌∷◌, length, take, slice_index, Bool, true, false, ◌&&◌, Some, None, if◌then◌else◌, refl, sym, ap, ◌∙◌, arith, true≢false, eqb-true}
+use Rattle.std.specs.List.{list_all}
+use Rattle.std.specs.Str.{bytes_eq}
+use Rattle.std.proofs.lemmas.Bool.{and_parts}
+use Rattle.std.proofs.lemmas.Slice.Eq.{bytes_eq-Decides}
 use Rattle.cov_expr.specs.Bytes.{is_lower}
 use Rattle.cov_expr.specs.declared.kind.Kind.{Kind}
 use Rattle.cov_expr.specs.Spellings.{spellings, kind_among, kind_of, begins_with_letter}
@@ -46,6 +50,24 @@ no_letter a n none letter = by (nat_eq a n) refl
 two_is_kind : (a b : ℕ) → is_lower a ≡ false → kind_of (a ∷ b ∷ []) ≡ two_kind a b
 unfolding kind_of spellings
 two_is_kind a b letter = two_among a b spellings ∙ rw (no_letter a 97 letter refl, no_letter a 98 letter refl, no_letter a 105 letter refl) refl
+
+-- Long words ---------------------------------------------------------------------------------------------------
+
+-- what is longer than each spelling is none
+long_among : (text : List ℕ) (ss : List (List ℕ × Kind)) → 9 < length text → list_all (λ s. nat_le (length s.0) 9) ss ≡ true → kind_among ss text ≡ None
+long_among text [] long all = refl
+long_among text (s ∷ ss) long all = by (bytes_eq text s.0) refl (long_among text ss long (and_parts (nat_le (length s.0) 9) (list_all (λ r. nat_le (length r.0) 9) ss) all).1)
+  where
+    by : (x : Bool) → bytes_eq text s.0 ≡ x → kind_among ss text ≡ None → (if x then Some s.1 else kind_among ss text) ≡ None
+    by false e rest = rest
+    by true e rest =
+        let same = ap length ((bytes_eq-Decides text s.0).0 e) in
+        let small = (and_parts (nat_le (length s.0) 9) (list_all (λ r. nat_le (length r.0) 9) ss) all).0 in
+        let no : ⊥ = grind (arith, same, small, long) in absurd no
+
+pub long_is_no_keyword : (run : List ℕ) → 9 < length run → kind_of run ≡ None
+unfolding kind_of spellings
+long_is_no_keyword run long = long_among run spellings long refl
 
 -- At the front of a text ---------------------------------------------------------------------------------------
 

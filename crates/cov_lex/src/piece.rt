@@ -1,8 +1,10 @@
-ghost use Rattle.std.specs.Prelude.{◌≡◌, ◌<◌, length, IsTrue, true, false, take, codes, IfOk, MatchOption};
+ghost use Rattle.std.specs.Prelude.{◌≡◌, ◌<◌, length, IsTrue, true, false, take, codes, unwrap_or, IfOk, MatchOption};
 ghost use Rattle.std.specs.List.{take_while, list_all};
 ghost use Rattle.std.specs.Str.{bytes_eq};
 ghost use Rattle.std.specs.Str.Parse.{digits_value};
 ghost use Rattle.cov_expr.specs.Bytes as class;
+ghost use Rattle.cov_expr.specs.declared.kind.Kind.TheVariants as kinds;
+ghost use Rattle.cov_expr.specs.Spellings as spellings;
 ghost use Rattle.cov_expr.specs.Spellings.{begins_with_letter};
 ghost use Rattle.cov_lex.specs.Signs as signs;
 ghost use Rattle.cov_lex.specs.Lexing as spec;
@@ -13,6 +15,9 @@ use cov_expr::{Kind, is_digit, is_lower, is_word, kind_of};
 
 /// The most bytes of a word.
 const LONGEST: usize = 32;
+
+/// The most bytes of a keyword.
+const LONGEST_KEYWORD: usize = 9;
 
 /// What stands at the front of a text: a blank or a comment of so many bytes, or a token of a kind, with the value of a number, of so
 /// many bytes.
@@ -97,8 +102,19 @@ fn word(run: &[u8], at: u32) -> Result<Piece, LexFault>
     if run.len() > LONGEST {
         return Err(LexFault::NameTooLong(at));
     }
-    let kind = kind_of(run).unwrap_or(Kind::Name);
-    Ok(Piece::Part(kind, 0, run.len()))
+    Ok(Piece::Part(word_kind(run), 0, run.len()))
+}
+
+/// The kind of a word: that of a keyword, which is short, or else of a name.
+#[tactic(auto, using(crate::proofs::Short::long_is_no_keyword))]
+fn word_kind(run: &[u8]) -> Kind
+    ensures { result ≡ unwrap_or (spellings.kind_of run.now) kinds.Name }
+{
+    if run.len() > LONGEST_KEYWORD {
+        Kind::Name
+    } else {
+        kind_of(run).unwrap_or(Kind::Name)
+    }
 }
 
 /// A number as a token, by its whole run.

@@ -1,11 +1,7 @@
 use Rattle.std.proofs.Common.{◌∙◌, ap, length, Ok}
-use Rattle.std.specs.Option.{unwrap_or}
-use Rattle.cov_expr.specs.declared.kind.Kind.TheVariants as k
 use Rattle.cov_lex.specs.declared.piece.Piece.TheVariants.{Part}
 use Rattle.cov_lex.proofs.Signs.{word_is}
 use Rattle.cov_lex.proofs.piece.word.Goals as goal
 
 pub returns : goal.returns
-returns c =
-    ap (λ kind. Ok (Part kind 0 (length c.args.run.now))) (c.unwrap_or-kind.ensures ∙ ap (λ o. unwrap_or o k.Name) c.kind_of.ensures)
-    ∙ word_is c.args.at c.args.run.now c.requires c.if-run-gt-LONGEST.false
+returns c = ap (λ kind. Ok (Part kind 0 (length c.args.run.now))) c.word_kind.ensures ∙ word_is c.args.at c.args.run.now c.requires c.if-run-gt-LONGEST.false
