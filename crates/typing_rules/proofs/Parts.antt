@@ -79,7 +79,7 @@ proved-append p t at proofs n (g ∷ gs) hs =
 
 -- where the obligations that come last hold, each entailment was counted
 pub all_counted : (p : Plain) (t at : ℕ) (proofs : List Proof) (n count : ℕ) (gs : List Entailment) (points : List Point) (tried : Tried) (front : List Obligation)
-    → Tries p t at proofs n gs tried → first_false (front ++ flat (last_parts p t at proofs n count gs points)) ≡ None → tried.count ≡ length gs
+    → Tries proofs n gs tried → first_false (front ++ flat (last_parts p t at proofs n count gs points)) ≡ None → tried.count ≡ length gs
 all_counted p t at proofs n count gs points tried front h held =
     let last = append_none front (flat (last_parts p t at proofs n count gs points)) held in
     let sizes = append_none (small_terms p t at gs points) (proved p t at proofs n gs ++ (numbers p t at count proofs ++ [])) last.1 in

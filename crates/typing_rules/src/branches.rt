@@ -12,8 +12,9 @@ ghost use Rattle.typing_state.specs.After.{meet, with_guard};
 ghost use Rattle.typing_state.specs.Kept.{Keeps};
 ghost use Rattle.typing_rules.specs.Entailments.{Entailment, guard_follows, state_follows};
 ghost use Rattle.typing_rules.specs.Obligations.{flat, same_locks, state_obligations};
-ghost use Rattle.typing_rules.specs.Inside.Walking.{Guards, GuardsAt, IsWalk, Stands, TriesAt, Walks, Wherever, first_parts, fork_parts, head_parts, join_parts, plain_of, starts_of, turn_parts};
+ghost use Rattle.typing_rules.specs.Inside.Walking.{Guards, GuardsAt, IsWalk, Stands, Tries, Walks, Wherever, first_parts, fork_parts, head_parts, join_parts, plain_of, starts_of, turn_parts};
 
+use crate::certificates::require_proved;
 use crate::entailments_tried::Tried;
 use crate::evaluation::check_guard;
 use crate::locks::check_same_locks;
@@ -67,7 +68,7 @@ impl Walk<'_> {
         let (p, site) = (self.program, self.site(at));
         let stated = check_state(p, site, &point, inv);
         let evaluated = check_guard(p, site, point.modes(), e);
-        let entered = self.try_state(at, &point, inv, proofs, 1)?;
+        let entered = self.try_state(&point, inv, proofs, 1)?;
         let top = point.meet(self.alloc, p, inv)?;
         self.guard(at, e, proofs, top, both(stated, evaluated), entered)
     }
@@ -86,13 +87,13 @@ impl Walk<'_> {
         requires point { Stands self.now point }
         requires few { entered.count < 4294967294 }
         ensures { Wherever self.now point (λ a. (front : List Obligation) → (gs : List Entailment)
-            → Decides front before → TriesAt self.now at (map view.proof proofs.now) 1 gs entered
+            → Decides front before → Tries (map view.proof proofs.now) 1 gs entered
             → GuardsAt self.now
             (front ++ flat (first_parts (plain_of self.now) self.now.thread at (map view.proof proofs.now)
             (gs ++ guard_follows (plain_of self.now) self.now.thread a (term e.now) ∷ []) (starts_of self.now a (term e.now))))
             a (term e.now) (length (gs ++ guard_follows (plain_of self.now) self.now.thread a (term e.now) ∷ [])) result) }
     {
-        let tried = self.try_guard(at, &point, e, proofs, 1 + entered.count)?;
+        let tried = self.try_guard(&point, e, proofs, 1 + entered.count)?;
         let all = entered.and(tried);
         let holds = self.holding(e, &point)?;
         let fails = self.failing(e, point)?;
@@ -129,13 +130,14 @@ impl Walk<'_> {
         fails: Point,
     ) -> Result<Guarded, CheckFault>
         ensures { Wherever self.now holds (λ a. Wherever self.now fails (λ b. (front : List Obligation) → (proofs : List syntax.Proof) → (gs : List Entailment)
-            → Decides front before → TriesAt self.now at proofs 1 gs tried
+            → Decides front before → Tries proofs 1 gs tried
             → Guards (plain_of self.now) self.now.thread (front ++ flat (first_parts (plain_of self.now) self.now.thread at proofs gs (a ∷ b ∷ []))) a b (length gs) result)) }
     {
         let few = check_both_few_preds(self.program, self.site(at), &holds, &fails);
         let small = require_small(self.program, self.site(at), tried.small);
         let count = tried.count;
-        match both(before, both(few, both(small, tried.proved))) {
+        let proved = require_proved(self.site(at), tried.unproved);
+        match both(before, both(few, both(small, proved))) {
             Ok(()) => Ok(Guarded {
                 holds,
                 fails,
@@ -169,7 +171,7 @@ impl Walk<'_> {
         let inside = yes.entailments + no.entailments;
         let (yes, no) = (yes.point, no.point);
         let met = self.check_ends(at, join, &yes, &no);
-        let tried = self.try_both(at, &yes, &no, join, proofs, 1 + before)?;
+        let tried = self.try_both(&yes, &no, join, proofs, 1 + before)?;
         let entailments = u64::from(before) + inside + u64::from(tried.count);
         let after = yes.meet(self.alloc, self.program, join)?;
         let last = self.check_last(at, proofs, before, tried, after.has_small_types());
@@ -192,7 +194,6 @@ impl Walk<'_> {
     /// Tries what is asked where a state is to be met at two points.
     fn try_both(
         &self,
-        at: u32,
         yes: &Point,
         no: &Point,
         join: &State,
@@ -203,10 +204,10 @@ impl Walk<'_> {
         requires no { Stands self.now no.now }
         requires few { from + 2 * state_size (view.state join.now) < 2 ^ 32 }
         ensures { IfOk result (λ tried. Wherever self.now yes.now (λ a. Wherever self.now no.now (λ b.
-            TriesAt self.now at (map view.proof proofs.now) from (state_follows a (view.state join.now) ++ state_follows b (view.state join.now)) tried))) }
+            Tries (map view.proof proofs.now) from (state_follows a (view.state join.now) ++ state_follows b (view.state join.now)) tried))) }
     {
-        let first = self.try_state(at, yes, join, proofs, from)?;
-        let second = self.try_state(at, no, join, proofs, from + first.count)?;
+        let first = self.try_state(yes, join, proofs, from)?;
+        let second = self.try_state(no, join, proofs, from + first.count)?;
         Ok(first.and(second))
     }
 
@@ -230,7 +231,7 @@ impl Walk<'_> {
     {
         let Walked { point, entailments } = end;
         let same = check_same_locks(self.program, self.site(at), point.modes(), after.modes());
-        let tried = self.try_state(at, &point, inv, proofs, 1 + before)?;
+        let tried = self.try_state(&point, inv, proofs, 1 + before)?;
         let entailments = u64::from(before) + entailments + u64::from(tried.count);
         let last = self.check_last(at, proofs, before, tried, after.has_small_types());
         finish(after, entailments, both(same, last))

@@ -1,17 +1,17 @@
 //! Whether entailments are small, whether each has a valid certificate (V9), and whether the numbers of proofs are theirs (V13).
 
-ghost use Rattle.std.specs.Prelude.{◌≡◌, ◌<◌, ◌+◌, ◌^◌, ◌==◌, ℕ, [], ◌∷◌, length, map, count_by};
+ghost use Rattle.std.specs.Prelude.{◌≡◌, ◌<◌, ◌+◌, ◌^◌, ◌==◌, ℕ, List, [], IfOk, length, map, count_by};
 ghost use Rattle.std.specs.List.{list_all};
 ghost use Rattle.cov_expr.specs.View.{term};
 ghost use Rattle.cov_ast.specs.Obligations.{Decides};
 ghost use Rattle.cov_ast.specs.Plain.{Plain, plain};
 ghost use Rattle.cov_ast.specs.Syntax.{auto};
+ghost use Rattle.cov_ast.specs.Syntax as syntax;
 ghost use Rattle.cov_ast.specs.View as view;
-ghost use Rattle.cov_ast.specs.declared.refusal.Detail.TheVariants.{Number};
-ghost use Rattle.cov_ast.specs.declared.refusal.Rule.TheVariants.{V9};
 ghost use Rattle.entail_cert.specs.Answers.{Answers};
-ghost use Rattle.entail_cert.specs.Valid.{first_bad};
+ghost use Rattle.entail_cert.specs.Valid.{first_bad, is_valid};
 ghost use Rattle.typing_rules.specs.Inside.Walking.{AtPoint};
+ghost use Rattle.typing_rules.specs.Inside.Walking as walking;
 ghost use Rattle.typing_rules.specs.Inside.Listed.{entailment_of, entailments_of};
 ghost use Rattle.typing_rules.specs.Entailments as spec;
 ghost use Rattle.typing_rules.specs.Obligations as rule;
@@ -20,7 +20,7 @@ use crate::entailments::Entailment;
 use crate::known::is_seen;
 use crate::site::{Site, refused_at};
 use cov_ast::{Cert, CheckFault, Detail, Program, Proof, Rule};
-use cov_expr::{Expr, nodes_at_most};
+use cov_expr::{Expr, NoMemory, nodes_at_most};
 use entail_cert::{CertFault, check_cert, check_cert_with};
 use std::alloc::Global;
 use typing_state::Point;
@@ -53,70 +53,55 @@ fn is_small(entailment: &Entailment<'_>) -> bool
     small_more && nodes_at_most(entailment.goal.expr(), 1000)
 }
 
-/// Each entailment has a valid certificate (V9). They are numbered from a number on.
-pub fn check_entailments(
+/// The number of the first entailment without a valid certificate, if there is one (V9). They are numbered from a number on.
+pub fn first_unproved(
     alloc: Global,
-    p: &Program,
-    site: Site,
     point: &Point,
     proofs: &[Proof],
     from: u32,
     entailments: &[Entailment<'_>],
-) -> Result<(), CheckFault>
+) -> Result<Option<u32>, NoMemory>
     requires { from + length entailments.now < 2 ^ 32 }
-    ensures { AtPoint (plain (view.program p.now)) site.thread point.now (λ a. Decides
-        (rule.proved (plain (view.program p.now)) site.thread site.place (map view.proof proofs.now) from (entailments_of a.preds entailments.now)) result) }
+    ensures { IfOk result (λ unproved. (p : Plain) → (t : ℕ) → AtPoint p t point.now (λ a.
+        unproved ≡ walking.first_unproved (map view.proof proofs.now) from (entailments_of a.preds entailments.now))) }
 {
     let mut number = from;
     let mut next = 0;
     for entailment in entailments {
-        if let Err(fault) = check_entailment(
-            alloc, p, site, point, proofs, number, entailment, &mut next,
-        ) {
-            return Err(fault);
+        if !is_proved(alloc, point, proofs, number, entailment, &mut next)? {
+            return Ok(Some(number));
         }
         number += 1;
     }
-    Ok(())
+    Ok(None)
 }
 
-/// An entailment has a valid certificate (V9). The predicate at the place `next` is looked at first.
-fn check_entailment(
-    alloc: Global,
-    p: &Program,
-    site: Site,
-    point: &Point,
-    proofs: &[Proof],
-    number: u32,
-    entailment: &Entailment<'_>,
-    next: &mut usize,
-) -> Result<(), CheckFault>
-    ensures { AtPoint (plain (view.program p.now)) site.thread point.now (λ a. Decides
-        (rule.obligation (plain (view.program p.now)) site.thread site.place V9 (Number number)
-        (spec.is_proved (map view.proof proofs.now) number (entailment_of a.preds entailment.now)) ∷ [])
-        result) }
+/// Each entailment has a valid certificate (V9), unless this is the number of the first without one.
+pub fn require_proved(site: Site, unproved: Option<u32>) -> Result<(), CheckFault>
+    ensures { (p : Plain) → (proofs : List syntax.Proof) → (n : ℕ) → (gs : List spec.Entailment) → unproved ≡ walking.first_unproved proofs n gs
+        → Decides (rule.proved p site.thread site.place proofs n gs) result }
 {
-    match try_proof(alloc, point, proofs, number, entailment, next) {
-        Ok(()) => Ok(()),
-        Err(CertFault::Invalid(_)) => Err(refused_at(site, Rule::V9, Detail::Number(number))),
-        Err(CertFault::NoMemory) => Err(CheckFault::NoMemory),
+    match unproved {
+        Some(number) => Err(refused_at(site, Rule::V9, Detail::Number(number))),
+        None => Ok(()),
     }
 }
 
-/// Tries the certificate that is given for the number of an entailment, else `auto`.
-fn try_proof(
+/// Whether the certificate that is given for the number of an entailment is valid, else `auto`. The predicate at the place
+/// `next` is looked at first.
+fn is_proved(
     alloc: Global,
     point: &Point,
     proofs: &[Proof],
     number: u32,
     entailment: &Entailment<'_>,
     next: &mut usize,
-) -> Result<(), CertFault>
-    ensures { (p : Plain) → (t : ℕ) → AtPoint p t point.now (λ a. Answers
-        (first_bad (entailment_of a.preds entailment.now).hyps (entailment_of a.preds entailment.now).goal (spec.cert_for (map view.proof proofs.now) number)) result) }
+) -> Result<bool, NoMemory>
+    ensures { IfOk result (λ proved. (p : Plain) → (t : ℕ) → AtPoint p t point.now (λ a.
+        proved ≡ spec.is_proved (map view.proof proofs.now) number (entailment_of a.preds entailment.now))) }
 {
     let auto = Cert::Auto;
-    try_entailment(
+    is_proved_by(
         alloc,
         point,
         entailment,
@@ -125,26 +110,30 @@ fn try_proof(
     )
 }
 
-/// Tries a certificate for an entailment. Where it is `auto`, what is seen to hold needs no walk.
-fn try_entailment(
+/// Whether a certificate is valid for an entailment. Where it is `auto`, what is seen to hold needs no walk.
+fn is_proved_by(
     alloc: Global,
     point: &Point,
     entailment: &Entailment<'_>,
     cert: &Cert,
     next: &mut usize,
-) -> Result<(), CertFault>
-    ensures { (p : Plain) → (t : ℕ) → AtPoint p t point.now (λ a.
-        Answers (first_bad (entailment_of a.preds entailment.now).hyps (entailment_of a.preds entailment.now).goal (view.cert cert.now)) result) }
+) -> Result<bool, NoMemory>
+    ensures { IfOk result (λ proved. (p : Plain) → (t : ℕ) → AtPoint p t point.now (λ a.
+        proved ≡ is_valid (entailment_of a.preds entailment.now).hyps (entailment_of a.preds entailment.now).goal (view.cert cert.now))) }
 {
     if let Cert::Auto = cert {
         if is_seen(alloc, point, entailment, next)? {
-            return Ok(());
+            return Ok(true);
         }
     }
-    walk_entailment(alloc, point, entailment, cert)
+    match walk_entailment(alloc, point, entailment, cert) {
+        Ok(()) => Ok(true),
+        Err(CertFault::Invalid(_)) => Ok(false),
+        Err(CertFault::NoMemory) => Err(NoMemory),
+    }
 }
 
-/// Walks over a certificate for an entailment.
+/// Walks over a certificate of an entailment.
 fn walk_entailment(
     alloc: Global,
     point: &Point,

@@ -5,7 +5,6 @@ ghost use Rattle.std.specs.List.{list_all};
 ghost use Rattle.cov_expr.specs.View.{term};
 ghost use Rattle.cov_expr.specs.Words.{HasVarsBelow};
 ghost use Rattle.cov_ast.specs.Obligations.{Decides};
-ghost use Rattle.cov_ast.specs.Plain.{Plain};
 ghost use Rattle.cov_ast.specs.Syntax as syntax;
 ghost use Rattle.cov_ast.specs.View as view;
 ghost use Rattle.cov_ast.specs.WellFormed.{AreTypesInRange, IsStmInRange, state_size, stm_size};
@@ -15,9 +14,9 @@ ghost use Rattle.typing_rules.specs.Inside.Listed.{AreListed, entailments_of};
 ghost use Rattle.typing_rules.specs.Entailments as spec;
 ghost use Rattle.typing_rules.specs.Obligations.{flat};
 ghost use Rattle.typing_state.specs.Point.{has_small_types};
-ghost use Rattle.typing_rules.specs.Inside.Walking.{IsWalk, Stands, Tries, TriesAt, Wherever, last_parts, plain_of};
+ghost use Rattle.typing_rules.specs.Inside.Walking.{IsWalk, Stands, Tries, Wherever, last_parts, plain_of};
 
-use crate::certificates::{are_small, check_entailments, check_numbers};
+use crate::certificates::{are_small, check_numbers, first_unproved, require_proved};
 use crate::entailments::{
     Entailment, assign_entailments, guard_entailments, state_entailments, unlock_entailments,
 };
@@ -34,33 +33,33 @@ pub struct Tried {
     pub count: u32,
     /// Whether no hypothesis and no goal has more than 1,000 nodes.
     pub small: bool,
-    /// Whether each has a valid certificate, if they are small.
-    pub proved: Result<(), CheckFault>,
+    /// The number of the first without a valid certificate, if they are small and there is one.
+    pub unproved: Option<u32>,
 }
 
 impl Tried {
     /// What came of no entailments.
     pub fn none() -> Tried
-        ensures tried { (p : Plain) → (t at : ℕ) → (proofs : List syntax.Proof) → (n : ℕ) → Tries p t at proofs n [] result }
+        ensures tried { (proofs : List syntax.Proof) → (n : ℕ) → Tries proofs n [] result }
         ensures empty { result.count ≡ 0 }
     {
         Tried {
             count: 0,
             small: true,
-            proved: Ok(()),
+            unproved: None,
         }
     }
 
     /// What came of these entailments and then of others.
     pub fn and(self, next: Tried) -> Tried
         requires { self.count + next.count < 2 ^ 32 }
-        ensures { (p : Plain) → (t at : ℕ) → (proofs : List syntax.Proof) → (n : ℕ) → (gs hs : List spec.Entailment) → Tries p t at proofs n gs self
-            → Tries p t at proofs (n + self.count) hs next → Tries p t at proofs n (gs ++ hs) result }
+        ensures { (proofs : List syntax.Proof) → (n : ℕ) → (gs hs : List spec.Entailment) → Tries proofs n gs self
+            → Tries proofs (n + self.count) hs next → Tries proofs n (gs ++ hs) result }
     {
         Tried {
             count: self.count + next.count,
             small: self.small && next.small,
-            proved: both(self.proved, next.proved),
+            unproved: self.unproved.or(next.unproved),
         }
     }
 }
@@ -69,7 +68,6 @@ impl Walk<'_> {
     /// Tries what is asked where a state is to be met.
     pub fn try_state(
         &self,
-        at: u32,
         point: &Point,
         s: &State,
         proofs: &[Proof],
@@ -78,16 +76,15 @@ impl Walk<'_> {
         requires point { Stands self.now point.now }
         requires few { from + state_size (view.state s.now) < 2 ^ 32 }
         ensures { IfOk result (λ tried. Wherever self.now point.now (λ a.
-            TriesAt self.now at (map view.proof proofs.now) from (spec.state_follows a (view.state s.now)) tried)) }
+            Tries (map view.proof proofs.now) from (spec.state_follows a (view.state s.now)) tried)) }
     {
         let entailments = state_entailments(self.alloc, point, s)?;
-        Ok(self.try_entailments(at, point, proofs, from, entailments.as_slice()))
+        self.try_entailments(point, proofs, from, entailments.as_slice())
     }
 
     /// Tries what is asked of a guard.
     pub fn try_guard(
         &self,
-        at: u32,
         point: &Point,
         e: &Expr,
         proofs: &[Proof],
@@ -97,16 +94,15 @@ impl Walk<'_> {
         requires guard { HasVarsBelow (term e.now) (length self.now.program.now.vars) }
         requires few { from + 1 < 2 ^ 32 }
         ensures { IfOk result (λ tried. Wherever self.now point.now (λ a.
-            TriesAt self.now at (map view.proof proofs.now) from (spec.guard_follows (plain_of self.now) self.now.thread a (term e.now) ∷ []) tried)) }
+            Tries (map view.proof proofs.now) from (spec.guard_follows (plain_of self.now) self.now.thread a (term e.now) ∷ []) tried)) }
     {
         let entailments = guard_entailments(self.alloc, self.program, point, e)?;
-        Ok(self.try_listed(at, point, proofs, from, &entailments))
+        self.try_listed(point, proofs, from, &entailments)
     }
 
     /// Tries what is asked of an assignment of a value of a type, which is the written one, if there is one.
     pub fn try_assign(
         &self,
-        at: u32,
         point: &Point,
         x: u32,
         e: &Expr,
@@ -122,7 +118,7 @@ impl Walk<'_> {
             (syntax.assign x (term e.now) (option_map term written.now) (map view.retype retypes.now)) }
         requires small { stm_size (syntax.assign x (term e.now) (option_map term written.now) (map view.retype retypes.now)) < 2097152 }
         ensures { IfOk result (λ tried. Wherever self.now point.now (λ a.
-            TriesAt self.now at (map view.proof proofs.now) 1
+            Tries (map view.proof proofs.now) 1
             (spec.assign_entailments (plain_of self.now) self.now.thread a x (term e.now) (option_map term written.now) (map view.retype retypes.now)) tried)) }
     {
         let entailments = assign_entailments(
@@ -135,88 +131,65 @@ impl Walk<'_> {
             q,
             retypes,
         )?;
-        Ok(self.try_listed(at, point, proofs, 1, &entailments))
+        self.try_listed(point, proofs, 1, &entailments)
     }
 
     /// Tries what is asked where a lock is given back.
-    pub fn try_unlock(
-        &self,
-        at: u32,
-        point: &Point,
-        l: u32,
-        proofs: &[Proof],
-    ) -> Result<Tried, NoMemory>
+    pub fn try_unlock(&self, point: &Point, l: u32, proofs: &[Proof]) -> Result<Tried, NoMemory>
         requires walk { IsWalk self.now }
         requires point { Stands self.now point.now }
         requires lock { l < length self.now.program.now.locks }
         ensures { IfOk result (λ tried. Wherever self.now point.now (λ a.
-            TriesAt self.now at (map view.proof proofs.now) 1 (spec.unlock_entailments (plain_of self.now) self.now.thread a l) tried)) }
+            Tries (map view.proof proofs.now) 1 (spec.unlock_entailments (plain_of self.now) self.now.thread a l) tried)) }
     {
         let entailments = unlock_entailments(self.alloc, self.program, point, l)?;
-        Ok(self.try_entailments(at, point, proofs, 1, entailments.as_slice()))
+        self.try_entailments(point, proofs, 1, entailments.as_slice())
     }
 
     /// Tries entailments, of which there may be none where one is too large to be built.
     fn try_listed(
         &self,
-        at: u32,
         point: &Point,
         proofs: &[Proof],
         from: u32,
         entailments: &Option<List<Entailment<'_>>>,
-    ) -> Tried
+    ) -> Result<Tried, NoMemory>
         requires { MatchOption entailments.now (Unit {0}) (λ made. from + length made < 2 ^ 32) }
-        ensures { Wherever self.now point.now (λ a. (gs : List spec.Entailment) → AreListed a.preds gs entailments.now
-            → TriesAt self.now at (map view.proof proofs.now) from gs result) }
+        ensures { IfOk result (λ tried. Wherever self.now point.now (λ a. (gs : List spec.Entailment) → AreListed a.preds gs entailments.now
+            → Tries (map view.proof proofs.now) from gs tried)) }
     {
         match entailments {
-            Some(entailments) => self.try_entailments(
-                at,
-                point,
-                proofs,
-                from,
-                entailments.as_slice(),
-            ),
-            None => Tried {
+            Some(entailments) => self.try_entailments(point, proofs, from, entailments.as_slice()),
+            None => Ok(Tried {
                 count: 0,
                 small: false,
-                proved: Ok(()),
-            },
+                unproved: None,
+            }),
         }
     }
 
     /// Tries entailments, if they are small.
     fn try_entailments(
         &self,
-        at: u32,
         point: &Point,
         proofs: &[Proof],
         from: u32,
         entailments: &[Entailment<'_>],
-    ) -> Tried
+    ) -> Result<Tried, NoMemory>
         requires { from + length entailments.now < 2 ^ 32 }
-        ensures { Wherever self.now point.now (λ a. TriesAt self.now at (map view.proof proofs.now) from (entailments_of a.preds entailments.now) result) }
+        ensures { IfOk result (λ tried. Wherever self.now point.now (λ a.
+            Tries (map view.proof proofs.now) from (entailments_of a.preds entailments.now) tried)) }
     {
         let small = are_small(point, entailments);
-        let count = entailments.len() as u32;
-        let mut proved = Ok(());
+        let mut unproved = None;
         if small {
-            let site = self.site(at);
-            proved = check_entailments(
-                self.alloc,
-                self.program,
-                site,
-                point,
-                proofs,
-                from,
-                entailments,
-            );
+            unproved = first_unproved(self.alloc, point, proofs, from, entailments)?;
         }
-        Tried {
-            count,
+        Ok(Tried {
+            count: entailments.len() as u32,
             small,
-            proved,
-        }
+            unproved,
+        })
     }
 
     /// The verdict on what is asked last of a statement: that entailments and the types after it are small (V16), that the entailments
@@ -229,7 +202,7 @@ impl Walk<'_> {
         tried: Tried,
         types: bool,
     ) -> Result<(), CheckFault>
-        ensures { (gs : List spec.Entailment) → (points : List typing.Point) → (count : ℕ) → TriesAt self.now at (map view.proof proofs.now) (suc before) gs tried
+        ensures { (gs : List spec.Entailment) → (points : List typing.Point) → (count : ℕ) → Tries (map view.proof proofs.now) (suc before) gs tried
             → types ≡ list_all has_small_types points → before + length gs ≡ count
             → Decides (flat (last_parts (plain_of self.now) self.now.thread at (map view.proof proofs.now) (suc before) count gs points)) result }
     {
@@ -237,6 +210,7 @@ impl Walk<'_> {
         let count = before as usize + tried.count as usize;
         let sizes = require_small(self.program, site, tried.small && types);
         let numbers = check_numbers(self.program, site, count, proofs);
-        both(sizes, both(tried.proved, numbers))
+        let proved = require_proved(site, tried.unproved);
+        both(sizes, both(proved, numbers))
     }
 }

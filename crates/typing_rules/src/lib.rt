@@ -23,7 +23,7 @@
 //! | V6 | `Walk::lock` | `statements.rt` |
 //! | V7 | `Walk::unlock` | `statements.rt` |
 //! | V8 | `check_same_locks` | `locks.rt` |
-//! | V9 | `check_entailments` | `certificates.rt` |
+//! | V9 | `first_unproved`, `require_proved` | `certificates.rt` |
 //! | V10 | `check_narrow` | `evaluation.rt` |
 //! | V11 | `check_end` | `locks.rt` |
 //! | V12 | `check_preds` | `types.rt` |

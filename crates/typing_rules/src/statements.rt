@@ -64,7 +64,7 @@ impl Walk<'_> {
         let p = self.program;
         let held = point.modes().holds(l);
         let taken = require_at(self.site(at), held, Rule::V7, Detail::One(lock_name(p, l)));
-        let tried = self.try_unlock(at, &point, l, proofs)?;
+        let tried = self.try_unlock(&point, l, proofs)?;
         let entailments = u64::from(tried.count);
         let after = point.after_unlock(self.alloc, p, l)?;
         let last = self.check_last(at, proofs, 0, tried, after.has_small_types());
@@ -85,7 +85,7 @@ impl Walk<'_> {
         ensures { WalksStm self.now at (syntax.note (view.state j.now)) (map view.proof proofs.now) point result }
     {
         let stated = check_state(self.program, self.site(at), &point, j);
-        let tried = self.try_state(at, &point, j, proofs, 1)?;
+        let tried = self.try_state(&point, j, proofs, 1)?;
         let entailments = u64::from(tried.count);
         let after = point.noted(self.alloc, j)?;
         let last = self.check_last(at, proofs, 0, tried, after.has_small_types());
@@ -117,7 +117,7 @@ impl Walk<'_> {
         if let Err(fault) = self.check_value(at, x, e, &q, items, &point) {
             return Err(fault);
         }
-        let tried = self.try_assign(at, &point, x, e, written, &q, items, proofs)?;
+        let tried = self.try_assign(&point, x, e, written, &q, items, proofs)?;
         let entailments = u64::from(tried.count);
         let after = point.after_assign(self.alloc, self.program, x, e, q, retypes)?;
         let few = check_few_preds(self.program, self.site(at), &after);

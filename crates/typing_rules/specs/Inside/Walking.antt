@@ -1,5 +1,5 @@
 -- What a walk over the statements of a thread rests on, and what its parts answer.
-use Rattle.std.specs.Prelude.{◌≡◌, ℕ, suc, ◌+◌, ◌<◌, ◌≤◌, ◌&&◌, List, [], ◌∷◌, ◌++◌, length, map, Bool, true, if◌then◌else◌, None, Result, Ok, Err, IsTrue}
+use Rattle.std.specs.Prelude.{◌≡◌, ℕ, suc, ◌+◌, ◌<◌, ◌≤◌, ◌&&◌, List, [], ◌∷◌, ◌++◌, length, map, Bool, true, if◌then◌else◌, Option, None, Some, Result, Ok, Err, IsTrue}
 use Rattle.std.specs.List.{list_all}
 use Rattle.cov_expr.specs.Term.{Term, neg}
 use Rattle.cov_expr.specs.Trees.{vars}
@@ -21,7 +21,7 @@ use Rattle.typing_state.specs.Point.{is_tracked}
 use Rattle.typing_state.specs.declared.point.Point.{Point}
 use Rattle.typing_rules.specs.Counts.{entailment_count}
 use Rattle.typing_rules.specs.Blocks.{after_block, after_stm}
-use Rattle.typing_rules.specs.Entailments.{Entailment, is_small_entailment, guard_follows, state_follows}
+use Rattle.typing_rules.specs.Entailments.{Entailment, is_proved, is_small_entailment, guard_follows, state_follows}
 use Rattle.typing_rules.specs.Obligations.{block_obligations, few_preds, flat, guard_obligations, narrow, numbers, of_var, one_unstable, over_controls, proved, reads, same_locks, small_terms, state_obligations, stm_parts, type_obligations}
 use Rattle.typing_rules.specs.declared.entailments_tried.Tried.{Tried}
 use Rattle.typing_rules.specs.declared.walk.Guarded.{Guarded}
@@ -83,16 +83,17 @@ WalksBlock w b kept result =
 
 -- Entailments ----------------------------------------------------------------------------------------------------
 
+-- the number of the first entailment without a valid certificate, where they are numbered from a number on
+abbrev pub first_unproved : List Proof → (n : ℕ) → List Entailment → Option ℕ
+first_unproved proofs n [] = None
+first_unproved proofs n (g ∷ gs) = if is_proved proofs n g then first_unproved proofs (suc n) gs else Some n
+
 -- What came of entailments that are numbered from a number on: whether they are small, and, if so, how many there are and
--- the verdict on their certificates.
-pub record Tries (p : Plain) (t at : ℕ) (proofs : List Proof) (n : ℕ) (gs : List Entailment) (tried : Tried) : Type 0 where
+-- which has no valid certificate.
+pub record Tries (proofs : List Proof) (n : ℕ) (gs : List Entailment) (tried : Tried) : Type 0 where
   pub few : tried.count ≤ length gs
   pub small : tried.small ≡ list_all is_small_entailment gs
-  pub decided : tried.small ≡ true → (tried.count ≡ length gs) × Decides (proved p t at proofs n gs) tried.proved
-
--- the same in a walk
-abbrev pub TriesAt : Walk → (at : ℕ) → List Proof → (n : ℕ) → List Entailment → Tried → Type 0
-TriesAt w at proofs n gs tried = Tries (plain_of w) w.thread at proofs n gs tried
+  pub decided : tried.small ≡ true → (tried.count ≡ length gs) × (tried.unproved ≡ first_unproved proofs n gs)
 
 -- Parts of branches and loops ------------------------------------------------------------------------------------
 

@@ -1,16 +1,16 @@
 use Rattle.std.proofs.Common.{◌≡◌, ◌+◌, ◌&&◌, ◌++◌, length, sym, ap, ◌∙◌, subst, arith}
+use Rattle.std.specs.Option.{option_or}
 use Rattle.std.proofs.lemmas.Bool.{and_parts}
 use Rattle.std.proofs.lemmas.List.{length-append}
 use Rattle.std.proofs.lemmas.List.Folds.{list_all-append}
-use Rattle.cov_ast.specs.Obligations.{Decides}
 use Rattle.typing_rules.specs.Entailments.{is_small_entailment}
-use Rattle.typing_rules.specs.Obligations.{proved}
-use Rattle.typing_rules.proofs.Parts.{proved-append}
+use Rattle.typing_rules.specs.Inside.Walking.{first_unproved}
+use Rattle.typing_rules.proofs.TryLaws.{unproved-append}
 use Rattle.typing_rules.proofs.entailments_tried.Tried.and.Goals as goal
 use Rattle.typing_rules.proofs.entailments_tried.Tried.and.Goals.{then-self, else-self}
 
 pub returns : goal.returns
-returns c p t at proofs n gs hs h k =
+returns c proofs n gs hs h k =
     let first = c.args.self in
     let next = c.args.next in
     let is : c.if-self.result ≡ (first.small && next.small) = elim c.if-self.branch [
@@ -25,9 +25,8 @@ returns c p t at proofs n gs hs h k =
           let one = h.decided both_small.0 in
           let two = k.decided both_small.1 in
           let counted : first.count + next.count ≡ length (gs ++ hs) = omega (arith, length-append gs hs, one.0, two.0) in
-          let rest : Decides (proved p t at proofs (n + length gs) hs) next.proved = subst (λ m. Decides (proved p t at proofs (n + m) hs) next.proved) one.0 two.1 in (
+          let rest : next.unproved ≡ first_unproved proofs (n + length gs) hs = subst (λ m. next.unproved ≡ first_unproved proofs (n + m) hs) one.0 two.1 in (
             counted,
-            subst (λ es. Decides es c.both.result) (sym (proved-append p t at proofs n gs hs))
-                (c.both.ensures (proved p t at proofs n gs) (proved p t at proofs (n + length gs) hs) one.1 (λ _. rest)),
+            c.or.ensures ∙ (λ i. option_or (one.1 i) (rest i)) ∙ sym (unproved-append proofs n gs hs),
           );
     }

@@ -32,6 +32,6 @@ returns c gs points count h types sum =
     let last = numbers p w.thread c.args.at count proofs in
     c.both-2.ensures (small_terms p w.thread c.args.at gs points) (entailments ++ (last ++ [])) sizes
     (λ held. let decided = h.decided (h.small ∙ (and_parts (list_all is_small_entailment gs) (list_all has_small_types points) (held_is p w.thread c.args.at small held)).0) in
-    c.both.ensures entailments (last ++ []) decided.1 (λ _. padded last c.check_numbers-numbers.result
+    c.both.ensures entailments (last ++ []) ((rw c.site-site.ensures at c.require_proved-proved.ensures) p proofs (suc c.args.before) gs decided.1) (λ _. padded last c.check_numbers-numbers.result
     (subst (λ m. Decides (numbers p w.thread c.args.at m proofs) c.check_numbers-numbers.result) (ap (λ m. c.args.before + m) decided.0 ∙ sum)
     (rw c.site-site.ensures at c.check_numbers-numbers.ensures))))

@@ -11,4 +11,4 @@ returns c a k =
     let p = plain_of w in
     let evaluated = (rw c.site.ensures at c.check_guard-evaluated.ensures) a.held (c.modes.ensures p w.thread a k) in
     c.guard.ensures a k (guard_obligations p w.thread c.args.at a.held (term c.args.e.now)) [] evaluated
-    (c.none.ensures.tried p w.thread c.args.at (map view.proof c.args.proofs.now) 1)
+    (c.none.ensures.tried (map view.proof c.args.proofs.now) 1)

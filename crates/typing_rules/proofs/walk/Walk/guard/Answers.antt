@@ -18,5 +18,5 @@ returns c a k front gs before tries =
     let e = term c.args.e.now in
     let proofs = map view.proof c.args.proofs.now in
     let hs = guard_follows p t a e ∷ [] in
-    let all = c.and-all.ensures p t c.args.at proofs 1 gs hs tries (c.in_ok-tried.ensures a k) in
+    let all = c.and-all.ensures proofs 1 gs hs tries (c.in_ok-tried.ensures a k) in
     c.guarded.ensures (with_guard p t a e) (c.in_ok-holds.ensures a k) (with_guard p t a (neg e)) (c.in_ok-fails.ensures a k) front proofs (gs ++ hs) before all

@@ -25,7 +25,7 @@ returns-in-Ok c a k b kb front proofs gs before tries =
     let counted = λ (h : _). tries.decided (is ∙ held_is p t at _ h) in
     let verdict = c.both-3.ensures front (few ++ (small ++ (entailments ++ []))) before
     (λ _. c.both-2.ensures few (small ++ (entailments ++ [])) few_ok
-    (λ _. c.both.ensures small (entailments ++ []) small_ok (λ h. padded entailments c.args.tried.proved (counted h).1))) in
+    (λ _. c.both.ensures small (entailments ++ []) small_ok (λ h. padded entailments c.require_proved-proved.result ((rw c.site-3.ensures at c.require_proved-proved.ensures) p proofs 1 gs (counted h).1)))) in
     let held = subst (λ r. Decides (front ++ (few ++ (small ++ (entailments ++ [])))) r) c.in-Ok.is verdict in
     let last = append_none few (small ++ (entailments ++ [])) (append_none front (few ++ (small ++ (entailments ++ []))) held).1 in
     (held, k, kb, (counted (append_none small (entailments ++ []) last.1).0).0)
@@ -45,5 +45,5 @@ returns-in-Err c a k b kb front proofs gs before tries =
     subst (λ v. Decides (obligation p t at V16 Nothing v ∷ []) c.require_small-small.result) is (rw c.site-2.ensures at c.require_small-small.ensures) in
     let verdict = c.both-3.ensures front (few ++ (small ++ (entailments ++ []))) before
     (λ _. c.both-2.ensures few (small ++ (entailments ++ [])) few_ok
-    (λ _. c.both.ensures small (entailments ++ []) small_ok (λ h. padded entailments c.args.tried.proved (tries.decided (is ∙ held_is p t at _ h)).1))) in
+    (λ _. c.both.ensures small (entailments ++ []) small_ok (λ h. padded entailments c.require_proved-proved.result ((rw c.site-3.ensures at c.require_proved-proved.ensures) p proofs 1 gs (tries.decided (is ∙ held_is p t at _ h)).1)))) in
     subst (λ r. Decides (front ++ (few ++ (small ++ (entailments ++ [])))) r) c.in-Err.is verdict

@@ -5,7 +5,7 @@ use Rattle.typing_state.specs.After.{meet}
 use Rattle.typing_rules.specs.Entailments.{state_follows}
 use Rattle.typing_rules.specs.Obligations.{flat, same_locks, state_obligations}
 use Rattle.typing_state.specs.Point.{has_small_types}
-use Rattle.typing_rules.specs.Inside.Walking.{TriesAt, last_parts, plain_of}
+use Rattle.typing_rules.specs.Inside.Walking.{Tries, last_parts, plain_of}
 use Rattle.typing_rules.proofs.Parts.{all_counted, and_true}
 use Rattle.typing_rules.proofs.walk.Walk.join.Goals as goal
 
@@ -21,7 +21,7 @@ returns c a k b kb =
     let gs = state_follows a j ++ state_follows b j in
     let count = before + length gs in
     let n : 1 + before ≡ suc before = omega arith in
-    let tries = subst (λ n. TriesAt w at proofs n gs c.in_ok-tried.tried) n (c.in_ok-tried.ensures a k b kb) in
+    let tries = subst (λ n. Tries proofs n gs c.in_ok-tried.tried) n (c.in_ok-tried.ensures a k b kb) in
     let after = meet p t a j in
     let keeps = c.in_ok-after.ensures t a k in
     let met = same_locks p t at a.held b.held ++ state_obligations p t at a.held j in

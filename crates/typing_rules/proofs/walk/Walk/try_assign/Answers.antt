@@ -7,6 +7,7 @@ use Rattle.typing_rules.specs.Inside.Listed.{AreListed, entailment_of}
 use Rattle.typing_rules.specs.Entailments.{Entailment, assign_entailments}
 use Rattle.typing_rules.specs.Inside.Walking.{plain_of}
 use Rattle.typing_rules.specs.declared.entailments.Entailment as rust
+use Rattle.typing_rules.proofs.TryLaws.{tried_listed}
 use Rattle.typing_rules.proofs.Bounds.{few_entailments_assign}
 use Rattle.typing_rules.proofs.walk.Walk.try_assign.Goals as goal
 
@@ -28,9 +29,10 @@ try_listed-requires c =
     (omega (arith, c.requires.small, few_entailments_assign (view.program w.program.now) w.thread c.requires.walk.formed c.requires.walk.declared a c.args.x e q retypes))
 
 pub returns : goal.returns
-returns c a k =
+returns c =
     let w = c.args.self.now in
     let e = term c.args.e.now in
     let q = option_map term c.args.written.now in
-    c.try_listed.ensures a k (assign_entailments (plain_of w) w.thread a c.args.x e q (map view.retype c.args.retypes.now))
-    (c.in_ok-entailments.ensures w.thread a k (c.requires.typed a k))
+    tried_listed w c.args.point.now (map view.proof c.args.proofs.now) 1 c.in_ok-entailments.entailments
+    (λ a. assign_entailments (plain_of w) w.thread a c.args.x e q (map view.retype c.args.retypes.now)) c.try_listed.result
+    (λ a k. c.in_ok-entailments.ensures w.thread a k (c.requires.typed a k)) c.try_listed.ensures

@@ -1,7 +1,6 @@
 use Rattle.std.proofs.Common.{map, arith}
 use Rattle.cov_ast.specs.View as view
 use Rattle.typing_rules.specs.Entailments.{state_follows}
-use Rattle.typing_rules.specs.Inside.Walking.{plain_of}
 use Rattle.typing_rules.proofs.Bounds.{few_entailments_state}
 use Rattle.typing_rules.proofs.walk.Walk.try_both.Goals as goal
 
@@ -31,7 +30,5 @@ and-requires c =
 
 pub returns : goal.returns
 returns c a k b kb =
-    let w = c.args.self.now in
     let j = view.state c.args.join.now in
-    c.and.ensures (plain_of w) w.thread c.args.at (map view.proof c.args.proofs.now) c.args.from (state_follows a j) (state_follows b j)
-    (c.in_ok-first.ensures a k) (c.in_ok-second.ensures b kb)
+    c.and.ensures (map view.proof c.args.proofs.now) c.args.from (state_follows a j) (state_follows b j) (c.in_ok-first.ensures a k) (c.in_ok-second.ensures b kb)

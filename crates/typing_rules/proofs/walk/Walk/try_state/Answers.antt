@@ -1,8 +1,10 @@
-use Rattle.std.proofs.Common.{length, map, ap, ◌∙◌, subst, arith}
+use Rattle.std.proofs.Common.{length, map, ap, ◌∙◌, arith}
 use Rattle.std.proofs.lemmas.List.{length-map}
 use Rattle.cov_ast.specs.View as view
 use Rattle.typing_rules.specs.Inside.Listed.{entailment_of, entailments_of}
-use Rattle.typing_rules.specs.Inside.Walking.{TriesAt, plain_of}
+use Rattle.typing_rules.specs.Inside.Walking.{plain_of}
+use Rattle.typing_rules.specs.Entailments.{state_follows}
+use Rattle.typing_rules.proofs.TryLaws.{tried_same}
 use Rattle.typing_rules.proofs.Bounds.{few_entailments_state}
 use Rattle.typing_rules.proofs.walk.Walk.try_state.Goals as goal
 
@@ -20,7 +22,7 @@ try_entailments-requires c =
     )
 
 pub returns : goal.returns
-returns c a k =
+returns c =
     let w = c.args.self.now in
-    subst (λ gs. TriesAt w c.args.at (map view.proof c.args.proofs.now) c.args.from gs c.try_entailments.result)
-    (ap (entailments_of a.preds) c.as_slice.ensures ∙ c.in_ok-entailments.ensures (plain_of w) w.thread a k) (c.try_entailments.ensures a k)
+    tried_same w c.args.point.now (map view.proof c.args.proofs.now) c.args.from (λ a. entailments_of a.preds c.as_slice.result.now) (λ a. state_follows a (view.state c.args.s.now))
+    c.try_entailments.result (λ a k. ap (entailments_of a.preds) c.as_slice.ensures ∙ c.in_ok-entailments.ensures (plain_of w) w.thread a k) c.try_entailments.ensures

@@ -2,6 +2,9 @@ use Rattle.std.proofs.Common.{length, map, ap, ◌∙◌, arith, ◌<◌}
 use Rattle.std.proofs.lemmas.List.{length-map}
 use Rattle.cov_ast.specs.View as view
 use Rattle.typing_rules.specs.Inside.Listed.{entailment_of, entailments_of}
+use Rattle.typing_rules.specs.Entailments.{unlock_entailments}
+use Rattle.typing_rules.specs.Inside.Walking.{plain_of}
+use Rattle.typing_rules.proofs.TryLaws.{tried_same}
 use Rattle.typing_rules.proofs.Bounds.{few_entailments_unlock}
 use Rattle.typing_rules.proofs.walk.Walk.try_unlock.Goals as goal
 
@@ -18,3 +21,9 @@ try_entailments-requires c =
       length-map c.as_slice.result.now (entailment_of a.preds),
       few_entailments_unlock (view.program program) w.thread c.requires.walk.formed c.requires.walk.declared a c.args.l inside,
     )
+
+pub returns : goal.returns
+returns c =
+    let w = c.args.self.now in
+    tried_same w c.args.point.now (map view.proof c.args.proofs.now) 1 (λ a. entailments_of a.preds c.as_slice.result.now) (λ a. unlock_entailments (plain_of w) w.thread a c.args.l)
+    c.try_entailments.result (λ a k. ap (entailments_of a.preds) c.as_slice.ensures ∙ c.in_ok-entailments.ensures w.thread a k) c.try_entailments.ensures

@@ -3,7 +3,7 @@ use Rattle.cov_ast.specs.View as view
 use Rattle.typing_rules.specs.Entailments.{state_follows}
 use Rattle.typing_rules.specs.Obligations.{flat, same_locks}
 use Rattle.typing_state.specs.Point.{has_small_types}
-use Rattle.typing_rules.specs.Inside.Walking.{TriesAt, last_parts, plain_of}
+use Rattle.typing_rules.specs.Inside.Walking.{Tries, last_parts, plain_of}
 use Rattle.typing_rules.proofs.Parts.{all_counted, and_true}
 use Rattle.typing_rules.proofs.walk.Walk.turn.Goals as goal
 
@@ -18,7 +18,7 @@ returns c a k b kb =
     let gs = state_follows a (view.state c.args.inv.now) in
     let count = before + length gs in
     let n : 1 + before ≡ suc before = omega arith in
-    let tries = subst (λ n. TriesAt w at proofs n gs c.in_ok-tried.tried) n (c.in_ok-tried.ensures a k) in
+    let tries = subst (λ n. Tries proofs n gs c.in_ok-tried.tried) n (c.in_ok-tried.ensures a k) in
     let same = same_locks p t at a.held b.held in
     let same_ok = (rw c.site.ensures at c.check_same_locks-same.ensures) a.held (c.modes.ensures p t a k) b.held (c.modes-2.ensures p t b kb) in
     let rest = flat (last_parts p t at proofs (suc before) count gs (b ∷ [])) in
