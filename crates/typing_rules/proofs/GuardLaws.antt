@@ -1,17 +1,18 @@
 -- Laws of the obligations of an expression.
-use Rattle.std.proofs.Common.{◌≡◌, ℕ, ◌+◌, ◌<◌, List, [], ◌∷◌, ◌++◌, Bool, cond, map, sym, ap, ◌∙◌, subst, arith, Option, Some, None, Result, Err, MatchOption, is_some, nat_le}
+use Rattle.std.proofs.Common.{◌≡◌, ℕ, ◌+◌, ◌<◌, List, [], ◌∷◌, ◌++◌, Bool, true, cond, map, sym, refl, ap, ◌∙◌, subst, arith, Option, Some, None, Result, Err, MatchOption, is_some, nat_le}
 use Rattle.std.specs.List.{count_by}
-use Rattle.std.proofs.lemmas.Bool.{le-leb, lt-leb}
+use Rattle.std.proofs.lemmas.Bool.{and_parts, le-leb, lt-leb}
 use Rattle.std.proofs.lemmas.List.{map-append}
 use Rattle.std.proofs.lemmas.List.Sums.{sum_by-append}
 use Rattle.cov_expr.specs.declared.expr.Op.{Op}
-use Rattle.cov_expr.specs.Term.{Term, var, bin}
+use Rattle.cov_expr.specs.Term.{Term, const, var, neg, bin}
 use Rattle.cov_expr.specs.Trees.{occurrences, vars}
 use Rattle.cov_ast.specs.Obligations.{Obligation, Decides, first_false}
 use Rattle.cov_ast.specs.declared.refusal.CheckFault.{CheckFault}
 use Rattle.cov_ast.specs.declared.refusal.Rule.{Rule}
 use Rattle.cov_ast.specs.declared.refusal.Detail.{Detail}
-use Rattle.cov_ast.proofs.ObligationLaws.{append_decided, append_refused, same_decided, distinct_map_same}
+use Rattle.cov_ast.proofs.ObligationLaws.{append_decided, append_held, append_refused, same_decided, distinct_map_same}
+use Rattle.typing_state.specs.Terms.{each_variable}
 use Rattle.typing_rules.specs.Obligations.{thread_obligation}
 
 -- Obligations of each occurrence of a variable ----------------------------------------------------------------
@@ -34,6 +35,17 @@ module _ (f : ℕ → Obligation) where
   -- each occurrence has the obligation that the variable has
   pub over_vars : (e : Term) (r : Result (Unit {0}) CheckFault) → Decides (map f (occurrences e)) r → Decides (map f (vars e)) r
   over_vars e r h = same_decided (map f (occurrences e)) (map f (vars e)) r (sym (distinct_map_same f (occurrences e))) h
+
+  -- where each variable passes a test, and what passes it holds
+  pub each_held : (test : ℕ → Bool) → ((x : ℕ) → test x ≡ true → first_false (f x ∷ []) ≡ None) → (e : Term) → each_variable test e ≡ true
+      → first_false (map f (occurrences e)) ≡ None
+  each_held test held (const k) h = refl
+  each_held test held (var x) h = held x h
+  each_held test held (neg e) h = each_held test held e h
+  each_held test held (bin op a b) h =
+      let both = and_parts (each_variable test a) (each_variable test b) h in
+      ap first_false (map-append f (occurrences a) (occurrences b))
+      ∙ append_held (map f (occurrences a)) (map f (occurrences b)) (each_held test held a both.0) ∙ each_held test held b both.1
 
 -- an obligation whose truth value is another's
 pub same_test : (t place : ℕ) (rule : Rule) (shown name : Detail) (b d : Bool) (r : Result (Unit {0}) CheckFault) → shown ≡ name → b ≡ d

@@ -9,6 +9,7 @@ ghost use Rattle.cov_ast.specs.Plain.{Plain, plain};
 ghost use Rattle.cov_ast.specs.View as view;
 ghost use Rattle.cov_ast.specs.declared.refusal.Rule.TheVariants.{V1};
 ghost use Rattle.mode_state.specs.Sets as sets;
+ghost use Rattle.typing_state.specs.Terms.{each_variable};
 ghost use Rattle.typing_rules.specs.Inside.Walking.{AtHeld};
 ghost use Rattle.typing_rules.specs.Obligations as spec;
 
@@ -23,7 +24,23 @@ pub fn check_reads(p: &Program, site: Site, modes: &ModeState, e: &Expr) -> Resu
     ensures { AtHeld (plain (view.program p.now)) site.thread modes.now (λ held.
         Decides (spec.reads (plain (view.program p.now)) site.thread site.place held (term e.now)) result) }
 {
+    if may_read_each(modes, e) {
+        return Ok(());
+    }
     check_each_read(p, site, modes, e)
+}
+
+/// Whether each variable of an expression may be read.
+fn may_read_each(modes: &ModeState, e: &Expr) -> bool
+    ensures { (p : Plain) → (t : ℕ) → AtHeld p t modes.now (λ held. HasVarsBelow (term e.now) (length p.vars)
+        → result ≡ each_variable (sets.may_read p t held) (term e.now)) }
+{
+    match e {
+        Expr::Const(_) => true,
+        Expr::Var(x) => modes.may_read(*x),
+        Expr::Not(a) => may_read_each(modes, a),
+        Expr::Bin(_, a, b) => may_read_each(modes, a) && may_read_each(modes, b),
+    }
 }
 
 /// Each occurrence of a variable in an expression may be read.
