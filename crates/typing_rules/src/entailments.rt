@@ -1,17 +1,17 @@
 //! What has to follow at a statement, kept until it is tried.
 
-ghost use Rattle.std.specs.Prelude.{◌≡◌, ◌<◌, ℕ, [], ◌∷◌, length, map, option_map, IfOk};
+ghost use Rattle.std.specs.Prelude.{◌≡◌, ◌<◌, ◌++◌, ℕ, [], ◌∷◌, length, map, option_map, IfOk};
 ghost use Rattle.cov_expr.specs.View.{term};
 ghost use Rattle.cov_expr.specs.Words.{HasVarsBelow};
 ghost use Rattle.cov_ast.specs.Plain.{Plain, plain};
 ghost use Rattle.cov_ast.specs.View as view;
-ghost use Rattle.cov_ast.specs.WellFormed.{AreTypesInRange, IsWellFormed};
+ghost use Rattle.cov_ast.specs.WellFormed.{IsWellFormed};
 ghost use Rattle.typing_rules.specs.Inside.Walking.{AtPoint};
 ghost use Rattle.typing_rules.specs.Blocks.{value_type};
 ghost use Rattle.typing_rules.specs.Inside.Listed.{AreListed, entailments_of, held_term};
 ghost use Rattle.typing_rules.specs.Entailments as spec;
 
-use crate::entailments_of_assignments::{add_controlled, add_retypes, add_shown, add_written};
+use crate::entailments_of_assignments::{add_controlled, add_retypes, add_written};
 use crate::entailments_of_states::{add_freed, add_inv, add_preds, add_types};
 use crate::sizes::MOST_PARTS;
 use cov_ast::{Program, Retype, State};
@@ -83,30 +83,43 @@ pub fn guard_entailments<'a>(
     Ok(Some(entailments))
 }
 
-/// What is asked of an assignment of a value of a type, which is the written one, if there is one.
-pub fn assign_entailments<'a>(
+/// What is asked of an assignment where a type is written: it gives that of the value.
+pub fn written_entailments<'a>(
     alloc: Global,
-    p: &'a Program,
-    point: &'a Point,
-    x: u32,
+    p: &Program,
+    point: &Point,
     e: &Expr,
     written: &Option<Expr>,
     q: &'a Expr,
-    retypes: &'a [Retype],
 ) -> Result<Option<List<Entailment<'a>>>, NoMemory>
-    requires formed { IsWellFormed (view.program p.now) }
-    requires variable { x < length p.now.vars }
-    requires value { HasVarsBelow (term e.now) (length p.now.vars) }
-    requires range { AreTypesInRange (length p.now.vars) (length p.now.locks) (map view.retype retypes.now) }
+    requires { HasVarsBelow (term e.now) (length p.now.vars) }
     ensures { IfOk result (λ made. (t : ℕ) → AtPoint (plain (view.program p.now)) t point.now (λ a.
         term q.now ≡ value_type (plain (view.program p.now)) t a (option_map term written.now) (term e.now)
-        → AreListed a.preds (spec.assign_entailments (plain (view.program p.now)) t a x (term e.now) (option_map term written.now) (map view.retype retypes.now)) made)) }
+        → AreListed a.preds (spec.written_type (plain (view.program p.now)) t a (term e.now) (option_map term written.now)) made)) }
 {
     let mut entailments = List::new(alloc);
     if !add_written(alloc, p, point, e, written, q, &mut entailments)? {
         return Ok(None);
     }
-    add_shown(p, point, x, q, &mut entailments)?;
+    Ok(Some(entailments))
+}
+
+/// What is asked of an assignment for the variables that it decides of: those that a control controls, and those with a new type.
+pub fn changed_entailments<'a>(
+    alloc: Global,
+    p: &'a Program,
+    point: &'a Point,
+    x: u32,
+    e: &Expr,
+    retypes: &[Retype],
+) -> Result<Option<List<Entailment<'a>>>, NoMemory>
+    requires formed { IsWellFormed (view.program p.now) }
+    requires variable { x < length p.now.vars }
+    ensures { IfOk result (λ made. (t : ℕ) → AtPoint (plain (view.program p.now)) t point.now (λ a. AreListed a.preds
+        (spec.controlled_values (plain (view.program p.now)) t a x (term e.now)
+        ++ map (spec.retype_follows (plain (view.program p.now)) t a x (term e.now)) (map view.retype retypes.now)) made)) }
+{
+    let mut entailments = List::new(alloc);
     if !add_controlled(alloc, p, point, x, e, &mut entailments)? {
         return Ok(None);
     }

@@ -18,12 +18,15 @@ ghost use Rattle.typing_rules.specs.Inside.Walking.{IsWalk, Stands, Tries, Where
 
 use crate::certificates::{are_small, check_numbers, first_unproved, require_proved};
 use crate::entailments::{
-    Entailment, assign_entailments, guard_entailments, state_entailments, unlock_entailments,
+    Entailment, changed_entailments, guard_entailments, state_entailments, unlock_entailments,
+    written_entailments,
 };
+use crate::entailments_of_assignments::shown_entailment;
 use crate::sizes::require_small;
 use crate::walk::{Walk, both};
 use cov_ast::{CheckFault, Proof, Retype, State};
 use cov_expr::{Expr, List, NoMemory};
+use std::slice::from_ref;
 use typing_state::Point;
 
 /// How many entailments there were, and what came of them. A large one isn't tried.
@@ -121,17 +124,34 @@ impl Walk<'_> {
             Tries (map view.proof proofs.now) 1
             (spec.assign_entailments (plain_of self.now) self.now.thread a x (term e.now) (option_map term written.now) (map view.retype retypes.now)) tried)) }
     {
-        let entailments = assign_entailments(
-            self.alloc,
-            self.program,
-            point,
-            x,
-            e,
-            written,
-            q,
-            retypes,
-        )?;
-        self.try_listed(point, proofs, 1, &entailments)
+        let (alloc, p) = (self.alloc, self.program);
+        let written = written_entailments(alloc, p, point, e, written, q)?;
+        let first = self.try_listed(point, proofs, 1, &written)?;
+        let shown = self.try_shown(point, x, q, proofs, 1 + first.count)?;
+        let before = first.and(shown);
+        let changed = changed_entailments(alloc, p, point, x, e, retypes)?;
+        let last = self.try_listed(point, proofs, 1 + before.count, &changed)?;
+        Ok(before.and(last))
+    }
+
+    /// Tries what is asked of an assigned value that may be seen. It makes no list.
+    fn try_shown(
+        &self,
+        point: &Point,
+        x: u32,
+        q: &Expr,
+        proofs: &[Proof],
+        from: u32,
+    ) -> Result<Tried, NoMemory>
+        requires variable { x < length self.now.program.now.vars }
+        requires few { from + 1 < 2 ^ 32 }
+        ensures { IfOk result (λ tried. Wherever self.now point.now (λ a.
+            Tries (map view.proof proofs.now) from (spec.shown_value (plain_of self.now) self.now.thread a x (term q.now)) tried)) }
+    {
+        match shown_entailment(self.program, point, x, q) {
+            Some(entailment) => self.try_entailments(point, proofs, from, from_ref(&entailment)),
+            None => Ok(Tried::none()),
+        }
     }
 
     /// Tries what is asked where a lock is given back.
