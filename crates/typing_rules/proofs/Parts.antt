@@ -14,7 +14,7 @@ use Rattle.cov_ast.proofs.ObligationLaws.{append_decided, append_held, append_re
 use Rattle.typing_rules.specs.Entailments.{Entailment, is_small_entailment}
 use Rattle.typing_state.specs.Point.{Point, has_small_types}
 use Rattle.typing_rules.specs.Obligations.{obligation, flat, numbers, proved, small_terms}
-use Rattle.typing_rules.specs.Inside.Walking.{Tries, last_parts}
+use Rattle.typing_rules.specs.Inside.Walking.{Tries, first_unproved, last_parts}
 use Rattle.typing_rules.specs.declared.entailments_tried.Tried.{Tried}
 
 -- The verdict on parts --------------------------------------------------------------------------------------------
@@ -77,11 +77,17 @@ proved-append p t at proofs n (g ∷ gs) hs =
     ap (λ es. proved p t at proofs n (g ∷ []) ++ es)
     (proved-append p t at proofs (suc n) gs hs ∙ ap (λ m. proved p t at proofs (suc n) gs ++ proved p t at proofs m hs) e)
 
+-- where entailments and the types after them are small, what came of the entailments is known
+pub tried_decided : (p : Plain) (t at : ℕ) (proofs : List Proof) (n : ℕ) (gs : List Entailment) (points : List Point) (tried : Tried)
+    → Tries proofs n gs tried → first_false (small_terms p t at gs points) ≡ None → (tried.count ≡ length gs) × (tried.unproved ≡ first_unproved proofs n gs)
+tried_decided p t at proofs n gs points tried h sizes =
+    let small = list_all is_small_entailment gs && list_all has_small_types points in
+    h.decided (h.small ∙ (and_parts (list_all is_small_entailment gs) (list_all has_small_types points) (held_is p t at small sizes)).0)
+
 -- where the obligations that come last hold, each entailment was counted
 pub all_counted : (p : Plain) (t at : ℕ) (proofs : List Proof) (n count : ℕ) (gs : List Entailment) (points : List Point) (tried : Tried) (front : List Obligation)
     → Tries proofs n gs tried → first_false (front ++ flat (last_parts p t at proofs n count gs points)) ≡ None → tried.count ≡ length gs
 all_counted p t at proofs n count gs points tried front h held =
     let last = append_none front (flat (last_parts p t at proofs n count gs points)) held in
     let sizes = append_none (small_terms p t at gs points) (proved p t at proofs n gs ++ (numbers p t at count proofs ++ [])) last.1 in
-    let small = list_all is_small_entailment gs && list_all has_small_types points in
-    (h.decided (h.small ∙ (and_parts (list_all is_small_entailment gs) (list_all has_small_types points) (held_is p t at small sizes.0)).0)).0
+    (tried_decided p t at proofs n gs points tried h sizes.0).0

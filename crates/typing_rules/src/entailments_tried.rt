@@ -23,7 +23,7 @@ use crate::entailments::{
 };
 use crate::entailments_of_assignments::shown_entailment;
 use crate::sizes::require_small;
-use crate::walk::{Walk, both};
+use crate::walk::Walk;
 use cov_ast::{CheckFault, Proof, Retype, State};
 use cov_expr::{Expr, List, NoMemory};
 use std::slice::from_ref;
@@ -228,9 +228,12 @@ impl Walk<'_> {
     {
         let site = self.site(at);
         let count = before as usize + tried.count as usize;
-        let sizes = require_small(self.program, site, tried.small && types);
-        let numbers = check_numbers(self.program, site, count, proofs);
-        let proved = require_proved(site, tried.unproved);
-        both(sizes, both(proved, numbers))
+        match require_small(self.program, site, tried.small && types) {
+            Ok(()) => match require_proved(site, tried.unproved) {
+                Ok(()) => check_numbers(self.program, site, count, proofs),
+                Err(fault) => Err(fault),
+            },
+            Err(fault) => Err(fault),
+        }
     }
 }
