@@ -1,11 +1,11 @@
 -- A word as a set of numbers.
-use Rattle.std.proofs.Common.{◌≡◌, ◌≢◌, ℕ, zero, suc, ◌+◌, ◌-◌, ◌*◌, ◌/◌, ◌%◌, ◌^◌, ◌<◌, ◌≤◌, ◌&&◌, ◌==◌, not, true, false, refl, sym, ap, ◌∙◌, arith, min, inl, inr, w64, Some, None}
+use Rattle.std.proofs.Common.{◌≡◌, ◌≢◌, ℕ, zero, suc, ◌+◌, ◌-◌, ◌*◌, ◌/◌, ◌%◌, ◌^◌, ◌<◌, ◌≤◌, ◌&&◌, ◌||◌, ◌==◌, not, true, false, refl, sym, ap, ◌∙◌, arith, min, max, inl, inr, w64, Some, None}
 use Rattle.std.specs.Prelude.{bit_or, bit_and}
 use Rattle.std.specs.Int.{bit_at, bit_not, trailing_zeros}
 use Rattle.std.proofs.Math.Nat.{div-le_self}
 use Rattle.std.proofs.lemmas.Bool.{cases_lt}
 use Rattle.std.proofs.lemmas.Nat.{shr-shr}
-use Rattle.std.proofs.lemmas.Nat.Bits.{bit_at_set_same, bit_at_set_other, bit_at_clear_same, bit_at_clear_other, bit_at-zero, bit_at_and, bit_at_not, bit_at-lt, bit_at-trailing_zeros, bit_at_above}
+use Rattle.std.proofs.lemmas.Nat.Bits.{bit_at_set_same, bit_at_set_other, bit_at_clear_same, bit_at_clear_other, bit_at-zero, bit_at_and, bit_at_or, bit_at_not, bit_at-lt, bit_at-trailing_zeros, bit_at_above}
 use Rattle.mode_state.specs.Bits.{has_bit, IsNext}
 
 -- Put in, and taken out ----------------------------------------------------------------------------------------
@@ -36,6 +36,18 @@ both (suc (suc x)) y hx hy = absurd (omega arith)
 
 pub and_bit : (a b k : ℕ) → has_bit (bit_and a b) k ≡ (has_bit a k && has_bit b k)
 and_bit a b k = ap (λ n. n == 1) (bit_at_and a b k) ∙ both (bit_at a k) (bit_at b k) (bit_at-lt a k) (bit_at-lt b k)
+
+either : (x y : ℕ) → x < 2 → y < 2 → (max x y == 1) ≡ ((x == 1) || (y == 1))
+either zero zero hx hy = refl
+either zero (suc zero) hx hy = refl
+either (suc zero) zero hx hy = refl
+either (suc zero) (suc zero) hx hy = refl
+either zero (suc (suc y)) hx hy = absurd (omega arith)
+either (suc zero) (suc (suc y)) hx hy = absurd (omega arith)
+either (suc (suc x)) y hx hy = absurd (omega arith)
+
+pub or_bit : (a b k : ℕ) → has_bit (bit_or a b) k ≡ (has_bit a k || has_bit b k)
+or_bit a b k = ap (λ n. n == 1) (bit_at_or a b k) ∙ either (bit_at a k) (bit_at b k) (bit_at-lt a k) (bit_at-lt b k)
 
 lacks : (x : ℕ) → x < 2 → (1 - x == 1) ≡ not (x == 1)
 lacks zero h = refl

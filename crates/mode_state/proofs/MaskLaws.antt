@@ -1,6 +1,6 @@
 -- Sets of numbers below a bound, as the bits of words.
-use Rattle.std.proofs.Common.{◌≡◌, ◌≢◌, ℕ, ◌/◌, ◌%◌, ◌<◌, ◌≤◌, ◌||◌, ◌==◌, List, Bool, true, false, length, get_or, replicate, refl, sym, ap, ◌∙◌, arith, rules, nat_lt, inl, inr, ◌⊎◌, Some, None}
-use Rattle.std.specs.Prelude.{set}
+use Rattle.std.proofs.Common.{◌≡◌, ◌≢◌, ℕ, zero, suc, [], ◌∷◌, ◌/◌, ◌%◌, ◌<◌, ◌≤◌, ◌||◌, ◌==◌, List, Bool, true, false, length, get_or, replicate, refl, sym, ap, ◌∙◌, arith, rules, nat_lt, inl, inr, ◌⊎◌, Some, None}
+use Rattle.std.specs.Prelude.{bit_or, set}
 use Rattle.std.proofs.lemmas.Bool.{cases_eq, cases_lt}
 use Rattle.std.proofs.lemmas.List.{same_lists, get_or-set_same, get_or-set_other, length-set, get_or_past, get_or-replicate, length-replicate}
 use Rattle.std.proofs.lemmas.List.FromFn.{get_or-map-range_with_len}
@@ -9,6 +9,7 @@ use Rattle.cov_expr.specs.Trees.{has_number}
 use Rattle.cov_ast.specs.Tables.{table, has, with_all}
 use Rattle.cov_ast.proofs.TableLaws.{table_at, table_length, table_same, none_table, with_all_none, with_all_both}
 use Rattle.mode_state.specs.Bits.{has_bit, in_words, IsNext}
+use Rattle.mode_state.proofs.BitLaws.{or_bit}
 
 -- Tables -------------------------------------------------------------------------------------------------------
 
@@ -60,6 +61,30 @@ module _ (words : List ℕ) (four : length words ≡ 4) (x : ℕ) (inside : x < 
 
   pub words_put : (n : ℕ) → table n (in_words (set words (x / 64) w)) ≡ set (table n (in_words words)) x b
   words_put n = table_put n (in_words words) (in_words (set words (x / 64) w)) x b (λ lt. in_new) (λ k lt ne. in_others k ne)
+
+-- four words with the numbers of both
+pub words_joined : (a b : List ℕ) (x : ℕ) → x < 256
+    → in_words (bit_or (get_or a 0 0) (get_or b 0 0) ∷ bit_or (get_or a 1 0) (get_or b 1 0) ∷ bit_or (get_or a 2 0) (get_or b 2 0) ∷ bit_or (get_or a 3 0) (get_or b 3 0) ∷ []) x
+    ≡ (in_words a x || in_words b x)
+words_joined a b x small = ap (λ w. has_bit w (x % 64)) (word (x / 64) (omega arith)) ∙ or_bit (get_or a (x / 64) 0) (get_or b (x / 64) 0) (x % 64)
+  where
+    word : (i : ℕ) → i < 4
+        → get_or (bit_or (get_or a 0 0) (get_or b 0 0) ∷ bit_or (get_or a 1 0) (get_or b 1 0) ∷ bit_or (get_or a 2 0) (get_or b 2 0) ∷ bit_or (get_or a 3 0) (get_or b 3 0) ∷ []) i 0
+        ≡ bit_or (get_or a i 0) (get_or b i 0)
+    word zero lt = refl
+    word (suc zero) lt = refl
+    word (suc (suc zero)) lt = refl
+    word (suc (suc (suc zero))) lt = refl
+    word (suc (suc (suc (suc i)))) lt = absurd (omega arith)
+
+-- sets with the numbers of both
+pub tables_joined : (n m : ℕ) (f g h : ℕ → Bool) (s t : List Bool) → n ≤ 256 → table n f ≡ s → table m g ≡ t → ((x : ℕ) → x < 256 → h x ≡ (f x || g x))
+    → (x : ℕ) → x < length s → x < length t → has (table n h) x ≡ (has s x || has t x)
+tables_joined n m f g h s t small is_s is_t both x in_s in_t =
+    let lt_n : x < n = omega (arith, ap length is_s, table_length n f) in
+    let lt_m : x < m = omega (arith, ap length is_t, table_length m g) in
+    table_at n h x lt_n ∙ both x (omega arith)
+    ∙ (λ i. sym (table_at n f x lt_n) i || sym (table_at m g x lt_m) i) ∙ (λ i. has (is_s i) x || has (is_t i) x)
 
 -- no number is in words of 0
 pub no_words : (n : ℕ) → table n (in_words (replicate 4 0)) ≡ replicate n false

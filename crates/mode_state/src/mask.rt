@@ -1,4 +1,4 @@
-ghost use Rattle.std.specs.Prelude.{◌≡◌, ◌||◌, ◌<◌, ◌≤◌, false, length, replicate, set, IfSome};
+ghost use Rattle.std.specs.Prelude.{◌≡◌, ℕ, ◌||◌, ◌<◌, ◌≤◌, false, length, replicate, set, IfSome};
 ghost use Rattle.cov_expr.specs.Trees as tree;
 ghost use Rattle.cov_ast.specs.Tables.{table, has, with_all};
 ghost use Rattle.mode_state.specs.Bits.{in_words, IsNext};
@@ -89,6 +89,14 @@ impl Mask {
         }
     }
 
+    /// Adds the numbers of another set; those past the bound are left out.
+    pub fn insert_set(&mut self, other: &Mask)
+        ensures length { length self.new ≡ length self.old }
+        ensures numbers { (x : ℕ) → x < length self.old → x < length other.now → has self.new x ≡ (has self.old x || has other.now x) }
+    {
+        self.words = joined(&self.words, &other.words);
+    }
+
     /// Whether a number is there. None past the bound is.
     pub fn has(&self, x: u32) -> bool
         ensures { result ≡ has self.now x }
@@ -106,6 +114,13 @@ impl Mask {
             _ => None,
         }
     }
+}
+
+/// Four words with the numbers of both.
+fn joined(a: &[u64; 4], b: &[u64; 4]) -> [u64; 4]
+    ensures { (x : ℕ) → x < 256 → in_words result x ≡ (in_words a.now x || in_words b.now x) }
+{
+    [a[0] | b[0], a[1] | b[1], a[2] | b[2], a[3] | b[3]]
 }
 
 /// The first number of four words from a number on.
