@@ -1,5 +1,6 @@
 mod DropLaws
 mod ForgetLaws
+mod GroupLaws
 mod KeyLaws
 mod LockLaws
 mod PlaceLaws

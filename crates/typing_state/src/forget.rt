@@ -1,12 +1,12 @@
 ghost use Rattle.std.specs.Prelude.{◌≡◌, ◌<◌, ◌≤◌, ◌&&◌, [], length, map, not, option_map, get_or, set, IfOk, OnOk};
 ghost use Rattle.std.specs.Prelude.{None};
-ghost use Rattle.cov_expr.specs.Trees as tree;
 ghost use Rattle.cov_expr.specs.View.{term};
 ghost use Rattle.cov_ast.specs.Plain.{Plain, plain};
 ghost use Rattle.cov_ast.specs.Tables.{has};
 ghost use Rattle.cov_ast.specs.View as view;
 ghost use Rattle.cov_ast.specs.WellFormed.{IsWellFormed};
 ghost use Rattle.typing_state.specs.After as after;
+ghost use Rattle.typing_state.specs.Groups.{is_free};
 ghost use Rattle.typing_state.specs.Kept.{AtEach, AtModes, IsTrackedBeside, passes};
 ghost use Rattle.typing_state.specs.Point as point;
 ghost use Rattle.typing_state.specs.Terms.{is_closed_type};
@@ -18,7 +18,7 @@ use crate::start::{is_tracked, var_count};
 use crate::types::{Type, Types, assign_type, put_retypes};
 use crate::variables::Variables;
 use cov_ast::{Program, Retype};
-use cov_expr::{Expr, NoMemory, mentions};
+use cov_expr::{Expr, NoMemory};
 use mode_state::ModeState;
 use std::alloc::Global;
 use std::rc::Rc;
@@ -70,12 +70,13 @@ fn next_changed(p: &Program, modes: &ModeState, types: &Types, l: u32, from: u32
     if_below(var_count(p), next)
 }
 
-/// The first variable from a number on whose type may mention a variable.
-fn next_varying(p: &Program, types: &Types, from: u32) -> Option<u32>
-    requires { IsWellFormed (view.program p.now) }
-    ensures { AreDone (λ k. is_closed_type (get_or (map (option_map term) types.now) k None)) from (length p.now.vars) result }
+/// The first variable from a number on whose type may mention another one.
+fn next_mentioning(p: &Program, types: &Types, x: u32, from: u32) -> Option<u32>
+    requires formed { IsWellFormed (view.program p.now) }
+    requires small { x < 256 }
+    ensures { AreDone (λ k. is_free x (get_or (map (option_map term) types.now) k None)) from (length p.now.vars) result }
 {
-    if_below(var_count(p), types.next_varying(from))
+    if_below(var_count(p), types.next_mentioning(x, from))
 }
 
 /// The smaller of two numbers, where there are both.
@@ -136,7 +137,8 @@ fn keeps_type(p: &Program, modes: &ModeState, types: &Types, z: u32) -> bool
     }
 }
 
-/// Forgets the types that mention a variable, which has a new value. Only the types that mention any are walked.
+/// Forgets the types that mention a variable, which has a new value. Only variables of whose sixteen some type may mention it
+/// are walked.
 pub fn forget_types(
     p: &Program,
     modes: &ModeState,
@@ -144,12 +146,13 @@ pub fn forget_types(
     x: u32,
     types: &mut Types,
 ) -> Result<(), NoMemory>
-    requires { IsWellFormed (view.program p.now) }
+    requires formed { IsWellFormed (view.program p.now) }
+    requires small { x < 256 }
     ensures { OnOk result (AtEach (plain (view.program p.now)) modes.now variables.now (λ t held. length types.old ≤ length p.now.vars
         → map (option_map term) types.new ≡ after.retyped (after.forgotten_type (plain (view.program p.now)) t held x) (map (option_map term) types.old))) }
 {
     let mut from = 0;
-    while let Some(z) = next_varying(p, types, from) {
+    while let Some(z) = next_mentioning(p, types, x, from) {
         forget_type(p, modes, variables, x, types, z)?;
         from = z + 1;
     }
@@ -164,27 +167,18 @@ fn forget_type(
     types: &mut Types,
     z: u32,
 ) -> Result<(), NoMemory>
-    requires { z < length p.now.vars }
+    requires variable { z < length p.now.vars }
+    requires small { x < 256 }
     ensures { OnOk result (AtEach (plain (view.program p.now)) modes.now variables.now (λ t held.
         map (option_map term) types.new ≡ set (map (option_map term) types.old) z
         (option_map (after.forgotten_type (plain (view.program p.now)) t held x z) (get_or (map (option_map term) types.old) z None)))) }
 {
-    if is_free_of(types, z, x) {
+    if types.is_free(z, x) {
         return Ok(());
     }
     let known = default_type(modes, variables, z)?;
     types.set(z, Some(known));
     Ok(())
-}
-
-/// Whether the type of a variable, if there is one, doesn't mention another variable.
-fn is_free_of(types: &Types, z: u32, x: u32) -> bool
-    ensures { result ≡ passes (λ g. not (tree.mentions g x)) (get_or (map (option_map term) types.now) z None) }
-{
-    match types.get(z) {
-        Some(q) => !mentions(q, x),
-        None => true,
-    }
 }
 
 /// Gives each variable that has a type what is known of it without more.

@@ -1,12 +1,16 @@
-ghost use Rattle.std.specs.Prelude.{◌≡◌, [], ◌∷◌, ◌++◌, map, option_copied, option_map, get_or, set, is_some, not, IfOk, OnOk, None, if◌then◌else◌};
+ghost use Rattle.std.specs.Prelude.{◌≡◌, ◌<◌, ◌||◌, ℕ, [], ◌∷◌, ◌++◌, length, map, option_copied, option_map, get_or, set, is_some, not, IfOk, OnOk, None, if◌then◌else◌};
 ghost use Rattle.std.specs.List.{list_all};
 ghost use Rattle.cov_expr.specs.Trees as tree;
 ghost use Rattle.cov_expr.specs.View.{term};
+ghost use Rattle.cov_ast.specs.Tables.{has};
 ghost use Rattle.cov_ast.specs.View as view;
 ghost use Rattle.typing_state.specs.After.{listed_or, retyped};
+ghost use Rattle.typing_state.specs.Groups.{is_free};
 ghost use Rattle.typing_state.specs.Terms.{is_small, is_small_type, is_closed_type};
 ghost use Rattle.typing_state.specs.Walks.{AreDone};
 
+use crate::groups::Groups;
+use crate::mentioned::mentioned;
 use cov_ast::Retype;
 use cov_expr::{Expr, List, NoMemory, closed, copy, nodes_at_most};
 use mode_state::Mask;
@@ -17,12 +21,14 @@ use std::rc::Rc;
 /// The most nodes of a small type or predicate.
 pub const MOST_NODES: u32 = 1000;
 
-/// A type of a variable, whether it is small, and whether it mentions no variable. Contracts see it as its expression.
+/// A type of a variable, whether it is small, and what it mentions. Contracts see it as its expression.
 #[derive(Drop)]
 pub struct Type {
     expr: Expr,
     small: bool,
     closed: bool,
+    /// The variables below 256 that it mentions.
+    mentioned: Mask,
 }
 
 impl Model for Type {
@@ -31,7 +37,8 @@ impl Model for Type {
     ghost use Rattle.cov_expr.specs.contracts.expr.Expr as e;
     ghost use Rattle.cov_expr.specs.declared.expr.Expr.{Expr};
     ghost use Rattle.cov_expr.specs.View.{term};
-    ghost use Rattle.cov_expr.specs.Trees.{is_closed};
+    ghost use Rattle.cov_expr.specs.Trees.{is_closed, mentions};
+    ghost use Rattle.cov_ast.specs.Tables.{table};
     ghost use Rattle.typing_state.specs.Terms.{is_small};
 
     ghost Value = { Expr };
@@ -40,7 +47,8 @@ impl Model for Type {
 
     ghost view = { λ q. q.expr };
 
-    ghost invariant = { λ q. (q.small ≡ is_small (term q.expr)) × (q.closed ≡ is_closed (term q.expr)) };
+    ghost invariant = { λ q. (q.small ≡ is_small (term q.expr)) × (q.closed ≡ is_closed (term q.expr))
+        × (q.mentioned ≡ table 256 (mentions (term q.expr))) };
 }
 
 impl Type {
@@ -50,10 +58,12 @@ impl Type {
     {
         let small = nodes_at_most(&expr, MOST_NODES);
         let closed = closed(&expr);
+        let mentioned = mentioned(&expr);
         let made = Type {
             expr,
             small,
             closed,
+            mentioned,
         };
         Ok(Rc::new(alloc, made)?)
     }
@@ -75,6 +85,23 @@ impl Type {
     {
         self.closed
     }
+
+    /// Whether a variable below 256 is mentioned.
+    fn mentions(&self, x: u32) -> bool
+        requires { x < 256 }
+        ensures { result ≡ tree.mentions (term self.now) x }
+    {
+        self.mentioned.has(x)
+    }
+
+    /// Adds the variables below 256 that it mentions to a set.
+    pub fn add_mentioned(&self, set: &mut Mask)
+        requires { length set.old ≡ 256 }
+        ensures length { length set.new ≡ 256 }
+        ensures mentioned { (x : ℕ) → x < 256 → has set.new x ≡ (has set.old x || tree.mentions (term self.now) x) }
+    {
+        set.insert_set(&self.mentioned);
+    }
 }
 
 /// Of each variable its type, if it has one, and how many of them are large. Copies share the types. Contracts see the list of
@@ -85,6 +112,8 @@ pub struct Types {
     large: usize,
     /// Those whose type mentions a variable are among these.
     varying: Mask,
+    /// Those that the types mention.
+    groups: Groups,
 }
 
 impl Model for Types {
@@ -94,6 +123,7 @@ impl Model for Types {
     ghost use Rattle.cov_expr.specs.contracts.expr.Expr as e;
     ghost use Rattle.cov_expr.specs.declared.expr.Expr.{Expr};
     ghost use Rattle.cov_expr.specs.View.{term};
+    ghost use Rattle.typing_state.specs.Groups.{AreGrouped};
     ghost use Rattle.typing_state.specs.Terms.{is_small_type, is_closed_type};
 
     ghost Value = { List (Option Expr) };
@@ -104,19 +134,21 @@ impl Model for Types {
 
     ghost invariant = { λ s. (s.large ≡ count_by (λ q. not (is_small_type (option_map (λ q. term q.value) q))) s.known)
         × (length s.varying ≡ 256) × ((x : ℕ) → x < 256 → has s.varying x ≡ false
-        → is_closed_type (get_or (map (option_map term) (map (option_map (λ q. q.value)) s.known)) x None) ≡ true) };
+        → is_closed_type (get_or (map (option_map term) (map (option_map (λ q. q.value)) s.known)) x None) ≡ true)
+        × AreGrouped s.groups (map (option_map term) (map (option_map (λ q. q.value)) s.known)) };
 }
 
 impl Types {
     /// No variables.
-    pub fn new(alloc: Global) -> Self
-        ensures { result ≡ [] }
+    pub fn new(alloc: Global) -> Result<Self, NoMemory>
+        ensures { IfOk result (λ made. made ≡ []) }
     {
-        Types {
+        Ok(Types {
             known: List::new(alloc),
             large: 0,
             varying: Mask::new(256),
-        }
+            groups: Groups::new(alloc)?,
+        })
     }
 
     /// The same types.
@@ -127,6 +159,7 @@ impl Types {
             known: share_all(alloc, self.known.as_slice())?,
             large: self.large,
             varying: self.varying.copy(),
+            groups: self.groups.copy(alloc)?,
         })
     }
 
@@ -137,6 +170,7 @@ impl Types {
         let large = count_large(&q);
         let varies = is_varying(&q);
         let place = self.known.len();
+        self.groups.mark(place, &q);
         self.known.push(q)?;
         if place < 256 {
             self.varying.put(place as u32, varies);
@@ -173,6 +207,7 @@ impl Types {
             let before = count_large(&self.known.as_slice()[place]);
             let after = count_large(&q);
             let varies = is_varying(&q);
+            self.groups.mark(place, &q);
             self.known.set(place, q);
             self.varying.put(x, varies);
             self.large = self.large - before + after;
@@ -184,6 +219,33 @@ impl Types {
         ensures { AreDone (λ k. is_closed_type (get_or (map (option_map term) self.now) k None)) from 256 result }
     {
         self.varying.next_from(from)
+    }
+
+    /// The first of the variables below 256, from a number on, whose type may mention another variable. Of sixteen variables
+    /// none of whose types mentions it none is looked at.
+    pub fn next_mentioning(&self, x: u32, from: u32) -> Option<u32>
+        requires { x < 256 }
+        ensures { AreDone (λ k. is_free x (get_or (map (option_map term) self.now) k None)) from 256 result }
+    {
+        let mut start = from;
+        while let Some(z) = self.next_varying(start) {
+            if self.groups.has((z / 16) as usize, x) {
+                return Some(z);
+            }
+            start = (z / 16 + 1) * 16;
+        }
+        None
+    }
+
+    /// Whether the type of a variable, if there is one, doesn't mention another variable.
+    pub fn is_free(&self, z: u32, x: u32) -> bool
+        requires { x < 256 }
+        ensures { result ≡ is_free x (get_or (map (option_map term) self.now) z None) }
+    {
+        match self.known.as_slice().get(z as usize) {
+            Some(q) => is_free(q, x),
+            None => true,
+        }
     }
 
     /// Whether each type is small.
@@ -200,6 +262,17 @@ fn expr_of(q: &Option<Rc<Type, Global>>) -> Option<&Expr>
     match q {
         Some(q) => Some(q.expr()),
         None => None,
+    }
+}
+
+/// Whether a type, if there is one, doesn't mention a variable below 256.
+fn is_free(q: &Option<Rc<Type, Global>>, x: u32) -> bool
+    requires { x < 256 }
+    ensures { result ≡ is_free x (option_map (λ q. term q.value) q.now) }
+{
+    match q {
+        Some(q) => !q.mentions(x),
+        None => true,
     }
 }
 

@@ -5,7 +5,7 @@ use Rattle.cov_expr.specs.View.{term}
 use Rattle.cov_ast.specs.Plain.{plain}
 use Rattle.cov_ast.specs.View as view
 use Rattle.typing_state.specs.After.{forgotten_type}
-use Rattle.typing_state.specs.Terms.{is_closed_type}
+use Rattle.typing_state.specs.Groups.{is_free}
 use Rattle.typing_state.proofs.ForgetLaws.{forgotten_keeps}
 use Rattle.typing_state.proofs.Steps.{upto_none, upto_more}
 use Rattle.typing_state.proofs.WalkLaws.{walked_to, walked_all}
@@ -23,10 +23,10 @@ loop-z-preserved c t held modes variables =
     let qs = map (option_map term) c.args.types.now in
     let now = map (option_map term) c.loop-z.types in
     let z = c.in-Some.z in
-    let done : ℕ → Bool = λ k. is_closed_type (get_or now k None) in
+    let done : ℕ → Bool = λ k. is_free x (get_or now k None) in
     let kept =
     walked_to f qs now done c.loop-z.from (length c.args.p.now.vars) (c.loop-z.invariant t held modes variables)
-    (λ k lt same d. forgotten_keeps p t held x k (get_or qs k None) (ap is_closed_type (sym same) ∙ d)) z c.in-Some.ensures in
+    (λ k lt same d. forgotten_keeps p t held x k (get_or qs k None) (ap (is_free x) (sym same) ∙ d)) z c.in-Some.ensures in
     c.in_ok-forget_type.ensures t held modes variables ∙ (λ i. set (kept i) z (f z (get_or (kept i) z None))) ∙ upto_more f qs z
 
 pub returns : goal.returns
@@ -36,7 +36,7 @@ returns c t held modes variables small =
     let qs = map (option_map term) c.args.types.now in
     let now = map (option_map term) c.loop-z.types in
     let count = length c.args.p.now.vars in
-    let done : ℕ → Bool = λ k. is_closed_type (get_or now k None) in
+    let done : ℕ → Bool = λ k. is_free x (get_or now k None) in
     let few : length qs ≤ count = omega (arith, small, length-map c.args.types.now (option_map term)) in
     walked_all (λ k q. option_map (forgotten_type p t held x k) q) qs now done c.loop-z.from count (c.loop-z.invariant t held modes variables)
-    (λ k lt same d. forgotten_keeps p t held x k (get_or qs k None) (ap is_closed_type (sym same) ∙ d)) few c.in_default.ensures
+    (λ k lt same d. forgotten_keeps p t held x k (get_or qs k None) (ap (is_free x) (sym same) ∙ d)) few c.in_default.ensures

@@ -1,4 +1,4 @@
-use Rattle.std.proofs.Common.{◌≡◌, ◌≤◌, length, take}
+use Rattle.std.proofs.Common.{◌≡◌, length, take}
 use Rattle.typing_state.proofs.predicates.Predicates.truncate.Given as goal
 
 abbrev pub invariant-loop-end : goal.invariant-loop-end

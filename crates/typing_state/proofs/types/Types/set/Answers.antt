@@ -1,8 +1,10 @@
-use Rattle.std.proofs.Common.{◌∙◌, ap, sym, map, set, option_map, get_or, length, None, rules, arith}
+use Rattle.std.proofs.Common.{◌∙◌, ap, subst, sym, map, set, option_map, get_or, length, None, rules, arith}
 use Rattle.std.proofs.lemmas.Grind.{common_steps}
 use Rattle.std.proofs.lemmas.List.{length-set}
 use Rattle.cov_ast.specs.Tables.{has}
+use Rattle.typing_state.specs.Groups.{AreGrouped}
 use Rattle.typing_state.specs.Terms.{is_closed_type}
+use Rattle.typing_state.proofs.GroupLaws.{grouped_set}
 use Rattle.typing_state.proofs.WalkLaws.{marked_set}
 use Rattle.cov_expr.specs.View.{term}
 use Rattle.typing_state.proofs.SharedLaws.{types_set}
@@ -25,4 +27,7 @@ invariant_of-self c =
       first_of (search rules, grind (arith, common_steps)),
       ap length put ∙ length-set c.self.inside.varying x c.is_varying-varies.result ∙ c.self.invariant.1,
       λ k lt away. ap (λ qs. is_closed_type (get_or qs k None)) types ∙ marked k lt (ap (λ m. has m k) (sym put) ∙ away),
+      subst (AreGrouped c.mark.new.self) (sym types)
+          (grouped_set c.self.inside.groups c.mark.new.self (map (option_map term) (map (option_map (λ q. q.value)) known)) c.self.invariant.3 c.mark.ensures.kept x
+          (option_map (λ q. term q.value) c.args.q) c.mark.ensures.free),
     )

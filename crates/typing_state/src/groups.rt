@@ -1,0 +1,73 @@
+ghost use Rattle.std.specs.Prelude.{◌≡◌, ◌<◌, ◌/◌, ℕ, [], false, get_or, option_map, true, IfOk};
+ghost use Rattle.cov_expr.specs.View.{term};
+ghost use Rattle.cov_ast.specs.Tables.{has};
+ghost use Rattle.typing_state.specs.Groups.{is_free};
+
+use crate::types::Type;
+use cov_expr::{List, NoMemory};
+use mode_state::Mask;
+use std::alloc::Global;
+use std::marker::Model;
+use std::rc::Rc;
+
+/// Of each sixteen variables in turn a set of variables, among which are those that their types mention. Contracts see the
+/// list of the sets.
+#[derive(Drop)]
+pub struct Groups {
+    sets: List<Mask>,
+}
+
+impl Model for Groups {
+    ghost use Rattle.std.specs.Prelude.{◌≡◌, ◌<◌, ℕ, [], Bool, List, get_or, length};
+
+    ghost Value = { List (List Bool) };
+
+    ghost view = { λ s. s.sets };
+
+    ghost invariant = { λ s. (length s.sets ≡ 16) × ((g : ℕ) → g < 16 → length (get_or s.sets g []) ≡ 256) };
+}
+
+impl Groups {
+    /// Sixteen groups, whose types mention nothing.
+    pub fn new(alloc: Global) -> Result<Self, NoMemory> {
+        let mut sets = List::with_capacity(alloc, 16)?;
+        for _i in 0..16_usize {
+            sets.push(Mask::new(256))?;
+        }
+        Ok(Groups { sets })
+    }
+
+    /// Equal sets.
+    pub fn copy(&self, alloc: Global) -> Result<Self, NoMemory>
+        ensures { IfOk result (λ made. made ≡ self.now) }
+    {
+        let mut sets = List::with_capacity(alloc, 16)?;
+        for set in self.sets.as_slice() {
+            sets.push(set.copy())?;
+        }
+        Ok(Groups { sets })
+    }
+
+    /// Whether the types of a group may mention a variable.
+    pub fn has(&self, group: usize, x: u32) -> bool
+        requires { group < 16 }
+        ensures { result ≡ has (get_or self.now group []) x }
+    {
+        self.sets.as_slice()[group].has(x)
+    }
+
+    /// Adds to the group of a variable what its type mentions. Variables from 256 on have no group.
+    pub fn mark(&mut self, place: usize, q: &Option<Rc<Type, Global>>)
+        ensures kept { (g x : ℕ) → has (get_or self.new g []) x ≡ false → has (get_or self.old g []) x ≡ false }
+        ensures free { (x : ℕ) → place < 256 → x < 256 → has (get_or self.new (place / 16) []) x ≡ false → is_free x (option_map (λ q. term q.value) q.now) ≡ true }
+    {
+        match q {
+            Some(q) if place < 256 => {
+                let mut marked = self.sets.as_slice()[place / 16].copy();
+                q.add_mentioned(&mut marked);
+                self.sets.set(place / 16, marked);
+            }
+            Some(_) | None => {}
+        }
+    }
+}
