@@ -64,8 +64,13 @@ module _ (old new : List (List Bool)) (types : List (Option Term)) (grouped : Ar
 
 -- Walks over groups --------------------------------------------------------------------------------------------
 
-module _ (groups : List (List Bool)) (types : List (Option Term)) (grouped : AreGrouped groups types) (x from start : ℕ) (below : x < 256) (begun : from ≤ start)
-    (so_far : (k : ℕ) → from ≤ k → k < start → k < 256 → is_free x (get_or types k None) ≡ true) where
+-- the types of a group whose set lacks a variable
+pub group_free : (groups : List (List Bool)) (types : List (Option Term)) → AreGrouped groups types → (x z : ℕ) → x < 256 → has (get_or groups (z / 16) []) x ≡ false
+    → (k : ℕ) → z ≤ k → k < (z / 16 + 1) * 16 → k < 256 → is_free x (get_or types k None) ≡ true
+group_free groups types grouped x z below lacks k le lt small =
+    grouped k x small below (ap (λ g. has (get_or groups g []) x) (let same : k / 16 ≡ z / 16 = omega arith in same) ∙ lacks)
+
+module _ (types : List (Option Term)) (x from start : ℕ) (begun : from ≤ start) (so_far : (k : ℕ) → from ≤ k → k < start → k < 256 → is_free x (get_or types k None) ≡ true) where
   -- no type before the next that mentions a variable mentions this one
   pub walk_to : (z : ℕ) → AreDone (λ k. is_closed_type (get_or types k None)) start 256 (Some z)
       → (z < 256) × (from ≤ z) × ((k : ℕ) → from ≤ k → k < z → is_free x (get_or types k None) ≡ true)
@@ -78,12 +83,13 @@ module _ (groups : List (List Bool)) (types : List (Option Term)) (grouped : Are
     ],
   )
 
-  -- nor does one of its group, where the set of the group lacks it
-  pub walk_past : (z : ℕ) → AreDone (λ k. is_closed_type (get_or types k None)) start 256 (Some z) → has (get_or groups (z / 16) []) x ≡ false
-      → (k : ℕ) → from ≤ k → k < (z / 16 + 1) * 16 → k < 256 → is_free x (get_or types k None) ≡ true
-  walk_past z next lacks k le lt small = elim (cases_lt k z) [
+  -- nor do those that are passed over then
+  pub walk_past : (z past : ℕ) → AreDone (λ k. is_closed_type (get_or types k None)) start 256 (Some z)
+      → ((k : ℕ) → z ≤ k → k < past → k < 256 → is_free x (get_or types k None) ≡ true)
+      → (k : ℕ) → from ≤ k → k < past → k < 256 → is_free x (get_or types k None) ≡ true
+  walk_past z past next free k le lt small = elim (cases_lt k z) [
     | inl before ↦ (walk_to z next).2 k le before
-    | inr at ↦ grouped k x small below (ap (λ g. has (get_or groups g []) x) (omega arith) ∙ lacks)
+    | inr at ↦ free k at lt small
   ]
 
   pub walk_end : AreDone (λ k. is_closed_type (get_or types k None)) start 256 None → (k : ℕ) → from ≤ k → k < 256 → is_free x (get_or types k None) ≡ true

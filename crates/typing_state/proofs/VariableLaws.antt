@@ -1,14 +1,17 @@
 -- What is declared of variables, by number.
-use Rattle.std.proofs.Common.{◌≡◌, ℕ, ◌<◌, List, [], Bool, length, map, get_or, sym, ap, ◌∙◌, arith, ◌&&◌, not, true, Option, Some, if◌then◌else◌}
-use Rattle.std.proofs.lemmas.Bool.{not-true}
-use Rattle.std.proofs.lemmas.List.{get_or-map, length-map}
+use Rattle.std.proofs.Common.{◌≡◌, ℕ, ◌<◌, inl, inr, None, List, [], Bool, length, map, get_or, sym, ap, ◌∙◌, arith, ◌&&◌, not, true, Option, Some, if◌then◌else◌}
+use Rattle.std.proofs.lemmas.Bool.{cases_lt, not-true}
+use Rattle.std.proofs.lemmas.List.{get_or-map, get_or_past, length-map}
+use Rattle.std.proofs.lemmas.Simd.{map-map}
 use Rattle.std.proofs.lemmas.List.FromFn.{get_or-map-range_with_len, length-map-range_with_len}
 use Rattle.cov_expr.specs.Term.{Term, const}
-use Rattle.cov_ast.specs.Declarations.{class_of, is_control, under}
-use Rattle.cov_ast.specs.Plain.{Plain}
+use Rattle.cov_expr.specs.Trees.{mentions}
+use Rattle.cov_ast.specs.Declarations.{class_of, is_control, no_var, under}
+use Rattle.cov_ast.specs.Plain.{Plain, class_term}
 use Rattle.cov_ast.specs.Tables.{has, table}
 use Rattle.cov_ast.proofs.TableLaws.{table_at, table_length}
 use Rattle.mode_state.specs.Sets.{Sets, modes_at}
+use Rattle.typing_state.specs.Groups.{is_free}
 use Rattle.typing_state.specs.Point.{vars_of}
 use Rattle.typing_state.specs.After.{locked_type}
 
@@ -21,6 +24,23 @@ module _ {X : Type 0} (g : X → Term) (classes : List X) (p : Plain) (is : map 
   class_is x q inside =
       sym (get_or-map g classes x q (const 0) (omega (arith, as_many_classes))) ∙ ap (λ es. get_or es x (const 0)) is
       ∙ get_or-map-range_with_len (class_of p) 0 (length p.vars) x x (const 0) inside (omega arith)
+
+-- the same as types
+pub some_classes : {X : Type 0} (g : X → Term) (classes : List X) (p : Plain) → map g classes ≡ map (class_of p) (vars_of p)
+    → map (λ q. Some (g q)) classes ≡ map (λ x. Some (class_of p x)) (vars_of p)
+some_classes g classes p is = sym (map-map Some g classes) ∙ ap (map Some) is ∙ map-map Some (class_of p) (vars_of p)
+
+-- a class that mentions a variable or doesn't
+pub class_free : (p : Plain) (types : List (Option Term)) → types ≡ map (λ x. Some (class_of p x)) (vars_of p) → (x y : ℕ)
+    → is_free x (get_or types y None) ≡ not (mentions (class_of p y) x)
+class_free p types is x y =
+    ap (λ qs. is_free x (get_or qs y None)) is
+    ∙ elim (cases_lt y (length p.vars)) [
+      | inl lt ↦ ap (is_free x) (get_or-map-range_with_len (λ z. Some (class_of p z)) 0 (length p.vars) y y None lt (omega arith))
+      | inr le ↦
+          ap (is_free x) (get_or_past (map (λ z. Some (class_of p z)) (vars_of p)) y None (omega (arith, length-map-range_with_len (λ z. Some (class_of p z)) 0 (length p.vars))))
+          ∙ sym (ap (λ v. not (mentions (class_term v.class) x)) (get_or_past p.vars y no_var le))
+    ]
 
 -- the variables that a lock lists
 pub lists_is : (p : Plain) (t : ℕ) (held : List Bool) (s : Sets) (l x : ℕ) → s ≡ modes_at p t held → l < length p.locks → x < length p.vars

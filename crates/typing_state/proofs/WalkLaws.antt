@@ -30,6 +30,19 @@ done_below f from n end (Some x) le h = at (nat_lt x end) refl
     at true e = (ltb-true x end e, h.1, h.2)
     at false e = λ k low high. h.2 k low (let past : end ≤ x = ltb-false x end e in omega arith)
 
+-- what comes next comes from the first number on, and before an end that it is below
+pub done_further : (f : ℕ → Bool) (from : ℕ) (x : Option ℕ) → AreDone f from 256 x → IfSome x (λ y. from ≤ y)
+done_further f from None h = tt
+done_further f from (Some x) h = h.1
+
+pub below_within : (from end : ℕ) (x : Option ℕ) → IfSome x (λ y. from ≤ y) → IfSome (if_below end x) (λ y. (from ≤ y) × (y < end))
+below_within from end None h = tt
+below_within from end (Some x) h = at (nat_lt x end) refl
+  where
+    at : (b : Bool) → nat_lt x end ≡ b → IfSome (if b then Some x else None) (λ y. (from ≤ y) × (y < end))
+    at true e = (h, ltb-true x end e)
+    at false e = tt
+
 -- none before the next number of a set is in it
 pub next_done : (s : List Bool) (from end : ℕ) (x : Option ℕ) → IsNext (has s) from (length s) x → IfSome x (λ y. y < end) → AreDone (λ k. not (has s k)) from end x
 next_done s from end None h small = λ k le lt. elim (cases_lt k (length s)) [

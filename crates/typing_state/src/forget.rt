@@ -91,7 +91,7 @@ fn earlier(a: Option<u32>, b: Option<u32>) -> Option<u32>
 }
 
 /// A number, if it is below an end.
-fn if_below(end: u32, x: Option<u32>) -> Option<u32>
+pub fn if_below(end: u32, x: Option<u32>) -> Option<u32>
     ensures { result ≡ walks.if_below end x }
 {
     match x {

@@ -1,4 +1,4 @@
-ghost use Rattle.std.specs.Prelude.{◌≡◌, ◌<◌, ◌||◌, ℕ, [], ◌∷◌, ◌++◌, length, map, option_copied, option_map, get_or, set, is_some, not, IfOk, OnOk, None, if◌then◌else◌};
+ghost use Rattle.std.specs.Prelude.{◌≡◌, ◌<◌, ◌≤◌, ◌||◌, ℕ, true, [], ◌∷◌, ◌++◌, length, map, option_copied, option_map, get_or, set, is_some, not, IfOk, OnOk, None, if◌then◌else◌};
 ghost use Rattle.std.specs.List.{list_all};
 ghost use Rattle.cov_expr.specs.Trees as tree;
 ghost use Rattle.cov_expr.specs.View.{term};
@@ -221,20 +221,38 @@ impl Types {
         self.varying.next_from(from)
     }
 
-    /// The first of the variables below 256, from a number on, whose type may mention another variable. Of sixteen variables
-    /// none of whose types mentions it none is looked at.
+    /// The first of the variables below 256, from a number on, whose type mentions another variable. Of sixteen variables none of
+    /// whose types mentions it none is looked at.
     pub fn next_mentioning(&self, x: u32, from: u32) -> Option<u32>
         requires { x < 256 }
         ensures { AreDone (λ k. is_free x (get_or (map (option_map term) self.now) k None)) from 256 result }
     {
         let mut start = from;
         while let Some(z) = self.next_varying(start) {
-            if self.groups.has((z / 16) as usize, x) {
+            let next = self.past_free(z, x);
+            if next == z {
                 return Some(z);
             }
-            start = (z / 16 + 1) * 16;
+            start = next;
         }
         None
+    }
+
+    /// A number up to which no type from a variable on mentions another variable. It is the variable itself where its type
+    /// does.
+    fn past_free(&self, z: u32, x: u32) -> u32
+        requires small { x < 256 }
+        requires below { z < 256 }
+        ensures further { z ≤ result }
+        ensures free { (k : ℕ) → z ≤ k → k < result → k < 256 → is_free x (get_or (map (option_map term) self.now) k None) ≡ true }
+    {
+        if !self.groups.has((z / 16) as usize, x) {
+            return (z / 16 + 1) * 16;
+        }
+        if self.is_free(z, x) {
+            return z + 1;
+        }
+        z
     }
 
     /// Whether the type of a variable, if there is one, doesn't mention another variable.
