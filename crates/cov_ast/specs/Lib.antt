@@ -2,7 +2,7 @@ pub mod Syntax
 pub mod Plain
 pub mod Declarations
 pub mod View
-pub mod Names
+pub mod NameTables
 pub mod Obligations
 pub mod Tables
 pub mod WellFormed

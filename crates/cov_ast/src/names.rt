@@ -1,7 +1,7 @@
 ghost use Rattle.std.specs.Prelude.{◌≡◌, ◌<◌, [], length, slice_get, Some, IfSome, IsNone, IfOk, OnOk, OnErr, Contains};
 ghost use Rattle.std.specs.List.{IsDistinct};
 ghost use Rattle.std.specs.Str.{bytes_eq};
-ghost use Rattle.cov_ast.specs.Names.{find_name, number_of, with_name};
+ghost use Rattle.cov_ast.specs.NameTables.{find_name, number_of, with_name};
 
 use cov_expr::{Name, NoMemory};
 use indexmap::IndexSet;

@@ -3,10 +3,10 @@ use Rattle.std.proofs.Common.{◌≡◌, List, [], ◌∷◌, ◌++◌, true, fa
 use Rattle.std.proofs.lemmas.Bool.{not-true}
 use Rattle.cov_expr.specs.declared.kind.Kind.{Kind}
 use Rattle.cov_grammar.specs.declared.token.Token.{Token}
-use Rattle.cov_grammar.specs.Trees.{Rule, Meaning}
+use Rattle.cov_grammar.specs.PlacedTrees.{Rule, Meaning}
 use Rattle.cov_grammar.specs.Shapes.{Shape, token, rule, seq, alt, opt, many, act, placed, place, Each, Sense, Spells, head}
 use Rattle.cov_grammar.specs.LookAhead.{kind_is, has, starts, nullable, firsts, apart, fine, more}
-use Rattle.cov_grammar.specs.Tables.{first_of, more_of}
+use Rattle.cov_grammar.specs.FirstKinds.{first_of, more_of}
 use Rattle.cov_grammar.specs.Reading.{got, stopped, ◌>>=◌, Reader, Inner, take_kind, read}
 use Rattle.cov_grammar.proofs.Basics.{kind_itself, has_append, left_false, right_false, true_false, apart_not}
 use Rattle.cov_grammar.proofs.Honest.{Honest, made, both_of}

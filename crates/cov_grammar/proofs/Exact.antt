@@ -1,11 +1,11 @@
 -- Reading all tokens is exact, for every right side that the next token decides.
 use Rattle.std.proofs.Common.{◌≡◌, List, [], ◌∷◌, ◌++◌, true, refl, sym, ap, subst, ◌∙◌, append_assoc, append-nil}
 use Rattle.cov_grammar.specs.declared.token.Token.{Token}
-use Rattle.cov_grammar.specs.Trees.{Rule, Meaning}
+use Rattle.cov_grammar.specs.PlacedTrees.{Rule, Meaning}
 use Rattle.cov_grammar.specs.Shapes.{Shape}
-use Rattle.cov_grammar.specs.Spelling.{Is, FirstWrong}
+use Rattle.cov_grammar.specs.Spells.{Is, FirstWrong}
 use Rattle.cov_grammar.specs.LookAhead.{fine}
-use Rattle.cov_grammar.specs.Tables.{first_of, more_of}
+use Rattle.cov_grammar.specs.FirstKinds.{first_of, more_of}
 use Rattle.cov_grammar.specs.Reading.{Reading, got, stopped, spent, ◌>>=◌, rule_of, reading, ended, all_of}
 use Rattle.cov_grammar.proofs.Honest.{Fact, Honest}
 use Rattle.cov_grammar.proofs.Senses.{AtSome, OfShape, full_some, gather, spread}

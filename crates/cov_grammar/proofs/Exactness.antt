@@ -1,11 +1,11 @@
 -- The laws of the grammar, for every right side that the next token decides, and for those that programs are read by.
 use Rattle.std.proofs.Common.{◌≡◌, true, refl}
-use Rattle.cov_grammar.specs.Trees.{Rule}
+use Rattle.cov_grammar.specs.PlacedTrees.{Rule}
 use Rattle.cov_grammar.specs.Shapes.{Shape, rule}
 use Rattle.cov_grammar.specs.Grammar.{program, whole}
 use Rattle.cov_grammar.specs.LookAhead.{fine}
-use Rattle.cov_grammar.specs.Tables.{first_of, more_of}
-use Rattle.cov_grammar.specs.Laws.{IsReadExactly, IsDecided}
+use Rattle.cov_grammar.specs.FirstKinds.{first_of, more_of}
+use Rattle.cov_grammar.specs.ReadingLaws.{IsReadExactly, IsDecided}
 use Rattle.cov_grammar.proofs.TableLaws.{fine_program}
 use Rattle.cov_grammar.proofs.Exact.{all_sound, all_complete, all_first, all_ends}
 use Rattle.cov_grammar.proofs.Unique.{first_unique, spelled_right}

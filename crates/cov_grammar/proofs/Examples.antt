@@ -5,7 +5,7 @@ use Rattle.cov_expr.specs.declared.expr.Op.TheVariants as ops
 use Rattle.cov_expr.specs.declared.kind.Kind.{Kind}
 use Rattle.cov_expr.specs.declared.kind.Kind.TheVariants as k
 use Rattle.cov_grammar.specs.declared.token.Token.{Token}
-use Rattle.cov_grammar.specs.Trees as t
+use Rattle.cov_grammar.specs.PlacedTrees as t
 use Rattle.cov_grammar.specs.LookAhead.{kind_is}
 use Rattle.cov_grammar.specs.Reading.{got, stopped, rule_of, all_of}
 use Rattle.cov_grammar.specs.Grammar.{names, atom, template_atom, unary, prod, sum, band, bxor, bor, cmp, both, either, whole, part, arguments, last_certs, more_certs, certificate, proof, proofs, types, state, retype, assigned, branched, looped, statement, braces, class, var_decl, lock_decl, modes_behind, two_modes, thread_decl, program, body}

@@ -8,7 +8,7 @@ use Rattle.cov_expr.specs.declared.kind.Kind.{Kind}
 use Rattle.cov_grammar.specs.Shapes.{Shape, many, head}
 use Rattle.cov_grammar.specs.Grammar.{◌▸◌, separated}
 use Rattle.cov_grammar.specs.LookAhead.{starts, nullable, firsts, fine}
-use Rattle.cov_grammar.specs.Tables.{first_of, more_of}
+use Rattle.cov_grammar.specs.FirstKinds.{first_of, more_of}
 use Rattle.cov_grammar.specs.Reading.{take_kind, Reading, got, stopped, spent, ◌>>=◌, Reader, rule_of, reading}
 use Rattle.cov_grammar.proofs.Many.{many_is}
 use Rattle.cov_grammar.proofs.Shapely.{honest, shrinks_of}

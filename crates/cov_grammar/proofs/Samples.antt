@@ -3,12 +3,12 @@ use Rattle.std.proofs.Common.{◌≡◌, ℕ, zero, suc, List, [], ◌∷◌, �
 use Rattle.std.proofs.lemmas.Bool.{or_right, or_left}
 use Rattle.cov_grammar.specs.declared.token.Token.{Token}
 use Rattle.cov_expr.specs.declared.kind.Kind.{Kind}
-use Rattle.cov_grammar.specs.Trees.{Rule, Meaning, expr, template, cert, block}
+use Rattle.cov_grammar.specs.PlacedTrees.{Rule, Meaning, expr, template, cert, block}
 use Rattle.cov_grammar.specs.Shapes.{Shape, token, rule, seq, alt, opt, many, act, placed, place, Each, Sense, Spells}
 use Rattle.cov_grammar.specs.Grammar.{atom, template_atom, unary, prod, sum, band, bxor, bor, cmp, both, either, part, arguments, last_certs, more_certs, certificate, proof, proofs, retype, assigned, branched, looped, state, statement, braces, body, types}
-use Rattle.cov_grammar.specs.Spelling.{Within}
+use Rattle.cov_grammar.specs.Spells.{Within}
 use Rattle.cov_grammar.specs.LookAhead.{nullable, firsts, has, kind_is, within}
-use Rattle.cov_grammar.specs.Tables.{first_of}
+use Rattle.cov_grammar.specs.FirstKinds.{first_of}
 use Rattle.cov_grammar.proofs.Basics.{kind_itself, has_append, within_has}
 use Rattle.cov_grammar.proofs.TableLaws.{firsts_body}
 use Rattle.cov_grammar.proofs.Senses.{nullable_ok, full_at, AtSome}

@@ -2,10 +2,10 @@
 use Rattle.std.proofs.Common.{◌≡◌, ℕ, zero, suc, List, [], ◌∷◌, ◌++◌, true, false, ◌&&◌, Some, None, refl, sym, ap, subst, ◌∙◌, inl, inr}
 use Rattle.std.proofs.lemmas.Bool.{or_right, or_left}
 use Rattle.cov_grammar.specs.declared.token.Token.{Token}
-use Rattle.cov_grammar.specs.Trees.{Rule, Meaning}
+use Rattle.cov_grammar.specs.PlacedTrees.{Rule, Meaning}
 use Rattle.cov_grammar.specs.Shapes.{Shape, token, rule, seq, alt, opt, many, act, placed, Each, Sense, Spells}
 use Rattle.cov_grammar.specs.Grammar.{body}
-use Rattle.cov_grammar.specs.Spelling.{Within, Is}
+use Rattle.cov_grammar.specs.Spells.{Within, Is}
 use Rattle.cov_grammar.specs.LookAhead.{nullable}
 use Rattle.cov_grammar.proofs.TableLaws.{full_body}
 

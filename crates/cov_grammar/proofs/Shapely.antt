@@ -3,11 +3,11 @@ use Rattle.std.proofs.Common.{◌≡◌, ℕ, zero, suc, ◌<◌, List, [], ◌�
 use Rattle.std.proofs.lemmas.Bool.{not-true}
 use Rattle.cov_expr.specs.declared.kind.Kind.{Kind}
 use Rattle.cov_grammar.specs.declared.token.Token.{Token}
-use Rattle.cov_grammar.specs.Trees.{Rule}
+use Rattle.cov_grammar.specs.PlacedTrees.{Rule}
 use Rattle.cov_grammar.specs.Shapes.{Shape, token, rule, seq, alt, opt, many, act, placed, place, head}
 use Rattle.cov_grammar.specs.Grammar.{body}
 use Rattle.cov_grammar.specs.LookAhead.{kind_is, nullable, firsts, fine}
-use Rattle.cov_grammar.specs.Tables.{first_of, more_of}
+use Rattle.cov_grammar.specs.FirstKinds.{first_of, more_of}
 use Rattle.cov_grammar.specs.Reading.{Reading, got, stopped, spent, ◌>>=◌, Reader, Inner, take_kind, read, reads}
 use Rattle.cov_grammar.proofs.Basics.{kind_one, headless, true_false}
 use Rattle.cov_grammar.proofs.TableLaws.{fine_body}

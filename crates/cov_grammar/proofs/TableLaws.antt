@@ -1,9 +1,9 @@
 -- One token of look-ahead is enough for the grammar, and its tables are right: by computation.
 use Rattle.std.proofs.Common.{◌≡◌, true, false, refl}
-use Rattle.cov_grammar.specs.Trees.{Rule, expr, template, cert, block}
+use Rattle.cov_grammar.specs.PlacedTrees.{Rule, expr, template, cert, block}
 use Rattle.cov_grammar.specs.Grammar.{atom, template_atom, unary, prod, sum, band, bxor, bor, cmp, both, either, part, arguments, last_certs, more_certs, certificate, proof, proofs, retype, assigned, branched, looped, state, statement, braces, var_decl, names, lock_decl, modes_behind, two_modes, thread_decl, program, types, class, body}
 use Rattle.cov_grammar.specs.LookAhead.{kind_is, nullable, firsts, more, fine, within}
-use Rattle.cov_grammar.specs.Tables.{first_of, more_of}
+use Rattle.cov_grammar.specs.FirstKinds.{first_of, more_of}
 
 pub fine_body : (r : Rule) → fine first_of more_of (body r) ≡ true
 unfolding kind_is atom template_atom unary prod sum band bxor bor cmp both either part arguments last_certs more_certs certificate proof proofs types retype assigned branched looped state statement braces class var_decl names lock_decl modes_behind two_modes thread_decl program body

@@ -2,12 +2,12 @@
 use Rattle.std.proofs.Common.{◌≡◌, ℕ, zero, suc, ◌≤◌, ◌<◌, List, [], ◌∷◌, ◌++◌, length, Bool, true, false, not, ◌&&◌, ◌||◌, if◌then◌else◌, Some, None, ◌⊎◌, refl, sym, ap, subst, ◌∙◌, arith, length-append, inl, inr}
 use Rattle.cov_expr.specs.declared.kind.Kind.{Kind}
 use Rattle.cov_grammar.specs.declared.token.Token.{Token}
-use Rattle.cov_grammar.specs.Trees.{Rule, Meaning, expr, template, cert, block}
+use Rattle.cov_grammar.specs.PlacedTrees.{Rule, Meaning, expr, template, cert, block}
 use Rattle.cov_grammar.specs.Shapes.{Shape, token, rule, seq, alt, opt, many, act, placed, place, head}
 use Rattle.cov_grammar.specs.Grammar.{atom, template_atom, unary, prod, sum, band, bxor, bor, cmp, both, either, part, arguments, last_certs, more_certs, certificate, proof, proofs, retype, assigned, branched, looped, state, statement, braces, body, types}
-use Rattle.cov_grammar.specs.Spelling.{Within}
+use Rattle.cov_grammar.specs.Spells.{Within}
 use Rattle.cov_grammar.specs.LookAhead.{kind_is, starts, nullable, firsts, fine, more}
-use Rattle.cov_grammar.specs.Tables.{first_of, more_of}
+use Rattle.cov_grammar.specs.FirstKinds.{first_of, more_of}
 use Rattle.cov_grammar.specs.Reading.{Reading, got, stopped, spent, ◌>>=◌, Reader, Inner, read_many, read, reads, rule_of}
 use Rattle.cov_grammar.proofs.TableLaws.{fine_body, more_body}
 use Rattle.cov_grammar.proofs.Honest.{Fact, Honest}

@@ -2,7 +2,7 @@
 use Rattle.std.proofs.Common.{◌≡◌, List, [], ◌∷◌, ◌++◌, Some, ◌⊎◌, inl, inr, refl, sym, ap, subst, ◌∙◌, append-nil}
 use Rattle.cov_grammar.specs.declared.token.Token.{Token}
 use Rattle.cov_grammar.specs.Shapes.{Shape, head}
-use Rattle.cov_grammar.specs.Spelling.{Is, GoesOn, FirstWrong}
+use Rattle.cov_grammar.specs.Spells.{Is, GoesOn, FirstWrong}
 
 -- one front is a part of the other
 abbrev pub Beyond : List Token → List Token → List Token → Type 0

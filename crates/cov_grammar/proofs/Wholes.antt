@@ -8,9 +8,9 @@ use Rattle.cov_grammar.specs.declared.stop.Stop.TheVariants as stops
 use Rattle.cov_grammar.specs.declared.fault.TokenFault.{TokenFault}
 use Rattle.cov_grammar.specs.declared.fault.TokenFault.TheVariants as faults
 use Rattle.cov_grammar.specs.Shapes.{Shape}
-use Rattle.cov_grammar.specs.Spelling.{Is, FirstWrong}
+use Rattle.cov_grammar.specs.Spells.{Is, FirstWrong}
 use Rattle.cov_grammar.specs.LookAhead.{fine}
-use Rattle.cov_grammar.specs.Tables.{first_of, more_of}
+use Rattle.cov_grammar.specs.FirstKinds.{first_of, more_of}
 use Rattle.cov_grammar.specs.Reading.{Reading, got, stopped, spent, ◌>>=◌, reading, ended, all_of}
 use Rattle.cov_grammar.specs.ReaderAnswers.{Gives, whole_answer, Stands, Answers, Only}
 use Rattle.cov_grammar.proofs.Exact.{all_sound, all_complete, all_first, all_ends}

@@ -10,8 +10,8 @@ use Rattle.cov_expr.specs.declared.expr.Op.TheVariants as ops
 use Rattle.cov_expr.specs.declared.expr.TheConstants.{HOLE}
 use Rattle.cov_expr.specs.declared.kind.Kind.{Kind}
 use Rattle.cov_expr.specs.declared.kind.Kind.TheVariants as k
-use Rattle.cov_grammar.specs.Trees.{Placed, Class, low, high, low_when, Named, Var, Lock, State, Cert, Proofs, Retypes, Stm, Block, stms, Thread, Program, Rule, Meaning, expr, template, cert, block, skip, assign, lock, unlock, branch, loop, note}
-use Rattle.cov_grammar.specs.Trees as t
+use Rattle.cov_grammar.specs.PlacedTrees.{Placed, Class, low, high, low_when, Named, Var, Lock, State, Cert, Proofs, Retypes, Stm, Block, stms, Thread, Program, Rule, Meaning, expr, template, cert, block, skip, assign, lock, unlock, branch, loop, note}
+use Rattle.cov_grammar.specs.PlacedTrees as t
 use Rattle.cov_grammar.specs.Shapes.{Shape, token, rule, seq, alt, opt, many, act, placed}
 
 -- Notation ----------------------------------------------------------------------------------------------------

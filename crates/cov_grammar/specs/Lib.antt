@@ -1,9 +1,9 @@
-pub mod Trees
+pub mod PlacedTrees
 pub mod Shapes
 pub mod Grammar
-pub mod Spelling
+pub mod Spells
 pub mod LookAhead
-pub mod Tables
+pub mod FirstKinds
 pub mod Reading
 pub mod ReaderAnswers
-pub mod Laws
+pub mod ReadingLaws

@@ -4,7 +4,7 @@
 use Rattle.std.specs.Prelude.{List, [], ◌∷◌, ◌++◌, Bool, true, false, not, ◌&&◌, ◌||◌, if◌then◌else◌, Option, Some, None}
 use Rattle.cov_expr.specs.declared.kind.Kind.{Kind}
 use Rattle.cov_expr.specs.contracts.kind.KindPartialEq.TheImpl as kinds
-use Rattle.cov_grammar.specs.Trees.{Rule}
+use Rattle.cov_grammar.specs.PlacedTrees.{Rule}
 use Rattle.cov_grammar.specs.Shapes.{Shape, token, rule, seq, alt, opt, many, act, placed}
 
 -- Kinds --------------------------------------------------------------------------------------------------------

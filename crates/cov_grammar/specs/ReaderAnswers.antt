@@ -6,7 +6,7 @@ use Rattle.cov_grammar.specs.declared.stop.Stop.TheVariants as stops
 use Rattle.cov_grammar.specs.declared.fault.TokenFault.{TokenFault}
 use Rattle.cov_grammar.specs.declared.fault.TokenFault.TheVariants as faults
 use Rattle.cov_grammar.specs.Shapes.{Shape}
-use Rattle.cov_grammar.specs.Spelling.{Is, FirstWrong, spot}
+use Rattle.cov_grammar.specs.Spells.{Is, FirstWrong, spot}
 use Rattle.cov_grammar.specs.Reading.{Reading, got, stopped}
 
 -- A part of a text ---------------------------------------------------------------------------------------------

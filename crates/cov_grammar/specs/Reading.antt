@@ -5,11 +5,11 @@
 use Rattle.std.specs.Prelude.{ℕ, zero, suc, List, [], ◌∷◌, length, if◌then◌else◌, Some, None}
 use Rattle.cov_expr.specs.declared.kind.Kind.{Kind}
 use Rattle.cov_grammar.specs.declared.token.Token.{Token}
-use Rattle.cov_grammar.specs.Trees.{Rule, Meaning}
+use Rattle.cov_grammar.specs.PlacedTrees.{Rule, Meaning}
 use Rattle.cov_grammar.specs.Shapes.{Shape, token, rule, seq, alt, opt, many, act, placed, place, head}
 use Rattle.cov_grammar.specs.Grammar.{body}
 use Rattle.cov_grammar.specs.LookAhead.{kind_is, starts, firsts}
-use Rattle.cov_grammar.specs.Tables.{first_of}
+use Rattle.cov_grammar.specs.FirstKinds.{first_of}
 
 -- A value and the tokens behind it; or the tokens from the first wrong one on; or no more turns, which never comes of
 -- the grammar.

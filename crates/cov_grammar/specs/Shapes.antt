@@ -5,7 +5,7 @@
 use Rattle.std.specs.Prelude.{◌≡◌, ℕ, List, [], ◌∷◌, ◌++◌, Option, Some, None, ◌⊎◌}
 use Rattle.cov_expr.specs.declared.kind.Kind.{Kind}
 use Rattle.cov_grammar.specs.declared.token.Token.{Token}
-use Rattle.cov_grammar.specs.Trees.{Rule, Meaning}
+use Rattle.cov_grammar.specs.PlacedTrees.{Rule, Meaning}
 
 -- The right side of a rule, which means values of a type:
 -- a token of a kind; a rule; one after the other; either; one or none; any number; a value made of the value; and the

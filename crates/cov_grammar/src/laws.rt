@@ -1,7 +1,7 @@
-ghost use Rattle.cov_grammar.specs.Trees.{Rule};
+ghost use Rattle.cov_grammar.specs.PlacedTrees.{Rule};
 ghost use Rattle.cov_grammar.specs.Shapes.{rule};
 ghost use Rattle.cov_grammar.specs.Grammar.{program, whole};
-ghost use Rattle.cov_grammar.specs.Laws.{IsReadExactly, IsDecided};
+ghost use Rattle.cov_grammar.specs.ReadingLaws.{IsReadExactly, IsDecided};
 
 /// A law: reading with one token of look-ahead gives a tree exactly where the tokens spell it, and else stops in front of the
 /// first token with which no text of the language goes on.

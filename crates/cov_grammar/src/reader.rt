@@ -1,7 +1,7 @@
 ghost use Rattle.std.specs.Prelude.{◌≡◌, ◌+◌, length, [], ◌∷◌, false, true, MatchOption, IfErr, IsTrue, ◌↔◌};
 ghost use Rattle.cov_grammar.specs.declared.stop.Stop.TheVariants as stops;
 ghost use Rattle.cov_grammar.specs.Shapes.{head};
-ghost use Rattle.cov_grammar.specs.Spelling.{spot};
+ghost use Rattle.cov_grammar.specs.Spells.{spot};
 ghost use Rattle.cov_grammar.specs.LookAhead.{kind_is, has, starts};
 ghost use Rattle.cov_grammar.specs.Reading.{take_kind, got, stopped};
 ghost use Rattle.cov_grammar.specs.ReaderAnswers.{Gives, Shorter, whole_answer};

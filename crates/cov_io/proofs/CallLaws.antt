@@ -1,7 +1,7 @@
 -- Laws of calls that are made again where a signal interrupts them.
 use Rattle.std.proofs.Common.{Err, inl, inr, ◌∙◌, arith, ap}
 use Rattle.cov_io.specs.Calls.{Troubles, Tries, HasNoError, IsFault}
-use Rattle.cov_io.specs.Counts.{raised}
+use Rattle.cov_io.specs.Counters.{raised}
 use Rattle.cov_io.specs.declared.trouble.CallError.{CallError}
 use Rattle.cov_io.specs.declared.trouble.CallError.TheVariants.{Interrupted, Other}
 

@@ -1,6 +1,6 @@
 -- What it means that a count grew.
 use Rattle.std.proofs.Common.{◌≡◌, ℕ, ◌+◌, ◌<◌, ◌≤◌, ◌⊎◌, inl, inr, arith}
-use Rattle.cov_io.specs.Counts.{GrewPast, last_count}
+use Rattle.cov_io.specs.Counters.{GrewPast, last_count}
 
 pub grew_or_stands : (n before now : ℕ) → now ≤ last_count → GrewPast n before now → (before + n < now) ⊎ (now ≡ last_count)
 grew_or_stands n before now fits grew = grind arith

@@ -1,7 +1,7 @@
 -- How the calls of a system went, and what they do to the bytes that are known.
 use Rattle.std.specs.Prelude.{◌≡◌, ◌⊎◌, ℕ, ◌+◌, ◌-◌, ◌<◌, ◌≤◌, List, take, Option, Some, None, Result, Ok, Err}
 use Rattle.std.specs.Io.KnownBytes.{append_known}
-use Rattle.cov_io.specs.Counts.{GrewPast, raised}
+use Rattle.cov_io.specs.Counters.{GrewPast, raised}
 use Rattle.cov_io.specs.declared.counts.TheConstants.{RETRIES}
 use Rattle.cov_io.specs.declared.trouble.CallError.{CallError}
 use Rattle.cov_io.specs.declared.trouble.CallError.TheVariants.{Interrupted, Other}

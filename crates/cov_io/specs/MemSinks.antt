@@ -1,6 +1,6 @@
 -- A sink in memory: what it holds, and what each put answers.
 use Rattle.std.specs.Prelude.{ℕ, ◌-◌, min, List, [], ◌∷◌, ◌++◌, length, take, ◌==◌, ◌||◌, Option, None, Some, if◌then◌else◌}
-use Rattle.cov_io.specs.Counts.{raised}
+use Rattle.cov_io.specs.Counters.{raised}
 use Rattle.cov_io.specs.MemShelves.{is_listed}
 use Rattle.cov_io.specs.Sinks.{Sunk}
 

@@ -1,7 +1,7 @@
 -- What a sink over the calls of a system means, and how its faults come from those calls.
 use Rattle.std.specs.Prelude.{ℕ, List, Result, Ok, Err}
 use Rattle.cov_io.specs.Calls.{Troubles, HasNoError, IsFault, after_write}
-use Rattle.cov_io.specs.Counts.{raised}
+use Rattle.cov_io.specs.Counters.{raised}
 use Rattle.cov_io.specs.Sinks.{Sunk, faults_of}
 use Rattle.cov_io.specs.declared.sink.Failed.{Failed}
 

@@ -1,7 +1,7 @@
 -- What a shelf holds, and what a fetch answers.
 use Rattle.std.specs.Prelude.{◌≡◌, ℕ, ◌+◌, ◌<◌, ◌≤◌, List, [], ◌∷◌, length, Bool, false, IsTrue, Option, Some, None, Result, Ok, Err, IfSome, IsSome, IsSomeAnd, IsNone, if◌then◌else◌}
 use Rattle.std.specs.Str.{bytes_eq}
-use Rattle.cov_io.specs.Counts.{GrewPast, Rose, last_count}
+use Rattle.cov_io.specs.Counters.{GrewPast, Rose, last_count}
 use Rattle.cov_io.specs.declared.shelf.Fetched.{Fetched}
 use Rattle.cov_io.specs.declared.shelf.Fetched.TheVariants.{Whole, TooLong}
 use Rattle.cov_io.specs.declared.shelf.ShelfFault.{ShelfFault}

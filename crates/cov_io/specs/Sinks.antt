@@ -1,7 +1,7 @@
 -- What a put and a whole write do to a sink.
 use Rattle.std.specs.Prelude.{ℕ, ◌<◌, ◌≤◌, List, length, take, Option, None, Result, Ok, Err}
 use Rattle.std.specs.Io.KnownBytes.{Appends, Keeps}
-use Rattle.cov_io.specs.Counts.{Rose}
+use Rattle.cov_io.specs.Counters.{Rose}
 use Rattle.cov_io.specs.declared.sink.Failed.{Failed}
 
 -- What a sink means: the bytes put so far, where it tells them, and how often a call failed.

@@ -1,6 +1,6 @@
 ghost use Rattle.std.specs.Prelude.{◌≡◌, ◌≤◌};
-ghost use Rattle.cov_io.specs.Counts.{last_count};
-ghost use Rattle.cov_io.specs.Counts as spec;
+ghost use Rattle.cov_io.specs.Counters.{last_count};
+ghost use Rattle.cov_io.specs.Counters as spec;
 
 /// A count that rises by a number, or stands still at its last value.
 pub(crate) fn raised(count: u64, by: u64) -> u64

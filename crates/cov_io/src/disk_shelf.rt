@@ -2,7 +2,7 @@ ghost use Rattle.std.specs.Prelude.{◌≡◌, ◌≤◌, ◌+◌, IfOk};
 ghost use Rattle.std.specs.Io.{ReadsAtMost};
 ghost use Rattle.std.specs.Io.KnownBytes.{ReadConsumes};
 ghost use Rattle.cov_io.specs.Calls.{Tries, no_troubles};
-ghost use Rattle.cov_io.specs.Counts.{raised as raised_count};
+ghost use Rattle.cov_io.specs.Counters.{raised as raised_count};
 ghost use Rattle.cov_io.specs.Disks.{IsCaused, ReadsAll};
 ghost use Rattle.cov_io.specs.Shelves.{Gives, Passes, IsSound, bytes_taken, faults_of, untold};
 
@@ -29,7 +29,7 @@ pub struct DiskShelf<D: Disk> {
 
 impl<D: Disk> Model for DiskShelf<D> {
     ghost use Rattle.std.specs.Prelude.{◌≤◌, false};
-    ghost use Rattle.cov_io.specs.Counts.{last_count};
+    ghost use Rattle.cov_io.specs.Counters.{last_count};
     ghost use Rattle.cov_io.specs.Disks.{Reading};
 
     ghost Value = { Reading };

@@ -1,5 +1,5 @@
 ghost use Rattle.std.specs.Prelude.{◌≡◌, option_copied};
-ghost use Rattle.cov_io.specs.Counts.{raised as raised_count};
+ghost use Rattle.cov_io.specs.Counters.{raised as raised_count};
 ghost use Rattle.cov_io.specs.Shelves.{Gives, Passes, IsSound, IsDistinctByName, held};
 ghost use Rattle.cov_io.specs.MemShelves.{Answers, after_fetch, next_fetch, shelved_of, started};
 
@@ -22,7 +22,7 @@ pub struct MemShelf {
 }
 
 impl Model for MemShelf {
-    ghost use Rattle.cov_io.specs.Counts.{raised as raised_count};
+    ghost use Rattle.cov_io.specs.Counters.{raised as raised_count};
     ghost use Rattle.cov_io.specs.Shelves.{IsDistinctByName};
     ghost use Rattle.cov_io.specs.MemShelves.{Files};
 

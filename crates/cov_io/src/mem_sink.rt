@@ -1,6 +1,6 @@
 ghost use Rattle.std.specs.Prelude.{◌≡◌, ◌≤◌, ◌<◌, ◌+◌, [], IfOk, IsOk, length};
 ghost use Rattle.std.specs.Result.{result_ok};
-ghost use Rattle.cov_io.specs.Counts.{last_count};
+ghost use Rattle.cov_io.specs.Counters.{last_count};
 ghost use Rattle.cov_io.specs.MemSinks.{after_put, next_put, opened, sunk_of};
 ghost use Rattle.cov_io.specs.Sinks.{Puts};
 

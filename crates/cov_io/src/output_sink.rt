@@ -1,6 +1,6 @@
 ghost use Rattle.std.specs.Prelude.{◌≡◌, ◌≤◌, ◌<◌, [], IfOk, OnErr, length};
 ghost use Rattle.cov_io.specs.Calls.{Tries, after_write, no_troubles};
-ghost use Rattle.cov_io.specs.Counts.{last_count};
+ghost use Rattle.cov_io.specs.Counters.{last_count};
 ghost use Rattle.cov_io.specs.Outputs.{IsPutCaused, after_answer};
 ghost use Rattle.cov_io.specs.Sinks.{Puts, silent};
 
@@ -22,7 +22,7 @@ pub struct OutputSink<O: Output> {
 
 impl<O: Output> Model for OutputSink<O> {
     ghost use Rattle.std.specs.Prelude.{◌≤◌};
-    ghost use Rattle.cov_io.specs.Counts.{last_count};
+    ghost use Rattle.cov_io.specs.Counters.{last_count};
     ghost use Rattle.cov_io.specs.Outputs.{Writing};
 
     ghost Value = { Writing };

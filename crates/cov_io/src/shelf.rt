@@ -1,5 +1,5 @@
 ghost use Rattle.std.specs.Prelude.{◌≡◌};
-ghost use Rattle.cov_io.specs.Counts.{raised};
+ghost use Rattle.cov_io.specs.Counters.{raised};
 ghost use Rattle.cov_io.specs.Shelves.{Shelved, Gives, Passes, IsSound};
 ghost use Rattle.cov_io.specs.declared.shelf.ShelfFault.TheVariants as faults;
 

@@ -1,5 +1,5 @@
 ghost use Rattle.std.specs.Prelude.{◌≡◌, ◌≤◌, []};
-ghost use Rattle.cov_io.specs.Counts.{last_count};
+ghost use Rattle.cov_io.specs.Counters.{last_count};
 ghost use Rattle.cov_io.specs.Sinks.{Sunk, Puts, Writes};
 
 /// Where a report is written to.

@@ -25,7 +25,7 @@ pub(crate) struct Trouble {
 
 impl Model for Trouble {
     ghost use Rattle.std.specs.Prelude.{◌≤◌};
-    ghost use Rattle.cov_io.specs.Counts.{last_count};
+    ghost use Rattle.cov_io.specs.Counters.{last_count};
     ghost use Rattle.cov_io.specs.Calls.{Troubles};
 
     ghost Value = { Troubles };

@@ -2,10 +2,10 @@
 use Rattle.std.proofs.Common.{◌≡◌, ◌<◌, ℕ, List, [], ◌∷◌, length, map, get_or, slice_get, Some, refl, sym, ap, ◌∙◌}
 use Rattle.std.proofs.lemmas.Option.{slice_get-get_or}
 use Rattle.cov_read.specs.DeclViews.{number}
-use Rattle.cov_grammar.specs.Trees.{Placed, Stm, stms}
+use Rattle.cov_grammar.specs.PlacedTrees.{Placed, Stm, stms}
 use Rattle.cov_ast.specs.View as ast
 use Rattle.cov_ast.specs.Syntax.{more}
-use Rattle.cov_text.specs.Trees.{stm_of, proofs_of, stms_of, stmt_of}
+use Rattle.cov_text.specs.GivenTrees.{stm_of, proofs_of, stms_of, stmt_of}
 
 pub block_is : (xs : List (Placed Stm)) → ast.block_of (map stmt_of xs) ≡ stms_of (stms xs)
 block_is [] = refl

@@ -1,6 +1,6 @@
 -- The fault of least place, and numbers.
 use Rattle.std.proofs.Common.{◌≡◌, ℕ, zero, suc, ◌+◌, ◌≤◌, ◌<◌, nat_lt, nat_le, min, List, [], ◌∷◌, ◌++◌, length, map, flat_map, drop, get_or, Bool, true, false, if◌then◌else◌, Option, Some, None, refl, sym, ap, ◌∙◌, arith}
-use Rattle.cov_grammar.specs.Trees.{stms, Placed, Stm}
+use Rattle.cov_grammar.specs.PlacedTrees.{stms, Placed, Stm}
 use Rattle.cov_text.specs.declared.fault.Counted.{Counted}
 use Rattle.cov_text.specs.declared.fault.Limit.TheVariants.{TooMany}
 use Rattle.cov_text.specs.declared.fault.Excess.{Excess}

@@ -6,7 +6,7 @@ use Rattle.std.proofs.lemmas.Cmp.{nat_list_eq_equiv}
 use Rattle.std.proofs.lemmas.Option.{slice_get_within, get_or_from_slice_get}
 use Rattle.std.proofs.lemmas.List.Sums.{position_or_len_is}
 use Rattle.std.proofs.lemmas.Map.Keys.{apart_from_distinct, any_passes_from_place}
-use Rattle.cov_ast.specs.Names.{number_of, with_name}
+use Rattle.cov_ast.specs.NameTables.{number_of, with_name}
 
 pub number_there : (names : List (List ℕ)) (name : List ℕ) (id : ℕ) → IsDistinct bytes_eq names → slice_get names id ≡ Some name → number_of names name ≡ id
 number_there names name id d h =

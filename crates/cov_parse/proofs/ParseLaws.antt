@@ -10,7 +10,7 @@ use Rattle.cov_grammar.specs.declared.fault.TokenFault.{TokenFault}
 use Rattle.cov_grammar.specs.declared.fault.TokenFault.TheVariants as tokens
 use Rattle.cov_grammar.specs.Shapes.{Shape}
 use Rattle.cov_grammar.specs.Grammar.{program, whole}
-use Rattle.cov_grammar.specs.Spelling.{Is, FirstWrong, spot}
+use Rattle.cov_grammar.specs.Spells.{Is, FirstWrong, spot}
 use Rattle.cov_grammar.specs.Reading.{reading}
 use Rattle.cov_grammar.specs.ReaderAnswers as answers
 use Rattle.cov_grammar.proofs.TableLaws.{fine_program}
@@ -27,7 +27,7 @@ use Rattle.cov_read.specs.declared.cert.Whole.{Whole}
 use Rattle.cov_read.specs.CertViews as certs
 use Rattle.cov_read.specs.DeclViews as decls
 use Rattle.cov_text.specs.Text.{words_of, lexical, unexpected, fault_at, IsFirstFault, IsShallow, Answers}
-use Rattle.cov_parse.specs.Replies.{Reads, AreRead}
+use Rattle.cov_parse.specs.Reads.{Reads, AreRead}
 
 -- All tokens ---------------------------------------------------------------------------------------------------
 

@@ -1,2 +1,2 @@
-pub mod Replies
+pub mod Reads
 pub mod Inside

@@ -1,6 +1,6 @@
 ghost use Rattle.std.specs.Prelude.{◌≡◌, map, option_map, IfOk};
 ghost use Rattle.cov_ast.specs.View as ast;
-ghost use Rattle.cov_text.specs.Trees as spec;
+ghost use Rattle.cov_text.specs.GivenTrees as spec;
 ghost use Rattle.cov_read.specs.CertViews as certs;
 ghost use Rattle.cov_read.specs.StateViews as states;
 

@@ -1,6 +1,6 @@
 ghost use Rattle.std.specs.Prelude.{◌≡◌, map, option_map, IfOk};
 ghost use Rattle.cov_expr.specs.View.{term};
-ghost use Rattle.cov_text.specs.Trees as spec;
+ghost use Rattle.cov_text.specs.GivenTrees as spec;
 ghost use Rattle.cov_read.specs.CertViews as certs;
 
 use crate::turned::turned;

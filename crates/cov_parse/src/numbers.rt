@@ -1,5 +1,5 @@
 ghost use Rattle.std.specs.Prelude.{◌≡◌, map, flat_map};
-ghost use Rattle.cov_grammar.specs.Trees.{stms};
+ghost use Rattle.cov_grammar.specs.PlacedTrees.{stms};
 ghost use Rattle.cov_text.specs.Limits as spec;
 ghost use Rattle.cov_parse.specs.Inside.Measures.{counted, onward};
 ghost use Rattle.cov_read.specs.StmtViews as stmts;

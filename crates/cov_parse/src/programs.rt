@@ -1,8 +1,8 @@
 ghost use Rattle.std.specs.Prelude.{◌≡◌, [], ◌∷◌, ◌++◌, ◌<◌, length, map, All, IfOk, OnOk};
 ghost use Rattle.cov_ast.specs.View as ast;
-ghost use Rattle.cov_grammar.specs.Trees.{stms};
+ghost use Rattle.cov_grammar.specs.PlacedTrees.{stms};
 ghost use Rattle.cov_text.specs.Inside.Named.{AreNamed};
-ghost use Rattle.cov_text.specs.Trees as spec;
+ghost use Rattle.cov_text.specs.GivenTrees as spec;
 ghost use Rattle.cov_read.specs.StmtViews as stmts;
 ghost use Rattle.cov_read.specs.DeclViews as decls;
 

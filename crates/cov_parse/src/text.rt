@@ -2,7 +2,7 @@ ghost use Rattle.std.specs.Prelude.{◌≡◌, ◌≤◌, ◌<◌, length, All, 
 ghost use Rattle.cov_expr.specs.declared.limits.TheConstants.{MOST_BYTES};
 ghost use Rattle.cov_ast.specs.Ready.{HasUsesInOrder, IsReady};
 ghost use Rattle.cov_ast.specs.View as ast;
-ghost use Rattle.cov_grammar.specs.Trees.{Program, Placed};
+ghost use Rattle.cov_grammar.specs.PlacedTrees.{Program, Placed};
 ghost use Rattle.cov_grammar.specs.Grammar as grammar;
 ghost use Rattle.cov_grammar.specs.ReaderAnswers as answers;
 ghost use Rattle.cov_expr.specs.Term.{Term};
@@ -12,7 +12,7 @@ ghost use Rattle.cov_read.specs.CertViews as certs;
 ghost use Rattle.cov_read.specs.DeclViews as decls;
 ghost use Rattle.cov_text.specs.Limits as limits;
 ghost use Rattle.cov_text.specs.Text.{IsText, Answers, Only, program_of, expression_of};
-ghost use Rattle.cov_parse.specs.Replies.{Reads, parsed_expr};
+ghost use Rattle.cov_parse.specs.Reads.{Reads, parsed_expr};
 ghost use Rattle.cov_text.specs.Uses.{AreUsesOf};
 
 use crate::exprs::expr_of;

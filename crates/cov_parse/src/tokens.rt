@@ -2,10 +2,10 @@ ghost use Rattle.std.specs.Prelude.{◌≡◌, ◌≤◌, ◌<◌, ◌-◌, leng
 ghost use Rattle.std.specs.List.{IsDistinct};
 ghost use Rattle.std.specs.Str.{bytes_eq};
 ghost use Rattle.cov_expr.specs.declared.limits.TheConstants.{MOST_BYTES};
-ghost use Rattle.cov_ast.specs.Names.{number_of, with_name};
+ghost use Rattle.cov_ast.specs.NameTables.{number_of, with_name};
 ghost use Rattle.cov_expr.specs.Names.{IsName};
 ghost use Rattle.cov_lex.specs.Classified.{AreClassified};
-ghost use Rattle.cov_parse.specs.Replies.{AreRead};
+ghost use Rattle.cov_parse.specs.Reads.{AreRead};
 ghost use Rattle.cov_text.specs.Text.{names_of, words_of};
 
 use cov_ast::NameTable;

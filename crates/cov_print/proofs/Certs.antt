@@ -3,16 +3,16 @@ use Rattle.std.proofs.Common.{◌≡◌, ℕ, zero, suc, List, [], ◌∷◌, �
 use Rattle.cov_expr.specs.declared.kind.Kind.{Kind}
 use Rattle.cov_expr.specs.declared.kind.Kind.TheVariants as k
 use Rattle.cov_grammar.specs.declared.token.Token.{Token}
-use Rattle.cov_grammar.specs.Trees as t
-use Rattle.cov_grammar.specs.Trees.{Placed}
+use Rattle.cov_grammar.specs.PlacedTrees as t
+use Rattle.cov_grammar.specs.PlacedTrees.{Placed}
 use Rattle.cov_grammar.specs.Shapes.{Shape, rule, placed, Sense, Spells}
 use Rattle.cov_grammar.specs.Grammar.{sign, whole, in_brackets, bracketed, part, arguments, last_certs, more_certs, certificate}
 use Rattle.cov_grammar.specs.Grammar.{body}
-use Rattle.cov_grammar.specs.Spelling.{Within}
+use Rattle.cov_grammar.specs.Spells.{Within}
 use Rattle.cov_grammar.proofs.Senses.{OfShape, close}
 use Rattle.cov_print.proofs.Operands.{expr_keeps, template_keeps}
 use Rattle.cov_ast.specs.Syntax as s
-use Rattle.cov_text.specs.Trees.{expr_of, cert_of}
+use Rattle.cov_text.specs.GivenTrees.{expr_of, cert_of}
 use Rattle.cov_print.proofs.Written as w
 use Rattle.cov_print.proofs.Written.{Word, plain, enclosed, commas}
 use Rattle.cov_print.specs.Spelling.{is_word}

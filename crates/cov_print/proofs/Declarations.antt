@@ -4,13 +4,13 @@ use Rattle.cov_expr.specs.Term.{Term}
 use Rattle.cov_expr.specs.declared.kind.Kind.{Kind}
 use Rattle.cov_expr.specs.declared.kind.Kind.TheVariants as k
 use Rattle.cov_grammar.specs.declared.token.Token.{Token}
-use Rattle.cov_grammar.specs.Trees as t
-use Rattle.cov_grammar.specs.Trees.{Placed}
+use Rattle.cov_grammar.specs.PlacedTrees as t
+use Rattle.cov_grammar.specs.PlacedTrees.{Placed}
 use Rattle.cov_grammar.specs.Shapes.{rule, seq, act, Sense, Spells}
 use Rattle.cov_grammar.specs.Grammar.{◌▸◌, listed, names, class, low_or, var_decl, lock_decl, two_lists, modes_behind, two_modes, thread_decl, program}
-use Rattle.cov_grammar.specs.Spelling.{Within, Is}
+use Rattle.cov_grammar.specs.Spells.{Within, Is}
 use Rattle.cov_ast.specs.Syntax as s
-use Rattle.cov_text.specs.Trees.{expr_of, class_of, block_of, name_of, var_of, lock_of, modes_of, thread_of}
+use Rattle.cov_text.specs.GivenTrees.{expr_of, class_of, block_of, name_of, var_of, lock_of, modes_of, thread_of}
 use Rattle.cov_print.specs.Unplaced.{unplaced_block, unplaced_var, unplaced_lock, unplaced_thread}
 use Rattle.cov_print.proofs.Written as w
 use Rattle.cov_print.proofs.Written.{Word, plain}

@@ -3,7 +3,7 @@ use Rattle.std.proofs.Common.{◌≡◌, ℕ, zero, suc, ◌+◌, ◌≤◌, nat
 use Rattle.std.proofs.lemmas.Slice.Eq.{bytes_eq-Decides}
 use Rattle.std.specs.List.{list_any}
 use Rattle.std.specs.Str.{bytes_eq}
-use Rattle.cov_ast.specs.Names.{number_of, with_name}
+use Rattle.cov_ast.specs.NameTables.{number_of, with_name}
 
 -- Lists --------------------------------------------------------------------------------------------------------
 

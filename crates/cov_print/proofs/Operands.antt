@@ -8,10 +8,10 @@ use Rattle.cov_expr.specs.declared.expr.TheConstants.{HOLE}
 use Rattle.cov_expr.specs.declared.kind.Kind.{Kind}
 use Rattle.cov_expr.specs.declared.kind.Kind.TheVariants as k
 use Rattle.cov_grammar.specs.declared.token.Token.{Token}
-use Rattle.cov_grammar.specs.Trees as t
+use Rattle.cov_grammar.specs.PlacedTrees as t
 use Rattle.cov_grammar.specs.Shapes.{Shape, token, rule, seq, alt, opt, act, Each, Sense, Spells}
 use Rattle.cov_grammar.specs.Grammar.{sign, signs, grouped, compared, negated, chain, name, number, atom, template_atom, unary, prod, sum, band, bxor, bor, cmp, both, either, body, bracketed}
-use Rattle.cov_grammar.specs.Spelling.{Within}
+use Rattle.cov_grammar.specs.Spells.{Within}
 use Rattle.cov_print.proofs.Written as w
 use Rattle.cov_print.proofs.Written.{Word, plain, sign_of, expr}
 use Rattle.cov_print.proofs.Keeps.{Quiet, leaf, leaves, leaves_append, leaves_of, leaves_of_append, AreGood, good_left, good_right, AllFit, fit_append, Keeps}

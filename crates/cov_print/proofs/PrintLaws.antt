@@ -2,7 +2,7 @@
 use Rattle.std.proofs.Common.{◌≡◌, ℕ, ◌≤◌, List, [], ◌∷◌, ◌++◌, length, map, flat_map, codes, refl, sym, ap, ap₂, subst, ◌∙◌, arith}
 use Rattle.cov_expr.specs.declared.limits.TheConstants.{MOST_BYTES}
 use Rattle.cov_expr.specs.declared.expr.TheConstants.{HOLE}
-use Rattle.cov_grammar.specs.Trees.{Program}
+use Rattle.cov_grammar.specs.PlacedTrees.{Program}
 use Rattle.cov_grammar.specs.Grammar.{program}
 use Rattle.cov_ast.specs.Syntax as s
 use Rattle.cov_ast.specs.Ready as ready
@@ -11,7 +11,7 @@ use Rattle.cov_ast.specs.declared.parsed.NameUse.{NameUse}
 use Rattle.cov_text.specs.Limits.{in_program}
 use Rattle.cov_text.specs.Text.{lexed_of, words_of, names_of, IsText, program_of}
 use Rattle.cov_text.specs.Uses.{uses_of}
-use Rattle.cov_text.specs.Trees.{var_of, lock_of, thread_of, parsed_of}
+use Rattle.cov_text.specs.GivenTrees.{var_of, lock_of, thread_of, parsed_of}
 use Rattle.cov_text.proofs.NamesInOrder.{uses_in_order}
 use Rattle.cov_print.specs.Spelling as spec
 use Rattle.cov_print.specs.Unplaced.{unplaced, unplaced_stm, unplaced_block, unplaced_var, unplaced_lock, unplaced_thread, unplaced_use}

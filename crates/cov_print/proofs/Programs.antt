@@ -2,8 +2,8 @@
 use Rattle.std.proofs.Common.{◌≡◌, ℕ, List, [], ◌∷◌, ◌++◌, length, map, flat_map, get_or, Bool, true, false, not, ◌&&◌, codes, nat_lt, refl, sym, ap, subst, ◌∙◌, append_assoc, append-nil}
 use Rattle.std.proofs.lemmas.Bool.{and_parts}
 use Rattle.std.specs.List.{list_all}
-use Rattle.cov_grammar.specs.Trees as t
-use Rattle.cov_text.specs.Trees.{class_of, block_of, var_of, lock_of, thread_of, parsed_of, modes_of, expr_of}
+use Rattle.cov_grammar.specs.PlacedTrees as t
+use Rattle.cov_text.specs.GivenTrees.{class_of, block_of, var_of, lock_of, thread_of, parsed_of, modes_of, expr_of}
 use Rattle.cov_ast.specs.declared.parsed.NameUse.{NameUse}
 use Rattle.cov_print.specs.Spelling as spec
 use Rattle.cov_print.proofs.Written.{Word}

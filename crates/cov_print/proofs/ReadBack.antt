@@ -6,16 +6,16 @@ use Rattle.cov_expr.specs.declared.expr.TheConstants.{HOLE}
 use Rattle.cov_lex.specs.declared.token.Token as lexed
 use Rattle.cov_lex.specs.Lexing.{tokens_of, tokens_from}
 use Rattle.cov_grammar.specs.declared.token.Token.{Token}
-use Rattle.cov_grammar.specs.Trees.{Program}
+use Rattle.cov_grammar.specs.PlacedTrees.{Program}
 use Rattle.cov_grammar.specs.Grammar.{program}
-use Rattle.cov_grammar.specs.Spelling.{Is}
+use Rattle.cov_grammar.specs.Spells.{Is}
 use Rattle.cov_grammar.proofs.Senses.{OfShape, gather}
 use Rattle.cov_ast.specs.declared.parsed.NameUse.{NameUse}
 use Rattle.cov_text.specs.Depth.{deep}
 use Rattle.cov_text.specs.Limits.{in_program}
 use Rattle.cov_text.specs.Numbered as words
 use Rattle.cov_text.specs.Text.{words_of, names_of, IsText}
-use Rattle.cov_text.specs.Trees.{parsed_of}
+use Rattle.cov_text.specs.GivenTrees.{parsed_of}
 use Rattle.cov_text.proofs.TextLaws.{lexes_so, words_are, names_are}
 use Rattle.cov_print.specs.Spelling as spec
 use Rattle.cov_print.proofs.Written.{Word}

@@ -10,7 +10,7 @@ use Rattle.cov_lex.specs.Lexing.{tokens_of}
 use Rattle.cov_lex.specs.Tokens.{bytes_of, Spells}
 use Rattle.cov_lex.proofs.Spelled.{are_tokens}
 use Rattle.cov_expr.specs.declared.kind.Kind.{Kind}
-use Rattle.cov_ast.specs.Names.{number_of}
+use Rattle.cov_ast.specs.NameTables.{number_of}
 use Rattle.cov_lex.specs.Classified.{kind_of}
 use Rattle.cov_text.specs.Numbered.{with_word, with_token, names_onto, value_of, word_of}
 use Rattle.cov_text.proofs.NameNumbers.{token_inside}

@@ -3,15 +3,15 @@ use Rattle.std.proofs.Common.{◌≡◌, ℕ, zero, suc, ◌+◌, ◌-◌, ◌==
 use Rattle.std.specs.List.{list_all}
 use Rattle.cov_expr.specs.Term.{Term}
 use Rattle.cov_expr.specs.Trees.{nodes, height}
-use Rattle.cov_grammar.specs.Trees as t
-use Rattle.cov_grammar.specs.Trees.{Placed}
+use Rattle.cov_grammar.specs.PlacedTrees as t
+use Rattle.cov_grammar.specs.PlacedTrees.{Placed}
 use Rattle.cov_ast.specs.Syntax as s
 use Rattle.cov_text.specs.declared.fault.Counted.{Counted}
 use Rattle.cov_text.specs.declared.fault.Limit.{Limit}
 use Rattle.cov_text.specs.declared.fault.Excess.{Excess}
 use Rattle.cov_text.specs.Limits as l
 use Rattle.cov_text.specs.Limits.{sooner, least, above, past}
-use Rattle.cov_text.specs.Trees.{expr_of, cert_of, proof_of, pair_of, state_of, state_or_none, stm_of, proofs_of, block_of, stms_of, class_of}
+use Rattle.cov_text.specs.GivenTrees.{expr_of, cert_of, proof_of, pair_of, state_of, state_or_none, stm_of, proofs_of, block_of, stms_of, class_of}
 use Rattle.cov_print.specs.Unplaced.{unplaced_stm, unplaced_block}
 use Rattle.cov_print.proofs.Declarations.{seen_var, seen_lock, seen_thread, seen_program}
 

@@ -4,14 +4,14 @@ use Rattle.cov_expr.specs.Term.{Term}
 use Rattle.cov_expr.specs.declared.kind.Kind.{Kind}
 use Rattle.cov_expr.specs.declared.kind.Kind.TheVariants as k
 use Rattle.cov_grammar.specs.declared.token.Token.{Token}
-use Rattle.cov_grammar.specs.Trees as t
-use Rattle.cov_grammar.specs.Trees.{Placed, stms}
+use Rattle.cov_grammar.specs.PlacedTrees as t
+use Rattle.cov_grammar.specs.PlacedTrees.{Placed, stms}
 use Rattle.cov_grammar.specs.Shapes.{rule, seq, opt, many, act, Sense, Spells}
 use Rattle.cov_grammar.specs.Grammar.{◌▸◌, ◌◂◌, separated, listed, whole, proof, proofs, type_of_name, types, state, retype, assigned, branched, looped, statement, braces, body}
-use Rattle.cov_grammar.specs.Spelling.{Within}
+use Rattle.cov_grammar.specs.Spells.{Within}
 use Rattle.cov_grammar.proofs.Senses.{close}
 use Rattle.cov_ast.specs.Syntax as s
-use Rattle.cov_text.specs.Trees.{expr_of, cert_of, proof_of, pair_of, state_of, state_or_none, stm_of, proofs_of, block_of, stms_of}
+use Rattle.cov_text.specs.GivenTrees.{expr_of, cert_of, proof_of, pair_of, state_of, state_or_none, stm_of, proofs_of, block_of, stms_of}
 use Rattle.cov_print.specs.Unplaced.{unplaced_stm, unplaced_block}
 use Rattle.cov_print.proofs.Written as w
 use Rattle.cov_print.proofs.Written.{Word, plain, commas}

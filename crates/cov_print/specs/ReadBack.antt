@@ -2,7 +2,7 @@
 use Rattle.std.specs.Prelude.{◌≡◌, ℕ, ◌≤◌, List, length}
 use Rattle.cov_expr.specs.declared.limits.TheConstants.{MOST_BYTES}
 use Rattle.cov_ast.specs.Syntax.{Parsed}
-use Rattle.cov_grammar.specs.Trees.{Program}
+use Rattle.cov_grammar.specs.PlacedTrees.{Program}
 use Rattle.cov_grammar.specs.Grammar.{program}
 use Rattle.cov_text.specs.Limits.{in_program}
 use Rattle.cov_text.specs.Text.{IsText, program_of}

@@ -11,11 +11,11 @@ use Rattle.cov_expr.specs.declared.kind.Kind.TheVariants as k
 use Rattle.cov_grammar.specs.declared.token.Token.{Token}
 use Rattle.cov_read.specs.declared.level.Level.{Level}
 use Rattle.cov_read.specs.declared.level.Level.TheVariants.{Prod, Sum, Band, Bxor, Bor, Compare, Both, Either}
-use Rattle.cov_grammar.specs.Trees.{expr, template}
+use Rattle.cov_grammar.specs.PlacedTrees.{expr, template}
 use Rattle.cov_grammar.specs.LookAhead.{kind_is, has, starts, nullable, firsts, fine}
 use Rattle.cov_grammar.specs.Shapes.{Shape, opt, many, head}
 use Rattle.cov_grammar.specs.Reading.{Reading, got, stopped, spent, ◌>>=◌, Reader, take_kind, reading}
-use Rattle.cov_grammar.specs.Tables.{first_of, more_of}
+use Rattle.cov_grammar.specs.FirstKinds.{first_of, more_of}
 use Rattle.cov_grammar.specs.Grammar.{signs, grouped, compared, negated, atom, template_atom, unary, prod, sum, band, bxor, bor, cmp, both, either, body}
 use Rattle.cov_read.specs.Inside.Levels.{first_sign, other_signs, level, operand, repeats, next_place, levels, tail, atom_of, rule_for, tails_by, tails, onward, levelled, SignOf, SignAt, IsDone, Ends, IsPast, Skips}
 use Rattle.cov_grammar.proofs.Repeats.{Item, pushed, pushed_none, item_goes, item_ends, item_breaks}

@@ -2,7 +2,7 @@
 use Rattle.std.proofs.Common.{◌≡◌, List, [], ◌∷◌, refl}
 use Rattle.cov_grammar.specs.declared.token.Token.{Token}
 use Rattle.cov_expr.specs.declared.kind.Kind.TheVariants as k
-use Rattle.cov_grammar.specs.Trees as t
+use Rattle.cov_grammar.specs.PlacedTrees as t
 use Rattle.cov_grammar.specs.LookAhead.{kind_is}
 use Rattle.cov_grammar.specs.Shapes.{rule, placed}
 use Rattle.cov_grammar.specs.Grammar.{body, proof, proofs, types, state, retype, assigned, branched, looped, statement, braces}

@@ -5,8 +5,8 @@ use Rattle.cov_read.specs.WrittenViews.{written}
 use Rattle.cov_read.specs.declared.cert.Whole.{Whole}
 use Rattle.cov_read.specs.declared.cert.Cert.{Cert, fold-Cert}
 use Rattle.cov_read.specs.declared.cert.Cert.TheOpen.{Cert-F}
-use Rattle.cov_grammar.specs.Trees.{Placed}
-use Rattle.cov_grammar.specs.Trees as t
+use Rattle.cov_grammar.specs.PlacedTrees.{Placed}
+use Rattle.cov_grammar.specs.PlacedTrees as t
 
 abbrev pub whole : Whole → Placed Term
 whole w = (w.at, written w.expr)

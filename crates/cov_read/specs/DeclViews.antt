@@ -9,7 +9,7 @@ use Rattle.cov_read.specs.declared.decl.Thread as threads
 use Rattle.cov_read.specs.declared.decl.PlacedProgram.{PlacedProgram}
 use Rattle.cov_read.specs.CertViews.{whole}
 use Rattle.cov_read.specs.StmtViews.{stmt, block_of}
-use Rattle.cov_grammar.specs.Trees as t
+use Rattle.cov_grammar.specs.PlacedTrees as t
 
 abbrev pub number : ℕ → ℕ
 number n = n

@@ -4,8 +4,8 @@ use Rattle.cov_expr.specs.Term.{Term}
 use Rattle.cov_read.specs.declared.states.Typed.{Typed}
 use Rattle.cov_read.specs.declared.states.State as code
 use Rattle.cov_read.specs.CertViews.{whole, cert}
-use Rattle.cov_grammar.specs.Trees.{Placed, State}
-use Rattle.cov_grammar.specs.Trees as t
+use Rattle.cov_grammar.specs.PlacedTrees.{Placed, State}
+use Rattle.cov_grammar.specs.PlacedTrees as t
 use Rattle.cov_read.specs.declared.states.Proof.{Proof}
 
 abbrev pub typed : Typed → ℕ × Placed Term

@@ -9,8 +9,8 @@ use Rattle.cov_read.specs.declared.stmt.Stmt.{Stmt, Stmt-F, fold-Stmt}
 use Rattle.cov_read.specs.declared.stmt.StmtKind.{StmtKind, StmtKind-F, fold-StmtKind}
 use Rattle.cov_read.specs.CertViews.{whole}
 use Rattle.cov_read.specs.StateViews.{typed, state, proof}
-use Rattle.cov_grammar.specs.Trees.{Placed, Proofs, Retypes}
-use Rattle.cov_grammar.specs.Trees as t
+use Rattle.cov_grammar.specs.PlacedTrees.{Placed, Proofs, Retypes}
+use Rattle.cov_grammar.specs.PlacedTrees as t
 
 abbrev pub block_of : Braces → List (Placed t.Stm) → t.Block
 block_of b ss = t.block b.begin b.end (t.stms ss)

@@ -1,7 +1,7 @@
 ghost use Rattle.std.specs.Prelude.{◌≡◌, ◌≤◌, length, map, IfOk};
 ghost use Rattle.cov_expr.specs.View.{term};
 ghost use Rattle.cov_expr.specs.declared.kind.Kind.TheVariants as kinds;
-ghost use Rattle.cov_grammar.specs.Trees as trees;
+ghost use Rattle.cov_grammar.specs.PlacedTrees as trees;
 ghost use Rattle.cov_grammar.specs.Shapes.{seq, rule, placed};
 ghost use Rattle.cov_grammar.specs.Grammar as grammar;
 ghost use Rattle.cov_grammar.specs.Reading.{reading};

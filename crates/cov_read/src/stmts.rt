@@ -1,6 +1,6 @@
 ghost use Rattle.std.specs.Prelude.{◌≡◌, ◌≤◌, length, map, List, option_map};
 ghost use Rattle.cov_expr.specs.declared.kind.Kind.TheVariants as kinds;
-ghost use Rattle.cov_grammar.specs.Trees as trees;
+ghost use Rattle.cov_grammar.specs.PlacedTrees as trees;
 ghost use Rattle.cov_grammar.specs.Shapes.{opt, many, rule, placed};
 ghost use Rattle.cov_grammar.specs.Grammar as grammar;
 ghost use Rattle.cov_grammar.specs.Reading.{reading};

@@ -9,13 +9,13 @@ use Rattle.cov_expr.specs.Words.{HasVarsBelow}
 use Rattle.cov_expr.specs.declared.kind.Kind.{Kind}
 use Rattle.cov_expr.specs.declared.kind.Kind.TheVariants as k
 use Rattle.cov_grammar.specs.LookAhead.{kind_is}
-use Rattle.cov_grammar.specs.Trees.{Placed, Cert, Proofs, State, expr, template, cert}
-use Rattle.cov_grammar.specs.Trees as t
+use Rattle.cov_grammar.specs.PlacedTrees.{Placed, Cert, Proofs, State, expr, template, cert}
+use Rattle.cov_grammar.specs.PlacedTrees as t
 use Rattle.cov_grammar.specs.Shapes.{Shape, rule, seq, opt, act, placed, Sense}
 use Rattle.cov_grammar.specs.Grammar.{◌▸◌, separated, listed, sign, number, name, whole, part, in_brackets, arguments, last_certs, more_certs, certificate, proof, proofs, types, state}
 use Rattle.cov_ast.specs.Ready.{Use, uses_in, uses_in_type, uses_in_state, uses_in_cert, uses_in_proof}
 use Rattle.cov_ast.specs.WellFormed.{IsCertInRange, AreTypesInRange, IsStateInRange, types_size, state_size}
-use Rattle.cov_text.specs.Trees.{expr_of, cert_of, proof_of, pair_of, state_of, state_or_none}
+use Rattle.cov_text.specs.GivenTrees.{expr_of, cert_of, proof_of, pair_of, state_of, state_or_none}
 use Rattle.cov_text.proofs.UseLaws.{IsSilent, IsPlain}
 use Rattle.cov_text.proofs.Summaries.{Summary, nothing, join, more, Kept}
 use Rattle.cov_text.proofs.ShapeSummaries.{of_option, item, items, less, kept_items, IsSummary, kept_law, act_law, seq_law, alt_law, opt_law, placed_law, behind_law, closed_law, token_law, sign_law, name_law, separated_law, listed_law}

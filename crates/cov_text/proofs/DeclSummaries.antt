@@ -10,8 +10,8 @@ use Rattle.cov_expr.specs.declared.kind.Kind.{Kind}
 use Rattle.cov_expr.specs.declared.kind.Kind.TheVariants as k
 use Rattle.cov_grammar.specs.declared.token.Token.{Token}
 use Rattle.cov_grammar.specs.LookAhead.{kind_is}
-use Rattle.cov_grammar.specs.Trees.{Placed, Class, Var, Lock, Thread, Block, expr, template, cert, block}
-use Rattle.cov_grammar.specs.Trees as t
+use Rattle.cov_grammar.specs.PlacedTrees.{Placed, Class, Var, Lock, Thread, Block, expr, template, cert, block}
+use Rattle.cov_grammar.specs.PlacedTrees as t
 use Rattle.cov_grammar.specs.Shapes.{Shape, rule, seq, Sense, Spells, Each}
 use Rattle.cov_grammar.specs.Grammar.{◌▸◌, listed, named, names, low_or, class, var_decl, lock_decl, two_lists, modes_behind, two_modes, thread_decl}
 use Rattle.cov_ast.specs.Syntax as syntax
@@ -20,7 +20,7 @@ use Rattle.cov_ast.specs.Declarations.{invariant_term}
 use Rattle.cov_ast.specs.Ready.{Use, as_variable, uses_in_class, uses_in_option, uses_in_lock, uses_in_thread, uses_in_block}
 use Rattle.cov_ast.specs.WellFormed.{IsTypeInRange, IsBlockInRange, IsLockInRange, IsThreadInRange, are_distinct, block_size, places}
 use Rattle.cov_text.specs.Uses.{declares}
-use Rattle.cov_text.specs.Trees.{expr_of, class_of, lock_of, block_of, thread_of}
+use Rattle.cov_text.specs.GivenTrees.{expr_of, class_of, lock_of, block_of, thread_of}
 use Rattle.cov_text.proofs.UseLaws.{uses_from, IsSilent, IsPlain, uses_at_thread}
 use Rattle.cov_text.proofs.Summaries.{Summary, join, more, Kept, HasSummary, variable, declared, AreWithin, AreFine, fine_left, fine_right, summary_kept}
 use Rattle.cov_text.proofs.ShapeSummaries.{all, of_option, less, IsSummary, kept_law, act_law, seq_law, alt_law, opt_law, behind_law, from_law, closed_law, sign_law, name_law, named_law, separated_law, listed_law}

@@ -11,7 +11,7 @@ use Rattle.cov_lex.specs.declared.token.TokenKind.TheVariants as raw
 use Rattle.cov_lex.specs.Tokens.{bytes_of, AreTokens, IsToken, Spells}
 use Rattle.cov_lex.proofs.Lexical.{only_names}
 use Rattle.cov_expr.specs.Names.{IsName}
-use Rattle.cov_ast.specs.Names.{number_of, with_name}
+use Rattle.cov_ast.specs.NameTables.{number_of, with_name}
 use Rattle.cov_text.specs.Numbered.{with_word, with_token, names_onto, value_of, word_of}
 use Rattle.cov_lex.specs.Classified.{kind_of, classified, AreClassified}
 use Rattle.cov_lex.specs.Classified.{value_of as lexical_value}

@@ -10,9 +10,9 @@ use Rattle.cov_expr.specs.declared.kind.Kind.{Kind}
 use Rattle.cov_expr.specs.declared.kind.Kind.TheVariants as k
 use Rattle.cov_grammar.specs.declared.token.Token.{Token}
 use Rattle.cov_grammar.specs.LookAhead.{kind_is}
-use Rattle.cov_grammar.specs.Trees.{Program, Placed}
+use Rattle.cov_grammar.specs.PlacedTrees.{Program, Placed}
 use Rattle.cov_grammar.specs.Grammar.{program, whole}
-use Rattle.cov_grammar.specs.Spelling.{Is, Within}
+use Rattle.cov_grammar.specs.Spells.{Is, Within}
 use Rattle.cov_ast.specs.Ready.{uses_in, uses_in_class, uses_in_lock, uses_in_thread, uses_in_declarations}
 use Rattle.cov_ast.specs.Ready as ready
 use Rattle.cov_ast.specs.declared.parsed.NameUse.{NameUse}
@@ -22,7 +22,7 @@ use Rattle.cov_grammar.proofs.Basics.{kind_one}
 use Rattle.cov_text.specs.Limits.{in_program, in_expr}
 use Rattle.cov_text.specs.Inside.Named.{AreNamed}
 use Rattle.cov_text.specs.Uses.{declares, is_lock, use_of, uses_behind, uses_of, AreUsesOf}
-use Rattle.cov_text.specs.Trees.{var_of, lock_of, thread_of, expr_of}
+use Rattle.cov_text.specs.GivenTrees.{var_of, lock_of, thread_of, expr_of}
 use Rattle.cov_text.specs.Text.{words_of, names_of, IsShallow, IsText, program_of}
 use Rattle.cov_text.proofs.UseLaws.{uses_from, IsSilent}
 use Rattle.cov_text.proofs.Summaries.{AreBelow, AreFine, HasSummary, fine_left, fine_right}

@@ -5,7 +5,7 @@ use Rattle.std.specs.List.{All, Contains}
 use Rattle.std.proofs.lemmas.List.{length-map}
 use Rattle.cov_expr.specs.declared.limits.TheConstants.{MOST_BYTES}
 use Rattle.cov_expr.specs.Words.{HasVarsBelow}
-use Rattle.cov_grammar.specs.Trees.{Program}
+use Rattle.cov_grammar.specs.PlacedTrees.{Program}
 use Rattle.cov_grammar.specs.Grammar.{program, whole}
 use Rattle.cov_ast.specs.Syntax.{Parsed}
 use Rattle.cov_ast.specs.Ready.{IsReady, HasUsesInOrder}
@@ -15,7 +15,7 @@ use Rattle.cov_text.specs.declared.fault.Counted.TheVariants.{Variables, Locks, 
 use Rattle.cov_text.specs.declared.fault.Excess.{Excess}
 use Rattle.cov_text.specs.declared.fault.ParseFault.{ParseFault}
 use Rattle.cov_text.specs.Limits.{sooner, past, past_variables, past_locks, past_threads, in_program, in_expr}
-use Rattle.cov_text.specs.Trees.{var_of, lock_of, thread_of}
+use Rattle.cov_text.specs.GivenTrees.{var_of, lock_of, thread_of}
 use Rattle.cov_text.specs.Uses.{AreUsesOf}
 use Rattle.cov_text.specs.Text.{names_of, IsText, Answers, program_of, expression_of, Expression}
 use Rattle.cov_text.proofs.NamesInOrder.{text_summary, uses_in_order, uses_named, expr_below, expr_uses}

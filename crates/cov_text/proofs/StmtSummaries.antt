@@ -10,15 +10,15 @@ use Rattle.cov_expr.specs.declared.expr.TheConstants.{HOLE}
 use Rattle.cov_expr.specs.declared.kind.Kind.{Kind}
 use Rattle.cov_expr.specs.declared.kind.Kind.TheVariants as k
 use Rattle.cov_grammar.specs.LookAhead.{kind_is}
-use Rattle.cov_grammar.specs.Trees.{Placed, Proofs, Retypes, State, Stm, Block, stms, expr, template, cert, block}
-use Rattle.cov_grammar.specs.Trees as t
+use Rattle.cov_grammar.specs.PlacedTrees.{Placed, Proofs, Retypes, State, Stm, Block, stms, expr, template, cert, block}
+use Rattle.cov_grammar.specs.PlacedTrees as t
 use Rattle.cov_grammar.specs.Shapes.{Shape, rule, seq, opt, many, act, Sense}
 use Rattle.cov_grammar.specs.Grammar.{◌▸◌, ◌◂◌, sign, name, whole, proofs, state, retype, assigned, branched, looped, statement, braces, body}
-use Rattle.cov_grammar.specs.Spelling.{Within}
+use Rattle.cov_grammar.specs.Spells.{Within}
 use Rattle.cov_ast.specs.Ready.{Use, as_variable, uses_in, uses_in_type, uses_in_option, uses_in_state, uses_in_proof, uses_in_stm, uses_in_block}
 use Rattle.cov_ast.specs.WellFormed.{IsCertInRange, IsTypeInRange, IsStateInRange, IsStmInRange, IsBlockInRange, type_size, state_size, stm_size, block_size, places, places_within}
 use Rattle.cov_text.specs.Uses.{declares, is_lock}
-use Rattle.cov_text.specs.Trees.{expr_of, pair_of, state_or_none, proofs_of, proof_of, stm_of, block_of, stms_of}
+use Rattle.cov_text.specs.GivenTrees.{expr_of, pair_of, state_or_none, proofs_of, proof_of, stm_of, block_of, stms_of}
 use Rattle.cov_text.proofs.UseLaws.{IsSilent, IsPlain}
 use Rattle.cov_text.proofs.Summaries.{Summary, join, more, at, Kept}
 use Rattle.cov_text.proofs.ShapeSummaries.{all, of_option, kept_items, IsSummary, IsSummaryAt, kept_law, act_law, seq_law, many_law, placed_at_law, behind_law, closed_law, first_law, token_law, sign_law, lock_name_law, at_act, at_alt, at_name}

@@ -11,7 +11,7 @@ use Rattle.cov_expr.specs.declared.kind.Kind.{Kind}
 use Rattle.cov_expr.specs.declared.kind.Kind.TheVariants as k
 use Rattle.cov_grammar.specs.declared.token.Token.{Token}
 use Rattle.cov_grammar.specs.LookAhead.{kind_is}
-use Rattle.cov_grammar.specs.Trees.{expr, template}
+use Rattle.cov_grammar.specs.PlacedTrees.{expr, template}
 use Rattle.cov_grammar.specs.Shapes.{Shape, rule, act, Sense}
 use Rattle.cov_grammar.specs.Grammar.{◌▸◌, ◌◂◌, sign, signs, number, name, grouped, chain, negated, compared, atom, template_atom, unary, prod, sum, band, bxor, bor, cmp, both, either}
 use Rattle.cov_ast.specs.Ready.{as_variable, uses_in}

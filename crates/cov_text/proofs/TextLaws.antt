@@ -5,7 +5,7 @@ use Rattle.cov_lex.specs.declared.fault.LexFault.{LexFault}
 use Rattle.cov_lex.specs.Lexing.{tokens_of}
 use Rattle.cov_grammar.specs.Shapes.{Shape}
 use Rattle.cov_grammar.specs.LookAhead.{fine}
-use Rattle.cov_grammar.specs.Tables.{first_of, more_of}
+use Rattle.cov_grammar.specs.FirstKinds.{first_of, more_of}
 use Rattle.cov_grammar.proofs.Wholes.{value_one}
 use Rattle.cov_grammar.proofs.Unique.{spelled_right}
 use Rattle.cov_text.specs.declared.fault.ParseFault.{ParseFault}

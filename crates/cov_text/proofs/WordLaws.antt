@@ -17,7 +17,7 @@ use Rattle.cov_lex.specs.Lexing.{Lexed, piece_at, tokens_from, tokens_of, before
 use Rattle.cov_lex.specs.Tokens.{IsToken, Spells, bytes_of}
 use Rattle.cov_lex.proofs.Spelled.{are_tokens}
 use Rattle.cov_expr.specs.declared.kind.Kind.TheVariants as k
-use Rattle.cov_ast.specs.Names.{number_of, with_name}
+use Rattle.cov_ast.specs.NameTables.{number_of, with_name}
 use Rattle.cov_text.specs.Numbered.{with_word, with_token, names_onto, value_of, word_of}
 use Rattle.cov_lex.specs.Classified.{kind_of}
 use Rattle.cov_lex.proofs.Lexical.{only_names}

@@ -1,6 +1,6 @@
 pub mod Numbered
 pub mod Text
-pub mod Trees
+pub mod GivenTrees
 pub mod Uses
 pub mod Limits
 pub mod Depth

@@ -3,8 +3,8 @@ use Rattle.std.specs.Prelude.{ℕ, zero, suc, ◌+◌, ◌-◌, ◌==◌, max, n
 use Rattle.cov_expr.specs.declared.limits.TheConstants.{MOST_VARIABLES, MOST_LOCKS, MOST_THREADS, MOST_STATEMENTS, MOST_BLOCKS, MOST_NODES, MOST_HEIGHT, MOST_CERT_NODES, MOST_PREDICATES, MOST_TYPES}
 use Rattle.cov_expr.specs.Term.{Term}
 use Rattle.cov_expr.specs.Trees.{nodes, height}
-use Rattle.cov_grammar.specs.Trees.{Placed, Class, low, high, low_when, Var, Lock, State, Cert, Proofs, Stm, Block, Stms, Thread, Program, skip, assign, lock, unlock, branch, loop, note, block, none, next}
-use Rattle.cov_grammar.specs.Trees as t
+use Rattle.cov_grammar.specs.PlacedTrees.{Placed, Class, low, high, low_when, Var, Lock, State, Cert, Proofs, Stm, Block, Stms, Thread, Program, skip, assign, lock, unlock, branch, loop, note, block, none, next}
+use Rattle.cov_grammar.specs.PlacedTrees as t
 use Rattle.cov_text.specs.declared.fault.Counted.{Counted}
 use Rattle.cov_text.specs.declared.fault.Counted.TheVariants.{Variables, Locks, Threads, Statements, Nodes, CertNodes, Predicates, Types}
 use Rattle.cov_text.specs.declared.fault.Limit.{Limit}

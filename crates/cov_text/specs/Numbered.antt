@@ -7,7 +7,7 @@ use Rattle.cov_lex.specs.declared.token.TokenKind.TheVariants as raw
 use Rattle.cov_lex.specs.Tokens.{bytes_of}
 use Rattle.cov_lex.specs.Classified.{kind_of}
 use Rattle.cov_grammar.specs.declared.token.Token.{Token}
-use Rattle.cov_ast.specs.Names.{number_of, with_name}
+use Rattle.cov_ast.specs.NameTables.{number_of, with_name}
 
 -- Names --------------------------------------------------------------------------------------------------------
 

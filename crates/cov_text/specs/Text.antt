@@ -7,9 +7,9 @@ use Rattle.cov_lex.specs.Lexing.{tokens_of}
 use Rattle.cov_grammar.specs.declared.token.Token.{Token}
 use Rattle.cov_grammar.specs.declared.fault.TokenFault.{TokenFault}
 use Rattle.cov_grammar.specs.declared.fault.TokenFault.TheVariants as tokens
-use Rattle.cov_grammar.specs.Trees.{Program, Placed}
+use Rattle.cov_grammar.specs.PlacedTrees.{Program, Placed}
 use Rattle.cov_grammar.specs.Shapes.{Shape}
-use Rattle.cov_grammar.specs.Spelling.{Is, FirstWrong, spot}
+use Rattle.cov_grammar.specs.Spells.{Is, FirstWrong, spot}
 use Rattle.cov_expr.specs.Term.{Term}
 use Rattle.cov_ast.specs.Syntax as syntax
 use Rattle.cov_ast.specs.declared.parsed.NameUse.{NameUse}
@@ -21,7 +21,7 @@ use Rattle.cov_text.specs.declared.fault.Excess.{Excess}
 use Rattle.cov_text.specs.Numbered as words
 use Rattle.cov_text.specs.Depth.{deep}
 use Rattle.cov_text.specs.Uses.{uses_of}
-use Rattle.cov_text.specs.Trees.{parsed_of, expr_of}
+use Rattle.cov_text.specs.GivenTrees.{parsed_of, expr_of}
 
 -- Tokens -------------------------------------------------------------------------------------------------------
 

@@ -4,7 +4,7 @@ use Rattle.std.specs.List.{flat_map}
 use Rattle.cov_expr.specs.Term.{Term}
 use Rattle.cov_ast.specs.Syntax.{State, Cert, Proof, Stm, Block, Thread}
 use Rattle.cov_ast.specs.Syntax as s
-use Rattle.cov_grammar.specs.Trees.{Program}
+use Rattle.cov_grammar.specs.PlacedTrees.{Program}
 use Rattle.cov_grammar.specs.Grammar as grammar
 use Rattle.cov_text.specs.Limits as limits
 use Rattle.cov_text.specs.Text.{IsText, program_of}

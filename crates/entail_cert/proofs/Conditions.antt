@@ -7,7 +7,7 @@ use Rattle.cov_expr.specs.Term.{Term}
 use Rattle.cov_expr.specs.Words.{HasWords}
 use Rattle.entail_range.specs.Range.{range_valid}
 use Rattle.entail_ring.specs.Ring.{ring_equal}
-use Rattle.entail_cert.specs.Words.{is_of_words}
+use Rattle.entail_cert.specs.WordTests.{is_of_words}
 use Rattle.entail_cert.specs.Valid.{operands, are_ring_equal, is_ring, is_range}
 use Rattle.entail_cert.proofs.Truth.{operands_is, has_words}
 

@@ -14,7 +14,7 @@ use Rattle.entail_range.specs.Range.{range_valid}
 use Rattle.entail_range.proofs.Sound.{range_sound}
 use Rattle.entail_ring.proofs.Sound.{ring_equal_sound}
 use Rattle.entail_cert.specs.Axioms.{numbered, axiom_for}
-use Rattle.entail_cert.specs.Words.{is_of_words}
+use Rattle.entail_cert.specs.WordTests.{is_of_words}
 use Rattle.entail_cert.specs.Valid.{is_plain, is_true, is_false, is_some_and, is_negation, is_reflexive, operands, operands_of, negated, are_ring_equal, is_ring, is_range, filled, only_if, only_with, one, two, first_bad}
 use Rattle.entail_cert.proofs.Truth.{operands_is, operands_of_is, negated_is, both_of, both_left, both_right, either_left, either_right, either_cases, neg_fails, either_way, words_of, true_holds, false_fails, all_both, numbered_holds, plain_holds, filled_same}
 

@@ -14,7 +14,7 @@ use Rattle.cov_expr.proofs.Trees.{same_is, op_is}
 use Rattle.cov_expr.proofs.Values.{value-closed, set_holds}
 use Rattle.cov_expr.proofs.Tests.{left_true, right_true}
 use Rattle.entail_cert.specs.Axioms.{numbered}
-use Rattle.entail_cert.specs.Words.{is_of_words}
+use Rattle.entail_cert.specs.WordTests.{is_of_words}
 use Rattle.entail_cert.specs.Valid.{is_true, is_false, is_known, is_plain, operands, operands_of, negated, filled}
 
 -- Truth values -------------------------------------------------------------------------------------------------

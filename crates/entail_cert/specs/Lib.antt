@@ -4,4 +4,4 @@ pub mod Facts
 pub mod Makes
 pub mod Valid
 pub mod Walks
-pub mod Words
+pub mod WordTests

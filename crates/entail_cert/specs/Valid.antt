@@ -14,7 +14,7 @@ use Rattle.cov_ast.specs.Syntax as by
 use Rattle.entail_range.specs.Range.{range_valid}
 use Rattle.entail_ring.specs.Ring.{ring_equal}
 use Rattle.entail_cert.specs.Axioms.{numbered, axiom_for}
-use Rattle.entail_cert.specs.Words.{is_of_words}
+use Rattle.entail_cert.specs.WordTests.{is_of_words}
 
 -- Conditions ---------------------------------------------------------------------------------------------------
 

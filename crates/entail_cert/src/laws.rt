@@ -7,7 +7,7 @@ ghost use Rattle.cov_expr.specs.View.{term};
 ghost use Rattle.cov_expr.specs.Words.{AreWords};
 ghost use Rattle.entail_cert.specs.Axioms.{axioms};
 ghost use Rattle.entail_cert.specs.Valid.{is_valid};
-ghost use Rattle.entail_cert.specs.Words.{is_of_words};
+ghost use Rattle.entail_cert.specs.WordTests.{is_of_words};
 
 use cov_expr::Expr;
 

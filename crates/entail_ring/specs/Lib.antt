@@ -2,5 +2,5 @@ pub mod Polys
 pub mod Inside
 pub mod Values
 pub mod Ring
-pub mod Tables
-pub mod Listed
+pub mod View
+pub mod SamePolynomial

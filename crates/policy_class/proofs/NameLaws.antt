@@ -10,7 +10,7 @@ use Rattle.std.proofs.lemmas.Map.Steps.{list_any_congr}
 use Rattle.std.proofs.lemmas.Cmp.{nat_list_eq_equiv}
 use Rattle.cov_expr.specs.Names.{IsName}
 use Rattle.cov_ast.specs.declared.refusal.CheckFault.{CheckFault}
-use Rattle.cov_ast.specs.Names.{find_name, with_name}
+use Rattle.cov_ast.specs.NameTables.{find_name, with_name}
 use Rattle.cov_ast.specs.Obligations.{Obligation, first_false, Decides}
 use Rattle.cov_ast.specs.Syntax.{Parsed}
 use Rattle.cov_ast.specs.WellFormed.{are_distinct, names_of}

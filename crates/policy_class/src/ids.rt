@@ -2,7 +2,7 @@ ghost use Rattle.std.specs.Prelude.{◌≡◌, ◌<◌, length, IfOk};
 ghost use Rattle.std.specs.List.{position_or_len};
 ghost use Rattle.std.specs.Str.{bytes_eq};
 ghost use Rattle.cov_ast.specs.View as view;
-ghost use Rattle.cov_ast.specs.Names as names;
+ghost use Rattle.cov_ast.specs.NameTables as names;
 ghost use Rattle.cov_ast.specs.Ready.{IsReady};
 ghost use Rattle.policy_class.specs.Resolved as spec;
 ghost use Rattle.policy_class.specs.Inside.DeclaredNames.{IsTableOf};

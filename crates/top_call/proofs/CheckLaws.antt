@@ -10,7 +10,7 @@ use Rattle.cov_ast.specs.Obligations.{Obligation, all_hold, first_false}
 use Rattle.cov_ast.specs.declared.refusal.CheckFault.TheVariants.{Refused}
 use Rattle.cov_ast.specs.declared.refusal.Refusal.{Refusal}
 use Rattle.cov_ast.proofs.ObligationLaws.{append_refused, append_decided, both_hold}
-use Rattle.cov_grammar.specs.Trees as trees
+use Rattle.cov_grammar.specs.PlacedTrees as trees
 use Rattle.cov_text.specs.Text.{program_of}
 use Rattle.flow_model.specs.Secure.{IsSecure}
 use Rattle.policy_class.specs.Resolved.{Named, declared_names, lock_id, name_obligations, resolved, resolved_thread, use_obligation, var_id, w1_from}

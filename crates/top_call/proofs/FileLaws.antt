@@ -2,7 +2,7 @@
 use Rattle.std.proofs.Common.{◌≡◌, ◌⊎◌, ℕ, ◌<◌, ◌≤◌, nat_lt, List, Bool, true, false, Result, Option, Ok, Err, Some, None, IfSome, IsSomeAnd, IsNone, IsTrue, length, subst, ap, sym, ◌∙◌, inl, inr, arith}
 use Rattle.std.specs.Prelude.{MatchBool}
 use Rattle.std.proofs.lemmas.Bool.Decides.{nat_tests}
-use Rattle.cov_io.specs.Counts.{Rose}
+use Rattle.cov_io.specs.Counters.{Rose}
 use Rattle.cov_io.specs.Shelves.{File, Shelved, Gives, held}
 use Rattle.cov_io.specs.declared.shelf.Fetched.TheVariants.{Whole}
 use Rattle.top_call.specs.Files.{Reads, GivenBy}

@@ -1,6 +1,6 @@
 -- What a call promises, for every command.
 use Rattle.std.proofs.Common.{◌≡◌, ◌⊎◌, List, Option, Some, None, IfSome, refl, sym, ap, ◌∙◌, subst, inl, inr}
-use Rattle.cov_io.specs.Counts.{Rose}
+use Rattle.cov_io.specs.Counters.{Rose}
 use Rattle.cov_io.specs.Shelves.{File, Shelved, held}
 use Rattle.cov_io.specs.Sinks.{Sunk}
 use Rattle.top_call.specs.Check.{Judges, IsAcceptedText}

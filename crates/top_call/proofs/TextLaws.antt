@@ -3,8 +3,8 @@ use Rattle.std.proofs.Common.{◌≡◌, ℕ, List, length, Option, Some, None, 
 use Rattle.cov_lex.specs.declared.token.Token as lexed
 use Rattle.cov_lex.specs.Lexing.{tokens_of}
 use Rattle.cov_lex.specs.declared.fault.LexFault.{LexFault}
-use Rattle.cov_grammar.specs.Spelling.{spot}
-use Rattle.cov_grammar.specs.Trees as trees
+use Rattle.cov_grammar.specs.Spells.{spot}
+use Rattle.cov_grammar.specs.PlacedTrees as trees
 use Rattle.cov_grammar.specs.Grammar as grammar
 use Rattle.cov_grammar.specs.declared.token.Token.{Token}
 use Rattle.cov_grammar.proofs.Exactness.{program_decided}

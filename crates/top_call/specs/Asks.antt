@@ -1,6 +1,6 @@
 -- Which calls of the shelf a command makes.
 use Rattle.std.specs.Prelude.{◌≡◌, ◌⊎◌, ℕ, List, [], ◌∷◌, Result, Ok}
-use Rattle.cov_io.specs.Counts.{raised}
+use Rattle.cov_io.specs.Counters.{raised}
 use Rattle.cov_io.specs.Shelves.{Shelved, Gives}
 use Rattle.cov_io.specs.declared.shelf.Fetched.{Fetched}
 use Rattle.cov_io.specs.declared.shelf.Fetched.TheVariants.{Whole}

@@ -1,6 +1,6 @@
 -- `check`: what is replied to the bytes of a program.
 use Rattle.std.specs.Prelude.{◌≡◌, ℕ, List, [], ◌++◌, length, map, slice_get, if◌then◌else◌, Option, Some, None, IsTrue}
-use Rattle.cov_grammar.specs.Trees as trees
+use Rattle.cov_grammar.specs.PlacedTrees as trees
 use Rattle.cov_text.specs.Text.{program_of}
 use Rattle.cov_ast.specs.Syntax.{Parsed}
 use Rattle.cov_ast.specs.Plain.{Plain, plain}

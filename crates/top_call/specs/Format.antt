@@ -1,6 +1,6 @@
 -- `fmt`: what is replied to the bytes of a program.
 use Rattle.std.specs.Prelude.{◌≡◌, ℕ, List}
-use Rattle.cov_grammar.specs.Trees as trees
+use Rattle.cov_grammar.specs.PlacedTrees as trees
 use Rattle.cov_text.specs.Text.{program_of}
 use Rattle.cov_print.specs.Spelling.{spelling}
 use Rattle.top_call.specs.Programs.{SpellsTree, IsShownFault}

@@ -1,6 +1,6 @@
 -- The headline: what it says of a file that it is accepted.
 use Rattle.std.specs.Prelude.{◌≡◌, ℕ, List, Some}
-use Rattle.cov_grammar.specs.Trees as trees
+use Rattle.cov_grammar.specs.PlacedTrees as trees
 use Rattle.cov_io.specs.Shelves.{File, held}
 use Rattle.cov_text.specs.Text.{program_of}
 use Rattle.flow_model.specs.Secure.{IsSecure}

@@ -1,6 +1,6 @@
 -- The text of a program.
 use Rattle.std.specs.Prelude.{◌≡◌, ℕ, List, Option, Some, None}
-use Rattle.cov_grammar.specs.Trees as trees
+use Rattle.cov_grammar.specs.PlacedTrees as trees
 use Rattle.cov_grammar.specs.Grammar as grammar
 use Rattle.cov_text.specs.Limits.{in_program}
 use Rattle.cov_text.specs.Text.{IsText, IsFault}

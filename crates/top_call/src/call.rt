@@ -1,6 +1,6 @@
 ghost use Rattle.std.specs.Prelude.{◌≡◌, ◌⊎◌, IfSome, IsTrue, map, string_bytes, ◌≤◌};
 ghost use Rattle.cov_io.specs.Shelves.{Passes};
-ghost use Rattle.cov_io.specs.Counts.{Rose};
+ghost use Rattle.cov_io.specs.Counters.{Rose};
 ghost use Rattle.top_call.specs.Asks.{Asks, files_of};
 ghost use Rattle.top_call.specs.Commands.{command_of};
 ghost use Rattle.top_call.specs.Ends.{Ends};

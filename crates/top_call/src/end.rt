@@ -1,5 +1,5 @@
 ghost use Rattle.std.specs.Prelude.{◌≡◌, ◌≤◌};
-ghost use Rattle.cov_io.specs.Counts.{Rose};
+ghost use Rattle.cov_io.specs.Counters.{Rose};
 ghost use Rattle.top_call.specs.Ends.{Ends};
 ghost use Rattle.top_call.specs.Inside.{seen};
 

@@ -1,5 +1,5 @@
 ghost use Rattle.std.specs.Prelude.{◌≡◌, MatchResult, Ok, Some};
-ghost use Rattle.cov_io.specs.Counts.{raised};
+ghost use Rattle.cov_io.specs.Counters.{raised};
 ghost use Rattle.cov_io.specs.Shelves.{Gives, Passes};
 ghost use Rattle.cov_io.specs.declared.shelf.Fetched.TheVariants as fetched;
 ghost use Rattle.top_call.specs.Files.{Misses};

@@ -24,7 +24,7 @@ use Rattle.typing_state.specs.After.{with_guard, meet}
 use Rattle.typing_rules.specs.Counts.{entailment_count}
 use Rattle.typing_rules.specs.Blocks.{value_type, after_stm, after_block}
 use Rattle.typing_rules.specs.Entailments.{Entailment, from_preds, from_one_more, type_follows, state_follows, guard_follows, written_type, shown_value, shown_controlled, controlled_follows, controlled_values, retype_follows, assign_entailments, freed_value, unlock_entailments}
-use Rattle.typing_rules.specs.Obligations.{flat, stm_parts, block_obligations}
+use Rattle.typing_rules.specs.ThreadObligations.{flat, stm_parts, block_obligations}
 use Rattle.typing_rules.proofs.Counting.{count_skip, count_assign, count_lock, count_unlock, count_note, count_branch, count_loop, count_more}
 use Rattle.typing_rules.proofs.Soundness.FromObligations.{AllTrue, all_true, true_left, true_right}
 use Rattle.typing_rules.proofs.Soundness.Lists.{has_left, has_right}

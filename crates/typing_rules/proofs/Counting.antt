@@ -15,7 +15,7 @@ use Rattle.typing_state.specs.After.{with_guard, meet}
 use Rattle.typing_rules.specs.Counts.{entailment_count, is_entailment}
 use Rattle.typing_rules.specs.Blocks.{after_stm, after_block}
 use Rattle.typing_rules.specs.Entailments.{Entailment, is_proved, guard_follows, state_follows, assign_entailments, unlock_entailments}
-use Rattle.typing_rules.specs.Obligations.{flat, obligation, one_unstable, narrow, of_var, reads, over_stable, type_obligations, state_obligations, guard_obligations, proved, numbers, stm_parts, block_obligations}
+use Rattle.typing_rules.specs.ThreadObligations.{flat, obligation, one_unstable, narrow, of_var, reads, over_stable, type_obligations, state_obligations, guard_obligations, proved, numbers, stm_parts, block_obligations}
 
 -- Lists --------------------------------------------------------------------------------------------------------
 

@@ -16,7 +16,7 @@ use Rattle.cov_ast.specs.declared.refusal.Rule.TheVariants.{V1, V2, V3, V4, V5, 
 use Rattle.cov_ast.specs.declared.refusal.Detail.{Detail}
 use Rattle.cov_ast.specs.declared.refusal.Detail.TheVariants.{Nothing, One, Number}
 use Rattle.cov_ast.specs.declared.refusal.Refusal.{Refusal}
-use Rattle.typing_rules.specs.Obligations.{thread_obligations}
+use Rattle.typing_rules.specs.ThreadObligations.{thread_obligations}
 use Rattle.typing_rules.specs.Counts.{counts}
 
 abbrev variable : List ℕ → ℕ → Class → Var

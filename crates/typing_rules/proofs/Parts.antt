@@ -13,7 +13,7 @@ use Rattle.cov_ast.specs.declared.refusal.Detail.TheVariants.{Nothing}
 use Rattle.cov_ast.proofs.ObligationLaws.{append_decided, append_held, append_refused}
 use Rattle.typing_rules.specs.Entailments.{Entailment, is_small_entailment}
 use Rattle.typing_state.specs.Point.{Point, has_small_types}
-use Rattle.typing_rules.specs.Obligations.{obligation, flat, numbers, proved, small_terms}
+use Rattle.typing_rules.specs.ThreadObligations.{obligation, flat, numbers, proved, small_terms}
 use Rattle.typing_rules.specs.Inside.Walking.{Tries, first_unproved, last_parts}
 use Rattle.typing_rules.specs.declared.entailments_tried.Tried.{Tried}
 

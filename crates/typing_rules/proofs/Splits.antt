@@ -13,7 +13,7 @@ use Rattle.typing_rules.specs.Counts.{entailment_count}
 use Rattle.typing_rules.specs.Inside.Walking.{Walks, fork_parts, head_parts, join_parts, turn_parts}
 use Rattle.typing_rules.specs.Blocks.{after_block, after_stm}
 use Rattle.typing_rules.specs.Entailments.{guard_follows, state_follows}
-use Rattle.typing_rules.specs.Obligations.{block_obligations, flat, stm_parts}
+use Rattle.typing_rules.specs.ThreadObligations.{block_obligations, flat, stm_parts}
 use Rattle.typing_rules.specs.declared.walk.Walked.{Walked}
 use Rattle.typing_rules.proofs.Parts.{flat-append, part_held, part_refused, parts_decided, parts_refused}
 

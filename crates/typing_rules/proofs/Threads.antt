@@ -16,7 +16,7 @@ use Rattle.mode_compat.specs.Declared.{declaration_obligations}
 use Rattle.typing_state.specs.After.{start}
 use Rattle.typing_rules.specs.Counts.{counts, entailment_count}
 use Rattle.typing_rules.specs.Blocks.{after_block}
-use Rattle.typing_rules.specs.Obligations.{block_obligations, end_obligation, thread_obligations}
+use Rattle.typing_rules.specs.ThreadObligations.{block_obligations, end_obligation, thread_obligations}
 use Rattle.typing_rules.proofs.Bounds.{few_entailments, few_places}
 use Rattle.typing_rules.proofs.Counting.{count_append}
 

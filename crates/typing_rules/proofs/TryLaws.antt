@@ -24,7 +24,7 @@ use Rattle.typing_rules.specs.declared.walk.Walk.{Walk}
 use Rattle.typing_rules.specs.Inside.Listed.{AreListed, entailment_of, entailment_from, entailments_of, held_term}
 use Rattle.typing_rules.specs.Inside.Walking.{Tries, Wherever, first_unproved}
 use Rattle.typing_rules.specs.Entailments.{Entailment, is_proved, is_small_entailment}
-use Rattle.typing_rules.specs.Obligations.{obligation, proved}
+use Rattle.typing_rules.specs.ThreadObligations.{obligation, proved}
 use Rattle.typing_state.specs.Terms.{is_small}
 
 regroup : (a b c : Bool) → ((a && (b && true)) && c) ≡ (a && ((b && true) && c))

@@ -19,7 +19,7 @@ use Rattle.typing_state.specs.declared.point.Point as declared
 use Rattle.typing_rules.specs.Counts.{entailment_count}
 use Rattle.typing_rules.specs.Inside.Walking.{Walks}
 use Rattle.typing_rules.specs.Blocks.{after_block, after_stm}
-use Rattle.typing_rules.specs.Obligations.{block_obligations, flat, stm_parts}
+use Rattle.typing_rules.specs.ThreadObligations.{block_obligations, flat, stm_parts}
 use Rattle.typing_rules.specs.declared.walk.Walked.{Walked}
 use Rattle.typing_rules.proofs.Counting.{count_more}
 use Rattle.typing_rules.proofs.StatementLaws.{branch_is}

@@ -7,7 +7,7 @@ use Rattle.cov_ast.specs.declared.refusal.CheckFault.{CheckFault}
 use Rattle.cov_ast.specs.declared.refusal.Rule.{Rule}
 use Rattle.cov_ast.specs.declared.refusal.Rule.TheVariants.{V9}
 use Rattle.mode_compat.specs.Compatible.{numbered}
-use Rattle.typing_rules.specs.Obligations.{thread_obligations}
+use Rattle.typing_rules.specs.ThreadObligations.{thread_obligations}
 use Rattle.typing_rules.specs.declared.count.Count.{Count}
 
 -- whether a rule asks that something follows

@@ -1,5 +1,5 @@
 pub mod Blocks
 pub mod Entailments
-pub mod Obligations
+pub mod ThreadObligations
 pub mod Counts
 pub mod Inside

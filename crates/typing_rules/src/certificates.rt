@@ -14,7 +14,7 @@ ghost use Rattle.typing_rules.specs.Inside.Walking.{AtPoint};
 ghost use Rattle.typing_rules.specs.Inside.Walking as walking;
 ghost use Rattle.typing_rules.specs.Inside.Listed.{entailment_of, entailments_of};
 ghost use Rattle.typing_rules.specs.Entailments as spec;
-ghost use Rattle.typing_rules.specs.Obligations as rule;
+ghost use Rattle.typing_rules.specs.ThreadObligations as rule;
 
 use crate::entailments::Entailment;
 use crate::known::is_seen;

@@ -12,7 +12,7 @@ ghost use Rattle.typing_state.specs.Point as typing;
 ghost use Rattle.typing_rules.specs.Blocks.{value_type};
 ghost use Rattle.typing_rules.specs.Inside.Listed.{AreListed, entailments_of};
 ghost use Rattle.typing_rules.specs.Entailments as spec;
-ghost use Rattle.typing_rules.specs.Obligations.{flat};
+ghost use Rattle.typing_rules.specs.ThreadObligations.{flat};
 ghost use Rattle.typing_state.specs.Point.{has_small_types};
 ghost use Rattle.typing_rules.specs.Inside.Walking.{IsWalk, Stands, Tries, Wherever, last_parts, plain_of};
 

@@ -12,7 +12,7 @@ ghost use Rattle.cov_ast.specs.WellFormed.{AreTypesInRange, IsStmInRange};
 ghost use Rattle.typing_state.specs.After.{after_assign};
 ghost use Rattle.typing_state.specs.Point.{conjuncts_of_types, is_over_controls, ty, ty_var};
 ghost use Rattle.typing_rules.specs.Blocks as blocks;
-ghost use Rattle.typing_rules.specs.Obligations.{few_preds, flat, stm_parts};
+ghost use Rattle.typing_rules.specs.ThreadObligations.{few_preds, flat, stm_parts};
 ghost use Rattle.typing_rules.specs.Inside.Walking.{IsWalk, Stands, Wherever, plain_of, type_parts, value_parts};
 
 use crate::entailment_parts::read_held;

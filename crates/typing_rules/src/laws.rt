@@ -6,7 +6,7 @@ ghost use Rattle.cov_ast.specs.Tables.{has};
 ghost use Rattle.cov_ast.specs.WellFormed.{IsWellFormed};
 ghost use Rattle.flow_model.specs.Game.{IsSecureThread};
 ghost use Rattle.mode_compat.specs.Declared.{IsDeclared, declaration_obligations};
-ghost use Rattle.typing_rules.specs.Obligations.{thread_obligations, end_point};
+ghost use Rattle.typing_rules.specs.ThreadObligations.{thread_obligations, end_point};
 
 /// A thread of which every obligation holds has given back each lock at its end.
 pub fn threads_end_without_locks()

@@ -1,7 +1,7 @@
 ghost use Rattle.std.specs.Prelude.{◌≡◌, [], ◌∷◌, false};
 ghost use Rattle.cov_ast.specs.Obligations.{Decides};
 ghost use Rattle.cov_ast.specs.declared.refusal.CheckFault.TheVariants as faults;
-ghost use Rattle.typing_rules.specs.Obligations.{thread_obligation};
+ghost use Rattle.typing_rules.specs.ThreadObligations.{thread_obligation};
 
 use cov_ast::{CheckFault, Detail, Refusal, Rule};
 

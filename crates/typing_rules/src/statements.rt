@@ -9,7 +9,7 @@ ghost use Rattle.cov_ast.specs.Plain.{plain};
 ghost use Rattle.cov_ast.specs.Syntax as syntax;
 ghost use Rattle.cov_ast.specs.View as view;
 ghost use Rattle.cov_ast.specs.WellFormed.{AreTypesInRange, IsStateInRange, IsStmInRange, IsTypeInRange, state_size, stm_size};
-ghost use Rattle.typing_rules.specs.Obligations.{flat};
+ghost use Rattle.typing_rules.specs.ThreadObligations.{flat};
 ghost use Rattle.typing_rules.specs.Inside.Walking.{IsWalk, Stands, WalksStm, Wherever, plain_of, value_parts};
 
 use crate::certificates::check_numbers;

@@ -6,7 +6,7 @@ ghost use Rattle.cov_ast.specs.WellFormed.{IsWellFormed};
 ghost use Rattle.flow_model.specs.Game.{IsSecureThread};
 ghost use Rattle.mode_compat.specs.Declared.{declaration_obligations};
 ghost use Rattle.typing_rules.specs.Counts.{DecidesWith, counts};
-ghost use Rattle.typing_rules.specs.Obligations.{thread_obligations};
+ghost use Rattle.typing_rules.specs.ThreadObligations.{thread_obligations};
 
 use crate::count::{Count, statements};
 use crate::laws::true_obligations_are_secure;

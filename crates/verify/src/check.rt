@@ -8,7 +8,7 @@ ghost use Rattle.flow_model.specs.Secure.{IsSecure};
 ghost use Rattle.mode_compat.specs.Compatible.{threads_of};
 ghost use Rattle.mode_compat.specs.Declared.{declaration_obligations};
 ghost use Rattle.typing_rules.specs.Counts.{DecidesWith};
-ghost use Rattle.typing_rules.specs.Obligations.{thread_obligations};
+ghost use Rattle.typing_rules.specs.ThreadObligations.{thread_obligations};
 ghost use Rattle.verify.specs.Accepted.{IsAccepted, program_obligations};
 ghost use Rattle.verify.specs.Disciplined.{IsDisciplined};
 ghost use Rattle.verify.specs.Verdicts.{counts};

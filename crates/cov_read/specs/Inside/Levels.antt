@@ -7,10 +7,10 @@ use Rattle.cov_expr.specs.declared.expr.Op.TheVariants as ops
 use Rattle.cov_expr.specs.declared.kind.Kind.{Kind}
 use Rattle.cov_expr.specs.declared.kind.Kind.TheVariants as k
 use Rattle.cov_grammar.specs.declared.token.Token.{Token}
-use Rattle.cov_grammar.specs.Trees.{expr, template}
+use Rattle.cov_grammar.specs.PlacedTrees.{expr, template}
 use Rattle.cov_grammar.specs.Shapes.{Shape, rule, seq, opt, many, head}
 use Rattle.cov_grammar.specs.LookAhead.{starts, firsts}
-use Rattle.cov_grammar.specs.Tables.{first_of}
+use Rattle.cov_grammar.specs.FirstKinds.{first_of}
 use Rattle.cov_grammar.specs.Reading.{Reader, ◌>>=◌, reading, got}
 use Rattle.cov_grammar.specs.Grammar.{signs, grouped, compared, atom, template_atom, unary, prod, sum, band, bxor, bor, cmp, both, either}
 use Rattle.cov_read.specs.declared.level.Level.{Level}

@@ -1,6 +1,6 @@
 -- Which numbers declarations are named by.
 use Rattle.std.specs.Prelude.{ℕ, ◌<◌, All}
-use Rattle.cov_grammar.specs.Trees.{Program}
+use Rattle.cov_grammar.specs.PlacedTrees.{Program}
 
 -- Each declaration is named by the number of a name, of which there are so many.
 pub record AreNamed (count : ℕ) (p : Program) : Type 0 where

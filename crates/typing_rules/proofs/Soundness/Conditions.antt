@@ -13,7 +13,7 @@ use Rattle.mode_state.specs.Sets.{is_stable, is_hidden, may_read, may_write}
 use Rattle.typing_state.specs.Point.{Point, type_at, ty, ty_var, is_over_stable, is_over_controls}
 use Rattle.typing_state.specs.After.{with_guard, meet}
 use Rattle.typing_rules.specs.Blocks.{value_type, after_stm, after_block}
-use Rattle.typing_rules.specs.Obligations.{same_held}
+use Rattle.typing_rules.specs.ThreadObligations.{same_held}
 
 abbrev pub Each : List Term → (Term → Type 0) → Type 0
 Each [] P = Unit {0}

@@ -8,7 +8,7 @@ use Rattle.cov_ast.specs.Plain.{plain}
 use Rattle.cov_ast.specs.Tables.{has}
 use Rattle.cov_ast.specs.Obligations.{Obligation, all_hold}
 use Rattle.typing_state.specs.After.{start}
-use Rattle.typing_rules.specs.Obligations.{thread_obligations, block_obligations, end_obligation, end_point}
+use Rattle.typing_rules.specs.ThreadObligations.{thread_obligations, block_obligations, end_obligation, end_point}
 use Rattle.mode_compat.specs.Compatible.{numbered}
 
 -- of two tests that both pass, the second passes

@@ -23,7 +23,7 @@ use Rattle.typing_state.specs.Point.{Point, type_at, ty, ty_var, vars_of, is_tra
 use Rattle.typing_state.specs.After.{with_guard, meet}
 use Rattle.typing_rules.specs.Blocks.{value_type, after_stm, after_block}
 use Rattle.typing_rules.specs.Entailments.{Entailment, from_preds, from_one_more, cert_for, is_proved, type_follows, state_follows, guard_follows, written_type, shown_value, shown_controlled, controlled_follows, controlled_values, retype_follows, assign_entailments, freed_value}
-use Rattle.typing_rules.specs.Obligations.{flat, of_var, reads, one_unstable, narrow, guard_obligations, over_stable, type_obligations, state_obligations, proved, assign_parts, unlock_parts, stm_parts, block_obligations}
+use Rattle.typing_rules.specs.ThreadObligations.{flat, of_var, reads, one_unstable, narrow, guard_obligations, over_stable, type_obligations, state_obligations, proved, assign_parts, unlock_parts, stm_parts, block_obligations}
 use Rattle.typing_rules.proofs.Soundness.Conditions.{Each, EachType, Gives, StateFollows, AssignChecks, UnlockChecks, GuardChecks, StateOver, Checks, BlockChecks}
 use Rattle.typing_rules.proofs.Soundness.Exprs.{one_holds}
 use Rattle.typing_rules.proofs.Soundness.Lists.{in_vars}

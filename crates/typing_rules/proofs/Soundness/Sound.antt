@@ -19,7 +19,7 @@ use Rattle.mode_compat.specs.HeldSets.{AreHeldBy}
 use Rattle.typing_state.specs.Point.{Point, is_tracked, vars_of, type_at}
 use Rattle.typing_state.specs.After.{start, after_assign, after_lock, after_unlock, with_guard, meet, noted}
 use Rattle.typing_rules.specs.Blocks.{value_type, after_stm, after_block}
-use Rattle.typing_rules.specs.Obligations.{agree, same_held}
+use Rattle.typing_rules.specs.ThreadObligations.{agree, same_held}
 use Rattle.typing_rules.proofs.Soundness.Fits.{Fits, Weaker, Typed, OverStableControls, typed_from}
 use Rattle.typing_rules.proofs.Soundness.Play.{world, secure_of}
 use Rattle.typing_rules.proofs.Soundness.Conditions.{Checks, BlockChecks}

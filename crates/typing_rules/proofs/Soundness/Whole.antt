@@ -16,7 +16,7 @@ use Rattle.mode_compat.specs.Compatible.{numbered}
 use Rattle.mode_compat.specs.Compatible as rules
 use Rattle.mode_compat.specs.Declared.{declaration_obligations}
 use Rattle.typing_state.specs.After.{start}
-use Rattle.typing_rules.specs.Obligations.{thread_obligations, block_obligations, end_obligation, end_point}
+use Rattle.typing_rules.specs.ThreadObligations.{thread_obligations, block_obligations, end_obligation, end_point}
 use Rattle.typing_rules.proofs.Soundness.FromDeclarations.{declared}
 use Rattle.typing_rules.proofs.Soundness.FromObligations.{all_true, true_left, block_of}
 use Rattle.typing_rules.proofs.Soundness.Sound.{thread_secure}

@@ -22,7 +22,7 @@ use Rattle.typing_state.specs.declared.point.Point.{Point}
 use Rattle.typing_rules.specs.Counts.{entailment_count}
 use Rattle.typing_rules.specs.Blocks.{after_block, after_stm}
 use Rattle.typing_rules.specs.Entailments.{Entailment, is_proved, is_small_entailment, guard_follows, state_follows}
-use Rattle.typing_rules.specs.Obligations.{block_obligations, few_preds, flat, guard_obligations, narrow, numbers, of_var, one_unstable, over_controls, proved, reads, same_locks, small_terms, state_obligations, stm_parts, type_obligations}
+use Rattle.typing_rules.specs.ThreadObligations.{block_obligations, few_preds, flat, guard_obligations, narrow, numbers, of_var, one_unstable, over_controls, proved, reads, same_locks, small_terms, state_obligations, stm_parts, type_obligations}
 use Rattle.typing_rules.specs.declared.entailments_tried.Tried.{Tried}
 use Rattle.typing_rules.specs.declared.walk.Guarded.{Guarded}
 use Rattle.typing_rules.specs.declared.walk.Walk.{Walk}

@@ -1,7 +1,7 @@
 use Rattle.std.proofs.Common.{◌≡◌, ◌≤◌, ◌+◌}
 use Rattle.std.specs.Io.KnownBytes.{Keeps}
 use Rattle.cov_io.specs.Calls.{HasNoError}
-use Rattle.cov_io.specs.Counts.{raised}
+use Rattle.cov_io.specs.Counters.{raised}
 use Rattle.cov_io.proofs.disk_shelf.read_some.Given as goal
 
 abbrev pub invariant-loop : goal.invariant-loop

@@ -1,7 +1,7 @@
 use Rattle.std.proofs.Common.{◌≡◌, ◌++◌, map, reverse, length}
 use Rattle.cov_ast.specs.View as ast
 use Rattle.cov_read.specs.StateViews as states
-use Rattle.cov_text.specs.Trees as spec
+use Rattle.cov_text.specs.GivenTrees as spec
 use Rattle.cov_parse.proofs.annotations.proofs_of.Given as goal
 
 abbrev pub invariant-loop-proof : goal.invariant-loop-proof

@@ -1,7 +1,7 @@
 use Rattle.std.proofs.Common.{◌≡◌, ◌++◌, map, reverse, length}
 use Rattle.cov_expr.specs.View.{term}
 use Rattle.cov_read.specs.CertViews as certs
-use Rattle.cov_text.specs.Trees as spec
+use Rattle.cov_text.specs.GivenTrees as spec
 use Rattle.cov_parse.proofs.exprs.exprs_of.Given as goal
 
 abbrev pub invariant-loop-e : goal.invariant-loop-e

@@ -1,5 +1,5 @@
 use Rattle.std.proofs.Common.{◌≡◌, map, drop}
-use Rattle.cov_grammar.specs.Trees.{stms}
+use Rattle.cov_grammar.specs.PlacedTrees.{stms}
 use Rattle.cov_text.specs.Limits as spec
 use Rattle.cov_parse.specs.Inside.Measures.{counted}
 use Rattle.cov_read.specs.StmtViews as views

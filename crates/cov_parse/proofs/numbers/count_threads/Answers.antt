@@ -1,5 +1,5 @@
 use Rattle.std.proofs.Common.{◌∙◌, sym, ap, map}
-use Rattle.cov_grammar.specs.Trees.{stms}
+use Rattle.cov_grammar.specs.PlacedTrees.{stms}
 use Rattle.cov_text.specs.Limits.{places, places_of}
 use Rattle.cov_parse.specs.Inside.Measures.{counted}
 use Rattle.cov_read.specs.StmtViews.{stmt}

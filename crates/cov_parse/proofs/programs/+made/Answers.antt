@@ -1,7 +1,7 @@
 use Rattle.std.proofs.Common.{◌∙◌, map, ap}
 use Rattle.cov_ast.specs.View as ast
 use Rattle.cov_read.specs.StmtViews as stmts
-use Rattle.cov_text.specs.Trees as spec
+use Rattle.cov_text.specs.GivenTrees as spec
 use Rattle.cov_parse.proofs.Items.{items_moved}
 use Rattle.cov_parse.proofs.BlockLaws.{block_is}
 use Rattle.cov_parse.proofs.programs.+made.Goals as goal

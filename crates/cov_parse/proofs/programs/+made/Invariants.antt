@@ -1,9 +1,9 @@
 use Rattle.std.proofs.Common.{◌≡◌, ◌≤◌, ◌+◌, ◌*◌, ◌++◌, map, reverse, length}
 use Rattle.cov_ast.specs.View as ast
-use Rattle.cov_grammar.specs.Trees.{stms}
+use Rattle.cov_grammar.specs.PlacedTrees.{stms}
 use Rattle.cov_text.specs.Limits.{places, places_in}
 use Rattle.cov_read.specs.StmtViews as stmts
-use Rattle.cov_text.specs.Trees as spec
+use Rattle.cov_text.specs.GivenTrees as spec
 use Rattle.cov_parse.proofs.programs.+made.Given as goal
 
 -- how many statements there are

@@ -1,7 +1,7 @@
 use Rattle.std.proofs.Common.{◌<◌, length}
 use Rattle.cov_ast.specs.View as ast
 use Rattle.cov_read.specs.DeclViews as decls
-use Rattle.cov_text.specs.Trees as spec
+use Rattle.cov_text.specs.GivenTrees as spec
 use Rattle.cov_parse.proofs.Items.{item_moved, item_is, items_are}
 use Rattle.cov_parse.proofs.programs.locks_of.Goals as goal
 

@@ -1,7 +1,7 @@
 use Rattle.std.proofs.Common.{◌≡◌, ◌++◌, map, reverse, length, ◌<◌, All}
 use Rattle.cov_ast.specs.View as ast
 use Rattle.cov_read.specs.DeclViews as decls
-use Rattle.cov_text.specs.Trees as spec
+use Rattle.cov_text.specs.GivenTrees as spec
 use Rattle.cov_parse.proofs.programs.threads_of.Given as goal
 
 abbrev pub invariant-loop-thread : goal.invariant-loop-thread

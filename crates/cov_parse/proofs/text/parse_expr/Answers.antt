@@ -2,7 +2,7 @@ use Rattle.std.proofs.Common.{refl}
 use Rattle.cov_grammar.specs.Grammar.{whole}
 use Rattle.cov_text.specs.Limits.{in_expr}
 use Rattle.cov_text.specs.Text.{expression_of}
-use Rattle.cov_parse.specs.Replies.{parsed_expr}
+use Rattle.cov_parse.specs.Reads.{parsed_expr}
 use Rattle.cov_text.proofs.TextLaws.{only_is}
 use Rattle.cov_text.proofs.ReadyLaws.{parsed_below, parsed_used, parsed_expr_uses}
 use Rattle.cov_parse.proofs.text.parse_expr.Goals as goal

@@ -8,7 +8,7 @@ use Rattle.cov_grammar.specs.Grammar.{whole}
 use Rattle.cov_read.specs.CertViews as certs
 use Rattle.cov_text.specs.Limits.{in_expr}
 use Rattle.cov_text.specs.Text.{Expression, Answers, expression_of, words_of, names_of}
-use Rattle.cov_parse.specs.Replies.{parsed_expr}
+use Rattle.cov_parse.specs.Reads.{parsed_expr}
 use Rattle.cov_parse.proofs.ParseLaws.{fault_past, answer_is}
 use Rattle.cov_parse.proofs.text.read_expr_text.Goals as goal
 

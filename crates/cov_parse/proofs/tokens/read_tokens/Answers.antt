@@ -1,5 +1,5 @@
 use Rattle.std.proofs.Common.{◌≡◌, Err, sym, subst, rules}
-use Rattle.cov_parse.specs.Replies.{AreRead}
+use Rattle.cov_parse.specs.Reads.{AreRead}
 use Rattle.cov_lex.proofs.Lexical.{fault_back}
 use Rattle.cov_text.proofs.TextLaws.{lexes_so}
 use Rattle.cov_parse.proofs.tokens.read_tokens.Goals as goal

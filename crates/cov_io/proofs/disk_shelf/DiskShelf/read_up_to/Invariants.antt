@@ -1,7 +1,7 @@
 use Rattle.std.proofs.Common.{◌≤◌, ◌≡◌, ◌+◌, ◌-◌, length}
 use Rattle.std.specs.Io.KnownBytes.{Consumes}
 use Rattle.cov_io.specs.Calls.{HasNoError}
-use Rattle.cov_io.specs.Counts.{raised}
+use Rattle.cov_io.specs.Counters.{raised}
 use Rattle.cov_io.proofs.disk_shelf.DiskShelf.read_up_to.Given as goal
 
 abbrev pub invariant-loop-buffer : goal.invariant-loop-buffer

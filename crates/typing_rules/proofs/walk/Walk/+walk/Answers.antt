@@ -12,7 +12,7 @@ use Rattle.typing_state.specs.Point.{Point}
 use Rattle.typing_rules.specs.Counts.{entailment_count}
 use Rattle.typing_rules.specs.Blocks.{after_block, after_stm}
 use Rattle.typing_rules.specs.Entailments.{guard_follows, state_follows}
-use Rattle.typing_rules.specs.Obligations.{block_obligations, flat, stm_parts}
+use Rattle.typing_rules.specs.ThreadObligations.{block_obligations, flat, stm_parts}
 use Rattle.typing_rules.specs.Inside.Walking.{HasTypesBelow, IsWalk, WalksStm, plain_of}
 use Rattle.typing_rules.specs.declared.walk.Walk.{Walk}
 use Rattle.typing_rules.proofs.Bounds.{few_entailments_state, few_entailments}

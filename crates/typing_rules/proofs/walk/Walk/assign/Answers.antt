@@ -9,7 +9,7 @@ use Rattle.typing_state.specs.Kept.{Keeps}
 use Rattle.typing_rules.specs.Counts.{entailment_count}
 use Rattle.typing_rules.specs.Blocks.{value_type}
 use Rattle.typing_rules.specs.Entailments.{assign_entailments}
-use Rattle.typing_rules.specs.Obligations.{few_preds, flat, stm_parts}
+use Rattle.typing_rules.specs.ThreadObligations.{few_preds, flat, stm_parts}
 use Rattle.typing_state.specs.Point.{has_small_types}
 use Rattle.typing_rules.specs.Inside.Walking.{last_parts, plain_of, value_parts}
 use Rattle.typing_rules.proofs.Counting.{count_assign}

@@ -4,7 +4,7 @@ use Rattle.cov_ast.specs.Obligations.{Decides}
 use Rattle.cov_ast.specs.declared.refusal.Rule.TheVariants.{V16}
 use Rattle.cov_ast.specs.declared.refusal.Detail.TheVariants.{Nothing}
 use Rattle.typing_rules.specs.Entailments.{is_small_entailment}
-use Rattle.typing_rules.specs.Obligations.{obligation, few_preds, proved, small_terms}
+use Rattle.typing_rules.specs.ThreadObligations.{obligation, few_preds, proved, small_terms}
 use Rattle.typing_rules.specs.Inside.Walking.{plain_of}
 use Rattle.typing_rules.proofs.Parts.{and_true, append_none, held_is, padded}
 use Rattle.typing_rules.proofs.walk.Walk.guarded.Goals as goal

@@ -3,7 +3,7 @@ use Rattle.cov_expr.specs.View.{term}
 use Rattle.cov_ast.specs.View as view
 use Rattle.typing_state.specs.After.{meet}
 use Rattle.typing_rules.specs.Entailments.{guard_follows, state_follows}
-use Rattle.typing_rules.specs.Obligations.{flat, guard_obligations, state_obligations}
+use Rattle.typing_rules.specs.ThreadObligations.{flat, guard_obligations, state_obligations}
 use Rattle.typing_rules.specs.Inside.Walking.{GuardsAt, first_parts, plain_of, starts_of}
 use Rattle.typing_rules.proofs.Bounds.{few_entailments_state}
 use Rattle.typing_rules.proofs.Ranges.{classes_below, meet_below}

@@ -3,7 +3,7 @@ use Rattle.cov_ast.specs.Obligations.{Decides, first_false}
 use Rattle.cov_ast.specs.View as view
 use Rattle.typing_state.specs.After.{meet}
 use Rattle.typing_rules.specs.Entailments.{state_follows}
-use Rattle.typing_rules.specs.Obligations.{flat, same_locks, state_obligations}
+use Rattle.typing_rules.specs.ThreadObligations.{flat, same_locks, state_obligations}
 use Rattle.typing_state.specs.Point.{has_small_types}
 use Rattle.typing_rules.specs.Inside.Walking.{Tries, last_parts, plain_of}
 use Rattle.typing_rules.proofs.Parts.{all_counted, and_true}

@@ -4,7 +4,7 @@ use Rattle.cov_ast.specs.View as view
 use Rattle.typing_state.specs.After.{noted}
 use Rattle.typing_rules.specs.Counts.{entailment_count}
 use Rattle.typing_rules.specs.Entailments.{state_follows}
-use Rattle.typing_rules.specs.Obligations.{flat, state_obligations}
+use Rattle.typing_rules.specs.ThreadObligations.{flat, state_obligations}
 use Rattle.typing_state.specs.Point.{has_small_types}
 use Rattle.typing_rules.specs.Inside.Walking.{plain_of, last_parts}
 use Rattle.typing_rules.proofs.Counting.{count_note}

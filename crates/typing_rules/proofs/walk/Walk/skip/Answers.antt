@@ -1,7 +1,7 @@
 use Rattle.std.proofs.Common.{[], ◌++◌, map, sym}
 use Rattle.cov_ast.specs.View as view
 use Rattle.typing_rules.specs.Counts.{entailment_count}
-use Rattle.typing_rules.specs.Obligations.{numbers}
+use Rattle.typing_rules.specs.ThreadObligations.{numbers}
 use Rattle.typing_rules.specs.Inside.Walking.{plain_of}
 use Rattle.typing_rules.proofs.Counting.{count_skip}
 use Rattle.typing_rules.proofs.Parts.{padded}

@@ -1,7 +1,7 @@
 use Rattle.std.proofs.Common.{◌≡◌, [], ◌∷◌, ◌++◌, ◌+◌, suc, map, length, refl, sym, ◌∙◌, arith, subst}
 use Rattle.cov_ast.specs.View as view
 use Rattle.typing_rules.specs.Entailments.{state_follows}
-use Rattle.typing_rules.specs.Obligations.{flat, same_locks}
+use Rattle.typing_rules.specs.ThreadObligations.{flat, same_locks}
 use Rattle.typing_state.specs.Point.{has_small_types}
 use Rattle.typing_rules.specs.Inside.Walking.{Tries, last_parts, plain_of}
 use Rattle.typing_rules.proofs.Parts.{all_counted, and_true}

@@ -7,7 +7,7 @@ use Rattle.cov_ast.specs.declared.refusal.Detail.TheVariants.{One}
 use Rattle.typing_state.specs.After.{after_unlock}
 use Rattle.typing_rules.specs.Counts.{entailment_count}
 use Rattle.typing_rules.specs.Entailments.{unlock_entailments}
-use Rattle.typing_rules.specs.Obligations.{flat, of_lock, thread_obligation}
+use Rattle.typing_rules.specs.ThreadObligations.{flat, of_lock, thread_obligation}
 use Rattle.typing_state.specs.Point.{has_small_types}
 use Rattle.typing_rules.specs.Inside.Walking.{plain_of, last_parts}
 use Rattle.typing_rules.proofs.Counting.{count_unlock}

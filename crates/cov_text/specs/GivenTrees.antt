@@ -2,8 +2,8 @@
 -- loop is a state that says nothing.
 use Rattle.std.specs.Prelude.{ℕ, List, [], map, get_or, Option, Some, None, option_map}
 use Rattle.cov_expr.specs.Term.{Term}
-use Rattle.cov_grammar.specs.Trees.{Placed}
-use Rattle.cov_grammar.specs.Trees as t
+use Rattle.cov_grammar.specs.PlacedTrees.{Placed}
+use Rattle.cov_grammar.specs.PlacedTrees as t
 use Rattle.cov_ast.specs.Syntax as s
 use Rattle.cov_ast.specs.Plain.{no_state}
 use Rattle.cov_ast.specs.View as ast

@@ -4,7 +4,7 @@
 use Rattle.std.specs.Prelude.{List, [], ◌∷◌}
 use Rattle.cov_expr.specs.declared.kind.Kind.{Kind}
 use Rattle.cov_expr.specs.declared.kind.Kind.TheVariants as k
-use Rattle.cov_grammar.specs.Trees.{Rule, expr, template, cert, block}
+use Rattle.cov_grammar.specs.PlacedTrees.{Rule, expr, template, cert, block}
 
 -- the kinds that a spelling of a rule may begin with
 abbrev pub first_of : Rule → List Kind

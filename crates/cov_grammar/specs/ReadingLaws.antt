@@ -2,7 +2,7 @@
 use Rattle.std.specs.Prelude.{◌≡◌, List, [], ◌⊎◌}
 use Rattle.cov_grammar.specs.declared.token.Token.{Token}
 use Rattle.cov_grammar.specs.Shapes.{Shape}
-use Rattle.cov_grammar.specs.Spelling.{Is, FirstWrong}
+use Rattle.cov_grammar.specs.Spells.{Is, FirstWrong}
 use Rattle.cov_grammar.specs.Reading.{all_of, got, stopped, spent}
 
 -- Reading says of all tokens what the grammar says:
