@@ -45,15 +45,6 @@ module _ (p : Program) (fine : IsWellFormed (view.program p)) where
       subst (HasVarsBelow (class_term (view.class v.class))) counts
       (seen_item view.var (λ w. HasVarsBelow (class_term w.class) (length (map view.var p.vars))) p.vars i v fine.ids.classes inside is)
 
-  pub few_variables : length p.vars ≤ 256
-  few_variables = subst (λ n. n ≤ 256) counts fine.limits.variables
-
-  pub few_locks : length p.locks ≤ 64
-  few_locks = subst (λ n. n ≤ 64) lock_counts fine.limits.declared_locks
-
-  pub few_threads : length p.threads ≤ 16
-  few_threads = subst (λ n. n ≤ 16) (length-map p.threads view.thread) fine.limits.declared_threads
-
   pub class_at : (x : ℕ) → x < length p.vars → HasVarsBelow (class_of (plain (view.program p)) x) (length p.vars)
   class_at x inside =
       subst (HasVarsBelow (class_of (plain (view.program p)) x)) counts (fine.ids.classes x no_var (subst (λ n. x < n) (sym counts) inside))

@@ -1,12 +1,12 @@
 -- Which programs are well formed: ids in range, expressions of words, names and places distinct, and within the limits.
-use Rattle.std.specs.Prelude.{◌≡◌, ◌⊎◌, ℕ, ◌+◌, ◌<◌, ◌≤◌, ◌==◌, ◌&&◌, List, [], ◌∷◌, ◌++◌, length, map, sum_by, Bool, true, not, IsTrue, Option, Some, None, All}
+use Rattle.std.specs.Prelude.{◌≡◌, ◌⊎◌, ℕ, ◌+◌, ◌*◌, ◌<◌, ◌≤◌, ◌==◌, ◌&&◌, List, [], ◌∷◌, ◌++◌, length, map, sum_by, Bool, true, not, IsTrue, Option, Some, None, All}
 use Rattle.std.specs.List.{list_any}
 use Rattle.std.specs.Str.{bytes_eq}
 use Rattle.cov_expr.specs.Term.{Term, const, var, neg, bin}
 use Rattle.cov_expr.specs.Trees.{nodes}
 use Rattle.cov_expr.specs.Words.{HasVarsBelow, HasWords}
 use Rattle.cov_expr.specs.declared.expr.TheConstants.{HOLE}
-use Rattle.cov_expr.specs.declared.limits.TheConstants.{MOST_VARIABLES, MOST_LOCKS, MOST_THREADS}
+use Rattle.cov_expr.specs.declared.limits.TheConstants.{MOST_BYTES, MOST_VARIABLES, MOST_LOCKS, MOST_THREADS}
 use Rattle.cov_ast.specs.Syntax.{Class, low, high, when, Var, Lock, Modes, State, Cert, Proof, Stm, Block, done, more, Thread, Program}
 use Rattle.cov_ast.specs.Syntax as s
 use Rattle.cov_ast.specs.Plain.{class_term}
@@ -214,10 +214,14 @@ abbrev mutual
   block_size done = 0
   block_size (more at c proofs b) = 1 + stm_size c + block_size b
 
+-- No text has a block of so many.
+abbrev pub most_size : ℕ
+most_size = 2 * MOST_BYTES
+
 -- what is asked of the body of a thread
 pub record IsBodyFine (b : Block) : Type 0 where
   pub places_differ : IsTrue (are_distinct (◌==◌) (places b))
-  pub small : block_size b < 2097152
+  pub small : block_size b < most_size
 
 -- Well formed programs -----------------------------------------------------------------------------------------
 

@@ -4,14 +4,11 @@ use Rattle.std.specs.List.{list_all}
 use Rattle.std.specs.Str.{bytes_eq}
 use Rattle.std.proofs.lemmas.Bool.{and_parts}
 use Rattle.std.proofs.lemmas.Slice.Eq.{bytes_eq-Decides}
+use Rattle.std.proofs.Math.Bool.{and-true}
 use Rattle.cov_expr.specs.Bytes.{is_lower}
 use Rattle.cov_expr.specs.declared.kind.Kind.{Kind}
 use Rattle.cov_expr.specs.Spellings.{spellings, kind_among, kind_of, begins_with_letter}
 use Rattle.cov_lex.specs.Inside.{ones, twos, kind_of_one, kind_of_two, one_kind, two_kind}
-
-and_true : (b : Bool) → (b && true) ≡ b
-and_true true = refl
-and_true false = refl
 
 and_false : (b : Bool) → (b && false) ≡ false
 and_false true = refl
@@ -21,7 +18,7 @@ one_among : (a : ℕ) (ss : List (List ℕ × Kind)) → kind_among ss (a ∷ []
 one_among a [] = refl
 one_among a (([], k) ∷ ss) = one_among a ss
 one_among a ((c ∷ [], k) ∷ ss) =
-    ap (λ b. if b then Some k else kind_among ss (a ∷ [])) (and_true (nat_eq a c)) ∙ ap (λ o. if nat_eq a c then Some k else o) (one_among a ss)
+    ap (λ b. if b then Some k else kind_among ss (a ∷ [])) (and-true (nat_eq a c)) ∙ ap (λ o. if nat_eq a c then Some k else o) (one_among a ss)
 one_among a ((c ∷ d ∷ rest, k) ∷ ss) = ap (λ b. if b then Some k else kind_among ss (a ∷ [])) (and_false (nat_eq a c)) ∙ one_among a ss
 
 two_among : (a b : ℕ) (ss : List (List ℕ × Kind)) → kind_among ss (a ∷ b ∷ []) ≡ kind_of_two (twos ss) a b
@@ -29,7 +26,7 @@ two_among a b [] = refl
 two_among a b (([], k) ∷ ss) = two_among a b ss
 two_among a b ((c ∷ [], k) ∷ ss) = ap (λ x. if x then Some k else kind_among ss (a ∷ b ∷ [])) (and_false (nat_eq a c)) ∙ two_among a b ss
 two_among a b ((c ∷ d ∷ [], k) ∷ ss) =
-    ap (λ x. if nat_eq a c && x then Some k else kind_among ss (a ∷ b ∷ [])) (and_true (nat_eq b d)) ∙ ap (λ o. if nat_eq a c && nat_eq b d then Some k else o) (two_among a b ss)
+    ap (λ x. if nat_eq a c && x then Some k else kind_among ss (a ∷ b ∷ [])) (and-true (nat_eq b d)) ∙ ap (λ o. if nat_eq a c && nat_eq b d then Some k else o) (two_among a b ss)
 two_among a b ((c ∷ d ∷ e ∷ rest, k) ∷ ss) =
     ap (λ x. if nat_eq a c && x then Some k else kind_among ss (a ∷ b ∷ [])) (and_false (nat_eq b d))
     ∙ ap (λ x. if x then Some k else kind_among ss (a ∷ b ∷ [])) (and_false (nat_eq a c)) ∙ two_among a b ss

@@ -7,7 +7,7 @@ use Rattle.cov_expr.specs.Term.{Term, const, var, neg, bin}
 use Rattle.cov_expr.specs.Trees.{nodes}
 use Rattle.cov_ast.specs.Syntax.{State, Stm, Block, done, more, Thread}
 use Rattle.cov_ast.specs.Syntax as s
-use Rattle.cov_ast.specs.WellFormed.{places_within, places, types_size, state_size, type_size, stm_size, block_size, are_distinct, IsBodyFine}
+use Rattle.cov_ast.specs.WellFormed.{places_within, places, types_size, state_size, type_size, stm_size, block_size, are_distinct, IsBodyFine, most_size}
 use Rattle.policy_class.specs.Resolved as spec
 
 -- sums over lists that are made item by item
@@ -63,7 +63,7 @@ module _ (v l : ℕ → ℕ) where
   body_fine : (b : Block) → IsBodyFine b → IsBodyFine (spec.resolved_block v l b)
   body_fine b h = record {
     places_differ = ap (are_distinct (◌==◌)) (places_same b) ∙ h.places_differ;
-    small = subst (λ n. n < 2097152) (sym (block_same b)) h.small;
+    small = subst (λ n. n < most_size) (sym (block_same b)) h.small;
   }
 
   pub bodies_fine : (ts : List Thread) → All (λ t. IsBodyFine t.body) ts → All (λ t. IsBodyFine t.body) (map (spec.resolved_thread v l) ts)

@@ -21,12 +21,6 @@ use Rattle.policy_class.proofs.PositionLaws.{absent, among_first, position_insid
 
 -- Counts -------------------------------------------------------------------------------------------------------
 
-pub few_vars : (p : Parsed) → IsReady (view.parsed p) → length p.vars ≤ 256
-few_vars p h = subst (λ n. n ≤ 256) (length-map p.vars view.var) h.limits.variables
-
-pub few_locks : (p : Parsed) → IsReady (view.parsed p) → length p.locks ≤ 64
-few_locks p h = subst (λ n. n ≤ 64) (length-map p.locks view.lock) h.limits.declared_locks
-
 var_count : (p : Parsed) → length (var_names (view.parsed p)) ≡ length p.vars
 var_count p = length-map (map view.var p.vars) (λ v. v.name) ∙ length-map p.vars view.var
 

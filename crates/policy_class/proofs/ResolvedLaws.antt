@@ -4,6 +4,7 @@ use Rattle.std.specs.Prelude.{IsErrAnd}
 use Rattle.std.specs.Str.{bytes_eq}
 use Rattle.std.proofs.lemmas.List.{length-map}
 use Rattle.std.proofs.lemmas.List.Elements.{All-cons, All-nil}
+use Rattle.cov_expr.specs.declared.limits.TheConstants.{MOST_LOCKS}
 use Rattle.cov_expr.specs.declared.expr.TheConstants.{HOLE}
 use Rattle.cov_ast.specs.declared.parsed.NameUse.{NameUse}
 use Rattle.cov_ast.specs.declared.refusal.CheckFault.{CheckFault}
@@ -64,7 +65,7 @@ module _ (p : Parsed) where
   limits_same : IsWithinLimits p.vars p.locks p.threads → IsWithinLimits (resolved p).vars (resolved p).locks (resolved p).threads
   limits_same h = record {
     variables = subst (λ n. n ≤ 256) (sym (length-map p.vars (resolved_variable (var_id p) (lock_id p)))) h.variables;
-    declared_locks = subst (λ n. n ≤ 64) (sym (length-map p.locks (resolved_lock (var_id p) (lock_id p)))) h.declared_locks;
+    declared_locks = subst (λ n. n ≤ MOST_LOCKS) (sym (length-map p.locks (resolved_lock (var_id p) (lock_id p)))) h.declared_locks;
     declared_threads = subst (λ n. n ≤ 16) (sym (length-map p.threads (resolved_thread (var_id p) (lock_id p)))) h.declared_threads;
   }
 

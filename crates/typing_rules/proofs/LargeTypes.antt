@@ -3,6 +3,7 @@ use Rattle.std.proofs.Common.{◌≡◌, ℕ, zero, suc, ◌+◌, ◌*◌, ◌<�
 use Rattle.std.specs.List.{list_all, list_any, flat_map}
 use Rattle.std.proofs.lemmas.Bool.{and_left, and_right, eq-eqb, or_cases, or_left, or_right, or_parts, not-false, cases_Bool, false≢true}
 use Rattle.std.proofs.lemmas.List.Folds.{list_all-append}
+use Rattle.std.proofs.Math.Bool.{and-true}
 use Rattle.cov_expr.specs.declared.expr.Op.TheVariants.{Add, Sub, Mul, And, Or, Xor, Eq, Ne, Lt, Le, Both, Either}
 use Rattle.cov_expr.specs.Term.{Term, const, var, neg, bin}
 use Rattle.cov_expr.specs.Trees.{same, nodes, conjuncts, has_term, vars}
@@ -51,12 +52,8 @@ module _ (test : ℕ → Bool) where
   and_assoc true b c = refl
   and_assoc false b c = refl
 
-  and_true : (a : Bool) → (a && true) ≡ a
-  and_true true = refl
-  and_true false = refl
-
   each_joined_from : (e : Term) (fs : List Term) → each_variable test (joined_from e fs) ≡ (each_variable test e && each fs)
-  each_joined_from e [] = sym (and_true (each_variable test e))
+  each_joined_from e [] = sym (and-true (each_variable test e))
   each_joined_from e (f ∷ fs) = each_joined_from (bin Both e f) fs ∙ and_assoc (each_variable test e) (each_variable test f) (each fs)
 
   each_joined : (es : List Term) → each_variable test (joined es) ≡ each es
@@ -72,7 +69,7 @@ module _ (test : ℕ → Bool) where
   ]
     where
       twice : (a b : Bool) → ((a && b) && a) ≡ (a && b)
-      twice true b = and_true b
+      twice true b = and-true b
       twice false b = refl
 
   each_with : (es : List Term) (e : Term) → each (with_term es e) ≡ (each es && each_variable test e)
@@ -80,10 +77,10 @@ module _ (test : ℕ → Bool) where
     where
       at : (b : Bool) → has_term es e ≡ b → each (if b then es else es ++ e ∷ []) ≡ (each es && each_variable test e)
       at true h = sym (there es e h)
-      at false h = list_all-append (each_variable test) es (e ∷ []) ∙ ap (λ b. each es && b) (and_true (each_variable test e))
+      at false h = list_all-append (each_variable test) es (e ∷ []) ∙ ap (λ b. each es && b) (and-true (each_variable test e))
 
   each_with_all : (es fs : List Term) → each (with_terms es fs) ≡ (each es && each fs)
-  each_with_all es [] = sym (and_true (each es))
+  each_with_all es [] = sym (and-true (each es))
   each_with_all es (f ∷ fs) =
       each_with_all (with_term es f) fs ∙ ap (λ b. b && each fs) (each_with es f) ∙ and_assoc (each es) (each_variable test f) (each fs)
 
@@ -106,19 +103,19 @@ module _ (test : ℕ → Bool) where
   each_conjunct (bin Both a b) =
       list_all-append (each_variable test) (conjuncts a) (conjuncts b) ∙ (λ i. each_conjunct a i && each_conjunct b i)
   each_conjunct (const k) = refl
-  each_conjunct (var x) = and_true (test x)
-  each_conjunct (neg e) = and_true (each_variable test e)
-  each_conjunct (bin Add a b) = and_true (each_variable test (bin Add a b))
-  each_conjunct (bin Sub a b) = and_true (each_variable test (bin Sub a b))
-  each_conjunct (bin Mul a b) = and_true (each_variable test (bin Mul a b))
-  each_conjunct (bin And a b) = and_true (each_variable test (bin And a b))
-  each_conjunct (bin Or a b) = and_true (each_variable test (bin Or a b))
-  each_conjunct (bin Xor a b) = and_true (each_variable test (bin Xor a b))
-  each_conjunct (bin Eq a b) = and_true (each_variable test (bin Eq a b))
-  each_conjunct (bin Ne a b) = and_true (each_variable test (bin Ne a b))
-  each_conjunct (bin Lt a b) = and_true (each_variable test (bin Lt a b))
-  each_conjunct (bin Le a b) = and_true (each_variable test (bin Le a b))
-  each_conjunct (bin Either a b) = and_true (each_variable test (bin Either a b))
+  each_conjunct (var x) = and-true (test x)
+  each_conjunct (neg e) = and-true (each_variable test e)
+  each_conjunct (bin Add a b) = and-true (each_variable test (bin Add a b))
+  each_conjunct (bin Sub a b) = and-true (each_variable test (bin Sub a b))
+  each_conjunct (bin Mul a b) = and-true (each_variable test (bin Mul a b))
+  each_conjunct (bin And a b) = and-true (each_variable test (bin And a b))
+  each_conjunct (bin Or a b) = and-true (each_variable test (bin Or a b))
+  each_conjunct (bin Xor a b) = and-true (each_variable test (bin Xor a b))
+  each_conjunct (bin Eq a b) = and-true (each_variable test (bin Eq a b))
+  each_conjunct (bin Ne a b) = and-true (each_variable test (bin Ne a b))
+  each_conjunct (bin Lt a b) = and-true (each_variable test (bin Lt a b))
+  each_conjunct (bin Le a b) = and-true (each_variable test (bin Le a b))
+  each_conjunct (bin Either a b) = and-true (each_variable test (bin Either a b))
 
   each_flat : (f : ℕ → Term) (xs : List ℕ) → each (flat_map (λ x. conjuncts (f x)) xs) ≡ list_all (λ x. each_variable test (f x)) xs
   each_flat f [] = refl

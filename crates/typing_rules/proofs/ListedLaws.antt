@@ -6,6 +6,7 @@ use Rattle.std.proofs.lemmas.Bool.{and_left, and_right, lt-leb, cases_eq, false�
 use Rattle.std.proofs.lemmas.List.FromFn.{filter_of_map_range_with_len_more}
 use Rattle.std.proofs.lemmas.List.{map-append, map-id, at_drop_more, at_drop_all, append-nil}
 use Rattle.std.proofs.lemmas.List.Folds.{list_all-append, list_all-map, list_all_at}
+use Rattle.cov_expr.specs.declared.limits.TheConstants.{MOST_NODES}
 use Rattle.cov_expr.specs.Term.{Term}
 use Rattle.cov_expr.specs.Trees.{mentions, nodes}
 use Rattle.cov_ast.specs.Declarations.{class_of}
@@ -94,8 +95,8 @@ module _ (p : Plain) (t : ℕ) (a : Point) (x y : ℕ) where
 
 -- Entailments that aren't small -----------------------------------------------------------------------------------
 
-pub large : (e : Term) → 1000 < nodes e → is_small e ≡ false
-large e h = lt-leb (nodes e) 1000 h
+pub large : (e : Term) → MOST_NODES < nodes e → is_small e ≡ false
+large e h = lt-leb (nodes e) MOST_NODES h
 
 -- the hypothesis that comes behind the predicates
 pub large_more : (preds : List Term) (e goal : Term) → is_small e ≡ false → is_small_entailment (from_one_more preds e goal) ≡ false

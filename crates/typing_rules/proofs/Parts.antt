@@ -3,6 +3,7 @@ use Rattle.std.proofs.Common.{◌≡◌, ℕ, suc, ◌+◌, ◌&&◌, List, [], 
 use Rattle.std.specs.List.{list_all}
 use Rattle.std.proofs.lemmas.Bool.{and_parts}
 use Rattle.std.proofs.lemmas.List.{append-nil}
+use Rattle.std.proofs.Math.Bool.{and-true}
 use Rattle.cov_ast.specs.Obligations.{Decides, Obligation, first_false}
 use Rattle.cov_ast.specs.Plain.{Plain}
 use Rattle.cov_ast.specs.Syntax.{Proof}
@@ -64,10 +65,6 @@ append_none (e ∷ es) b h =
 pub held_is : (p : Plain) (t at : ℕ) (b : Bool) → first_false (obligation p t at V16 Nothing b ∷ []) ≡ None → b ≡ true
 held_is p t at true h = refl
 held_is p t at false h = cc
-
-pub and_true : (b : Bool) → (b && true) ≡ b
-and_true true = refl
-and_true false = refl
 
 pub proved-append : (p : Plain) (t at : ℕ) (proofs : List Proof) (n : ℕ) (gs hs : List Entailment)
     → proved p t at proofs n (gs ++ hs) ≡ proved p t at proofs n gs ++ proved p t at proofs (n + length gs) hs

@@ -5,7 +5,7 @@ use Rattle.cov_ast.specs.Obligations.{Decides, Obligation, all_hold, first_false
 use Rattle.cov_ast.specs.Plain.{plain}
 use Rattle.cov_ast.specs.Syntax.{Program, Block}
 use Rattle.cov_ast.specs.View as view
-use Rattle.cov_ast.specs.WellFormed.{IsBlockInRange, IsBodyFine, IsWellFormed, block_size}
+use Rattle.cov_ast.specs.WellFormed.{IsBlockInRange, IsBodyFine, IsWellFormed, block_size, most_size}
 use Rattle.cov_ast.specs.declared.decl.Program as decl
 use Rattle.cov_ast.specs.declared.decl.ThreadDecl.{ThreadDecl}
 use Rattle.cov_ast.specs.declared.refusal.CheckFault.{CheckFault}
@@ -61,13 +61,13 @@ module _ (p : decl.Program) (fine : IsWellFormed (view.program p)) (i : ℕ) (t 
   pub body_in_range : IsBlockInRange (length p.vars) (length p.locks) (view.block t.body)
   body_in_range = (thread_in_range p fine i t inside is).body
 
-  pub body_small : block_size (view.block t.body) < 2097152
+  pub body_small : block_size (view.block t.body) < most_size
   body_small = (seen_item view.thread (λ s. IsBodyFine s.body) p.threads i t fine.bodies inside is).small
 
 -- Bounds -----------------------------------------------------------------------------------------------------------
 
 module _ (p : Program) (fine : IsWellFormed p) (t : ℕ) (inside : t < length p.threads) where
-  small : block_size (numbered p t).body < 2097152
+  small : block_size (numbered p t).body < most_size
   small = (fine.bodies t no_thread inside).small
 
   pub statements_bounded : (counts p t).statements < 2 ^ 21

@@ -4,6 +4,7 @@
 -- in this project's own form.)
 use Rattle.std.specs.Prelude.{ℕ, suc, ◌+◌, ◌==◌, ◌&&◌, nat_le, List, [], ◌∷◌, ◌++◌, length, map, count_by, Bool, true, false, not, is_none, find, if◌then◌else◌, Option, Some, None}
 use Rattle.std.specs.List.{list_all}
+use Rattle.cov_expr.specs.declared.limits.TheConstants.{MOST_PREDICATES}
 use Rattle.cov_expr.specs.Term.{Term, neg}
 use Rattle.cov_expr.specs.Trees.{has_number, vars, occurrences, width}
 use Rattle.cov_ast.specs.Syntax.{State, Proof, Stm, skip, assign, lock, unlock, branch, loop, note, Block, done, more, Program}
@@ -41,9 +42,9 @@ agree false b = not b
 abbrev pub same_held : Plain → (held other : List Bool) → Bool
 same_held p held other = list_all (λ l. agree (has held l) (has other l)) (locks_of p)
 
--- at most 64 predicates
+-- no more predicates than there may be
 abbrev pub has_few_preds : Point → Bool
-has_few_preds a = nat_le (length a.preds) 64
+has_few_preds a = nat_le (length a.preds) MOST_PREDICATES
 
 -- whether the number of a proof is that of one of so many entailments, and no other proof has it
 abbrev pub is_number : (count : ℕ) → List Proof → ℕ → Bool

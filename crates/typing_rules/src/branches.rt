@@ -7,7 +7,7 @@ ghost use Rattle.cov_expr.specs.Words.{HasVarsBelow};
 ghost use Rattle.cov_ast.specs.Obligations.{Decides, Obligation};
 ghost use Rattle.cov_ast.specs.Syntax as syntax;
 ghost use Rattle.cov_ast.specs.View as view;
-ghost use Rattle.cov_ast.specs.WellFormed.{IsStateInRange, state_size};
+ghost use Rattle.cov_ast.specs.WellFormed.{IsStateInRange, state_size, most_size};
 ghost use Rattle.typing_state.specs.After.{meet, with_guard};
 ghost use Rattle.typing_state.specs.Kept.{Keeps};
 ghost use Rattle.typing_rules.specs.Entailments.{Entailment, guard_follows, state_follows};
@@ -56,7 +56,7 @@ impl Walk<'_> {
         requires walk { IsWalk self.now }
         requires guard { HasVarsBelow (term e.now) (length self.now.program.now.vars) }
         requires range { IsStateInRange (length self.now.program.now.vars) (length self.now.program.now.locks) (view.state inv.now) }
-        requires small { state_size (view.state inv.now) < 2097152 }
+        requires small { state_size (view.state inv.now) < most_size }
         requires point { Stands self.now point }
         ensures { Wherever self.now point (λ a. GuardsAt self.now
             (flat (head_parts (plain_of self.now) self.now.thread at (map view.proof proofs.now) a (view.state inv.now) (term e.now)

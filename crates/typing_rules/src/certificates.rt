@@ -20,7 +20,7 @@ use crate::entailments::Entailment;
 use crate::known::is_seen;
 use crate::site::{Site, refused_at};
 use cov_ast::{Cert, CheckFault, Detail, Program, Proof, Rule};
-use cov_expr::{Expr, NoMemory, nodes_at_most};
+use cov_expr::{Expr, MOST_NODES, NoMemory, nodes_at_most};
 use entail_cert::{CertFault, check_cert, check_cert_with};
 use std::alloc::Global;
 use typing_state::Point;
@@ -47,10 +47,10 @@ fn is_small(entailment: &Entailment<'_>) -> bool
     ensures { result ≡ spec.is_small_entailment (entailment_of [] entailment.now) }
 {
     let small_more = match &entailment.more {
-        Some(more) => nodes_at_most(more.expr(), 1000),
+        Some(more) => nodes_at_most(more.expr(), MOST_NODES),
         None => true,
     };
-    small_more && nodes_at_most(entailment.goal.expr(), 1000)
+    small_more && nodes_at_most(entailment.goal.expr(), MOST_NODES)
 }
 
 /// The number of the first entailment without a valid certificate, if there is one (V9). They are numbered from a number on.

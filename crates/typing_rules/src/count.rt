@@ -1,6 +1,6 @@
 ghost use Rattle.std.specs.Prelude.{◌≡◌, ◌<◌, length};
 ghost use Rattle.cov_ast.specs.View as view;
-ghost use Rattle.cov_ast.specs.WellFormed.{block_size, places, places_within, stm_size};
+ghost use Rattle.cov_ast.specs.WellFormed.{block_size, places, places_within, stm_size, most_size};
 
 use cov_ast::{Stmt, StmtKind};
 
@@ -16,7 +16,7 @@ pub struct Count {
 /// How many statements a block has, those in others and notes included.
 #[cycle(statements)]
 pub(crate) fn statements(body: &[Stmt]) -> u64
-    requires { block_size (view.block body.now) < 2097152 }
+    requires { block_size (view.block body.now) < most_size }
     ensures { result ≡ length (places (view.block body.now)) }
 {
     let mut count = 0;
@@ -29,7 +29,7 @@ pub(crate) fn statements(body: &[Stmt]) -> u64
 /// How many statements stand in the blocks of a statement.
 #[cycle(statements)]
 fn statements_within(kind: &StmtKind) -> u64
-    requires { stm_size (view.kind kind.now) < 2097152 }
+    requires { stm_size (view.kind kind.now) < most_size }
     ensures { result ≡ length (places_within (view.kind kind.now)) }
 {
     match kind {

@@ -7,7 +7,7 @@ ghost use Rattle.cov_expr.specs.Words.{HasVarsBelow};
 ghost use Rattle.cov_ast.specs.Obligations.{Decides};
 ghost use Rattle.cov_ast.specs.Syntax as syntax;
 ghost use Rattle.cov_ast.specs.View as view;
-ghost use Rattle.cov_ast.specs.WellFormed.{AreTypesInRange, IsStmInRange, state_size, stm_size};
+ghost use Rattle.cov_ast.specs.WellFormed.{AreTypesInRange, IsStmInRange, state_size, stm_size, most_size};
 ghost use Rattle.typing_state.specs.Point as typing;
 ghost use Rattle.typing_rules.specs.Blocks.{value_type};
 ghost use Rattle.typing_rules.specs.Inside.Listed.{AreListed, entailments_of};
@@ -119,7 +119,7 @@ impl Walk<'_> {
         requires typed { Wherever self.now point.now (λ a. term q.now ≡ value_type (plain_of self.now) self.now.thread a (option_map term written.now) (term e.now)) }
         requires range { IsStmInRange (length self.now.program.now.vars) (length self.now.program.now.locks)
             (syntax.assign x (term e.now) (option_map term written.now) (map view.retype retypes.now)) }
-        requires small { stm_size (syntax.assign x (term e.now) (option_map term written.now) (map view.retype retypes.now)) < 2097152 }
+        requires small { stm_size (syntax.assign x (term e.now) (option_map term written.now) (map view.retype retypes.now)) < most_size }
         ensures { IfOk result (λ tried. Wherever self.now point.now (λ a.
             Tries (map view.proof proofs.now) 1
             (spec.assign_entailments (plain_of self.now) self.now.thread a x (term e.now) (option_map term written.now) (map view.retype retypes.now)) tried)) }

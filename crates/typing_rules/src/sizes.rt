@@ -1,6 +1,7 @@
 //! How large expressions are, before they are made, and how large points may be (V15, V16).
 
 ghost use Rattle.std.specs.Prelude.{◌≡◌, ◌+◌, ◌<◌, IfOk, MatchOption, ◌&&◌, ◌==◌, ℕ, [], ◌∷◌};
+ghost use Rattle.cov_expr.specs.declared.limits.TheConstants.{MOST_NODES};
 ghost use Rattle.cov_expr.specs.Trees as tree;
 ghost use Rattle.cov_expr.specs.View.{term};
 ghost use Rattle.cov_ast.specs.Obligations.{Decides};
@@ -13,12 +14,9 @@ ghost use Rattle.typing_rules.specs.ThreadObligations as spec;
 
 use crate::site::{Site, require_at};
 use cov_ast::{CheckFault, Detail, Program, Rule};
-use cov_expr::{Expr, NoMemory, subst};
+use cov_expr::{Expr, MOST_NODES, MOST_PREDICATES, NoMemory, subst};
 use std::alloc::Global;
 use typing_state::Point;
-
-/// How many nodes a hypothesis, a goal or a type has at most.
-pub const MOST_NODES: u32 = 1000;
 
 /// How many parts joined by `&&` an expression of at most [`MOST_NODES`] nodes has at most.
 pub const MOST_PARTS: usize = 500;
@@ -26,7 +24,7 @@ pub const MOST_PARTS: usize = 500;
 /// The expression with a part in the place of each occurrence of a variable, where that has at most [`MOST_NODES`] nodes.
 /// Nothing is made where it has more.
 pub fn small_subst(alloc: Global, e: &Expr, x: u32, part: &Expr) -> Result<Option<Expr>, NoMemory>
-    ensures { IfOk result (λ made. MatchOption made (1000 < tree.nodes (tree.subst (term e.now) x (term part.now)))
+    ensures { IfOk result (λ made. MatchOption made (MOST_NODES < tree.nodes (tree.subst (term e.now) x (term part.now)))
         (λ whole. term whole ≡ tree.subst (term e.now) x (term part.now))) }
 {
     match subst_nodes_left(e, x, part, MOST_NODES) {
@@ -79,7 +77,7 @@ pub fn check_few_preds(p: &Program, site: Site, point: &Point) -> Result<(), Che
 fn has_few_preds(point: &Point) -> bool
     ensures { (p : Plain) → (t : ℕ) → AtPoint p t point.now (λ a. result ≡ spec.has_few_preds a) }
 {
-    point.preds().len() <= 64
+    point.preds().len() <= MOST_PREDICATES
 }
 
 /// Both of two points have few predicates (V15).

@@ -8,7 +8,7 @@ ghost use Rattle.cov_ast.specs.Obligations.{Decides};
 ghost use Rattle.cov_ast.specs.Plain.{plain};
 ghost use Rattle.cov_ast.specs.Syntax as syntax;
 ghost use Rattle.cov_ast.specs.View as view;
-ghost use Rattle.cov_ast.specs.WellFormed.{AreTypesInRange, IsStateInRange, IsStmInRange, IsTypeInRange, state_size, stm_size};
+ghost use Rattle.cov_ast.specs.WellFormed.{AreTypesInRange, IsStateInRange, IsStmInRange, IsTypeInRange, state_size, stm_size, most_size};
 ghost use Rattle.typing_rules.specs.ThreadObligations.{flat};
 ghost use Rattle.typing_rules.specs.Inside.Walking.{IsWalk, Stands, WalksStm, Wherever, plain_of, value_parts};
 
@@ -80,7 +80,7 @@ impl Walk<'_> {
         point: Point,
     ) -> Result<Walked, CheckFault>
         requires range { IsStateInRange (length self.now.program.now.vars) (length self.now.program.now.locks) (view.state j.now) }
-        requires small { state_size (view.state j.now) < 2097152 }
+        requires small { state_size (view.state j.now) < most_size }
         requires point { Stands self.now point }
         ensures { WalksStm self.now at (syntax.note (view.state j.now)) (map view.proof proofs.now) point result }
     {
@@ -106,7 +106,7 @@ impl Walk<'_> {
         requires walk { IsWalk self.now }
         requires range { IsStmInRange (length self.now.program.now.vars) (length self.now.program.now.locks)
             (syntax.assign x (term e.now) (option_map term written.now) (map view.retype retypes.now)) }
-        requires small { stm_size (syntax.assign x (term e.now) (option_map term written.now) (map view.retype retypes.now)) < 2097152 }
+        requires small { stm_size (syntax.assign x (term e.now) (option_map term written.now) (map view.retype retypes.now)) < most_size }
         requires point { Stands self.now point }
         ensures { WalksStm self.now at (syntax.assign x (term e.now) (option_map term written.now) (map view.retype retypes.now)) (map view.proof proofs.now) point result }
     {

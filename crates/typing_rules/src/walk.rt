@@ -4,7 +4,7 @@ ghost use Rattle.cov_ast.specs.Obligations.{Decides, Obligation, first_false};
 ghost use Rattle.cov_ast.specs.Plain.{Plain};
 ghost use Rattle.cov_ast.specs.Syntax as syntax;
 ghost use Rattle.cov_ast.specs.View as view;
-ghost use Rattle.cov_ast.specs.WellFormed.{IsBlockInRange, IsStmInRange, block_size, stm_size};
+ghost use Rattle.cov_ast.specs.WellFormed.{IsBlockInRange, IsStmInRange, block_size, stm_size, most_size};
 ghost use Rattle.typing_state.specs.Kept.{Keeps};
 ghost use Rattle.typing_state.specs.Point as typing;
 ghost use Rattle.typing_rules.specs.Inside.Walking.{IsWalk, Stands, Walks, WalksBlock, WalksStm};
@@ -79,7 +79,7 @@ impl Walk<'_> {
     pub fn block(&self, body: &[Stmt], point: Point) -> Result<Walked, CheckFault>
         requires walk { IsWalk self.now }
         requires range { IsBlockInRange (length self.now.program.now.vars) (length self.now.program.now.locks) (view.block body.now) }
-        requires small { block_size (view.block body.now) < 2097152 }
+        requires small { block_size (view.block body.now) < most_size }
         requires point { Stands self.now point }
         ensures { WalksBlock self.now (view.block body.now) point result }
     {
@@ -111,7 +111,7 @@ impl Walk<'_> {
     ) -> Result<Walked, CheckFault>
         requires walk { IsWalk self.now }
         requires range { IsStmInRange (length self.now.program.now.vars) (length self.now.program.now.locks) (view.kind kind.now) }
-        requires small { stm_size (view.kind kind.now) < 2097152 }
+        requires small { stm_size (view.kind kind.now) < most_size }
         requires point { Stands self.now point }
         ensures { WalksStm self.now at (view.kind kind.now) (map view.proof proofs.now) point result }
     {
@@ -147,7 +147,7 @@ impl Walk<'_> {
         requires walk { IsWalk self.now }
         requires range { IsStmInRange (length self.now.program.now.vars) (length self.now.program.now.locks)
             (syntax.branch (term e.now) (view.block yes.now) (view.block no.now) (view.state join.now)) }
-        requires small { stm_size (syntax.branch (term e.now) (view.block yes.now) (view.block no.now) (view.state join.now)) < 2097152 }
+        requires small { stm_size (syntax.branch (term e.now) (view.block yes.now) (view.block no.now) (view.state join.now)) < most_size }
         requires point { Stands self.now point }
         ensures { WalksStm self.now at (syntax.branch (term e.now) (view.block yes.now) (view.block no.now) (view.state join.now)) (map view.proof proofs.now) point result }
     {
@@ -175,7 +175,7 @@ impl Walk<'_> {
         requires walk { IsWalk self.now }
         requires range { IsStmInRange (length self.now.program.now.vars) (length self.now.program.now.locks)
             (syntax.loop (term e.now) (view.state inv.now) (view.block body.now)) }
-        requires small { stm_size (syntax.loop (term e.now) (view.state inv.now) (view.block body.now)) < 2097152 }
+        requires small { stm_size (syntax.loop (term e.now) (view.state inv.now) (view.block body.now)) < most_size }
         requires point { Stands self.now point }
         ensures { WalksStm self.now at (syntax.loop (term e.now) (view.state inv.now) (view.block body.now)) (map view.proof proofs.now) point result }
     {

@@ -1,6 +1,7 @@
 -- Lists of expressions without repeats, their conjunction, and tests of variables.
 use Rattle.std.specs.Prelude.{◌≡◌, ℕ, ◌<◌, ◌≤◌, ◌==◌, ◌&&◌, nat_le, List, [], ◌∷◌, ◌++◌, Bool, true, false, not, filter, length, if◌then◌else◌, Option, Some, None}
 use Rattle.std.specs.Option.{option_or}
+use Rattle.cov_expr.specs.declared.limits.TheConstants.{MOST_NODES}
 use Rattle.cov_expr.specs.declared.expr.Op.TheVariants.{Both}
 use Rattle.cov_expr.specs.Term.{Term, const, var, neg, bin, value, is_set}
 use Rattle.cov_expr.specs.Trees.{has_term, is_closed, nodes}
@@ -66,7 +67,7 @@ is_false e = is_closed e && not (is_set (value e []))
 
 -- at most 1,000 nodes
 abbrev pub is_small : Term → Bool
-is_small e = nat_le (nodes e) 1000
+is_small e = nat_le (nodes e) MOST_NODES
 
 -- the same of a type, if there is one
 abbrev pub is_small_type : Option Term → Bool

@@ -12,9 +12,10 @@ ghost use Rattle.typing_state.specs.Terms.{distinct_terms, is_false, is_small, w
 use crate::copies::copy_preds;
 use crate::key::{Key, key_of};
 use crate::retain::is_kept;
-use crate::types::MOST_NODES;
 use cov_ast::Program;
-use cov_expr::{Expr, List, NoMemory, closed, copy, eval, mentions, nodes_at_most, same};
+use cov_expr::{
+    Expr, List, MOST_NODES, NoMemory, closed, copy, eval, mentions, nodes_at_most, same,
+};
 use indexmap::IndexSet;
 use mode_state::ModeState;
 use std::alloc::Global;

@@ -12,14 +12,11 @@ ghost use Rattle.typing_state.specs.Walks.{AreDone};
 use crate::groups::Groups;
 use crate::mentioned::mentioned;
 use cov_ast::Retype;
-use cov_expr::{Expr, List, NoMemory, closed, copy, nodes_at_most};
+use cov_expr::{Expr, List, MOST_NODES, NoMemory, closed, copy, nodes_at_most};
 use mode_state::Mask;
 use std::alloc::Global;
 use std::marker::Model;
 use std::rc::Rc;
-
-/// The most nodes of a small type or predicate.
-pub const MOST_NODES: u32 = 1000;
 
 /// A type of a variable, whether it is small, and what it mentions. Contracts see it as its expression.
 #[derive(Drop)]

@@ -1,7 +1,7 @@
 use Rattle.std.proofs.Common.{◌≡◌, ◌<◌, ◌∙◌, ap, get_or, length, sym, subst}
 use Rattle.cov_ast.specs.Plain.{plain}
 use Rattle.cov_ast.specs.View as view
-use Rattle.cov_ast.specs.WellFormed.{IsBlockInRange, block_size}
+use Rattle.cov_ast.specs.WellFormed.{IsBlockInRange, block_size, most_size}
 use Rattle.mode_compat.specs.Compatible.{numbered}
 use Rattle.typing_state.specs.After.{start}
 use Rattle.typing_rules.specs.Blocks.{after_block}
@@ -22,7 +22,7 @@ block-requires-clause-small c =
     let p = c.args.p.now in
     let thread = c.index-as_slice-t.result in
     let is : thread ≡ get_or p.threads c.args.t thread = rw c.as_slice.ensures at c.index-as_slice-t.is in
-    subst (λ ss. block_size (view.block ss) < 2097152) (sym c.as_slice-2.ensures)
+    subst (λ ss. block_size (view.block ss) < most_size) (sym c.as_slice-2.ensures)
     (body_small p c.requires.formed c.args.t thread c.requires.thread is)
 
 pub block-requires-clause-point : goal.block-requires-clause-point

@@ -5,7 +5,7 @@ use Rattle.cov_expr.specs.Term.{neg}
 use Rattle.cov_expr.specs.View.{term}
 use Rattle.cov_ast.specs.Syntax.{branch, loop, Block}
 use Rattle.cov_ast.specs.View as view
-use Rattle.cov_ast.specs.WellFormed.{IsBlockInRange, IsStmInRange, block_size, stm_size}
+use Rattle.cov_ast.specs.WellFormed.{IsBlockInRange, IsStmInRange, block_size, stm_size, most_size}
 use Rattle.cov_ast.specs.declared.decl.Program as decl
 use Rattle.typing_state.specs.After.{meet, with_guard}
 use Rattle.typing_state.specs.Point.{Point}
@@ -143,7 +143,7 @@ statement-branch-self-requires t c =
     let is = branch_seen c.args.kind.now c.in-If.e c.in-If.yes c.in-If.no c.in-If.join c.in-If.is c.as_slice.result.now c.as_slice.ensures c.as_slice-in-If.result.now c.as_slice-in-If.ensures in
     let size = ap stm_size is in
     let falls : 3 * stm_size (branch (term c.in-If.e) (view.block c.as_slice.result.now) (view.block c.as_slice-in-If.result.now) (view.state c.in-If.join)) + 1 < t = omega (arith, size, c.decreases) in
-    (falls, (c.requires.walk, (subst (IsStmInRange (length p.vars) (length p.locks)) is c.requires.range, (subst (λ s. stm_size s < 2097152) is c.requires.small, c.requires.point))))
+    (falls, (c.requires.walk, (subst (IsStmInRange (length p.vars) (length p.locks)) is c.requires.range, (subst (λ s. stm_size s < most_size) is c.requires.small, c.requires.point))))
 
 pub statement-returns-in-If : goal.statement-returns-in-If
 statement-returns-in-If t c =
@@ -156,7 +156,7 @@ statement-while_loop-requires t c =
     let is = loop_seen c.args.kind.now c.in-While.e c.in-While.inv c.in-While.body c.in-While.is c.as_slice-in-While.result.now c.as_slice-in-While.ensures in
     let size = ap stm_size is in
     let falls : 3 * stm_size (loop (term c.in-While.e) (view.state c.in-While.inv) (view.block c.as_slice-in-While.result.now)) + 1 < t = omega (arith, size, c.decreases) in
-    (falls, (c.requires.walk, (subst (IsStmInRange (length p.vars) (length p.locks)) is c.requires.range, (subst (λ s. stm_size s < 2097152) is c.requires.small, c.requires.point))))
+    (falls, (c.requires.walk, (subst (IsStmInRange (length p.vars) (length p.locks)) is c.requires.range, (subst (λ s. stm_size s < most_size) is c.requires.small, c.requires.point))))
 
 pub statement-returns-in-While : goal.statement-returns-in-While
 statement-returns-in-While t c =
@@ -194,7 +194,7 @@ branch-block-requires t c =
     let a = c.requires.point.at in
     let yes = view.block c.args.yes.now in
     let falls : 3 * block_size yes < t = omega (arith, c.decreases) in
-    let small : block_size yes < 2097152 = omega (arith, c.requires.small) in (
+    let small : block_size yes < most_size = omega (arith, c.requires.small) in (
       falls,
       (
         c.requires.walk,
@@ -218,7 +218,7 @@ branch-block-requires-2 t c =
     let a = c.requires.point.at in
     let no = view.block c.args.no.now in
     let falls : 3 * block_size no < t = omega (arith, c.decreases) in
-    let small : block_size no < 2097152 = omega (arith, c.requires.small) in (
+    let small : block_size no < most_size = omega (arith, c.requires.small) in (
       falls,
       (
         c.requires.walk,
@@ -354,7 +354,7 @@ while_loop-block-requires t c =
     let j = view.state c.args.inv.now in
     let body = view.block c.args.body.now in
     let falls : 3 * block_size body < t = omega (arith, c.decreases) in
-    let small : block_size body < 2097152 = omega (arith, c.requires.small) in (
+    let small : block_size body < most_size = omega (arith, c.requires.small) in (
       falls,
       (
         c.requires.walk,

@@ -1,4 +1,5 @@
 use Rattle.std.proofs.Common.{◌≡◌, None, [], ◌∷◌, ◌++◌, length, map, option_map, sym, ap, ◌∙◌, subst, zero-add, Err}
+use Rattle.std.proofs.Math.Bool.{and-true}
 use Rattle.cov_expr.specs.View.{term}
 use Rattle.cov_expr.specs.Words.{HasVarsBelow}
 use Rattle.cov_ast.specs.Obligations.{Decides, first_false}
@@ -13,7 +14,7 @@ use Rattle.typing_rules.specs.ThreadObligations.{few_preds, flat, stm_parts}
 use Rattle.typing_state.specs.Point.{has_small_types}
 use Rattle.typing_rules.specs.Inside.Walking.{last_parts, plain_of, value_parts}
 use Rattle.typing_rules.proofs.Counting.{count_assign}
-use Rattle.typing_rules.proofs.Parts.{all_counted, and_true, append_none, flat-append, parts_decided, parts_refused}
+use Rattle.typing_rules.proofs.Parts.{all_counted, append_none, flat-append, parts_decided, parts_refused}
 use Rattle.typing_rules.proofs.Ranges.{classes_below, value_below}
 use Rattle.typing_rules.proofs.walk.Walk.assign.Goals as goal
 
@@ -78,7 +79,7 @@ returns c a k =
     let few_ok = (rw c.site.ensures at c.check_few_preds-few.ensures) after keeps in
     let lasts = last_parts p t at proofs 1 (length gs) gs (after ∷ []) in
     let rest = flat lasts in
-    let last = c.check_last-last.ensures gs (after ∷ []) (length gs) tries (c.has_small_types.ensures p t after keeps ∙ sym (and_true (has_small_types after))) (zero-add (length gs)) in
+    let last = c.check_last-last.ensures gs (after ∷ []) (length gs) tries (c.has_small_types.ensures p t after keeps ∙ sym (and-true (has_small_types after))) (zero-add (length gs)) in
     let whole = flat (first ++ few ∷ lasts) in
     let split = flat-append first (few ∷ lasts) in
     c.finish.ensures p t whole after (entailment_count whole) keeps

@@ -1,12 +1,13 @@
 use Rattle.std.proofs.Common.{[], ◌∷◌, ◌++◌, sym, ◌∙◌, subst}
 use Rattle.std.specs.List.{list_all}
+use Rattle.std.proofs.Math.Bool.{and-true}
 use Rattle.cov_ast.specs.Obligations.{Decides}
 use Rattle.cov_ast.specs.declared.refusal.Rule.TheVariants.{V16}
 use Rattle.cov_ast.specs.declared.refusal.Detail.TheVariants.{Nothing}
 use Rattle.typing_rules.specs.Entailments.{is_small_entailment}
 use Rattle.typing_rules.specs.ThreadObligations.{obligation, few_preds, proved, small_terms}
 use Rattle.typing_rules.specs.Inside.Walking.{plain_of}
-use Rattle.typing_rules.proofs.Parts.{and_true, append_none, held_is, padded}
+use Rattle.typing_rules.proofs.Parts.{append_none, held_is, padded}
 use Rattle.typing_rules.proofs.walk.Walk.guarded.Goals as goal
 
 pub returns-in-Ok : goal.returns-in-Ok
@@ -18,7 +19,7 @@ returns-in-Ok c a k b kb front proofs gs before tries =
     let few = few_preds p t at (a ∷ b ∷ []) in
     let small = small_terms p t at gs [] in
     let entailments = proved p t at proofs 1 gs in
-    let is = tries.small ∙ sym (and_true (list_all is_small_entailment gs)) in
+    let is = tries.small ∙ sym (and-true (list_all is_small_entailment gs)) in
     let few_ok : Decides few c.check_both_few_preds-few.result = (rw c.site.ensures at c.check_both_few_preds-few.ensures) a k b kb in
     let small_ok : Decides small c.require_small-small.result =
     subst (λ v. Decides (obligation p t at V16 Nothing v ∷ []) c.require_small-small.result) is (rw c.site-2.ensures at c.require_small-small.ensures) in
@@ -39,7 +40,7 @@ returns-in-Err c a k b kb front proofs gs before tries =
     let few = few_preds p t at (a ∷ b ∷ []) in
     let small = small_terms p t at gs [] in
     let entailments = proved p t at proofs 1 gs in
-    let is = tries.small ∙ sym (and_true (list_all is_small_entailment gs)) in
+    let is = tries.small ∙ sym (and-true (list_all is_small_entailment gs)) in
     let few_ok : Decides few c.check_both_few_preds-few.result = (rw c.site.ensures at c.check_both_few_preds-few.ensures) a k b kb in
     let small_ok : Decides small c.require_small-small.result =
     subst (λ v. Decides (obligation p t at V16 Nothing v ∷ []) c.require_small-small.result) is (rw c.site-2.ensures at c.require_small-small.ensures) in

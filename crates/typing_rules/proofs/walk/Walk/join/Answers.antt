@@ -1,4 +1,5 @@
 use Rattle.std.proofs.Common.{◌≡◌, [], ◌∷◌, ◌++◌, ◌+◌, suc, map, length, refl, sym, ◌∙◌, arith, append_assoc, subst, None}
+use Rattle.std.proofs.Math.Bool.{and-true}
 use Rattle.cov_ast.specs.Obligations.{Decides, first_false}
 use Rattle.cov_ast.specs.View as view
 use Rattle.typing_state.specs.After.{meet}
@@ -6,7 +7,7 @@ use Rattle.typing_rules.specs.Entailments.{state_follows}
 use Rattle.typing_rules.specs.ThreadObligations.{flat, same_locks, state_obligations}
 use Rattle.typing_state.specs.Point.{has_small_types}
 use Rattle.typing_rules.specs.Inside.Walking.{Tries, last_parts, plain_of}
-use Rattle.typing_rules.proofs.Parts.{all_counted, and_true}
+use Rattle.typing_rules.proofs.Parts.{all_counted}
 use Rattle.typing_rules.proofs.walk.Walk.join.Goals as goal
 
 pub returns : goal.returns
@@ -26,7 +27,7 @@ returns c a k b kb =
     let keeps = c.in_ok-after.ensures t a k in
     let met = same_locks p t at a.held b.held ++ state_obligations p t at a.held j in
     let rest = flat (last_parts p t at proofs (suc before) count gs (after ∷ [])) in
-    let last = c.check_last-last.ensures gs (after ∷ []) count tries (c.has_small_types.ensures p t after keeps ∙ sym (and_true (has_small_types after))) refl in
+    let last = c.check_last-last.ensures gs (after ∷ []) count tries (c.has_small_types.ensures p t after keeps ∙ sym (and-true (has_small_types after))) refl in
     c.finish.ensures p t (same_locks p t at a.held b.held ++ (state_obligations p t at a.held j ++ rest)) after (before + c.args.yes.entailments + c.args.no.entailments + length gs) keeps
     (subst (λ es. Decides es c.both.result) (append_assoc (same_locks p t at a.held b.held) (state_obligations p t at a.held j) rest)
     (c.both.ensures met rest (c.check_ends-met.ensures a k b kb) (λ _. last)))

@@ -1,4 +1,5 @@
 use Rattle.std.proofs.Common.{◌≡◌, [], ◌∷◌, ◌++◌, not, sym, refl, ap, ◌∙◌, subst}
+use Rattle.std.proofs.Math.Bool.{and-true}
 use Rattle.cov_ast.specs.Obligations.{Decides}
 use Rattle.cov_ast.specs.Tables.{has}
 use Rattle.cov_ast.specs.declared.refusal.Rule.TheVariants.{V6, V16}
@@ -7,7 +8,6 @@ use Rattle.typing_state.specs.After.{after_lock}
 use Rattle.typing_rules.specs.ThreadObligations.{obligation, few_preds, of_lock, small_terms, thread_obligation}
 use Rattle.typing_state.specs.Point.{has_small_types}
 use Rattle.typing_rules.specs.Inside.Walking.{plain_of}
-use Rattle.typing_rules.proofs.Parts.{and_true}
 use Rattle.typing_rules.proofs.walk.Walk.lock.Goals as goal
 
 pub returns : goal.returns
@@ -26,7 +26,7 @@ returns c proofs a k =
     (rw c.site-site.ensures at c.require_at-free.ensures)) in
     let few : Decides (few_preds p t at (after ∷ [])) c.check_few_preds-few.result = (rw c.site-site.ensures at c.check_few_preds-few.ensures) after keeps in
     let small : Decides (small_terms p t at [] (after ∷ [])) c.require_small-small.result =
-    subst (λ b. Decides (obligation p t at V16 Nothing b ∷ []) c.require_small-small.result) (c.has_small_types.ensures p t after keeps ∙ sym (and_true (has_small_types after)))
+    subst (λ b. Decides (obligation p t at V16 Nothing b ∷ []) c.require_small-small.result) (c.has_small_types.ensures p t after keeps ∙ sym (and-true (has_small_types after)))
     (rw c.site-site.ensures at c.require_small-small.ensures) in
     let first = of_lock p t at V6 l (not (has a.held l)) ∷ [] in
     let second = few_preds p t at (after ∷ []) in

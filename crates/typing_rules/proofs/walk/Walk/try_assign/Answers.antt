@@ -4,7 +4,7 @@ use Rattle.cov_expr.specs.Term.{Term}
 use Rattle.cov_expr.specs.View.{term}
 use Rattle.cov_ast.specs.Syntax.{assign}
 use Rattle.cov_ast.specs.View as view
-use Rattle.cov_ast.specs.WellFormed.{stm_size}
+use Rattle.cov_ast.specs.WellFormed.{stm_size, most_size}
 use Rattle.typing_state.specs.Point.{Point}
 use Rattle.typing_rules.specs.Blocks.{value_type}
 use Rattle.typing_rules.specs.Inside.Listed.{AreListed, entailment_of}
@@ -31,7 +31,7 @@ module _ (w : Walk) (a : Point) (x : ℕ) (e : Term) (q : Option Term) (rs : Lis
   abbrev changed : List Entailment
   changed = controlled_values (plain_of w) w.thread a x e ++ map (retype_follows (plain_of w) w.thread a x e) rs
 
-  few : IsWalk w → (v : Term) → v ≡ value_type (plain_of w) w.thread a q e → stm_size (assign x e q rs) < 2097152
+  few : IsWalk w → (v : Term) → v ≡ value_type (plain_of w) w.thread a q e → stm_size (assign x e q rs) < most_size
       → length first + length (shown v) + length changed < 2147484673
   few walk v typed small =
       let shown_type = shown (value_type (plain_of w) w.thread a q e) in
