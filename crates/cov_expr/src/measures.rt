@@ -36,7 +36,7 @@ pub fn nodes_at_most(e: &Expr, k: u32) -> bool
 }
 
 /// How many nodes of a budget an expression leaves, or nothing where it has more.
-fn nodes_left(e: &Expr, budget: u32) -> Option<u32>
+pub fn nodes_left(e: &Expr, budget: u32) -> Option<u32>
     ensures { MatchOption result (budget < tree.nodes (term e.now)) (λ left. left + tree.nodes (term e.now) ≡ budget) }
 {
     let left = budget.checked_sub(1)?;

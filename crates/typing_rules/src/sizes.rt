@@ -14,7 +14,7 @@ ghost use Rattle.typing_rules.specs.ThreadObligations as spec;
 
 use crate::site::{Site, require_at};
 use cov_ast::{CheckFault, Detail, Program, Rule};
-use cov_expr::{Expr, MOST_NODES, MOST_PREDICATES, NoMemory, subst};
+use cov_expr::{Expr, MOST_NODES, MOST_PREDICATES, NoMemory, nodes_left, subst};
 use std::alloc::Global;
 use typing_state::Point;
 
@@ -46,21 +46,6 @@ fn subst_nodes_left(e: &Expr, x: u32, part: &Expr, budget: u32) -> Option<u32>
         Expr::Bin(_, a, b) => {
             let left = subst_nodes_left(a, x, part, budget.checked_sub(1)?)?;
             subst_nodes_left(b, x, part, left)
-        }
-    }
-}
-
-/// How many nodes of a budget an expression leaves, or nothing where it has more.
-fn nodes_left(e: &Expr, budget: u32) -> Option<u32>
-    ensures { MatchOption result (budget < tree.nodes (term e.now)) (λ left. left + tree.nodes (term e.now) ≡ budget) }
-{
-    let left = budget.checked_sub(1)?;
-    match e {
-        Expr::Const(_) | Expr::Var(_) => Some(left),
-        Expr::Not(a) => nodes_left(a, left),
-        Expr::Bin(_, a, b) => {
-            let left = nodes_left(a, left)?;
-            nodes_left(b, left)
         }
     }
 }
