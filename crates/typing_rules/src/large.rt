@@ -48,6 +48,7 @@ impl Walk<'_> {
     }
 
     /// Why an assignment is refused whose type is too large to be built: what is asked before its size, else that.
+    #[inline(never)]
     pub fn refuse_large(
         &self,
         at: u32,

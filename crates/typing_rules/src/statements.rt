@@ -119,10 +119,14 @@ impl Walk<'_> {
         }
         let tried = self.try_assign(&point, x, e, written, &q, items, proofs)?;
         let entailments = u64::from(tried.count);
-        let after = point.after_assign(self.alloc, self.program, x, e, q, retypes)?;
-        let few = check_few_preds(self.program, self.site(at), &after);
-        let last = self.check_last(at, proofs, 0, tried, after.has_small_types());
-        finish(after, entailments, both(few, last))
+        let point = point.after_assign(self.alloc, self.program, x, e, q, retypes)?;
+        if let Err(fault) = check_few_preds(self.program, self.site(at), &point) {
+            return Err(fault);
+        }
+        if let Err(fault) = self.check_last(at, proofs, 0, tried, point.has_small_types()) {
+            return Err(fault);
+        }
+        Ok(Walked { point, entailments })
     }
 
     /// Checks what is asked before a value of a type is assigned.
