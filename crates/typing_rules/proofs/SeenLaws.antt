@@ -61,3 +61,5 @@ module _ (preds : List Term) where
       let hyps = preds ++ held_term e ∷ [] in
       or_left (list_any is_false hyps) (is_all_known hyps goal)
       (list_any-append is_false preds (held_term e ∷ []) ∙ or_left (list_any is_false preds) (list_any is_false (held_term e ∷ [])) h)
+
+pub ruleset plain_rules = (false_plain, stated_plain)

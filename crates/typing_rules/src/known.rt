@@ -16,6 +16,7 @@ use typing_state::Point;
 /// Whether an entailment is seen to hold: its goal is a number that isn't 0 or what comes beside the predicates, or a
 /// predicate is false, or the goal or each of its conjuncts is known. One that isn't seen to hold may hold. The predicate
 /// at the place `next` is looked at first, which is then the place behind the last one that was found.
+#[tactic(auto, using(crate::proofs::SeenLaws::plain_rules))]
 pub fn is_seen(
     alloc: Global,
     point: &Point,
@@ -25,7 +26,13 @@ pub fn is_seen(
     ensures { IfOk result (λ seen. Shows point.now seen (λ preds. is_plain (entailment_of preds entailment.now).hyps (entailment_of preds entailment.now).goal)) }
 {
     let goal = entailment.goal.expr();
-    if is_number_set(goal) || point.has_false_pred() || is_more(entailment) {
+    if is_number_set(goal) {
+        return Ok(true);
+    }
+    if point.has_false_pred() {
+        return Ok(true);
+    }
+    if is_more(entailment) {
         return Ok(true);
     }
     is_known(alloc, point, goal, next)

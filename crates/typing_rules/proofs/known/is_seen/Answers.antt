@@ -1,4 +1,4 @@
-use Rattle.std.proofs.Common.{◌≡◌, ◌∙◌, ◌++◌, List, Bool, Option, Result, Ok, Err, true, subst, sym}
+use Rattle.std.proofs.Common.{◌≡◌, ◌++◌, List, Bool, Option, Result, Ok, Err, true, subst}
 use Rattle.std.specs.Prelude.{IfOk}
 use Rattle.cov_expr.specs.declared.list.NoMemory.{NoMemory}
 use Rattle.cov_expr.specs.Term.{Term}
@@ -7,9 +7,8 @@ use Rattle.typing_state.specs.declared.point.Point.{Point}
 use Rattle.typing_rules.specs.declared.entailments.Held.{Held}
 use Rattle.typing_rules.specs.Inside.Listed.{entailment_from, held_term}
 use Rattle.typing_rules.specs.Inside.Seen.{Shows}
-use Rattle.typing_rules.proofs.SeenLaws.{false_plain, known_plain, stated_plain}
+use Rattle.typing_rules.proofs.SeenLaws.{known_plain}
 use Rattle.typing_rules.proofs.known.is_seen.Goals as goal
-use Rattle.typing_rules.proofs.known.is_seen.Goals.{then-is_number_set-via-then-is_number_set, then-is_number_set-via-else-is_number_set+then-has_false_pred, then-is_number_set-via-else-is_number_set+else-has_false_pred+then-is_more}
 
 known_shows : (kept : Point) (more : Option Held) (goal : Term) (result : Result Bool NoMemory)
     → ((others : List Term) → IfOk result (λ known. Shows kept known (λ preds. is_all_known (preds ++ others) goal)))
@@ -19,16 +18,8 @@ known_shows kept more goal (Err e) h = tt
 
 pub returns-then-is_number_set : goal.returns-then-is_number_set
 returns-then-is_number_set c p t a kept _ =
-    let more = c.args.entailment.now.more in
-    let goal = held_term c.args.entailment.now.goal in
-    elim c.then-is_number_set.branch [
-      | then-is_number_set-via-then-is_number_set w ↦
-          known_plain a.preds more goal (λ others. subst (λ g. is_all_known (a.preds ++ others) g ≡ true) c.expr-goal.ensures (c.is_number_set.ensures (a.preds ++ others) w.if-is_number_set.true))
-      | then-is_number_set-via-else-is_number_set+then-has_false_pred w ↦
-          false_plain a.preds more goal (sym (w.has_false_pred.ensures p t a kept) ∙ w.if-has_false_pred.true)
-      | then-is_number_set-via-else-is_number_set+else-has_false_pred+then-is_more w ↦
-          stated_plain a.preds more goal (w.is_more.ensures a.preds w.if-is_more.true)
-    ]
+    known_plain a.preds c.args.entailment.now.more (held_term c.args.entailment.now.goal)
+    (λ others. subst (λ g. is_all_known (a.preds ++ others) g ≡ true) c.expr-goal.ensures (c.is_number_set.ensures (a.preds ++ others) c.if-is_number_set.true))
 
 pub returns : goal.returns
 returns c =
