@@ -1,6 +1,6 @@
 -- Laws of the variables that types mention, one by one and in groups.
-use Rattle.std.proofs.Common.{◌≡◌, ◌≢◌, ℕ, ◌+◌, ◌*◌, ◌/◌, ◌<◌, ◌≤◌, List, [], ◌∷◌, ◌++◌, Bool, true, false, not, length, get_or, set, replicate, sym, ap, refl, ◌∙◌, arith, inl, inr, Option, Some, None}
-use Rattle.std.proofs.lemmas.Bool.{cases_eq, cases_lt}
+use Rattle.std.proofs.Common.{◌≡◌, ◌≢◌, ℕ, ◌+◌, ◌*◌, ◌/◌, ◌<◌, ◌≤◌, List, [], ◌∷◌, ◌++◌, Bool, true, false, not, ◌||◌, length, get_or, set, replicate, sym, ap, refl, ◌∙◌, arith, inl, inr, Option, Some, None}
+use Rattle.std.proofs.lemmas.Bool.{cases_eq, cases_lt, or_parts}
 use Rattle.std.proofs.lemmas.List.{get_or-set_same, get_or-set_other, get_or_append_left, get_or_push, get_or_past, length-append, length-set}
 use Rattle.cov_expr.specs.Term.{Term}
 use Rattle.cov_expr.specs.Trees.{has_number, mentions, occurrences}
@@ -32,6 +32,14 @@ put_keeps old group marked more g x away = elim (cases_eq g group) [
     | inr past ↦ ap (λ m. has m x) (get_or_past old g [] (omega (arith, e)))
   ]
   | inr ne ↦ sym (ap (λ m. has m x) (get_or-set_other old group g marked [] ne)) ∙ away
+]
+
+-- what is joined to a set leaves what it has
+pub joined_more : (old marked : List Bool) (more : ℕ → Bool) → length old ≡ 256 → ((x : ℕ) → x < 256 → has marked x ≡ (has old x || more x))
+    → (x : ℕ) → has marked x ≡ false → has old x ≡ false
+joined_more old marked more long is x away = elim (cases_lt x 256) [
+  | inl lt ↦ (or_parts (has old x) (more x) (sym (is x lt) ∙ away)).0
+  | inr past ↦ get_or_past old x false (omega (arith, long))
 ]
 
 module _ (old new : List (List Bool)) (types : List (Option Term)) (grouped : AreGrouped old types)

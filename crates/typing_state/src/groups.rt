@@ -1,4 +1,4 @@
-ghost use Rattle.std.specs.Prelude.{◌≡◌, ◌<◌, ◌/◌, ℕ, [], false, get_or, option_map, true, IfOk};
+ghost use Rattle.std.specs.Prelude.{◌≡◌, ◌<◌, ◌/◌, ℕ, [], Some, false, get_or, option_map, true, IfOk};
 ghost use Rattle.cov_expr.specs.View.{term};
 ghost use Rattle.cov_ast.specs.Tables.{has};
 ghost use Rattle.typing_state.specs.Groups.{is_free};
@@ -62,12 +62,22 @@ impl Groups {
         ensures free { (x : ℕ) → place < 256 → x < 256 → has (get_or self.new (place / 16) []) x ≡ false → is_free x (option_map (λ q. term q.value) q.now) ≡ true }
     {
         match q {
-            Some(q) if place < 256 => {
-                let mut marked = self.sets.as_slice()[place / 16].copy();
-                q.add_mentioned(&mut marked);
-                self.sets.set(place / 16, marked);
-            }
+            Some(q) if place < 256 => self.mark_type(place / 16, q.as_ref()),
             Some(_) | None => {}
         }
+    }
+
+    /// Adds to a group what a type mentions.
+    fn mark_type(&mut self, group: usize, q: &Type)
+        requires { group < 16 }
+        ensures kept { (g x : ℕ) → has (get_or self.new g []) x ≡ false → has (get_or self.old g []) x ≡ false }
+        ensures free { (x : ℕ) → x < 256 → has (get_or self.new group []) x ≡ false → is_free x (Some (term q.now)) ≡ true }
+    {
+        if q.is_closed() {
+            return;
+        }
+        let mut marked = self.sets.as_slice()[group].copy();
+        q.add_mentioned(&mut marked);
+        self.sets.set(group, marked);
     }
 }

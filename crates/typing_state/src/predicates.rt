@@ -113,14 +113,15 @@ impl Predicates {
         ensures { OnOk result (map term self.new ≡ with_term (map term self.old) (term e)) }
     {
         let key = key_of(alloc, &e)?;
-        if self.index.contains(&key) {
+        if !self.index.insert(key)? {
             return Ok(());
         }
-        self.index.reserve(1)?;
         let false_ones = count_false(&e);
         let large_ones = count_large(&e);
-        self.list.push(e)?;
-        self.index.insert(key).unwrap();
+        if let Err(NoMemory) = self.list.push(e) {
+            self.index.truncate(self.list.len());
+            return Err(NoMemory);
+        }
         // (there are no more of either than expressions)
         let _count = self.list.len();
         self.false_ones += false_ones;

@@ -77,7 +77,7 @@ impl Type {
         self.small
     }
 
-    fn is_closed(&self) -> bool
+    pub fn is_closed(&self) -> bool
         ensures { result ≡ tree.is_closed (term self.now) }
     {
         self.closed
