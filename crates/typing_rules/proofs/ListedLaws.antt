@@ -1,8 +1,8 @@
 -- Laws of entailments that are added one after another, and of entailments that aren't small.
-use Rattle.std.proofs.Common.{◌≡◌, ℕ, zero, suc, ◌+◌, ◌<◌, ◌≤◌, ◌&&◌, not, List, [], ◌∷◌, ◌++◌, length, get_or, drop, map, Bool, true, false, refl, sym, ap, ◌∙◌, arith, if◌then◌else◌, inl, inr, append_assoc}
+use Rattle.std.proofs.Common.{◌≡◌, ℕ, zero, suc, ◌+◌, ◌-◌, ◌<◌, ◌≤◌, ◌&&◌, not, List, [], ◌∷◌, ◌++◌, length, get_or, drop, map, Bool, true, false, refl, sym, ap, ◌∙◌, arith, if◌then◌else◌, inl, inr, append_assoc}
 use Rattle.std.specs.Prelude.{filter}
 use Rattle.std.specs.List.{list_all, range_with_len}
-use Rattle.std.proofs.lemmas.Bool.{and_left, and_right, lt-leb, cases_eq, false≢true}
+use Rattle.std.proofs.lemmas.Bool.{and_left, and_right, not-true, lt-leb, cases_eq, false≢true}
 use Rattle.std.proofs.lemmas.List.FromFn.{filter_of_map_range_with_len_more}
 use Rattle.std.proofs.lemmas.List.{map-append, map-id, at_drop_more, at_drop_all, append-nil}
 use Rattle.std.proofs.lemmas.List.Folds.{list_all-append, list_all-map, list_all_at}
@@ -84,9 +84,24 @@ range_more f test first old new n kept added =
     each true = refl
     each false = refl
 
+-- numbers that don't pass a test are passed over
+pub range_passed : (test : ℕ → Bool) (a b : ℕ) → a ≤ b → ((k : ℕ) → a ≤ k → k < b → test k ≡ false) → filter test (range_with_len 0 a) ≡ filter test (range_with_len 0 b)
+range_passed test a b le none = up (b - a) b none (omega arith)
+  where
+    up : (n m : ℕ) → ((k : ℕ) → a ≤ k → k < m → test k ≡ false) → m ≡ a + n → filter test (range_with_len 0 a) ≡ filter test (range_with_len 0 m)
+    up zero m none is = ap (λ i. filter test (range_with_len 0 i)) (omega (arith, is))
+    up (suc n) m none is =
+        let last = a + n in
+        up n last (λ k low high. none k low (omega (arith, is))) refl ∙ sym (append-nil (filter test (range_with_len 0 last)))
+        ∙ ap (λ c. filter test (range_with_len 0 last) ++ (if c then last ∷ [] else [])) (sym (none last (omega arith) (omega (arith, is))))
+        ∙ sym (passed_range test last) ∙ ap (λ i. filter test (range_with_len 0 i)) (omega (arith, is))
+
 -- Variables that a control decides of ------------------------------------------------------------------------------
 
 module _ (p : Plain) (t : ℕ) (a : Point) (x y : ℕ) where
+  pub undecided : not (mentions (class_of p y) x) ≡ true → is_shown_controlled p t a x y ≡ false
+  undecided h = and_left (mentions (class_of p y) x) (not (is_hidden p t a.held y)) (not-true (mentions (class_of p y) x) h)
+
   pub unseen : is_hidden p t a.held y ≡ true → is_shown_controlled p t a x y ≡ false
   unseen h = and_right (mentions (class_of p y) x) (not (is_hidden p t a.held y)) (ap not h)
 

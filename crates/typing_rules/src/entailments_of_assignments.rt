@@ -99,10 +99,12 @@ pub fn add_controlled<'a>(
     if !point.is_control(x) {
         return Ok(true);
     }
-    for y in 0..p.vars.len() as u32 {
+    let mut from = 0;
+    while let Some(y) = point.next_controlled(p, x, from) {
         if !add_controlled_by(alloc, p, point, x, e, y, entailments)? {
             return Ok(false);
         }
+        from = y + 1;
     }
     Ok(true)
 }
