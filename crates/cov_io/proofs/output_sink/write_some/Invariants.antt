@@ -1,6 +1,6 @@
 use Rattle.std.proofs.Common.{◌≡◌, ◌≤◌, ◌+◌}
 use Rattle.cov_io.specs.Calls.{HasNoError}
-use Rattle.cov_io.specs.Counts.{raised}
+use Rattle.cov_io.specs.Counters.{raised}
 use Rattle.cov_io.proofs.output_sink.write_some.Given as goal
 
 abbrev pub invariant-loop : goal.invariant-loop
