@@ -1,5 +1,5 @@
 -- Steps of the reader of expressions.
-use Rattle.std.proofs.Common.{◌≡◌, ℕ, zero, suc, ◌+◌, ◌-◌, max, min, ◌<◌, ◌≤◌, List, [], ◌∷◌, ◌++◌, length, take, drop, get_or, Bool, true, false, ◌&&◌, ◌||◌, if◌then◌else◌, Option, Some, None, refl, sym, ap, subst, ◌∙◌, arith, append-nil}
+use Rattle.std.proofs.Common.{◌≡◌, ℕ, zero, suc, ◌+◌, ◌<◌, ◌≤◌, List, [], ◌∷◌, ◌++◌, length, take, drop, get_or, Bool, true, false, ◌&&◌, ◌||◌, if◌then◌else◌, Option, Some, None, refl, sym, ap, subst, ◌∙◌, arith, append-nil}
 use Rattle.std.proofs.lemmas.Bool.{or_left}
 use Rattle.std.proofs.Math.Seq.{drop-cons}
 use Rattle.std.proofs.Math.ListN.{drop_of_length-le}
@@ -17,7 +17,7 @@ use Rattle.cov_grammar.specs.Shapes.{Shape, opt, many, head}
 use Rattle.cov_grammar.specs.Reading.{Reading, got, stopped, spent, ◌>>=◌, Reader, take_kind, reading}
 use Rattle.cov_grammar.specs.FirstKinds.{first_of, more_of}
 use Rattle.cov_grammar.specs.Grammar.{signs, grouped, compared, negated, atom, template_atom, unary, prod, sum, band, bxor, bor, cmp, both, either, body}
-use Rattle.cov_read.specs.Inside.Levels.{first_sign, other_signs, level, operand, repeats, next_place, levels, tail, atom_of, rule_for, tails_by, tails, onward, levelled, SignOf, SignAt, IsDone, Ends, IsPast, Skips}
+use Rattle.cov_read.specs.Inside.Levels.{first_sign, other_signs, level, operand, repeats, next_place, levels, tail, atom_of, rule_for, tails_by, tails, onward, levelled, SignOf, SignAt, IsDone, Ends, Skips}
 use Rattle.cov_grammar.proofs.Repeats.{Item, pushed, pushed_none, item_goes, item_ends, item_breaks}
 use Rattle.cov_grammar.proofs.Basics.{left_false, right_false, kind_one}
 use Rattle.cov_grammar.proofs.Many.{Shrinks, many_of, many_is}
@@ -358,67 +358,6 @@ ends_bracket ts h = none_begins k.CloseParen ts refl h
 pub ends_brace : (ts : List Token) → starts (k.OpenBrace ∷ []) (head ts) ≡ true → Ends ts
 unfolding kind_is
 ends_brace ts h = none_begins k.OpenBrace ts refl h
-
--- Levels that don't have the next token ------------------------------------------------------------------------
-
-any_front : (j : Kind) (ls : List Level) (n i : ℕ) → i < n → i < length ls → any (take n ls) j ≡ false → begins (get_or ls i Prod) j ≡ false
-any_front j [] n i h inside none = absurd (omega (arith, inside))
-any_front j (l ∷ ls) zero i h inside none = absurd (omega (arith, h))
-any_front j (l ∷ ls) (suc n) zero h inside none = left_false (begins l j) (any (take n ls) j) none
-any_front j (l ∷ ls) (suc n) (suc i) h inside none = any_front j ls n i (omega (arith, h)) (omega (arith, inside)) (right_false (begins l j) (any (take n ls) j) none)
-
-past_at : (j : Kind) (place : ℕ) (ts : List Token) → place ≤ 8 → any (take place levels) j ≡ false → starts (j ∷ []) (head ts) ≡ true → IsPast place ts
-past_at j place ts small none h i below =
-    ap (starts (firsts first_of (signs (first_sign (get_or levels i Prod)) (other_signs (get_or levels i Prod))))) (head_is j ts h)
-    ∙ any_front j levels place i below (omega (arith, below, small)) none
-
-pub past_equal : (ts : List Token) → starts (k.Equal ∷ []) (head ts) ≡ true → IsPast 5 ts
-unfolding kind_is
-past_equal ts h = past_at k.Equal 5 ts (omega arith) refl h
-
-pub past_differs : (ts : List Token) → starts (k.Differs ∷ []) (head ts) ≡ true → IsPast 5 ts
-unfolding kind_is
-past_differs ts h = past_at k.Differs 5 ts (omega arith) refl h
-
-pub past_less : (ts : List Token) → starts (k.Less ∷ []) (head ts) ≡ true → IsPast 5 ts
-unfolding kind_is
-past_less ts h = past_at k.Less 5 ts (omega arith) refl h
-
-pub past_at_most : (ts : List Token) → starts (k.AtMost ∷ []) (head ts) ≡ true → IsPast 5 ts
-unfolding kind_is
-past_at_most ts h = past_at k.AtMost 5 ts (omega arith) refl h
-
-pub past_both : (ts : List Token) → starts (k.Both ∷ []) (head ts) ≡ true → IsPast 6 ts
-unfolding kind_is
-past_both ts h = past_at k.Both 6 ts (omega arith) refl h
-
-pub past_either : (ts : List Token) → starts (k.Either ∷ []) (head ts) ≡ true → IsPast 7 ts
-unfolding kind_is
-past_either ts h = past_at k.Either 7 ts (omega arith) refl h
-
-pub past_none : (ts : List Token) → IsPast 0 ts
-past_none ts i below = absurd (omega (arith, below))
-
--- those from a place on
-abbrev None_from : (from end : ℕ) → List Token → Type 0
-None_from from end ts = (i : ℕ) → from ≤ i → i < end → starts (firsts first_of (signs (first_sign (get_or levels i Prod)) (other_signs (get_or levels i Prod)))) (head ts) ≡ false
-
-skip_some : (ls : List Level) (from n : ℕ) (ts : List Token) → ls ≡ take (length ls) levels → from + n ≤ length ls → None_from from (from + n) ts → Skips ls from (from + n) ts
-skip_some ls from zero ts front within past = subst (λ i. Skips ls from i ts) (let e : from ≡ from + 0 = omega arith in e) (skip_none ls from ts)
-skip_some ls from (suc n) ts front within past =
-    let here : get_or ls (from + n) Prod ≡ get_or levels (from + n) Prod =
-    ap (λ js. get_or js (from + n) Prod) front ∙ get_or-take (length ls) levels (from + n) Prod (omega (arith, within)) in
-    let sign : SignAt (get_or ls (from + n) Prod) ts None ts = (
-      ap (λ l. starts (firsts first_of (signs (first_sign l) (other_signs l))) (head ts)) here ∙ past (from + n) (omega arith) (omega arith),
-      refl,
-    ) in
-    let rest : Skips ls from (from + n) ts = skip_some ls from n ts front (omega (arith, within)) (λ i above below. past i above (omega (arith, below))) in
-    subst (λ i. Skips ls from i ts) (let e : from + n + 1 ≡ from + suc n = omega arith in e) (skip_level ls from (from + n) ts ts ts (omega (arith, within)) refl sign rest)
-
-pub skip_past : (ls : List Level) (from n begin : ℕ) (ts : List Token) → ls ≡ take (length ls) levels → from ≤ length ls → IsPast n ts → begin ≡ max from (min n (length ls)) → Skips ls from begin ts
-skip_past ls from n begin ts front inside past e =
-    subst (λ i. Skips ls from i ts) (let same : from + (begin - from) ≡ begin = omega (arith, e) in same)
-    (skip_some ls from (begin - from) ts front (omega (arith, e, inside)) (λ i above below. past i (omega (arith, e, above, below))))
 
 -- Negations ----------------------------------------------------------------------------------------------------
 

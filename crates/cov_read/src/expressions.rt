@@ -4,7 +4,7 @@ ghost use Rattle.cov_grammar.specs.Reading.{reading};
 ghost use Rattle.cov_grammar.specs.ReaderAnswers.{Gives};
 ghost use Rattle.cov_read.specs.declared.level.Level.TheVariants as levels;
 ghost use Rattle.cov_read.specs.Inside.Levels as spec;
-ghost use Rattle.cov_read.specs.Inside.Levels.{atom_of, rule_for, SignOf, SignAt, Finds, Ends, IsPast, levelled};
+ghost use Rattle.cov_read.specs.Inside.Levels.{atom_of, rule_for, SignOf, SignAt, Finds, Ends, levelled};
 ghost use Rattle.cov_read.specs.WrittenViews.{written};
 
 use crate::level::{LEVELS, Level, repeats};
@@ -88,16 +88,14 @@ fn read_atom(reader: &mut TokenReader<'_>, alloc: Global, holes: bool) -> Result
 
 /// Takes off the next operator, if its level is among these from a place on, and tells where it stands among them.
 fn operator(reader: &mut TokenReader<'_>, levels: &[Level], from: usize) -> Option<(usize, Op)>
-    requires within { from ≤ length levels.now }
-    requires levels { levels.now ≡ take (length levels.now) spec.levels }
+    requires { from ≤ length levels.now }
     ensures finds { Finds levels.now from reader.old result reader.new }
     ensures shorter { MatchOption result (reader.new ≡ reader.old) (λ found. length reader.new < length reader.old) }
 {
     if ends(reader) {
         return None;
     }
-    let begin = from.max(first_place(reader).min(levels.len()));
-    for place in begin..levels.len() {
+    for place in from..levels.len() {
         if let Some(op) = operator_of(reader, levels[place]) {
             return Some((place, op));
         }
@@ -110,29 +108,6 @@ fn ends(reader: &TokenReader<'_>) -> bool
     ensures { IsTrue result → Ends reader.now }
 {
     reader.at(Kind::Semicolon) || reader.at(Kind::CloseParen) || reader.at(Kind::OpenBrace)
-}
-
-/// A place such that no level in front of it has the next token.
-#[tactic(auto, using(crate::proofs::Levels::past_equal, crate::proofs::Levels::past_differs, crate::proofs::Levels::past_less, crate::proofs::Levels::past_at_most, crate::proofs::Levels::past_both, crate::proofs::Levels::past_either, crate::proofs::Levels::past_none))]
-fn first_place(reader: &TokenReader<'_>) -> usize
-    ensures { IsPast result reader.now }
-{
-    if reader.at(Kind::Equal) {
-        return 5;
-    }
-    if reader.at(Kind::Differs) {
-        return 5;
-    }
-    if reader.at(Kind::Less) {
-        return 5;
-    }
-    if reader.at(Kind::AtMost) {
-        return 5;
-    }
-    if reader.at(Kind::Both) {
-        return 6;
-    }
-    if reader.at(Kind::Either) { 7 } else { 0 }
 }
 
 /// Takes off an operator of a level, if it is next.

@@ -133,10 +133,6 @@ Ends ts = (ls : List Level) → IsDone ls ts
 abbrev pub Skips : List Level → (from place : ℕ) → List Token → Type 0
 Skips ls from place ts = (holes : Bool) (t : Term) → onward (drop from ls) (atom_of holes) t ts ≡ onward (drop place ls) (atom_of holes) t ts
 
--- no level in front of a place has the next token
-abbrev pub IsPast : ℕ → List Token → Type 0
-IsPast place ts = (i : ℕ) → i < place → starts (firsts first_of (signs (first_sign (get_or levels i Prod)) (other_signs (get_or levels i Prod)))) (head ts) ≡ false
-
 -- What was answered is the operator of the next token, and the place of its level among those from a place on, if it is an
 -- operator of these, and else that nothing comes of them.
 abbrev pub Finds : List Level → (from : ℕ) → List Token → Option (ℕ × Op) → (after : List Token) → Type 0

@@ -1,5 +1,5 @@
-use Rattle.std.proofs.Common.{◌∙◌, max, refl, ap}
-use Rattle.cov_read.proofs.Levels.{skip_level, skip_past}
+use Rattle.std.proofs.Common.{◌∙◌}
+use Rattle.cov_read.proofs.Levels.{skip_level}
 use Rattle.cov_read.proofs.expressions.operator.Goals as goal
 
 pub loop-place-preserved : goal.loop-place-preserved
@@ -7,10 +7,4 @@ loop-place-preserved c = record {
   same = c.in_default.ensures.sign.1 ∙ c.loop-place.invariant.same;
   skips =
       skip_level c.args.levels.now c.args.from c.loop-place.place c.args.reader.now c.loop-place.reader c.operator_of.new.reader c.loop-place-test.true c.loop-place.invariant.same c.in_default.ensures.sign c.loop-place.invariant.skips;
-}
-
-pub loop-place-init : goal.loop-place-init
-loop-place-init c = record {
-  same = refl;
-  skips = skip_past c.args.levels.now c.args.from c.first_place.result c.max-begin.result c.args.reader.now c.requires.levels c.requires.within c.first_place.ensures (c.max-begin.ensures ∙ ap (max c.args.from) c.min.ensures);
 }
