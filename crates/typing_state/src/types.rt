@@ -317,7 +317,7 @@ fn share_all(
 ) -> Result<List<Option<Rc<Type, Global>>>, NoMemory>
     ensures { IfOk result (λ made. map (option_map (λ q. q.value)) made ≡ map (option_map (λ q. q.value)) types.now) }
 {
-    let mut made = List::new(alloc);
+    let mut made = List::with_capacity(alloc, types.len())?;
     for q in types {
         made.push(share(q)?)?;
     }
