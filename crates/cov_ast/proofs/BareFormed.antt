@@ -12,7 +12,7 @@ use Rattle.cov_expr.proofs.Tests.{left_true, right_true}
 use Rattle.cov_ast.specs.Syntax.{Var, Lock, Proof, Stm, Block, done, more, Thread, Program}
 use Rattle.cov_ast.specs.Syntax as annotated
 use Rattle.cov_ast.specs.Plain.{no_state, in_front, bare_kind, bare_block, bare_thread, bare}
-use Rattle.cov_ast.specs.WellFormed.{IsStateInRange, IsCertInRange, IsExprInRange, IsStmInRange, IsBlockInRange, IsThreadInRange, CertHasWords, StateHasWords, StmHasWords, BlockHasWords, IsBodyFine, IsWellFormed, are_distinct, places, places_within, stm_size, block_size}
+use Rattle.cov_ast.specs.WellFormed.{IsStateInRange, IsCertInRange, IsExprInRange, IsStmInRange, IsBlockInRange, IsThreadInRange, CertHasWords, StateHasWords, StmHasWords, BlockHasWords, IsBodyFine, IsSilent, IsSilentStm, IsWellFormed, are_distinct, places, places_within, stm_size, block_size}
 
 -- Parts of lists -----------------------------------------------------------------------------------------------
 
@@ -85,6 +85,7 @@ mutual
   stm_places (annotated.loop e state b) at rest whole h =
       inl (refl, part_append (places (bare_block b)) (places b) (places rest) (places whole) (block_places b) h)
   stm_places (annotated.note state) at rest whole h = part_later (places rest) at (places whole) h
+  stm_places (annotated.output e) at rest whole h = inl (refl, h)
 
   block_places : (b : Block) → IsPart (places (bare_block b)) (places b)
   block_places done = tt
@@ -102,6 +103,7 @@ mutual
   stm_smaller (annotated.branch e a b state) at rest whole h = omega (arith, h, block_smaller a, block_smaller b)
   stm_smaller (annotated.loop e state b) at rest whole h = omega (arith, h, block_smaller b)
   stm_smaller (annotated.note state) at rest whole h = omega (arith, h)
+  stm_smaller (annotated.output e) at rest whole h = omega (arith, h)
 
   block_smaller : (b : Block) → block_size (bare_block b) ≤ block_size b
   block_smaller done = omega arith
@@ -134,6 +136,7 @@ module _ (vars locks : ℕ) where
     stm_ids (annotated.loop e state b) at rest h k =
         bare_next at (annotated.loop e no_state (bare_block b)) rest (h.0, no_state_in_range, block_ids b h.2) k
     stm_ids (annotated.note state) at rest h k = k
+    stm_ids (annotated.output e) at rest h k = bare_next at (annotated.output e) rest h k
 
     block_ids : (b : Block) → IsBlockInRange vars locks b → IsBlockInRange vars locks (bare_block b)
     block_ids done h = tt
@@ -162,10 +165,28 @@ mutual
   stm_words (annotated.loop e state b) at rest h k =
       next_of_words at (annotated.loop e no_state (bare_block b)) rest (h.0, no_state_of_words, block_words b h.2) k
   stm_words (annotated.note state) at rest h k = k
+  stm_words (annotated.output e) at rest h k = next_of_words at (annotated.output e) rest h k
 
   block_words : (b : Block) → BlockHasWords b → BlockHasWords (bare_block b)
   block_words done h = tt
   block_words (more at s proofs b) h = stm_words s at (bare_block b) h.0 (block_words b h.2)
+
+-- Versions -----------------------------------------------------------------------------------------------------
+
+mutual
+  stm_silent : (s : Stm) (at : ℕ) (rest : Block) → IsSilentStm s → IsSilent rest → IsSilent (in_front at (bare_kind s) rest)
+  stm_silent annotated.skip at rest h k = (h, k)
+  stm_silent (annotated.assign x e q retypes) at rest h k = (h, k)
+  stm_silent (annotated.lock l) at rest h k = (h, k)
+  stm_silent (annotated.unlock l) at rest h k = (h, k)
+  stm_silent (annotated.branch e a b state) at rest h k = ((block_silent a h.0, block_silent b h.1), k)
+  stm_silent (annotated.loop e state b) at rest h k = (block_silent b h, k)
+  stm_silent (annotated.note state) at rest h k = k
+  stm_silent (annotated.output e) at rest h k = absurd h
+
+  block_silent : (b : Block) → IsSilent b → IsSilent (bare_block b)
+  block_silent done h = tt
+  block_silent (more at s proofs b) h = stm_silent s at (bare_block b) h.0 (block_silent b h.1)
 
 -- Programs -----------------------------------------------------------------------------------------------------
 
@@ -194,13 +215,17 @@ bare_is_formed p fine = record {
     declared_threads = subst (λ n. n ≤ 16) (sym (length-map p.threads bare_thread)) fine.limits.declared_threads;
   };
   bodies = All-map (λ (t : Thread). IsBodyFine t.body) bare_thread p.threads (λ i d inside. body_fine _ (fine.bodies i d inside));
+  version = record {
+    known = fine.version.known;
+    silent = λ first. All-map (λ (t : Thread). IsSilent t.body) bare_thread p.threads (λ i d inside. block_silent _ (fine.version.silent first i d inside));
+  };
 }
 
 -- the same, by what stands in the program that was made
-pub bare_formed : (p : Program) (vars : List Var) (locks : List Lock) (threads : List Thread)
-    → vars ≡ p.vars → locks ≡ p.locks → threads ≡ map bare_thread p.threads → IsWellFormed p
-    → IsWellFormed (record { vars = vars; locks = locks; threads = threads })
-bare_formed p vars locks threads e f g fine = subst IsWellFormed (sym is) (bare_is_formed p fine)
+pub bare_formed : (p : Program) (version : ℕ) (vars : List Var) (locks : List Lock) (threads : List Thread)
+    → version ≡ p.version → vars ≡ p.vars → locks ≡ p.locks → threads ≡ map bare_thread p.threads → IsWellFormed p
+    → IsWellFormed (record { version = version; vars = vars; locks = locks; threads = threads })
+bare_formed p version vars locks threads d e f g fine = subst IsWellFormed (sym is) (bare_is_formed p fine)
   where
-    is : (record { vars = vars; locks = locks; threads = threads }) ≡ bare p
-    is = λ i. record { vars = e i; locks = f i; threads = g i }
+    is : (record { version = version; vars = vars; locks = locks; threads = threads }) ≡ bare p
+    is = λ i. record { version = d i; vars = e i; locks = f i; threads = g i }

@@ -13,6 +13,7 @@ mutual
   stm_bare (annotated.branch e a b state) at rest = ap₂ (λ c d. next at (branch e c d) (plain_block rest)) (block_bare a) (block_bare b)
   stm_bare (annotated.loop e state b) at rest = ap (λ c. next at (loop e c) (plain_block rest)) (block_bare b)
   stm_bare (annotated.note state) at rest = refl
+  stm_bare (annotated.output e) at rest = refl
 
   block_bare : (b : Block) → plain_block (bare_block b) ≡ plain_block b
   block_bare done = refl

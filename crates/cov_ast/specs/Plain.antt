@@ -14,6 +14,7 @@ mutual
     unlock : ℕ → Cmd
     branch : Term → Cmds → Cmds → Cmd
     loop : Term → Cmds → Cmd
+    output : Term → Cmd
 
   -- statements, each with its place
   pub data Cmds : Type 0 where
@@ -50,6 +51,7 @@ abbrev mutual
   plain_stm (annotated.branch e a b state) at rest = next at (branch e (plain_block a) (plain_block b)) rest
   plain_stm (annotated.loop e state b) at rest = next at (loop e (plain_block b)) rest
   plain_stm (annotated.note state) at rest = rest
+  plain_stm (annotated.output e) at rest = next at (output e) rest
 
   pub plain_block : Block → Cmds
   plain_block done = none
@@ -81,6 +83,7 @@ abbrev mutual
   bare_kind (annotated.branch e a b state) = Some (annotated.branch e (bare_block a) (bare_block b) no_state)
   bare_kind (annotated.loop e state b) = Some (annotated.loop e no_state (bare_block b))
   bare_kind (annotated.note state) = None
+  bare_kind (annotated.output e) = Some (annotated.output e)
 
   pub bare_block : Block → Block
   bare_block done = done
@@ -91,4 +94,4 @@ bare_thread t = record { name = t.name; at = t.at; modes = t.modes; body = bare_
 
 -- the same program, of which nothing is left but what the plain program has, and the places of threads
 abbrev pub bare : Program → Program
-bare p = record { vars = p.vars; locks = p.locks; threads = map bare_thread p.threads }
+bare p = record { version = p.version; vars = p.vars; locks = p.locks; threads = map bare_thread p.threads }

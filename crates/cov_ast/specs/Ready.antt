@@ -5,7 +5,7 @@ use Rattle.cov_expr.specs.Term.{Term, const, var, neg, bin}
 use Rattle.cov_expr.specs.declared.expr.TheConstants.{HOLE}
 use Rattle.cov_ast.specs.Syntax.{Class, low, high, when, Var, Lock, Modes, State, Cert, Proof, Stm, Block, done, more, Thread, Parsed}
 use Rattle.cov_ast.specs.Syntax as s
-use Rattle.cov_ast.specs.WellFormed.{AreIdsInRange, IsWithinLimits, IsBodyFine}
+use Rattle.cov_ast.specs.WellFormed.{AreIdsInRange, IsOfVersion, IsWithinLimits, IsBodyFine}
 use Rattle.cov_ast.specs.declared.parsed.NameUse.{NameUse}
 
 -- Uses of names ------------------------------------------------------------------------------------------------
@@ -76,6 +76,7 @@ abbrev mutual
       uses_in e ++ uses_in_block a ++ uses_in_block b ++ uses_in_state join ++ flat_map uses_in_proof proofs
   uses_in_stm (s.loop e inv b) proofs = uses_in e ++ uses_in_state inv ++ uses_in_block b ++ flat_map uses_in_proof proofs
   uses_in_stm (s.note j) proofs = uses_in_state j ++ flat_map uses_in_proof proofs
+  uses_in_stm (s.output e) proofs = uses_in e ++ flat_map uses_in_proof proofs
 
   pub uses_in_block : Block → List Use
   uses_in_block done = []
@@ -112,11 +113,12 @@ abbrev pub HasUsesInOrder : Parsed → Type 0
 HasUsesInOrder p = map use_of p.uses ≡ uses_in_declarations p
 
 -- A tree as a text gives it: each variable and each lock is the number of a name, the hole of templates excepted; the
--- declarations and the statements of each thread are within bounds; the places of the statements of a thread differ; and
--- the list of uses is one of such numbers and has each name that the declarations use.
+-- declarations and the statements of each thread are within bounds; the places of the statements of a thread differ;
+-- nothing is put out in version 1; and the list of uses is one of such numbers and has each name that the declarations use.
 pub record IsReady (p : Parsed) : Type 0 where
   pub ids : AreIdsInRange (length p.names) (length p.names) p.vars p.locks p.threads
   pub used_ids : All (λ u. u.name < length p.names) p.uses
   pub limits : IsWithinLimits p.vars p.locks p.threads
   pub bodies : All (λ t. IsBodyFine t.body) p.threads
+  pub version : IsOfVersion p.version p.threads
   pub uses : (u : Use) → Contains (uses_in_declarations p) u → Contains (map use_of p.uses) u

@@ -74,6 +74,7 @@ mutual
     branch : Term → Block → Block → State → Stm
     loop : Term → State → Block → Stm
     note : State → Stm
+    output : Term → Stm
 
   -- statements, each with its place and its proofs
   pub data Block : Type 0 where
@@ -88,6 +89,7 @@ pub record Thread : Type 0 where
   pub end : ℕ
 
 pub record Program : Type 0 where
+  pub version : ℕ
   pub vars : List Var
   pub locks : List Lock
   pub threads : List Thread
@@ -95,6 +97,7 @@ pub record Program : Type 0 where
 -- What a text spells: the names in the order of their first occurrence, every use of one, and declarations in which
 -- variables and locks are named by number of that list.
 pub record Parsed : Type 0 where
+  pub version : ℕ
   pub names : List (List ℕ)
   pub uses : List NameUse
   pub vars : List Var

@@ -84,6 +84,7 @@ kind_step (StmtKind-F.Unlock l) = s.unlock l
 kind_step (StmtKind-F.If e a b join) = s.branch (term e) (block_of a) (block_of b) (state join)
 kind_step (StmtKind-F.While e inv b) = s.loop (term e) (state inv) (block_of b)
 kind_step (StmtKind-F.Note j) = s.note (state j)
+kind_step (StmtKind-F.Output e) = s.output (term e)
 
 abbrev pub stmt_step : Stmt-F s.Stm Placed → Placed
 stmt_step s = record { at = s.at; stm = s.kind; proofs = map proof s.proofs }
@@ -117,7 +118,7 @@ abbrev pub thread : ThreadDecl → s.Thread
 thread t = record { name = t.name; at = t.at; modes = modes t.modes; body = block t.body; end = t.end }
 
 abbrev pub program : Program → s.Program
-program p = record { vars = map var p.vars; locks = map lock p.locks; threads = map thread p.threads }
+program p = record { version = p.version; vars = map var p.vars; locks = map lock p.locks; threads = map thread p.threads }
 
 abbrev pub parsed : Parsed → s.Parsed
-parsed p = record { names = p.names; uses = p.uses; vars = map var p.vars; locks = map lock p.locks; threads = map thread p.threads }
+parsed p = record { version = p.version; names = p.names; uses = p.uses; vars = map var p.vars; locks = map lock p.locks; threads = map thread p.threads }

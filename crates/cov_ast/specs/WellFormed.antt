@@ -1,4 +1,5 @@
--- Which programs are well formed: ids in range, expressions of words, names and places distinct, and within the limits.
+-- Which programs are well formed: ids in range, expressions of words, names and places distinct, within the limits, and of
+-- their version.
 use Rattle.std.specs.Prelude.{◌≡◌, ◌⊎◌, ℕ, ◌+◌, ◌*◌, ◌<◌, ◌≤◌, ◌==◌, ◌&&◌, List, [], ◌∷◌, ◌++◌, length, map, sum_by, Bool, true, not, IsTrue, Option, Some, None, All}
 use Rattle.std.specs.List.{list_any}
 use Rattle.std.specs.Str.{bytes_eq}
@@ -71,6 +72,7 @@ module _ (vars locks : ℕ) where
     IsStmInRange (s.branch e a b join) = IsExprInRange e × IsBlockInRange a × IsBlockInRange b × IsStateInRange join
     IsStmInRange (s.loop e inv b) = IsExprInRange e × IsStateInRange inv × IsBlockInRange b
     IsStmInRange (s.note j) = IsStateInRange j
+    IsStmInRange (s.output e) = IsExprInRange e
 
     pub IsBlockInRange : Block → Type 0
     IsBlockInRange done = Unit {0}
@@ -142,6 +144,7 @@ abbrev mutual
   StmHasWords (s.branch e a b join) = HasWords e × BlockHasWords a × BlockHasWords b × StateHasWords join
   StmHasWords (s.loop e inv b) = HasWords e × StateHasWords inv × BlockHasWords b
   StmHasWords (s.note j) = StateHasWords j
+  StmHasWords (s.output e) = HasWords e
 
   -- each expression of statements, of what they state and of their certificates is of words
   pub BlockHasWords : Block → Type 0
@@ -174,6 +177,7 @@ abbrev mutual
   places_within (s.branch e a b join) = places a ++ places b
   places_within (s.loop e inv b) = places b
   places_within (s.note j) = []
+  places_within (s.output e) = []
 
   -- the places of statements and of those in them
   pub places : Block → List ℕ
@@ -208,6 +212,7 @@ abbrev mutual
   stm_size (s.branch e a b join) = nodes e + block_size a + block_size b + state_size join
   stm_size (s.loop e inv b) = nodes e + state_size inv + block_size b
   stm_size (s.note j) = state_size j
+  stm_size (s.output e) = nodes e
 
   -- statements, retypes, predicates, types and nodes of expressions, those of certificates left out
   pub block_size : Block → ℕ
@@ -223,6 +228,29 @@ pub record IsBodyFine (b : Block) : Type 0 where
   pub places_differ : IsTrue (are_distinct (◌==◌) (places b))
   pub small : block_size b < most_size
 
+-- Versions -----------------------------------------------------------------------------------------------------
+
+abbrev mutual
+  pub IsSilentStm : Stm → Type 0
+  IsSilentStm s.skip = Unit {0}
+  IsSilentStm (s.assign x e q retypes) = Unit {0}
+  IsSilentStm (s.lock l) = Unit {0}
+  IsSilentStm (s.unlock l) = Unit {0}
+  IsSilentStm (s.branch e a b join) = IsSilent a × IsSilent b
+  IsSilentStm (s.loop e inv b) = IsSilent b
+  IsSilentStm (s.note j) = Unit {0}
+  IsSilentStm (s.output e) = ⊥
+
+  -- nothing is put out
+  pub IsSilent : Block → Type 0
+  IsSilent done = Unit {0}
+  IsSilent (more at c proofs b) = IsSilentStm c × IsSilent b
+
+-- The language has two versions, and the first has no outputs.
+pub record IsOfVersion (version : ℕ) (threads : List Thread) : Type 0 where
+  pub known : (version ≡ 1) ⊎ (version ≡ 2)
+  pub silent : version ≡ 1 → All (λ t. IsSilent t.body) threads
+
 -- Well formed programs -----------------------------------------------------------------------------------------
 
 pub record IsWellFormed (p : Program) : Type 0 where
@@ -231,3 +259,4 @@ pub record IsWellFormed (p : Program) : Type 0 where
   pub names_differ : IsTrue (are_distinct bytes_eq (names_of p.vars p.locks p.threads))
   pub limits : IsWithinLimits p.vars p.locks p.threads
   pub bodies : All (λ t. IsBodyFine t.body) p.threads
+  pub version : IsOfVersion p.version p.threads

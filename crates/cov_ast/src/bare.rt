@@ -13,7 +13,8 @@ use cov_expr::{Expr, List, NoMemory, copy};
 use std::alloc::Global;
 
 /// The plain program: the same declarations and statements, at the same places, without types, states, proofs and
-/// notes. It is what a program does; the rest says why it may. It is well formed where the program is.
+/// notes. It is what a program does; the rest says why it may. Its version is that of the program, and it is well formed
+/// where the program is.
 pub fn plain(alloc: Global, program: &Program) -> Result<Program, NoMemory>
     ensures bare { IfOk result (λ made. view.program made ≡ spec.bare (view.program program.now)) }
     ensures formed { IsWellFormed (view.program program.now) → IfOk result (λ made. IsWellFormed (view.program made)) }
@@ -22,6 +23,7 @@ pub fn plain(alloc: Global, program: &Program) -> Result<Program, NoMemory>
     let locks = copy_locks(alloc, program.locks.as_slice())?;
     let threads = plain_threads(alloc, program.threads.as_slice())?;
     Ok(Program {
+        version: program.version,
         vars,
         locks,
         threads,
@@ -192,6 +194,7 @@ fn plain_kind(alloc: Global, kind: &StmtKind) -> Result<Option<StmtKind>, NoMemo
             Ok(Some(StmtKind::While(guard, no_state(alloc), turn)))
         }
         StmtKind::Note(_) => Ok(None),
+        StmtKind::Output(e) => Ok(Some(StmtKind::Output(copy(alloc, e)?))),
     }
 }
 

@@ -68,6 +68,8 @@ pub struct ThreadDecl {
 /// A program, in which variables, locks and threads are named by id: how many of their kind are declared before.
 #[derive(Drop)]
 pub struct Program {
+    /// The version of the language, 1 or 2; in version 1 nothing is put out.
+    pub version: u8,
     pub vars: List<VarDecl>,
     pub locks: List<LockDecl>,
     pub threads: List<ThreadDecl>,

@@ -14,6 +14,8 @@ pub struct NameUse {
 /// declaration it means, if any, isn't known yet.
 #[derive(Drop)]
 pub struct Parsed {
+    /// The version of the language, 1 or 2.
+    pub version: u8,
     pub names: NameTable,
     /// Every use of a name, in the order of the text.
     pub uses: List<NameUse>,

@@ -30,6 +30,8 @@ pub enum StmtKind {
     While(Expr, State, List<Stmt>),
     /// A fact about this place. It takes no step.
     Note(State),
+    /// The value of the expression is put at the end of the public output.
+    Output(Expr),
 }
 
 /// A new type of a tracked variable, given where a control is assigned.

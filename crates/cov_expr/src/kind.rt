@@ -1,4 +1,4 @@
-/// What a token is: a name, a number, one of the 45 keywords, or one of the 24 signs.
+/// What a token is: a name, a number, one of the 45 keywords, one of the 24 signs, or foreign to its text.
 #[derive(Clone, Copy, Debug, PartialEq, Eq)]
 pub enum Kind {
     /// A name of a variable, a lock or a thread.
@@ -87,9 +87,9 @@ pub enum Kind {
     Ring,
     /// `range`.
     Range,
-    /// `version`, which stands in no rule yet.
+    /// `version`.
     Version,
-    /// `output`, which stands in no rule yet.
+    /// `output`.
     Output,
     /// `level`, which stands in no rule yet.
     Level,
@@ -143,4 +143,6 @@ pub enum Kind {
     Either,
     /// `!`.
     Bang,
+    /// A word or a number that the version of its text doesn't have. It stands in no rule.
+    Foreign,
 }

@@ -10,7 +10,7 @@ use Rattle.cov_expr.specs.declared.expr.Op.TheVariants as ops
 use Rattle.cov_expr.specs.declared.expr.TheConstants.{HOLE}
 use Rattle.cov_expr.specs.declared.kind.Kind.{Kind}
 use Rattle.cov_expr.specs.declared.kind.Kind.TheVariants as k
-use Rattle.cov_grammar.specs.PlacedTrees.{Placed, Class, low, high, low_when, Named, Var, Lock, State, Cert, Proofs, Retypes, Stm, Block, stms, Thread, Program, Rule, Meaning, expr, template, cert, block, skip, assign, lock, unlock, branch, loop, note}
+use Rattle.cov_grammar.specs.PlacedTrees.{Placed, Class, low, high, low_when, Named, Var, Lock, State, Cert, Proofs, Retypes, Stm, Block, stms, Thread, Program, Rule, Meaning, expr, template, cert, block, skip, assign, lock, unlock, branch, loop, note, output}
 use Rattle.cov_grammar.specs.PlacedTrees as t
 use Rattle.cov_grammar.specs.Shapes.{Shape, token, rule, seq, alt, opt, many, act, placed}
 
@@ -229,6 +229,7 @@ retype = k.Retype ▸ seq name (k.As ▸ whole)
 --       | "if" expr block "else" block [ "join" state ] [ by ]
 --       | "while" expr [ "inv" state ] block [ by ]
 --       | "note" state [ by ] ";"
+--       | "output" expr [ by ] ";"
 --
 -- The longer ones have a definition of their own: what stands behind the name, behind "if" and behind "while".
 unfoldable pub assigned : Shape (Placed Term × (Option (Placed Term) × (Retypes × Proofs)))
@@ -248,7 +249,8 @@ statement =
     (alt (k.Unlock ▸ act (λ x. unlock x.0 x.1) (seq name proofs) ◂ k.Semicolon)
     (alt (k.If ▸ branched)
     (alt (k.While ▸ looped)
-    (k.Note ▸ act (λ x. note x.0 x.1) (seq state proofs) ◂ k.Semicolon))))))
+    (alt (k.Note ▸ act (λ x. note x.0 x.1) (seq state proofs) ◂ k.Semicolon)
+    (k.Output ▸ act (λ x. output x.0 x.1) (seq whole proofs) ◂ k.Semicolon)))))))
 
 -- block := "{" stmt* "}"
 unfoldable pub braces : Shape Block
@@ -295,9 +297,20 @@ thread_decl =
     act (λ x. record { name = x.0; modes = record { assume_nowrite = x.1.0.0; assume_hide = x.1.0.1; guarantee_nowrite = x.1.1.0.0; guarantee_hide = x.1.1.0.1 }; body = x.1.1.1 })
     (k.Thread ▸ seq named (seq (two_modes k.Assume) (seq (two_modes k.Guarantee) (rule block))))
 
--- program := var* lock* thread*
+-- the version of a text: 2 is the one that a text names, since another number is foreign there
+abbrev pub version_of : Option ℕ → ℕ
+version_of None = 1
+version_of (Some n) = 2
+
+-- "version" NUMBER ";"
+unfoldable pub version : Shape ℕ
+version = k.Version ▸ number ◂ k.Semicolon
+
+-- program := [ "version" NUMBER ";" ] var* lock* thread*
 unfoldable pub program : Shape Program
-program = act (λ x. record { vars = x.0; locks = x.1.0; threads = x.1.1 }) (seq (many var_decl) (seq (many lock_decl) (many thread_decl)))
+program =
+    act (λ x. record { version = version_of x.0; vars = x.1.0; locks = x.1.1.0; threads = x.1.1.1 })
+    (seq (opt version) (seq (many var_decl) (seq (many lock_decl) (many thread_decl))))
 
 -- Rules -------------------------------------------------------------------------------------------------------
 

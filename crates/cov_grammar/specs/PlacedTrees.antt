@@ -83,6 +83,7 @@ mutual
     branch : Placed Term → Block → Block → (join : Option State) → Proofs → Stm
     loop : Placed Term → (inv : Option State) → Block → Proofs → Stm
     note : State → Proofs → Stm
+    output : Placed Term → Proofs → Stm
 
   -- statements in braces, with the places of the braces
   pub data Block : Type 0 where
@@ -113,6 +114,7 @@ pub record Thread : Type 0 where
   pub body : Block
 
 pub record Program : Type 0 where
+  pub version : ℕ
   pub vars : List Var
   pub locks : List Lock
   pub threads : List Thread

@@ -202,6 +202,7 @@ fn in_stm(room: u32, kind: &StmtKind) -> Option<Excess>
             sooner(in_expr(e), sooner(in_state_option(state), behind))
         }
         StmtKind::Note(state, proofs) => sooner(in_state(state), in_proofs(proofs.as_slice())),
+        StmtKind::Output(e, proofs) => sooner(in_expr(e), in_proofs(proofs.as_slice())),
     }
 }
 

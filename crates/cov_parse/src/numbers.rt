@@ -120,7 +120,8 @@ fn count_inside(kind: &StmtKind, room: u32) -> Counting
 {
     match kind {
         StmtKind::Skip | StmtKind::Lock(_) => Counting::Left(room),
-        StmtKind::Assign(..) | StmtKind::Unlock(..) | StmtKind::Note(..) => Counting::Left(room),
+        StmtKind::Assign(..) | StmtKind::Unlock(..) => Counting::Left(room),
+        StmtKind::Note(..) | StmtKind::Output(..) => Counting::Left(room),
         StmtKind::If(_, _, first, _, second, _, _) => {
             count_more(count_stmts(first.as_slice(), room), second.as_slice())
         }

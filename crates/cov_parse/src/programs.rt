@@ -70,6 +70,10 @@ fn add_stmt(alloc: Global, stmt: Stmt, made: &mut List<cov_ast::Stmt>) -> Result
             let proofs = proofs_of(alloc, proofs)?;
             add_made(made, at, cov_ast::StmtKind::Note(state), proofs)
         }
+        StmtKind::Output(e, proofs) => {
+            let proofs = proofs_of(alloc, proofs)?;
+            add_made(made, at, cov_ast::StmtKind::Output(expr_of(e)), proofs)
+        }
     }
 }
 
@@ -214,6 +218,7 @@ pub fn parsed_of(
     let locks = locks_of(alloc, &names, program.locks)?;
     let threads = threads_of(alloc, &names, program.threads)?;
     Ok(Parsed {
+        version: program.version,
         names,
         uses,
         vars,

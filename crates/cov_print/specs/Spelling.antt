@@ -1,7 +1,7 @@
 -- The canonical spelling of a program: one text for each tree. Comments and places of the text that was read aren't kept.
 --
 -- Variables and locks are numbers of a list of names. A number that has no name is the hole of a template.
-use Rattle.std.specs.Prelude.{ℕ, List, [], ◌∷◌, ◌++◌, get_or, Bool, true, false, ◌&&◌, Option, Some, None, codes, decimal, flat_map, if◌then◌else◌}
+use Rattle.std.specs.Prelude.{ℕ, ◌==◌, List, [], ◌∷◌, ◌++◌, get_or, Bool, true, false, ◌&&◌, Option, Some, None, codes, decimal, flat_map, if◌then◌else◌}
 use Rattle.cov_expr.specs.declared.expr.Op.{Op}
 use Rattle.cov_expr.specs.declared.expr.Op.TheVariants.{Add, Sub, Mul, And, Or, Xor, Eq, Ne, Lt, Le, Both, Either}
 use Rattle.cov_expr.specs.Term.{Term, const, var, neg, bin}
@@ -171,6 +171,7 @@ abbrev mutual
       codes "while " ++ whole names e ++ stated names (codes " inv ") inv ++ codes " {\n" ++ block names (deeper margin) b ++ margin ++ codes "}"
       ++ by names proofs
   stm names margin (s.note j) proofs = codes "note " ++ state names j ++ by names proofs ++ codes ";"
+  stm names margin (s.output e) proofs = codes "output " ++ whole names e ++ by names proofs ++ codes ";"
 
   -- each statement on lines of its own
   pub block : Names → (margin : List ℕ) → s.Block → List ℕ
@@ -205,6 +206,10 @@ modes names m =
 abbrev pub thread_lines : Names → s.Thread → List ℕ
 thread_lines names t = codes "thread " ++ t.name ++ modes names t.modes ++ codes " {\n" ++ block names (deeper []) t.body ++ codes "}\n"
 
+-- the line of the version; the first isn't named
+abbrev pub version_line : ℕ → List ℕ
+version_line version = given (version == 2) (codes "version 2;\n")
+
 -- The canonical spelling.
 abbrev pub spelling : s.Parsed → List ℕ
-spelling p = flat_map (var_line p.names) p.vars ++ flat_map (lock_line p.names) p.locks ++ flat_map (thread_lines p.names) p.threads
+spelling p = version_line p.version ++ flat_map (var_line p.names) p.vars ++ flat_map (lock_line p.names) p.locks ++ flat_map (thread_lines p.names) p.threads

@@ -12,6 +12,7 @@ abbrev mutual
   unplaced_stm (s.branch e a b join) = s.branch e (unplaced_block a) (unplaced_block b) join
   unplaced_stm (s.loop e inv b) = s.loop e inv (unplaced_block b)
   unplaced_stm (s.note j) = s.note j
+  unplaced_stm (s.output e) = s.output e
 
   pub unplaced_block : s.Block → s.Block
   unplaced_block s.done = s.done
@@ -32,6 +33,7 @@ unplaced_use u = record { name = u.name; lock = u.lock; at = 0 }
 -- Every place is 0.
 abbrev pub unplaced : s.Parsed → s.Parsed
 unplaced p = record {
+  version = p.version;
   names = p.names;
   uses = map unplaced_use p.uses;
   vars = map unplaced_var p.vars;

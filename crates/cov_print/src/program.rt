@@ -50,6 +50,9 @@ pub fn print(alloc: Global, p: &Parsed) -> Result<List<u8>, NoMemory>
     ensures read_back { IfOk result (λ text. SpellsAgain text (view.parsed p.now)) }
 {
     let mut out = List::new(alloc);
+    if p.version == 2 {
+        out.extend_from_slice(b"version 2;\n")?;
+    }
     add_vars(&p.names, p.vars.as_slice(), &mut out)?;
     add_locks(&p.names, p.locks.as_slice(), &mut out)?;
     add_threads(alloc, &p.names, p.threads.as_slice(), &mut out)?;

@@ -174,5 +174,11 @@ fn add_statement(
             end_while(names, margin, proofs, out)
         }
         StmtKind::Note(j) => add_note(names, j, proofs, out),
+        StmtKind::Output(e) => {
+            out.extend_from_slice(b"output ")?;
+            add_expr(names, false, e, out)?;
+            add_proofs(names, proofs, out)?;
+            out.extend_from_slice(b";")
+        }
     }
 }

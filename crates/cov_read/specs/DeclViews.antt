@@ -35,4 +35,4 @@ abbrev pub thread : threads.Thread → t.Thread
 thread h = record { name = (h.name, h.at); modes = modes h.assumes h.guarantees; body = block_of h.braces (map stmt h.body) }
 
 abbrev pub program : PlacedProgram → t.Program
-program p = record { vars = map var p.vars; locks = map lock p.locks; threads = map thread p.threads }
+program p = record { version = p.version; vars = map var p.vars; locks = map lock p.locks; threads = map thread p.threads }

@@ -23,6 +23,7 @@ kind_of (StmtKind-F.Unlock l ps) = t.unlock l (map proof ps)
 kind_of (StmtKind-F.If e b ss c us s ps) = t.branch (whole e) (block_of b ss) (block_of c us) (option_map (λ j. state j.value) s) (map proof ps)
 kind_of (StmtKind-F.While e s b ss ps) = t.loop (whole e) (option_map (λ j. state j.value) s) (block_of b ss) (map proof ps)
 kind_of (StmtKind-F.Note s ps) = t.note (state s) (map proof ps)
+kind_of (StmtKind-F.Output e ps) = t.output (whole e) (map proof ps)
 
 abbrev pub stm_of : Stmt-F t.Stm (Placed t.Stm) → Placed t.Stm
 stm_of s = (s.at, s.kind)

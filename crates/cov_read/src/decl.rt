@@ -45,6 +45,7 @@ pub struct Thread {
 /// A program with its places.
 #[derive(Drop)]
 pub struct PlacedProgram {
+    pub version: u8,
     pub vars: List<Variable>,
     pub locks: List<Lock>,
     pub threads: List<Thread>,

@@ -118,6 +118,7 @@ fn read_body(reader: &mut TokenReader<'_>, alloc: Global) -> Result<List<Stmt>, 
         Kind::If,
         Kind::While,
         Kind::Note,
+        Kind::Output,
     ]) {
         let next = read_stmt(reader, alloc)?;
         list.push(next)?;
@@ -166,11 +167,17 @@ fn read_statement(reader: &mut TokenReader<'_>, alloc: Global) -> Result<StmtKin
     if let Some(_) = reader.take(Kind::While) {
         return read_looped(reader, alloc);
     }
-    reader.expect(Kind::Note)?;
-    let state = read_state(reader, alloc)?;
+    if let Some(_) = reader.take(Kind::Note) {
+        let state = read_state(reader, alloc)?;
+        let proofs = read_proofs(reader, alloc)?;
+        reader.expect(Kind::Semicolon)?;
+        return Ok(StmtKind::Note(state, proofs));
+    }
+    reader.expect(Kind::Output)?;
+    let value = read_whole(reader, alloc, false)?;
     let proofs = read_proofs(reader, alloc)?;
     reader.expect(Kind::Semicolon)?;
-    Ok(StmtKind::Note(state, proofs))
+    Ok(StmtKind::Output(value, proofs))
 }
 
 #[cycle(block)]

@@ -57,6 +57,7 @@ proofs_of (t.unlock l ps) = map proof_of ps
 proofs_of (t.branch e a b x ps) = map proof_of ps
 proofs_of (t.loop e x b ps) = map proof_of ps
 proofs_of (t.note x ps) = map proof_of ps
+proofs_of (t.output e ps) = map proof_of ps
 
 abbrev mutual
   pub stm_of : t.Stm → s.Stm
@@ -67,6 +68,7 @@ abbrev mutual
   stm_of (t.branch e a b x ps) = s.branch (expr_of e) (block_of a) (block_of b) (state_or_none x)
   stm_of (t.loop e x b ps) = s.loop (expr_of e) (state_or_none x) (block_of b)
   stm_of (t.note x ps) = s.note (state_of x)
+  stm_of (t.output e ps) = s.output (expr_of e)
 
   pub block_of : t.Block → s.Block
   block_of (t.block begin end ss) = stms_of ss
@@ -105,4 +107,4 @@ abbrev pub thread_of : List (List ℕ) → t.Thread → s.Thread
 thread_of names h = record { name = name_of names h.name.0; at = h.name.1; modes = modes_of h.modes; body = block_of h.body; end = end_of h.body }
 
 abbrev pub parsed_of : List (List ℕ) → List NameUse → t.Program → s.Parsed
-parsed_of names uses p = record { names = names; uses = uses; vars = map (var_of names) p.vars; locks = map (lock_of names) p.locks; threads = map (thread_of names) p.threads }
+parsed_of names uses p = record { version = p.version; names = names; uses = uses; vars = map (var_of names) p.vars; locks = map (lock_of names) p.locks; threads = map (thread_of names) p.threads }

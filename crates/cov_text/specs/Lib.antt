@@ -1,4 +1,5 @@
 pub mod Numbered
+pub mod Versioned
 pub mod Text
 pub mod GivenTrees
 pub mod Uses

@@ -3,7 +3,7 @@ use Rattle.std.specs.Prelude.{ℕ, zero, suc, ◌+◌, ◌-◌, ◌==◌, max, n
 use Rattle.cov_expr.specs.declared.limits.TheConstants.{MOST_VARIABLES, MOST_LOCKS, MOST_THREADS, MOST_STATEMENTS, MOST_BLOCKS, MOST_NODES, MOST_HEIGHT, MOST_CERT_NODES, MOST_PREDICATES, MOST_TYPES}
 use Rattle.cov_expr.specs.Term.{Term}
 use Rattle.cov_expr.specs.Trees.{nodes, height}
-use Rattle.cov_grammar.specs.PlacedTrees.{Placed, Class, low, high, low_when, Var, Lock, State, Cert, Proofs, Stm, Block, Stms, Thread, Program, skip, assign, lock, unlock, branch, loop, note, block, none, next}
+use Rattle.cov_grammar.specs.PlacedTrees.{Placed, Class, low, high, low_when, Var, Lock, State, Cert, Proofs, Stm, Block, Stms, Thread, Program, skip, assign, lock, unlock, branch, loop, note, output, block, none, next}
 use Rattle.cov_grammar.specs.PlacedTrees as t
 use Rattle.cov_text.specs.declared.fault.Counted.{Counted}
 use Rattle.cov_text.specs.declared.fault.Counted.TheVariants.{Variables, Locks, Threads, Statements, Nodes, CertNodes, Predicates, Types}
@@ -133,6 +133,7 @@ abbrev mutual
       sooner (in_expr e) (sooner (in_block (room - 1) a) (sooner (in_block (room - 1) b) (sooner (in_state_option s) (least in_proof ps))))
   in_stm room (loop e s b ps) = sooner (in_expr e) (sooner (in_state_option s) (sooner (in_block (room - 1) b) (least in_proof ps)))
   in_stm room (note s ps) = sooner (in_state s) (least in_proof ps)
+  in_stm room (output e ps) = sooner (in_expr e) (least in_proof ps)
 
   pub in_block : (room : ℕ) → Block → Option Excess
   in_block room (block begin end ss) = sooner (if room == 0 then Some (record { at = begin; limit = TooDeep }) else None) (in_stms room ss)
@@ -157,6 +158,7 @@ abbrev mutual
   places_in (branch e a b s ps) = places_of a ++ places_of b
   places_in (loop e s b ps) = places_of b
   places_in (note s ps) = []
+  places_in (output e ps) = []
 
   pub places_of : Block → List ℕ
   places_of (block begin end ss) = places ss

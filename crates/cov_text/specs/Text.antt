@@ -19,6 +19,7 @@ use Rattle.cov_text.specs.declared.fault.Limit.{Limit}
 use Rattle.cov_text.specs.declared.fault.Limit.TheVariants.{TooMany, TooDeep}
 use Rattle.cov_text.specs.declared.fault.Excess.{Excess}
 use Rattle.cov_text.specs.Numbered as words
+use Rattle.cov_text.specs.Versioned.{versioned}
 use Rattle.cov_text.specs.Depth.{deep}
 use Rattle.cov_text.specs.Uses.{uses_of}
 use Rattle.cov_text.specs.GivenTrees.{parsed_of, expr_of}
@@ -33,9 +34,9 @@ or_none (Err fault) = []
 unfoldable pub lexed_of : List ℕ → List lexed.Token
 lexed_of text = or_none (tokens_of text)
 
--- the same as the grammar takes them
+-- the same as the grammar takes them, of which each is a word of the text's version or foreign
 unfoldable pub words_of : List ℕ → List Token
-words_of text = words.words_of text (lexed_of text)
+words_of text = versioned (words.words_of text (lexed_of text))
 
 -- the names of a text, each where it first occurs
 unfoldable pub names_of : List ℕ → List (List ℕ)

@@ -5,7 +5,7 @@ use Rattle.std.specs.Prelude.{◌≡◌, ℕ, List, get_or, map, IsTrue}
 use Rattle.cov_expr.specs.Entailment.{Holds}
 use Rattle.cov_ast.specs.Declarations.{class_of, invariant_of, is_control}
 use Rattle.cov_ast.specs.Plain.{Plain}
-use Rattle.flow_model.specs.Source.{Item, run, put, test, Holders, Run, items_of}
+use Rattle.flow_model.specs.Source.{Item, run, put, test, emit, Holders, Run, items_of}
 use Rattle.flow_model.specs.Holdings.{IsHiddenNow}
 
 -- The variable is low in the memory: its class holds there.
@@ -22,19 +22,21 @@ pub record MemoriesAgree (p : Plain) (m1 : List ℕ) (h1 : Holders) (m2 : List �
   pub controls : (c : ℕ) → IsTrue (is_control p c) → SameAt m1 m2 c
   pub visible : (x : ℕ) → IsLow p m1 x → ¬ IsHiddenNow p h1 x → SameAt m1 m2 x
 
--- an item without the word that a pending store carries; the word of a pending test stays
+-- an item without the word that a pending store or a pending output carries; the word of a pending test stays
 abbrev pub shape : Item → Item
 shape (run at c) = run at c
 shape (put at x word) = put at x 0
 shape (test at word yes_block no_block) = test at word yes_block no_block
+shape (emit at word) = emit at 0
 
--- the same but for the words of pending stores
+-- the same but for the words of pending stores and pending outputs
 abbrev pub AreAlike : List Item → List Item → Type 0
 AreAlike is js = map shape is ≡ map shape js
 
--- The memories agree, and every thread stands at the same items.
+-- The memories agree, the outputs are the same, and every thread stands at the same items.
 pub record StatesAgree (p : Plain) (s1 s2 : Run) : Type 0 where
   pub memories : MemoriesAgree p s1.memory s1.holders s2.memory s2.holders
+  pub outputs : s1.outputs ≡ s2.outputs
   pub items : (t : ℕ) → AreAlike (items_of s1 t) (items_of s2 t)
 
 -- Two memories to start from: what is low in the first, hidden or not, is equal, and each lock's invariant holds in both.

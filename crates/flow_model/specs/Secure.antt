@@ -1,5 +1,5 @@
 -- The secure program: two runs that can't be told apart by who sees, after each step, the variables that are low then and
--- that no thread holds unreadable then.
+-- that no thread holds unreadable then, and all that was put out.
 --
 -- (A two-run property after Mantel, Sands and Sudbrock and COVERN. It is timing-sensitive in steps: the runs are compared
 -- step for step under one schedule.)

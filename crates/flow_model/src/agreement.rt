@@ -20,6 +20,8 @@ pub enum Differ {
     Lock(u32),
     /// The words of this variable.
     Var(u32),
+    /// The outputs.
+    Output,
     /// What remains of this thread.
     Thread(u32),
 }

@@ -123,6 +123,7 @@ module _ (to_var to_lock : ℕ → ℕ) where
     resolved_stm (s.branch e a b join) = s.branch (resolved_term e) (resolved_block a) (resolved_block b) (resolved_state join)
     resolved_stm (s.loop e inv b) = s.loop (resolved_term e) (resolved_state inv) (resolved_block b)
     resolved_stm (s.note j) = s.note (resolved_state j)
+    resolved_stm (s.output e) = s.output (resolved_term e)
 
     pub resolved_block : Block → Block
     resolved_block done = done
@@ -160,6 +161,7 @@ lock_id p number = position_or_len (bytes_eq (text_of p number)) (lock_names p)
 -- the program that a text stands for, once its names are in order
 abbrev pub resolved : Parsed → Program
 resolved p = record {
+  version = p.version;
   vars = map (resolved_variable (var_id p) (lock_id p)) p.vars;
   locks = map (resolved_lock (var_id p) (lock_id p)) p.locks;
   threads = map (resolved_thread (var_id p) (lock_id p)) p.threads;

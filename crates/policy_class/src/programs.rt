@@ -60,6 +60,7 @@ fn resolve_kind(ids: &Ids, kind: &mut StmtKind)
             resolve_block(ids, body.as_mut_slice());
         }
         StmtKind::Note(state) => resolve_state(ids, state),
+        StmtKind::Output(e) => resolve_expr(ids, e),
     }
 }
 
@@ -141,6 +142,7 @@ pub fn resolved_program(ids: &Ids, p: Parsed) -> Program
     ensures words { AreOfWords (view.program result).vars (view.program result).locks (view.program result).threads }
 {
     let Parsed {
+        version,
         mut vars,
         mut locks,
         mut threads,

@@ -1,7 +1,7 @@
 -- The point after a statement, and after the statements of a block.
 use Rattle.std.specs.Prelude.{ℕ, Option, unwrap_or}
 use Rattle.cov_expr.specs.Term.{Term, neg}
-use Rattle.cov_ast.specs.Syntax.{Stm, skip, assign, lock, unlock, branch, loop, note, Block, done, more}
+use Rattle.cov_ast.specs.Syntax.{Stm, skip, assign, lock, unlock, branch, loop, note, output, Block, done, more}
 use Rattle.cov_ast.specs.Plain.{Plain}
 use Rattle.typing_state.specs.Point.{Point, ty}
 use Rattle.typing_state.specs.After.{after_assign, after_lock, after_unlock, with_guard, meet, noted}
@@ -20,6 +20,7 @@ module _ (p : Plain) (t : ℕ) where
     after_stm (branch e yes_block no_block join) a = meet p t (after_block yes_block (with_guard p t a e)) join
     after_stm (loop e inv b) a = with_guard p t (meet p t a inv) (neg e)
     after_stm (note j) a = noted a j
+    after_stm (output e) a = a
 
     pub after_block : Block → Point → Point
     after_block done a = a

@@ -7,7 +7,7 @@ use Rattle.std.specs.List.{list_all}
 use Rattle.cov_expr.specs.declared.limits.TheConstants.{MOST_PREDICATES}
 use Rattle.cov_expr.specs.Term.{Term, neg}
 use Rattle.cov_expr.specs.Trees.{has_number, vars, occurrences, width}
-use Rattle.cov_ast.specs.Syntax.{State, Proof, Stm, skip, assign, lock, unlock, branch, loop, note, Block, done, more, Program}
+use Rattle.cov_ast.specs.Syntax.{State, Proof, Stm, skip, assign, lock, unlock, branch, loop, note, output, Block, done, more, Program}
 use Rattle.cov_ast.specs.Plain.{Plain, plain}
 use Rattle.cov_ast.specs.Declarations.{name_of, lock_at, is_control}
 use Rattle.cov_ast.specs.Tables.{has}
@@ -75,7 +75,7 @@ module _ (p : Plain) (t at : ℕ) where
   abbrev pub narrow : Term → List Obligation
   narrow e = obligation V10 Nothing (nat_le (width e) 7) ∷ []
 
-  -- V1, V3 and V10 of a guard
+  -- V1, V3 and V10 of a guard, and of an output
   abbrev pub guard_obligations : List Bool → Term → List Obligation
   guard_obligations held e = reads held e ++ one_unstable held e ++ narrow e
 
@@ -161,6 +161,15 @@ module _ (p : Plain) (t : ℕ) where
       ∷ numbers p t at (length gs) proofs
       ∷ []
 
+  abbrev pub output_parts : (at : ℕ) → Point → Term → List Proof → List (List Obligation)
+  output_parts at a e proofs =
+      let gs = guard_follows p t a e ∷ [] in
+      guard_obligations p t at a.held e
+      ∷ small_terms p t at gs (a ∷ [])
+      ∷ proved p t at proofs 1 gs
+      ∷ numbers p t at (length gs) proofs
+      ∷ []
+
   abbrev mutual
     -- the parts of a rule, in order
     pub stm_parts : Stm → (at : ℕ) → List Proof → Point → List (List Obligation)
@@ -206,6 +215,7 @@ module _ (p : Plain) (t : ℕ) where
         ∷ numbers p t at (length gs + length hs) proofs
         ∷ []
     stm_parts (note j) at proofs a = note_parts at a j proofs
+    stm_parts (output e) at proofs a = output_parts at a e proofs
 
     pub block_obligations : Block → Point → List Obligation
     block_obligations done a = []

@@ -13,6 +13,7 @@ ghost use Rattle.typing_rules.specs.ThreadObligations.{flat};
 ghost use Rattle.typing_rules.specs.Inside.Walking.{IsWalk, Stands, WalksStm, Wherever, plain_of, value_parts};
 
 use crate::certificates::check_numbers;
+use crate::evaluation::check_guard;
 use crate::site::require_at;
 use crate::sizes::{check_few_preds, require_small};
 use crate::types::check_state;
@@ -90,6 +91,25 @@ impl Walk<'_> {
         let after = point.noted(self.alloc, j)?;
         let last = self.check_last(at, proofs, 0, tried, after.has_small_types());
         finish(after, entailments, both(stated, last))
+    }
+
+    /// Checks an output.
+    pub fn output(
+        &self,
+        at: u32,
+        e: &Expr,
+        proofs: &[Proof],
+        point: Point,
+    ) -> Result<Walked, CheckFault>
+        requires range { HasVarsBelow (term e.now) (length self.now.program.now.vars) }
+        requires point { Stands self.now point }
+        ensures { WalksStm self.now at (syntax.output (term e.now)) (map view.proof proofs.now) point result }
+    {
+        let evaluated = check_guard(self.program, self.site(at), point.modes(), e);
+        let tried = self.try_guard(&point, e, proofs, 1)?;
+        let entailments = u64::from(tried.count);
+        let last = self.check_last(at, proofs, 0, tried, point.has_small_types());
+        finish(point, entailments, both(evaluated, last))
     }
 
     /// Checks an assignment.

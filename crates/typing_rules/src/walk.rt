@@ -123,6 +123,7 @@ impl Walk<'_> {
             StmtKind::Lock(l) => self.lock(at, *l, point),
             StmtKind::Unlock(l) => self.unlock(at, *l, proofs, point),
             StmtKind::Note(j) => self.note(at, j, proofs, point),
+            StmtKind::Output(e) => self.output(at, e, proofs, point),
             StmtKind::If(e, yes, no, join) => {
                 self.branch(at, e, yes.as_slice(), no.as_slice(), join, proofs, point)
             }

@@ -9,8 +9,8 @@ use Rattle.cov_expr.specs.Trees.{occurrences, width}
 use Rattle.cov_expr.specs.Words.{IsMemory, IsSchedule}
 use Rattle.cov_ast.specs.Plain.{Plain, plain}
 use Rattle.cov_ast.specs.Plain as code
-use Rattle.cov_ast.specs.Syntax.{Stm, skip, assign, lock, unlock, branch, loop, note, Block, done, more, Program}
-use Rattle.flow_model.specs.Source.{Item, run, put, test, Holders, Run, items_of, place_of, step, after}
+use Rattle.cov_ast.specs.Syntax.{Stm, skip, assign, lock, unlock, branch, loop, note, output, Block, done, more, Program}
+use Rattle.flow_model.specs.Source.{Item, run, put, test, emit, Holders, Run, items_of, place_of, step, after}
 use Rattle.flow_model.specs.Holdings.{IsStableNow}
 use Rattle.flow_model.specs.Agreement.{SameAt}
 use Rattle.mode_compat.specs.Compatible.{numbered}
@@ -32,6 +32,7 @@ module _ (p : Plain) (t : ℕ) where
     points_within (branch e yes_block no_block join) a = points yes_block (with_guard p t a e) ++ points no_block (with_guard p t a (neg e))
     points_within (loop e inv b) a = points b (with_guard p t (meet p t a inv) e)
     points_within (note j) a = []
+    points_within (output e) a = []
 
     pub points : Block → Point → List (ℕ × Point)
     points done a = []
@@ -66,8 +67,10 @@ evaluated (run at (code.lock l) ∷ is) = None
 evaluated (run at (code.unlock l) ∷ is) = None
 evaluated (run at (code.branch e yes_block no_block) ∷ is) = Some e
 evaluated (run at (code.loop e body) ∷ is) = Some e
+evaluated (run at (code.output e) ∷ is) = Some e
 evaluated (put at x word ∷ is) = None
 evaluated (test at word yes_block no_block ∷ is) = None
+evaluated (emit at word ∷ is) = None
 
 -- The expression has width at most 7, and of any two occurrences of variables in it one is stable now: others may write at
 -- most one of the words that are read.

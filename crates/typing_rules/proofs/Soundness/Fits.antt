@@ -5,19 +5,20 @@ use Rattle.cov_expr.specs.Term.{Term, value}
 use Rattle.cov_expr.specs.Trees.{mentions}
 use Rattle.cov_expr.specs.Words.{IsMemory, IsWord, HasWords}
 use Rattle.cov_ast.specs.Declarations.{assumes_hide, is_control}
-use Rattle.cov_ast.specs.Plain.{Cmd, skip, assign, lock, unlock, branch, loop, Cmds, none, next, ◌then_all◌, Plain}
-use Rattle.flow_model.specs.Source.{Item, run, put, test, Holders, holder, items_then}
+use Rattle.cov_ast.specs.Plain.{Cmd, skip, assign, lock, unlock, branch, loop, output, Cmds, none, next, ◌then_all◌, Plain}
+use Rattle.flow_model.specs.Source.{Item, run, put, test, emit, Holders, Outputs, holder, items_then}
 use Rattle.flow_model.specs.Holdings.{IsStableNow, IsWritableNow}
 use Rattle.flow_model.specs.Agreement.{SameAt, MemoriesAgree}
 use Rattle.flow_model.specs.Game.{FreeInvariantsHold}
 use Rattle.mode_compat.specs.HeldSets.{AreHeldBy}
 use Rattle.typing_state.specs.Point.{Point, type_at}
 
--- the memories of two copies, and the holders of locks, which are the same in both
+-- the memories of two copies, and the holders of locks and the outputs, which are the same in both
 pub record World : Type 0 where
   pub left : List ℕ
   pub right : List ℕ
   pub holders : Holders
+  pub outputs : Outputs
 
 module _ (p : Plain) (t : ℕ) where
   -- no other thread assumes that nobody else reads or writes the variable
@@ -61,11 +62,11 @@ module _ (p : Plain) (t : ℕ) where
 
   -- each copy stores a word of its own to the variable
   abbrev pub stored : World → ℕ → ℕ → ℕ → World
-  stored w x v1 v2 = record { left = set w.left x v1; right = set w.right x v2; holders = w.holders }
+  stored w x v1 v2 = record { left = set w.left x v1; right = set w.right x v2; holders = w.holders; outputs = w.outputs }
 
   -- the lock has another holder, or none
   abbrev pub holding : World → ℕ → Option ℕ → World
-  holding w l o = record { left = w.left; right = w.right; holders = set w.holders l o }
+  holding w l o = record { left = w.left; right = w.right; holders = set w.holders l o; outputs = w.outputs }
 
   -- The words of a store of e that is pending in the copies: where the type q holds they are the same, and where e is stable
   -- they are still its values.
@@ -96,6 +97,11 @@ module _ (p : Plain) (t : ℕ) where
     pub gives : (w : World) → Fits a w → Fits b (holding w l None)
     pub in_range : l < length p.locks
 
+  -- an output, which has one value in both,
+  pub record OutputOk (e : Term) (a b : Point) : Type 0 where
+    pub same : (w : World) → Fits a w → value e w.left ≡ value e w.right
+    pub after : Weaker a b
+
   -- and a guard, which has one value in both and tells either branch of it.
   pub record GuardOk (e : Term) (a yes no : Point) : Type 0 where
     pub same : (w : World) → Fits a w → value e w.left ≡ value e w.right
@@ -112,6 +118,7 @@ module _ (p : Plain) (t : ℕ) where
     TypedCmd (unlock l) a b = UnlockOk l a b
     TypedCmd (branch e c d) a b = (yes : Point) × (no : Point) × GuardOk e a yes no × Typed c yes b × Typed d no b
     TypedCmd (loop e c) a b = (head : Point) × (yes : Point) × Weaker a head × GuardOk e head yes b × Typed c yes head
+    TypedCmd (output e) a b = OutputOk e a b
 
     pub Typed : Cmds → Point → Point → Type 0
     Typed none a b = Weaker a b
@@ -122,6 +129,7 @@ module _ (p : Plain) (t : ℕ) where
   TypedItem (run at c) a b = TypedCmd c a b
   TypedItem (put at x w) a b = ⊥
   TypedItem (test at w c d) a b = ⊥
+  TypedItem (emit at w) a b = ⊥
 
   abbrev pub TypedItems : List Item → Point → Type 0
   TypedItems [] a = Unit {0}
@@ -149,6 +157,7 @@ module _ (p : Plain) (t : ℕ) where
   cmd_from (unlock l) a b d k o = record { held = λ w f. o.held w (k w f); gives = λ w f. o.gives w (k w f); in_range = o.in_range }
   cmd_from (branch e c c') a b d k o = (o.0, o.1, guard_from e a b o.0 o.1 k o.2, o.3, o.4)
   cmd_from (loop e c) a b d k o = (o.0, o.1, (λ w f. o.2 w (k w f)), o.3, o.4)
+  cmd_from (output e) a b d k o = record { same = λ w f. o.same w (k w f); after = λ w f. o.after w (k w f) }
 
   pub typed_from : (cs : Cmds) (a b d : Point) → Weaker a b → Typed cs b d → Typed cs a d
   typed_from none a b d k o = λ w f. o w (k w f)
@@ -158,6 +167,7 @@ module _ (p : Plain) (t : ℕ) where
   item_from (run at c) a b d k o = cmd_from c a b d k o
   item_from (put at x w) a b d k o = o
   item_from (test at w c c') a b d k o = o
+  item_from (emit at w) a b d k o = o
 
   pub items_from : (is : List Item) (a b : Point) → Weaker a b → TypedItems is b → TypedItems is a
   items_from [] a b k o = tt
