@@ -152,6 +152,7 @@ pub fn resolved_program(ids: &Ids, p: Parsed) -> Program
     resolve_locks(ids, locks.as_mut_slice());
     resolve_threads(ids, threads.as_mut_slice());
     Program {
+        version,
         vars,
         locks,
         threads,
