@@ -31,6 +31,7 @@ enum Kind {
     If(Expr, Vec<Stmt>, Vec<Stmt>, State),
     While(Expr, State, Vec<Stmt>),
     Note(State),
+    Output(Expr),
 }
 
 struct Stmt {
@@ -57,6 +58,7 @@ struct Thread {
 }
 
 pub struct Program {
+    has_outputs: bool,
     vars: Vec<(u32, Class)>,
     locks: Vec<Lock>,
     threads: Vec<Thread>,
@@ -283,6 +285,7 @@ impl<'t> Reader<'t> {
             Token::Word(b"lock") => (Kind::Lock(self.name()?), vec![]),
             Token::Word(b"unlock") => (Kind::Unlock(self.name()?), self.proofs()?),
             Token::Word(b"note") => (Kind::Note(self.state()?), self.proofs()?),
+            Token::Word(b"output") if self.has_outputs => (Kind::Output(self.expr(false)?), self.proofs()?),
             Token::Word(b"if") => {
                 ends = false;
                 let e = self.expr(false)?;
@@ -352,8 +355,13 @@ impl<'t> Reader<'t> {
 }
 
 pub fn parse(tokens: &[Token]) -> Option<Program> {
-    let mut reader = Reader { left: tokens };
-    let mut program = Program { vars: vec![], locks: vec![], threads: vec![] };
+    let mut reader = Reader { left: tokens, has_outputs: false };
+    if reader.word(b"version") {
+        (reader.number()? == 2).then_some(())?;
+        reader.must(b";")?;
+        reader.has_outputs = true;
+    }
+    let mut program = Program { has_outputs: reader.has_outputs, vars: vec![], locks: vec![], threads: vec![] };
     while reader.word(b"var") {
         let name = reader.name()?;
         reader.must(b":")?;
@@ -595,6 +603,10 @@ impl Printer<'_> {
                 self.put("note ");
                 self.state(state);
             }
+            Kind::Output(e) => {
+                self.put("output ");
+                self.expr(e, false);
+            }
             Kind::Assign(x, e, class, retypes) => {
                 self.name(*x);
                 self.put(" := ");
@@ -648,6 +660,9 @@ impl Printer<'_> {
 
 pub fn print(program: &Program, names: &[&[u8]]) -> Vec<u8> {
     let mut p = Printer { names, out: vec![] };
+    if program.has_outputs {
+        p.put("version 2;\n");
+    }
     for (name, class) in &program.vars {
         p.put("var ");
         p.name(*name);

@@ -74,6 +74,7 @@ fn lex(text: &[u8]) -> Option<(Vec<Token<'_>>, Vec<&[u8]>)> {
 
 struct Reader<'t> {
     left: &'t [Token<'t>],
+    has_outputs: bool,
 }
 
 impl<'t> Reader<'t> {

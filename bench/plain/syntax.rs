@@ -115,6 +115,7 @@ pub enum Kind {
     If { guard: Term, yes: Vec<Stmt>, no: Vec<Stmt>, join: State },
     While { guard: Term, inv: State, body: Vec<Stmt> },
     Note(State),
+    Output(Term),
 }
 
 /// A name that is used as a variable or as a lock.
@@ -282,6 +283,7 @@ struct Reader<'t> {
     places: [Vec<u32>; 2],
     uses: Vec<Use>,
     statements: usize,
+    has_outputs: bool,
 }
 
 impl<'t> Reader<'t> {
@@ -539,6 +541,7 @@ impl<'t> Reader<'t> {
             "lock" => Kind::Lock(self.used(true)?),
             "unlock" => Kind::Unlock(self.used(true)?),
             "note" => Kind::Note(self.state()?),
+            "output" if self.has_outputs => Kind::Output(self.expr()?),
             "if" => {
                 let guard = self.expr()?;
                 let (yes, _) = self.block(around + 1)?;
@@ -579,6 +582,16 @@ impl<'t> Reader<'t> {
             return Some(Class { is_plain_low: false, term: self.expr()? });
         }
         Some(Class { is_plain_low: true, term: term(Expr::Const(1)) })
+    }
+
+    /// Whether the text is of version 2, which it says at its front.
+    fn version(&mut self) -> Option<bool> {
+        if !self.take("version") {
+            return Some(false);
+        }
+        (self.number()? == 2).then_some(())?;
+        self.expect(";")?;
+        Some(true)
     }
 
     fn var(&mut self) -> Option<Var> {
@@ -640,7 +653,8 @@ pub fn parse(text: &[u8]) -> Option<Program<'_>> {
         return None;
     }
     let places = declared(&tokens, names.len());
-    let mut reader = Reader { tokens, next: 0, places, uses: Vec::new(), statements: 0 };
+    let mut reader = Reader { tokens, next: 0, places, uses: Vec::new(), statements: 0, has_outputs: false };
+    reader.has_outputs = reader.version()?;
     let vars = reader.all("var", 256, Reader::var)?;
     let locks = reader.all("lock", 64, Reader::lock)?;
     let threads = reader.all("thread", 16, Reader::thread)?;

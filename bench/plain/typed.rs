@@ -296,6 +296,7 @@ impl<'d> Checker<'d> {
             Kind::If { guard, yes, no, join } => self.branch(&mut site, point, guard, [yes, no], join)?,
             Kind::While { guard, inv, body } => self.repeat(&mut site, point, guard, inv, body)?,
             Kind::Note(state) => self.note(&mut site, point, state)?,
+            Kind::Output(value) => self.output(&mut site, point, value)?,
         }
         site.numbered()?;
         self.entailments += site.tried as usize;
@@ -461,6 +462,15 @@ impl<'d> Checker<'d> {
         site.prove(&inside.preds, &kept)?;
         *point = after;
         Ok(())
+    }
+
+    fn output(&self, site: &mut Site, point: &Point, value: Term) -> Result<(), Refusal> {
+        let read = vars(value);
+        self.reads(site, point, &read)?;
+        self.evaluates(site, point, value)?;
+        let claims = self.guard_claims(point, &read);
+        site.small(&point.preds, &claims)?;
+        site.prove(&point.preds, &claims)
     }
 
     fn note(&self, site: &mut Site, point: &mut Point, state: &State) -> Result<(), Refusal> {
