@@ -6,8 +6,7 @@ ghost use Rattle.cov_ast.specs.NameTables.{number_of, with_name};
 ghost use Rattle.cov_expr.specs.Names.{IsName};
 ghost use Rattle.cov_lex.specs.Classified.{AreClassified};
 ghost use Rattle.cov_parse.specs.Reads.{AreRead};
-ghost use Rattle.cov_text.specs.Text.{lexed_of, names_of};
-ghost use Rattle.cov_text.specs.Numbered as words;
+ghost use Rattle.cov_text.specs.Text.{names_of, numbered_of};
 
 use crate::versions::fit_version;
 use cov_ast::NameTable;
@@ -48,7 +47,7 @@ fn number_names(
     requires short { length bytes.now ≤ MOST_BYTES }
     requires tokens { AreClassified bytes.now tokens.old }
     ensures names { IfOk result (λ names. names ≡ names_of bytes.now) }
-    ensures tokens { OnOk result (tokens.new ≡ words.words_of bytes.now (lexed_of bytes.now)) }
+    ensures tokens { OnOk result (tokens.new ≡ numbered_of bytes.now) }
 {
     let mut names = NameTable::new(alloc);
     let mut guesses = [0; GUESSES];
