@@ -9,7 +9,7 @@ use Rattle.cov_grammar.specs.Shapes.{Shape, token, rule, seq, alt, opt, many, ac
 
 -- Kinds --------------------------------------------------------------------------------------------------------
 
--- whether two kinds are the same, as `==` says; it stays closed in proofs, since there are 71 of them
+-- whether two kinds are the same, as `==` says; it stays closed in proofs, since there are 72 of them
 unfoldable pub kind_is : Kind → Kind → Bool
 kind_is a b = kinds.eq-value.it a b
 

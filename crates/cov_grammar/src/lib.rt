@@ -6,13 +6,13 @@
 //! stands within itself.
 //!
 //! **What has to be believed** is in the first files of `specs/`, in this order:
-//! - `Trees`: what a program is, with places.
+//! - `PlacedTrees`: what a program is, with places.
 //! - `Shapes`: what a right side is, and which tokens spell which of its values.
 //! - `Grammar`: the rules, a definition each, below the rule in the usual notation.
-//! - `Spelling`: `Is`, the tokens spell the value; `FirstWrong`, the first wrong token, by the language alone.
+//! - `Spells`: `Is`, the tokens spell the value; `FirstWrong`, the first wrong token, by the language alone.
 //!
-//! The others speak of the reader: `LookAhead` and `Tables` (the LL(1) condition), `Reading` (what is read), `ReaderAnswers`
-//! (what code answers), `Laws` (the two laws).
+//! The others speak of the reader: `LookAhead` and `FirstKinds` (the LL(1) condition), `Reading` (what is read), `ReaderAnswers`
+//! (what code answers), `ReadingLaws` (the two laws).
 //!
 //! **How to read by it.** Code takes a [`TokenReader`] and has one function for each right side with a name, with the clause
 //! `Gives view tokens.new result (reading SHAPE tokens.old)`. [`TokenReader::finish`] makes the answer for a whole text. The

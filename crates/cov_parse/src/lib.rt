@@ -15,6 +15,7 @@ mod text;
 mod tokens;
 mod turned;
 mod uses;
+mod versions;
 
 pub use text::{ParsedExpr, parse, parse_expr};
 pub use tokens::{Tokens, read_tokens};

@@ -4,7 +4,7 @@ ghost use Rattle.cov_text.specs.Limits as spec;
 ghost use Rattle.cov_read.specs.CertViews as certs;
 
 use cov_expr::MOST_CERT_NODES;
-use cov_read::{Cert, HEIGHT, greater, lesser};
+use cov_read::{Cert, HEIGHT};
 
 /// One node above the most that a certificate may have.
 const CERT_NODES: u32 = MOST_CERT_NODES + 1;
@@ -17,7 +17,7 @@ pub fn cert_nodes(cert: &Cert) -> u32
         Cert::Auto | Cert::Calc | Cert::Refl | Cert::Ring | Cert::Range => 1,
         Cert::Hyp(_) | Cert::Clash(_) | Cert::Absurd(_, _) => 1,
         Cert::And(c, d) | Cert::Cases(_, c, d) | Cert::Split(_, c, d) | Cert::Have(_, c, d) => {
-            lesser(1 + cert_nodes(c) + cert_nodes(d), CERT_NODES)
+            (1 + cert_nodes(c) + cert_nodes(d)).min(CERT_NODES)
         }
         Cert::Left(c)
         | Cert::Right(c)
@@ -26,7 +26,7 @@ pub fn cert_nodes(cert: &Cert) -> u32
         | Cert::Contra(c)
         | Cert::Fwd(_, _, c)
         | Cert::Rev(_, _, c)
-        | Cert::Axiom(_, _, c) => lesser(1 + cert_nodes(c), CERT_NODES),
+        | Cert::Axiom(_, _, c) => (1 + cert_nodes(c)).min(CERT_NODES),
     }
 }
 
@@ -38,7 +38,7 @@ pub fn cert_height(cert: &Cert) -> u32
         Cert::Auto | Cert::Calc | Cert::Refl | Cert::Ring | Cert::Range => 1,
         Cert::Hyp(_) | Cert::Clash(_) | Cert::Absurd(_, _) => 1,
         Cert::And(c, d) | Cert::Cases(_, c, d) | Cert::Split(_, c, d) | Cert::Have(_, c, d) => {
-            lesser(1 + greater(cert_height(c), cert_height(d)), HEIGHT)
+            (1 + cert_height(c).max(cert_height(d))).min(HEIGHT)
         }
         Cert::Left(c)
         | Cert::Right(c)
@@ -47,6 +47,6 @@ pub fn cert_height(cert: &Cert) -> u32
         | Cert::Contra(c)
         | Cert::Fwd(_, _, c)
         | Cert::Rev(_, _, c)
-        | Cert::Axiom(_, _, c) => lesser(1 + cert_height(c), HEIGHT),
+        | Cert::Axiom(_, _, c) => (1 + cert_height(c)).min(HEIGHT),
     }
 }

@@ -6,8 +6,9 @@ ghost use Rattle.cov_ast.specs.NameTables.{number_of, with_name};
 ghost use Rattle.cov_expr.specs.Names.{IsName};
 ghost use Rattle.cov_lex.specs.Classified.{AreClassified};
 ghost use Rattle.cov_parse.specs.Reads.{AreRead};
-ghost use Rattle.cov_text.specs.Text.{names_of, words_of};
+ghost use Rattle.cov_text.specs.Text.{names_of, numbered_of};
 
+use crate::versions::fit_version;
 use cov_ast::NameTable;
 use cov_expr::{List, Name, NoMemory};
 use cov_grammar::{Kind, Token, is};
@@ -17,7 +18,8 @@ use std::alloc::Global;
 /// How many guesses at numbers of names are kept.
 const GUESSES: usize = 1024;
 
-/// The names of a text in the order in which they first occur, and its tokens. The value of a name is its number there.
+/// The names of a text in the order in which they first occur, and its tokens. The value of a name is its number there. What
+/// the version of the text doesn't have is foreign.
 #[derive(Drop)]
 pub struct Tokens {
     pub names: NameTable,
@@ -32,6 +34,7 @@ pub fn read_tokens(alloc: Global, bytes: &[u8]) -> Result<Tokens, LexFault>
 {
     let mut tokens = cov_lex::tokens(alloc, bytes)?;
     let names = number_names(alloc, bytes, &mut tokens)?;
+    fit_version(tokens.as_mut_slice());
     Ok(Tokens { names, tokens })
 }
 
@@ -44,7 +47,7 @@ fn number_names(
     requires short { length bytes.now ≤ MOST_BYTES }
     requires tokens { AreClassified bytes.now tokens.old }
     ensures names { IfOk result (λ names. names ≡ names_of bytes.now) }
-    ensures tokens { OnOk result (tokens.new ≡ words_of bytes.now) }
+    ensures tokens { OnOk result (tokens.new ≡ numbered_of bytes.now) }
 {
     let mut names = NameTable::new(alloc);
     let mut guesses = [0; GUESSES];

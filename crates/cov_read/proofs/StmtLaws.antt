@@ -14,7 +14,7 @@ pub rule_block : (ts : List Token) → reading (rule t.block) ts ≡ reading bra
 unfolding body
 rule_block ts = rule_is t.block ts
 
-pub statement_item : Item (placed statement) (k.Skip ∷ k.Name ∷ k.Lock ∷ k.Unlock ∷ k.If ∷ k.While ∷ k.Note ∷ [])
+pub statement_item : Item (placed statement) (k.Skip ∷ k.Name ∷ k.Lock ∷ k.Unlock ∷ k.If ∷ k.While ∷ k.Note ∷ k.Output ∷ [])
 unfolding kind_is proof proofs types state retype assigned branched looped statement
 statement_item = record { fine = refl; full = refl; first = refl }
 

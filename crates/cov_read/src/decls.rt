@@ -216,30 +216,22 @@ fn read_threads(reader: &mut TokenReader<'_>, alloc: Global) -> Result<List<Thre
     Ok(list)
 }
 
+/// The number of the version that a text names, if it names one.
 #[tactic(auto, unfolding(cov_grammar::specs::Grammar::version))]
-fn read_named_version(reader: &mut TokenReader<'_>) -> Result<u32, Stop>
-    ensures reads { Gives decls.number reader.new result (reading grammar.version reader.old) }
-    ensures shorter { Shorter reader.old reader.new result }
-{
-    reader.expect(Kind::Version)?;
-    let number = reader.expect(Kind::Number)?;
-    reader.expect(Kind::Semicolon)?;
-    Ok(number.value)
-}
-
-/// The version of a text: one that names its version is of version 2.
 fn read_version(reader: &mut TokenReader<'_>) -> Result<Option<u32>, Stop>
     ensures reads { Gives (option_map decls.number) reader.new result (reading (opt grammar.version) reader.old) }
     ensures shorter { length reader.new ≤ length reader.old }
 {
-    if reader.at(Kind::Version) {
-        Ok(Some(read_named_version(reader)?))
+    if let Some(_) = reader.take(Kind::Version) {
+        let number = reader.expect(Kind::Number)?;
+        reader.expect(Kind::Semicolon)?;
+        Ok(Some(number.value))
     } else {
         Ok(None)
     }
 }
 
-/// A whole program.
+/// A whole program. A text that names its version is of version 2.
 #[tactic(auto, unfolding(cov_grammar::specs::Grammar::program))]
 pub fn read_program(reader: &mut TokenReader<'_>, alloc: Global) -> Result<PlacedProgram, Stop>
     ensures reads { Gives decls.program reader.new result (reading grammar.program reader.old) }

@@ -22,7 +22,7 @@ pub use cert::{Cert, Whole};
 pub use certs::read_whole;
 pub use decl::{ClassDecl, Lock, Pair, PlacedProgram, Thread, Variable};
 pub use decls::read_program;
-pub use measures::{HEIGHT, greater, lesser};
+pub use measures::HEIGHT;
 pub use states::{Proof, State, Typed};
 pub use stmt::{Braces, Stmt, StmtKind};
 pub use written::Written;

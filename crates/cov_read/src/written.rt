@@ -5,7 +5,7 @@ ghost use Rattle.cov_expr.specs.Trees as tree;
 ghost use Rattle.cov_expr.specs.View.{term};
 ghost use Rattle.cov_grammar.specs.Grammar.{negated};
 
-use crate::measures::{HEIGHT, NODES, greater, lesser};
+use crate::measures::{HEIGHT, NODES};
 use cov_expr::{Expr, NoMemory, Op, boxed};
 use std::alloc::Global;
 
@@ -93,8 +93,8 @@ fn negation(alloc: Global, operand: Written) -> Result<Written, NoMemory>
     ensures { IfOk result (λ made. term made.expr ≡ neg (term operand.expr)) }
 {
     let room = boxed(alloc, Expr::Const(0))?;
-    let nodes = lesser(operand.nodes + 1, NODES);
-    let height = lesser(operand.height + 1, HEIGHT);
+    let nodes = (operand.nodes + 1).min(NODES);
+    let height = (operand.height + 1).min(HEIGHT);
     Ok(Written {
         expr: Expr::Not(placed(room, operand.into_expr())),
         nodes,
@@ -119,8 +119,8 @@ pub fn binary(alloc: Global, op: Op, left: Written, right: Written) -> Result<Wr
 {
     let first = boxed(alloc, Expr::Const(0))?;
     let second = boxed(alloc, Expr::Const(0))?;
-    let nodes = lesser(left.nodes + right.nodes + 1, NODES);
-    let height = lesser(greater(left.height, right.height) + 1, HEIGHT);
+    let nodes = (left.nodes + right.nodes + 1).min(NODES);
+    let height = (left.height.max(right.height) + 1).min(HEIGHT);
     let first = placed(first, left.into_expr());
     let second = placed(second, right.into_expr());
     Ok(Written {

@@ -7,6 +7,8 @@ pub mod TermSummaries
 pub mod CertSummaries
 pub mod StmtSummaries
 pub mod DeclSummaries
+pub mod VersionLaws
+pub mod SilentLaws
 pub mod WordLaws
 pub mod NamesInOrder
 pub mod ReadyLaws

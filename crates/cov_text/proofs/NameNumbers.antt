@@ -18,7 +18,7 @@ use Rattle.cov_lex.specs.Classified.{value_of as lexical_value}
 use Rattle.cov_grammar.specs.LookAhead.{kind_is}
 use Rattle.cov_grammar.proofs.Basics.{kind_itself, kind_one}
 use Rattle.cov_expr.specs.declared.kind.Kind.TheVariants as k
-use Rattle.cov_text.specs.Text.{lexed_of, words_of, names_of}
+use Rattle.cov_text.specs.Text.{lexed_of, numbered_of, names_of}
 use Rattle.cov_text.proofs.TextLaws.{lexed_is}
 use Rattle.std.proofs.lemmas.List.{take_more, length-map, map-append}
 
@@ -136,8 +136,8 @@ take_past zero (t ∷ ts) h = let no : ⊥ = omega (arith, h) in absurd no
 take_past (suc n) [] h = refl
 take_past (suc n) (t ∷ ts) h = ap (λ us. t ∷ us) (take_past n ts (omega (arith, h)))
 
-pub numbered_tokens : (text : List ℕ) (names : List (List ℕ)) (tokens : List Token) (i : ℕ) → Numbering text names tokens i → length (lexed_of text) ≤ i → tokens ≡ words_of text
-unfolding words_of names_of
+pub numbered_tokens : (text : List ℕ) (names : List (List ℕ)) (tokens : List Token) (i : ℕ) → Numbering text names tokens i → length (lexed_of text) ≤ i → tokens ≡ numbered_of text
+unfolding numbered_of names_of
 numbered_tokens text names tokens i h past =
     h.so_far
     ∙ ap (λ ts. map (word_of text (names_of text)) ts ++ map (classified text) (drop i (lexed_of text))) (take_past i (lexed_of text) past)

@@ -1,5 +1,5 @@
 -- The uses of names in a text are those of its tree, in the same order, and each id is the number of a name.
-use Rattle.std.proofs.Common.{◌≡◌, ℕ, ◌≤◌, ◌<◌, List, [], ◌∷◌, ◌++◌, length, map, Bool, true, false, if◌then◌else◌, ◌||◌, refl, sym, ap, subst, ◌∙◌, arith, append_assoc, append-nil, length-append}
+use Rattle.std.proofs.Common.{◌≡◌, ℕ, ◌≤◌, ◌<◌, List, [], ◌∷◌, ◌++◌, length, map, Bool, true, false, if◌then◌else◌, ◌||◌, Option, Some, None, refl, sym, ap, subst, ◌∙◌, arith, append_assoc, append-nil, length-append}
 use Rattle.std.specs.Prelude.{flat_map}
 use Rattle.std.specs.List.{All}
 use Rattle.std.proofs.lemmas.List.Elements.{All-nil, All-cons, All-append}
@@ -11,7 +11,8 @@ use Rattle.cov_expr.specs.declared.kind.Kind.TheVariants as k
 use Rattle.cov_grammar.specs.declared.token.Token.{Token}
 use Rattle.cov_grammar.specs.LookAhead.{kind_is}
 use Rattle.cov_grammar.specs.PlacedTrees.{Program, Placed}
-use Rattle.cov_grammar.specs.Grammar.{program, whole}
+use Rattle.cov_grammar.specs.Shapes.{opt, Sense}
+use Rattle.cov_grammar.specs.Grammar.{version, version_of, program, whole}
 use Rattle.cov_grammar.specs.Spells.{Is, Within}
 use Rattle.cov_ast.specs.Ready.{uses_in, uses_in_class, uses_in_lock, uses_in_thread, uses_in_declarations}
 use Rattle.cov_ast.specs.Ready as ready
@@ -25,11 +26,11 @@ use Rattle.cov_text.specs.Uses.{declares, is_lock, use_of, uses_behind, uses_of,
 use Rattle.cov_text.specs.GivenTrees.{var_of, lock_of, thread_of, expr_of}
 use Rattle.cov_text.specs.Text.{words_of, names_of, IsShallow, IsText, program_of}
 use Rattle.cov_text.proofs.UseLaws.{uses_from, IsSilent}
-use Rattle.cov_text.proofs.Summaries.{AreBelow, AreFine, HasSummary, fine_left, fine_right}
-use Rattle.cov_text.proofs.ShapeSummaries.{all, many_law}
+use Rattle.cov_text.proofs.Summaries.{AreBelow, AreFine, Kept, HasSummary, nothing, more, fine_left, fine_right}
+use Rattle.cov_text.proofs.ShapeSummaries.{all, of_option, IsSummary, kept_law, opt_law, many_law, behind_law, closed_law}
 use Rattle.cov_text.proofs.TermSummaries.{of_expr}
 use Rattle.cov_text.proofs.StmtSummaries.{rule_summaries, block_summary}
-use Rattle.cov_text.proofs.CertSummaries.{whole_summary}
+use Rattle.cov_text.proofs.CertSummaries.{number_summary, whole_summary}
 use Rattle.cov_text.proofs.DeclSummaries.{all_ids, all_uses, of_var, of_lock, var_summary, lock_summary, IsGood, threads_summary}
 use Rattle.cov_text.proofs.WordLaws.{words_fine}
 
@@ -49,36 +50,51 @@ begins_silent : IsSilent k.Semicolon
 unfolding kind_is
 begins_silent = refl
 
+version_of_nothing : (x : Option ℕ) → (of_option (λ v. more (more (more nothing))) x).ids → Kept (of_option (λ v. more (more (more nothing))) x) nothing
+version_of_nothing None ids = record { uses = refl; size = omega arith; places = refl; ids = tt }
+version_of_nothing (Some v) ids = record { uses = refl; size = omega arith; places = refl; ids = tt }
+
+-- what stands in front of all declarations
+version_summary : (b : Bool) (n : ℕ) (inside : Sense) → IsSummary b n inside IsSilent (opt version) (λ x. nothing)
+unfolding version kind_is
+version_summary b n inside =
+    kept_law b n inside (λ x. nothing)
+    (opt_law b n inside (behind_law b n inside k.Version refl (closed_law b n inside k.Semicolon refl (number_summary b n inside)))) version_of_nothing
+
 pub program_summary : (n : ℕ) → n ≤ HOLE → (ns : List (List ℕ)) (p : Program) (ts : List Token) → AreFine n ts → Is program p ts → ProgramSummary n ns p ts
 unfolding program
 program_summary n few ns p ts fine is = subst (λ q. ProgramSummary n ns q ts) is.1.1 made
   where
-    made : ProgramSummary n ns (record { vars = is.1.0.0; locks = is.1.0.1.0; threads = is.1.0.1.1 }) ts
+    made : ProgramSummary n ns (record { version = version_of is.1.0.0; vars = is.1.0.1.0; locks = is.1.0.1.1.0; threads = is.1.0.1.1.1 }) ts
     made =
-        let s = is.1.2 in
-        let r = s.3 in
         let plain = rule_summaries n few false is.0 in
-        let behind = fine_right n s.0 s.1 ts s.4 fine in
-        let vars = (many_law false n (Within is.0) (var_summary n (Within is.0) plain.expr)).of is.1.0.0 s.0 (fine_left n s.0 s.1 ts s.4 fine) s.2 in
-        let locks = (many_law false n (Within is.0) (lock_summary n (Within is.0) plain.expr ns)).of is.1.0.1.0 r.0 (fine_left n r.0 r.1 s.1 r.4 behind) r.2 in
-        let shorter : length r.1 ≤ length ts = omega (arith, ap length s.4, length-append s.0 s.1, ap length r.4, length-append r.0 r.1) in
-        let threads = threads_summary n (Within is.0) (block_summary n few is.0) ns (length ts) is.1.0.1.1 r.1 shorter (fine_right n r.0 r.1 s.1 r.4 behind) r.3 in
-        let one = vars.uses k.Semicolon begins_silent s.1 in
+        let w = is.1.2 in
+        let s = w.3 in
+        let r = s.3 in
+        let behind_version = fine_right n w.0 w.1 ts w.4 fine in
+        let behind = fine_right n s.0 s.1 w.1 s.4 behind_version in
+        let front = (version_summary false n (Within is.0)).of is.1.0.0 w.0 (fine_left n w.0 w.1 ts w.4 fine) w.2 in
+        let vars = (many_law false n (Within is.0) (var_summary n (Within is.0) plain.expr)).of is.1.0.1.0 s.0 (fine_left n s.0 s.1 w.1 s.4 behind_version) s.2 in
+        let locks = (many_law false n (Within is.0) (lock_summary n (Within is.0) plain.expr ns)).of is.1.0.1.1.0 r.0 (fine_left n r.0 r.1 s.1 r.4 behind) r.2 in
+        let shorter : length r.1 ≤ length ts = omega (arith, ap length w.4, length-append w.0 w.1, ap length s.4, length-append s.0 s.1, ap length r.4, length-append r.0 r.1) in
+        let threads = threads_summary n (Within is.0) (block_summary n few is.0) ns (length ts) is.1.0.1.1.1 r.1 shorter (fine_right n r.0 r.1 s.1 r.4 behind) r.3 in
+        let zero = front.uses k.Semicolon begins_silent w.1 in
+        let one = vars.uses zero.0 zero.1 s.1 in
         let two = locks.uses one.0 one.1 r.1 in
         record {
           uses =
-              ap (uses_from false k.Semicolon) s.4 ∙ one.2
-              ∙ ap (λ us. (all (of_var n) is.1.0.0).uses ++ us) (ap (uses_from false one.0) r.4 ∙ two.2 ∙ ap (λ us. (all (of_lock n ns) is.1.0.1.0).uses ++ us) (threads.uses false two.0))
-              ∙ sym (append_assoc (all (of_var n) is.1.0.0).uses (all (of_lock n ns) is.1.0.1.0).uses (flat_map uses_in_thread (map (thread_of ns) is.1.0.1.1)))
-              ∙ ap (λ us. us ++ (all (of_lock n ns) is.1.0.1.0).uses ++ flat_map uses_in_thread (map (thread_of ns) is.1.0.1.1)) (all_uses (of_var n) (var_of ns) (λ v. uses_in_class v.class) (λ v. refl) is.1.0.0)
-              ∙ ap (λ us. flat_map (λ v. uses_in_class v.class) (map (var_of ns) is.1.0.0) ++ us ++ flat_map uses_in_thread (map (thread_of ns) is.1.0.1.1)) (all_uses (of_lock n ns) (lock_of ns) uses_in_lock (λ l. refl) is.1.0.1.0);
+              ap (uses_from false k.Semicolon) w.4 ∙ zero.2 ∙ ap (uses_from false zero.0) s.4 ∙ one.2
+              ∙ ap (λ us. (all (of_var n) is.1.0.1.0).uses ++ us) (ap (uses_from false one.0) r.4 ∙ two.2 ∙ ap (λ us. (all (of_lock n ns) is.1.0.1.1.0).uses ++ us) (threads.uses false two.0))
+              ∙ sym (append_assoc (all (of_var n) is.1.0.1.0).uses (all (of_lock n ns) is.1.0.1.1.0).uses (flat_map uses_in_thread (map (thread_of ns) is.1.0.1.1.1)))
+              ∙ ap (λ us. us ++ (all (of_lock n ns) is.1.0.1.1.0).uses ++ flat_map uses_in_thread (map (thread_of ns) is.1.0.1.1.1)) (all_uses (of_var n) (var_of ns) (λ v. uses_in_class v.class) (λ v. refl) is.1.0.1.0)
+              ∙ ap (λ us. flat_map (λ v. uses_in_class v.class) (map (var_of ns) is.1.0.1.0) ++ us ++ flat_map uses_in_thread (map (thread_of ns) is.1.0.1.1.1)) (all_uses (of_lock n ns) (lock_of ns) uses_in_lock (λ l. refl) is.1.0.1.1.0);
           named = record {
-            vars = subst (All (λ v. v.name.0 < n)) (map_same is.1.0.0) (all_ids (of_var n) (λ v. v) (λ v. v.name.0 < n) (λ v ids. ids.0) is.1.0.0 vars.ids);
-            locks = subst (All (λ l. l.name.0 < n)) (map_same is.1.0.1.0) (all_ids (of_lock n ns) (λ l. l) (λ l. l.name.0 < n) (λ l ids. ids.0) is.1.0.1.0 locks.ids);
+            vars = subst (All (λ v. v.name.0 < n)) (map_same is.1.0.1.0) (all_ids (of_var n) (λ v. v) (λ v. v.name.0 < n) (λ v ids. ids.0) is.1.0.1.0 vars.ids);
+            locks = subst (All (λ l. l.name.0 < n)) (map_same is.1.0.1.1.0) (all_ids (of_lock n ns) (λ l. l) (λ l. l.name.0 < n) (λ l ids. ids.0) is.1.0.1.1.0 locks.ids);
             threads = threads.names;
           };
-          classes = all_ids (of_var n) (var_of ns) (λ v. HasVarsBelow (class_term v.class) n) (λ v ids. ids.1) is.1.0.0 vars.ids;
-          locks = all_ids (of_lock n ns) (lock_of ns) (IsLockInRange n n) (λ l ids. ids.1) is.1.0.1.0 locks.ids;
+          classes = all_ids (of_var n) (var_of ns) (λ v. HasVarsBelow (class_term v.class) n) (λ v ids. ids.1) is.1.0.1.0 vars.ids;
+          locks = all_ids (of_lock n ns) (lock_of ns) (IsLockInRange n n) (λ l ids. ids.1) is.1.0.1.1.0 locks.ids;
           threads = threads.good;
         }
 

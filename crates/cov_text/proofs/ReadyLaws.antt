@@ -20,6 +20,7 @@ use Rattle.cov_text.specs.Uses.{AreUsesOf}
 use Rattle.cov_text.specs.Text.{names_of, IsText, Answers, program_of, expression_of, Expression}
 use Rattle.cov_text.proofs.NamesInOrder.{text_summary, uses_in_order, uses_named, expr_below, expr_uses}
 use Rattle.cov_text.proofs.WordLaws.{names_few, words_few}
+use Rattle.cov_text.proofs.SilentLaws.{text_version}
 
 -- Limits -------------------------------------------------------------------------------------------------------
 
@@ -72,6 +73,7 @@ text_ready text short tree is =
       bodies = λ i d inside. let good = known.threads i d inside in
           record { places_differ = good.places_differ; small = omega (arith, good.small, words_few text is.tokens.lexes short) };
       used_ids = uses_named text is.tokens;
+      version = text_version (names_of text) text tree is.spelled;
       uses = λ u inside. subst (λ us. Contains us u) (sym (uses_in_order text few tree is)) inside;
     }
 

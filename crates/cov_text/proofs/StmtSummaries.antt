@@ -149,6 +149,12 @@ module _ (n : ℕ) (inside : Sense) where
         behind IsSilent k.Note refl refl refl
         (closed (act_law true n inside (λ x. t.note x.0 x.1) (of_stm n) (seq_law true n inside (state_summary true n inside te) the_proofs) (λ x ids. record { uses = refl; size = omega arith; places = refl; ids = ids })))
 
+    output_summary : IsSummaryAt true n inside IsSilent (k.Output ▸ act (λ x. t.output x.0 x.1) (seq whole proofs) ◂ k.Semicolon) (λ v. more (of_stm n v))
+    unfolding kind_is
+    output_summary =
+        behind IsSilent k.Output refl refl refl
+        (closed (act_law true n inside (λ x. t.output x.0 x.1) (of_stm n) (seq_law true n inside the_whole the_proofs) (λ x ids. record { uses = refl; size = omega arith; places = refl; ids = ids })))
+
     statement_summary : IsSummaryAt true n inside IsSilent statement (λ v. more (of_stm n v))
     unfolding statement kind_is
     statement_summary =
@@ -158,7 +164,8 @@ module _ (n : ℕ) (inside : Sense) where
         (at_alt true n inside unlock_summary
         (at_alt true n inside (behind IsSilent k.If refl refl refl branched_summary)
         (at_alt true n inside (behind IsSilent k.While refl refl refl looped_summary)
-        note_summary)))))
+        (at_alt true n inside note_summary
+        output_summary))))))
 
     pub braces_summary : IsPlainSummary braces (of_block n)
     unfolding braces kind_is

@@ -12,7 +12,8 @@ use Rattle.cov_text.specs.declared.fault.ParseFault.{ParseFault}
 use Rattle.cov_text.specs.declared.fault.ParseFault.TheVariants as faults
 use Rattle.cov_text.specs.declared.fault.Excess.{Excess}
 use Rattle.cov_text.specs.Numbered as words
-use Rattle.cov_text.specs.Text.{lexed_of, words_of, names_of, or_none, IsFirstFault, IsText, IsFault, Answers, Only}
+use Rattle.cov_text.specs.Versioned.{versioned}
+use Rattle.cov_text.specs.Text.{lexed_of, numbered_of, words_of, names_of, or_none, IsFirstFault, IsText, IsFault, Answers, Only}
 
 -- Bytes --------------------------------------------------------------------------------------------------------
 
@@ -24,9 +25,9 @@ pub lexed_is : (text : List ℕ) (ts : List lexed.Token) → tokens_of text ≡ 
 unfolding lexed_of
 lexed_is text ts e = ap or_none e
 
-pub words_are : (text : List ℕ) (ts : List lexed.Token) → tokens_of text ≡ Ok ts → words_of text ≡ words.words_of text ts
-unfolding words_of
-words_are text ts e = ap (words.words_of text) (lexed_is text ts e)
+pub words_are : (text : List ℕ) (ts : List lexed.Token) → tokens_of text ≡ Ok ts → words_of text ≡ versioned (words.words_of text ts)
+unfolding words_of numbered_of
+words_are text ts e = ap (λ ts. versioned (words.words_of text ts)) (lexed_is text ts e)
 
 pub names_are : (text : List ℕ) (ts : List lexed.Token) → tokens_of text ≡ Ok ts → names_of text ≡ words.names_of text ts
 unfolding names_of

@@ -21,9 +21,10 @@ use Rattle.cov_ast.specs.NameTables.{number_of, with_name}
 use Rattle.cov_text.specs.Numbered.{with_word, with_token, names_onto, value_of, word_of}
 use Rattle.cov_lex.specs.Classified.{kind_of}
 use Rattle.cov_lex.proofs.Lexical.{only_names}
-use Rattle.cov_text.specs.Text.{words_of, names_of, lexed_of}
+use Rattle.cov_text.specs.Text.{words_of, numbered_of, names_of, lexed_of}
 use Rattle.cov_text.proofs.Summaries.{AreWithin, AreBelow, AreFine}
 use Rattle.cov_text.proofs.Summaries as pieces
+use Rattle.cov_text.proofs.VersionLaws.{versioned_below, versioned_places, versioned_length}
 
 -- Places -------------------------------------------------------------------------------------------------------
 
@@ -155,12 +156,14 @@ module _ (text : List ℕ) (lexes : tokens_of text ≡ Ok (lexed_of text)) where
   few_tokens = omega (arith, few_within 0 (length text) (raw_places (lexed_of text)) order, length-map (lexed_of text) (λ t. t.at))
 
   pub words_fine : AreFine (length (names_of text)) (words_of text)
-  unfolding names_of words_of
+  unfolding names_of words_of numbered_of
   words_fine = record {
-    names = numbers_below text [] (lexed_of text) (names_of text) (recursion_from_All (IsToken text) (lexed_of text) (are_tokens text (lexed_of text) lexes).each) refl;
+    names =
+        versioned_below (length (names_of text)) (numbered_of text)
+        (numbers_below text [] (lexed_of text) (names_of text) (recursion_from_All (IsToken text) (lexed_of text) (are_tokens text (lexed_of text) lexes).each) refl);
     low = 0;
     high = length text;
-    order = subst (AreWithin 0 (length text)) (same_places text (names_of text) (lexed_of text)) order;
+    order = subst (AreWithin 0 (length text)) (same_places text (names_of text) (lexed_of text) ∙ sym (versioned_places (numbered_of text))) order;
   }
 
   module _ (short : length text ≤ MOST_BYTES) where
@@ -170,5 +173,5 @@ module _ (text : List ℕ) (lexes : tokens_of text ≡ Ok (lexed_of text)) where
     names_few = omega (arith, few_names text [] (lexed_of text), few_tokens)
 
     pub words_few : length (words_of text) ≤ MOST_BYTES
-    unfolding names_of words_of
-    words_few = omega (arith, few_tokens, length-map (lexed_of text) (word_of text (names_of text)))
+    unfolding names_of words_of numbered_of
+    words_few = omega (arith, few_tokens, length-map (lexed_of text) (word_of text (names_of text)), versioned_length (numbered_of text))

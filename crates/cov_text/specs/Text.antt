@@ -34,9 +34,13 @@ or_none (Err fault) = []
 unfoldable pub lexed_of : List ℕ → List lexed.Token
 lexed_of text = or_none (tokens_of text)
 
+-- the same, each with its kind and its value
+unfoldable pub numbered_of : List ℕ → List Token
+numbered_of text = words.words_of text (lexed_of text)
+
 -- the same as the grammar takes them, of which each is a word of the text's version or foreign
 unfoldable pub words_of : List ℕ → List Token
-words_of text = versioned (words.words_of text (lexed_of text))
+words_of text = versioned (numbered_of text)
 
 -- the names of a text, each where it first occurs
 unfoldable pub names_of : List ℕ → List (List ℕ)

@@ -1,7 +1,7 @@
 -- Which tokens of a text its version has. A text that begins with `version` is one of version 2, and each other of version 1.
 --
 -- A token that its version doesn't have is foreign, and stands in no rule of the grammar.
-use Rattle.std.specs.Prelude.{ℕ, ◌==◌, ◌&&◌, List, [], ◌∷◌, map, Bool, not, if◌then◌else◌}
+use Rattle.std.specs.Prelude.{◌==◌, ◌&&◌, List, [], ◌∷◌, map, Bool, not, if◌then◌else◌}
 use Rattle.cov_expr.specs.declared.kind.Kind.TheVariants as k
 use Rattle.cov_grammar.specs.declared.token.Token.{Token}
 use Rattle.cov_grammar.specs.LookAhead.{kind_is}

@@ -1,0 +1,211 @@
+-- The tree of a text is of version 1 or 2, and one of version 1 puts nothing out: each token `output` of its text is foreign.
+use Rattle.std.proofs.Common.{◌≡◌, ℕ, zero, suc, List, [], ◌∷◌, ◌++◌, map, Bool, true, false, if◌then◌else◌, Option, Some, None, inl, inr, refl, sym, ap, subst, ◌∙◌}
+use Rattle.std.specs.List.{All}
+use Rattle.std.proofs.lemmas.List.Elements.{All-nil, All-cons, All-head, All-tail, All-map}
+use Rattle.cov_expr.specs.declared.kind.Kind.{Kind}
+use Rattle.cov_expr.specs.declared.kind.Kind.TheVariants as k
+use Rattle.cov_grammar.specs.declared.token.Token.{Token}
+use Rattle.cov_grammar.specs.LookAhead.{kind_is, has}
+use Rattle.cov_grammar.specs.PlacedTrees.{Placed, Stm, Block, stms, Thread, Program, block}
+use Rattle.cov_grammar.specs.PlacedTrees as t
+use Rattle.cov_grammar.specs.Shapes.{Shape, rule, seq, alt, opt, many, act, placed, Each, Sense, Spells}
+use Rattle.cov_grammar.specs.Grammar.{◌▸◌, ◌◂◌, sign, name, proofs, state, assigned, branched, looped, statement, braces, var_decl, lock_decl, thread_decl, version, version_of, program, body}
+use Rattle.cov_grammar.specs.Spells.{Is, Within}
+use Rattle.cov_grammar.proofs.Basics.{kind_itself, kind_one}
+use Rattle.cov_grammar.proofs.Senses.{full_at}
+use Rattle.cov_grammar.proofs.Samples.{Begins, first_at, first_ok}
+use Rattle.cov_ast.specs.WellFormed.{IsSilent, IsSilentStm, IsOfVersion}
+use Rattle.cov_text.specs.Versioned.{foreign, of_first, behind_version, versioned}
+use Rattle.cov_text.specs.GivenTrees.{stm_of, block_of, stms_of, thread_of}
+use Rattle.cov_text.specs.Text.{words_of, numbered_of}
+
+-- Tokens without `output` --------------------------------------------------------------------------------------
+
+abbrev HasNoOutput : List Token → Type 0
+HasNoOutput [] = Unit {0}
+HasNoOutput (t ∷ ts) = (t.kind ≡ k.Output → ⊥) × HasNoOutput ts
+
+split_left : (us vs : List Token) → HasNoOutput (us ++ vs) → HasNoOutput us
+split_left [] vs h = tt
+split_left (u ∷ us) vs h = (h.0, split_left us vs h.1)
+
+split_right : (us vs : List Token) → HasNoOutput (us ++ vs) → HasNoOutput vs
+split_right [] vs h = h
+split_right (u ∷ us) vs h = split_right us vs h.1
+
+left_of : (us vs ts : List Token) → ts ≡ us ++ vs → HasNoOutput ts → HasNoOutput us
+left_of us vs ts e h = split_left us vs (subst HasNoOutput e h)
+
+right_of : (us vs ts : List Token) → ts ≡ us ++ vs → HasNoOutput ts → HasNoOutput vs
+right_of us vs ts e h = split_right us vs (subst HasNoOutput e h)
+
+first_token : (t : Token) → (of_first t).kind ≡ k.Output → ⊥
+first_token t = by (kind_is k.Output t.kind) refl
+  where
+    by : (b : Bool) → kind_is k.Output t.kind ≡ b → (if b then foreign t else t).kind ≡ k.Output → ⊥
+    by true e h = cc
+    by false e h = let no : true ≡ false = sym (ap (kind_is k.Output) h ∙ kind_itself k.Output) ∙ e in cc
+
+first_tokens : (ts : List Token) → HasNoOutput (map of_first ts)
+first_tokens [] = tt
+first_tokens (t ∷ ts) = (first_token t, first_tokens ts)
+
+-- What they spell ----------------------------------------------------------------------------------------------
+
+abbrev IsQuietStm : Stm → Type 0
+IsQuietStm v = IsSilentStm (stm_of v)
+
+abbrev IsQuietBlock : Block → Type 0
+IsQuietBlock v = IsSilent (block_of v)
+
+silent_stms : (ss : List (Placed Stm)) → All (λ s. IsQuietStm s.1) ss → IsSilent (stms_of (stms ss))
+silent_stms [] h = tt
+silent_stms (s ∷ ss) h = (All-head (λ s. IsQuietStm s.1) s ss h, silent_stms ss (All-tail (λ s. IsQuietStm s.1) s ss h))
+
+module _ (inside : Sense) where
+  -- What such tokens spell of the right side has a property.
+  record IsQuiet {A : Type 0} (a : Shape A) (P : A → Type 0) : Type 0 where
+    of : (v : A) (ts : List Token) → HasNoOutput ts → Spells inside a v ts → P v
+
+  any : {A : Type 0} {a : Shape A} → IsQuiet a (λ v. Unit {0})
+  any = record { of = λ v ts none s. tt }
+
+  of_act : {A B : Type 0} {a : Shape A} {P : A → Type 0} (f : A → B) (Q : B → Type 0) → IsQuiet a P → ((v : A) → P v → Q (f v)) → IsQuiet (act f a) Q
+  of_act f Q t e = record { of = λ v ts none s. subst Q s.1 (e s.0 (t.of s.0 ts none s.2)) }
+
+  of_seq : {A B : Type 0} {a : Shape A} {c : Shape B} {P : A → Type 0} {Q : B → Type 0} → IsQuiet a P → IsQuiet c Q → IsQuiet (seq a c) (λ x. P x.0 × Q x.1)
+  of_seq t u = record { of = λ v ts none s. (t.of v.0 s.0 (left_of s.0 s.1 ts s.4 none) s.2, u.of v.1 s.1 (right_of s.0 s.1 ts s.4 none) s.3) }
+
+  of_alt : {A : Type 0} {a c : Shape A} {P : A → Type 0} → IsQuiet a P → IsQuiet c P → IsQuiet (alt a c) P
+  of_alt {A = A} {a = a} {c = c} {P = P} t u = record { of = by }
+    where
+      by : (v : A) (ts : List Token) → HasNoOutput ts → Spells inside (alt a c) v ts → P v
+      by v ts none (inl s) = t.of v ts none s
+      by v ts none (inr s) = u.of v ts none s
+
+  of_many : {A : Type 0} {a : Shape A} {P : A → Type 0} → IsQuiet a P → IsQuiet (many a) (All P)
+  of_many {A = A} {a = a} {P = P} t = record { of = by }
+    where
+      by : (vs : List A) (ts : List Token) → HasNoOutput ts → Each (Spells inside a) vs ts → All P vs
+      by [] ts none s = All-nil P
+      by (v ∷ vs) ts none s = All-cons P v vs (t.of v s.0 (left_of s.0 s.1 ts s.4 none) s.2) (by vs s.1 (right_of s.0 s.1 ts s.4 none) s.3)
+
+  of_placed : {A : Type 0} {a : Shape A} {P : A → Type 0} → IsQuiet a P → IsQuiet (placed a) (λ x. P x.1)
+  of_placed t = record { of = λ v ts none s. t.of v.1 ts none s.1 }
+
+  -- behind a token, and in front of one
+  behind : {A : Type 0} {a : Shape A} {P : A → Type 0} (j : Kind) → IsQuiet a P → IsQuiet (j ▸ a) P
+  behind {P = P} j t = of_act (λ x. x.1) P (of_seq any t) (λ x h. h.1)
+
+  closed : {A : Type 0} {a : Shape A} {P : A → Type 0} (j : Kind) → IsQuiet a P → IsQuiet (a ◂ j) P
+  closed {P = P} j t = of_act (λ x. x.0) P (of_seq t any) (λ x h. h.0)
+
+  -- Statements -------------------------------------------------------------------------------------------------
+
+  -- there is no such token
+  put_out : {a : Shape Stm} {P : Stm → Type 0} → IsQuiet (k.Output ▸ a) P
+  put_out = record {
+    of =
+        λ v ts none s. let x = s.2 in
+        absurd ((subst HasNoOutput x.2.1 (left_of x.0 x.1 ts x.4 none)).0 x.2.0);
+  }
+
+  quiet_skip : IsQuiet (k.Skip ▸ sign k.Semicolon t.skip) IsQuietStm
+  quiet_skip = behind k.Skip (of_act (λ x. t.skip) IsQuietStm any (λ x h. tt))
+
+  quiet_assign : IsQuiet (act (λ x. t.assign x.0 x.1.0 x.1.1.0 x.1.1.1.0 x.1.1.1.1) (seq name assigned)) IsQuietStm
+  quiet_assign = of_act (λ x. t.assign x.0 x.1.0 x.1.1.0 x.1.1.1.0 x.1.1.1.1) IsQuietStm any (λ x h. tt)
+
+  quiet_lock : IsQuiet (k.Lock ▸ act t.lock name ◂ k.Semicolon) IsQuietStm
+  quiet_lock = behind k.Lock (closed k.Semicolon (of_act t.lock IsQuietStm any (λ x h. tt)))
+
+  quiet_unlock : IsQuiet (k.Unlock ▸ act (λ x. t.unlock x.0 x.1) (seq name proofs) ◂ k.Semicolon) IsQuietStm
+  quiet_unlock = behind k.Unlock (closed k.Semicolon (of_act (λ x. t.unlock x.0 x.1) IsQuietStm any (λ x h. tt)))
+
+  quiet_note : IsQuiet (k.Note ▸ act (λ x. t.note x.0 x.1) (seq state proofs) ◂ k.Semicolon) IsQuietStm
+  quiet_note = behind k.Note (closed k.Semicolon (of_act (λ x. t.note x.0 x.1) IsQuietStm any (λ x h. tt)))
+
+  module _ (tb : IsQuiet (rule block) IsQuietBlock) where
+    quiet_branched : IsQuiet branched IsQuietStm
+    unfolding branched
+    quiet_branched = of_act (λ x. t.branch x.0 x.1.0 x.1.1.0 x.1.1.1.0 x.1.1.1.1) IsQuietStm (of_seq any (of_seq tb (of_seq (behind k.Else tb) any))) (λ x h. (h.1.0, h.1.1.0))
+
+    quiet_looped : IsQuiet looped IsQuietStm
+    unfolding looped
+    quiet_looped = of_act (λ x. t.loop x.0 x.1.0 x.1.1.0 x.1.1.1) IsQuietStm (of_seq any (of_seq any (of_seq tb any))) (λ x h. h.1.1.0)
+
+    quiet_statement : IsQuiet statement IsQuietStm
+    unfolding statement
+    quiet_statement =
+        of_alt quiet_skip
+        (of_alt quiet_assign
+        (of_alt quiet_lock
+        (of_alt quiet_unlock
+        (of_alt (behind k.If quiet_branched)
+        (of_alt (behind k.While quiet_looped)
+        (of_alt quiet_note put_out))))))
+
+    quiet_braces : IsQuiet braces IsQuietBlock
+    unfolding braces
+    quiet_braces =
+        of_act (λ x. t.block x.0.at x.1.1.at (stms x.1.0)) IsQuietBlock (of_seq any (of_seq (of_many (of_placed quiet_statement)) any))
+        (λ x h. silent_stms x.1.0 h.1.0)
+
+    quiet_thread : IsQuiet thread_decl (λ h. IsQuietBlock h.body)
+    unfolding thread_decl
+    quiet_thread =
+        of_act
+        (λ x. record { name = x.0; modes = record { assume_nowrite = x.1.0.0; assume_hide = x.1.0.1; guarantee_nowrite = x.1.1.0.0; guarantee_hide = x.1.1.0.1 }; body = x.1.1.1 })
+        (λ h. IsQuietBlock h.body) (behind k.Thread (of_seq any (of_seq any (of_seq any tb)))) (λ x h. h.1.1.1)
+
+quiet_block : (d : ℕ) → IsQuiet (Within d) (rule block) IsQuietBlock
+unfolding body
+quiet_block zero = record { of = λ v ts none s. absurd s }
+quiet_block (suc d) = record { of = (quiet_braces (Within d) (quiet_block d)).of }
+
+-- Texts --------------------------------------------------------------------------------------------------------
+
+-- a text that doesn't begin with its version is of the first
+unnamed : (ts : List Token) → Begins (k.Var ∷ k.Lock ∷ k.Thread ∷ []) (versioned ts) → HasNoOutput (versioned ts)
+unfolding kind_is
+unnamed [] h = tt
+unnamed (t ∷ ts) h = by (kind_is k.Version t.kind) refl h
+  where
+    by : (b : Bool) → kind_is k.Version t.kind ≡ b → Begins (k.Var ∷ k.Lock ∷ k.Thread ∷ []) (if b then t ∷ behind_version ts else map of_first (t ∷ ts))
+        → HasNoOutput (if b then t ∷ behind_version ts else map of_first (t ∷ ts))
+    by true e g = let no : false ≡ true = subst (λ j. has (k.Var ∷ k.Lock ∷ k.Thread ∷ []) j ≡ true) (sym (kind_one k.Version t.kind e)) g in cc
+    by false e g = first_tokens (t ∷ ts)
+
+abbrev declarations : Shape (List t.Var × (List t.Lock × List Thread))
+declarations = seq (many var_decl) (seq (many lock_decl) (many thread_decl))
+
+begins_so : (d : ℕ) (x : List t.Var × (List t.Lock × List Thread)) (ts : List Token) → Spells (Within d) declarations x ts → Begins (k.Var ∷ k.Lock ∷ k.Thread ∷ []) ts
+unfolding var_decl lock_decl thread_decl
+begins_so d x ts s = first_ok (Within d) (full_at d) (first_at d) declarations x ts s
+
+module _ (ns : List (List ℕ)) (d : ℕ) (raw : List Token) where
+  quiet_threads : (x : List t.Var × (List t.Lock × List Thread)) → Spells (Within d) declarations x (versioned raw) → All (λ h. IsSilent h.body) (map (thread_of ns) x.1.1)
+  quiet_threads x s =
+      let none = unnamed raw (begins_so d x (versioned raw) s) in
+      let r = s.3 in
+      let behind_vars = right_of s.0 s.1 (versioned raw) s.4 none in
+      All-map (λ h. IsSilent h.body) (thread_of ns) x.1.1
+      ((of_many (Within d) (quiet_thread (Within d) (quiet_block d))).of x.1.1 r.1 (right_of r.0 r.1 s.1 r.4 behind_vars) r.3)
+
+  version_by : (v : Option ℕ) (us vs : List Token) (x : List t.Var × (List t.Lock × List Thread)) → Spells (Within d) (opt version) v us → Spells (Within d) declarations x vs → versioned raw ≡ us ++ vs
+      → IsOfVersion (version_of v) (map (thread_of ns) x.1.1)
+  version_by None us vs x s r e = record {
+    known = inl refl;
+    silent = λ first. quiet_threads x (subst (Spells (Within d) declarations x) (sym (e ∙ ap (λ ws. ws ++ vs) s)) r);
+  }
+  version_by (Some n) us vs x s r e = record { known = inr refl; silent = λ first. cc }
+
+pub tree_version : (ns : List (List ℕ)) (raw : List Token) (tree : Program) → Is program tree (versioned raw) → IsOfVersion tree.version (map (thread_of ns) tree.threads)
+unfolding program
+tree_version ns raw tree is =
+    let s = is.1.2 in
+    subst (λ p. IsOfVersion p.version (map (thread_of ns) p.threads)) is.1.1 (version_by ns is.0 raw is.1.0.0 s.0 s.1 is.1.0.1 s.2 s.3 s.4)
+
+pub text_version : (ns : List (List ℕ)) (text : List ℕ) (tree : Program) → Is program tree (words_of text) → IsOfVersion tree.version (map (thread_of ns) tree.threads)
+unfolding words_of
+text_version ns text tree is = tree_version ns (numbered_of text) tree is
