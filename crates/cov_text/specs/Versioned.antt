@@ -1,6 +1,8 @@
 -- Which tokens of a text its version has. A text that begins with `version` is one of version 2, and each other of version 1.
 --
--- A token that its version doesn't have is foreign, and stands in no rule of the grammar.
+-- A token that its version doesn't have is foreign, and stands in no rule of the grammar, which is one for both versions. What is
+-- spelled, and which token is the first wrong one, is so that of the text's own version: a front without foreign tokens goes on
+-- in the grammar exactly where it goes on in its version, since an output can be left out, and 2 can stand behind `version`.
 use Rattle.std.specs.Prelude.{◌==◌, ◌&&◌, List, [], ◌∷◌, map, Bool, not, if◌then◌else◌}
 use Rattle.cov_expr.specs.declared.kind.Kind.TheVariants as k
 use Rattle.cov_grammar.specs.declared.token.Token.{Token}
