@@ -10,6 +10,7 @@ use Rattle.cov_grammar.specs.Grammar.{sign, whole, in_brackets, bracketed, part,
 use Rattle.cov_grammar.specs.Grammar.{body}
 use Rattle.cov_grammar.specs.Spells.{Within}
 use Rattle.cov_grammar.proofs.Senses.{OfShape, close}
+use Rattle.cov_text.proofs.SilentLaws.{HasNoOutput, silent_left, silent_right}
 use Rattle.cov_print.proofs.Operands.{expr_keeps, template_keeps}
 use Rattle.cov_ast.specs.Syntax as s
 use Rattle.cov_text.specs.GivenTrees.{expr_of, cert_of}
@@ -38,18 +39,20 @@ module _ (known : ℕ → Bool) (S : Sense) where
       part_words c = w.part (cert_of c) (w.cert known (cert_of c))
 
       in_part : (b : Bool) (c : t.Cert) (ts us : List Token) → is_word (cert_of c) ≡ b → Kept known (bracketed t.cert) cert_of (cert_of c) (enclosed (w.cert known (cert_of c))) ts
-          → Kept known (rule t.cert) cert_of (cert_of c) (w.cert known (cert_of c)) us → leaves ts ≡ leaves us → (AreGood known ts → AreGood known us)
+          → Kept known (rule t.cert) cert_of (cert_of c) (w.cert known (cert_of c)) us → leaves ts ≡ leaves us → (AreGood known ts → AreGood known us) → (HasNoOutput ts → HasNoOutput us)
           → Kept known part cert_of (cert_of c) (if b then w.cert known (cert_of c) else enclosed (w.cert known (cert_of c))) ts
       unfolding part
-      in_part true c ts us e h i q g = record {
+      in_part true c ts us e h i q g n = record {
         same = q ∙ i.same;
         fit = λ x. i.fit (g x);
+        silent = λ x. i.silent (n x);
         spelt = λ x ns are. alone c e ns are;
       }
-      in_part false c ts us e h i q g = record {
+      in_part false c ts us e h i q g n = record {
         same = h.same;
         fit = h.fit;
-        spelt = λ x ns are. let n = h.spelt x ns are in (n.0, inr (inr (inr (inr (inr n.1)))), n.2);
+        silent = h.silent;
+        spelt = λ x ns are. let m = h.spelt x ns are in (m.0, inr (inr (inr (inr (inr m.1)))), m.2);
       }
 
       bracketed_keeps : Keeps known S (bracketed t.cert) cert_of (λ c. enclosed (w.cert known (cert_of c)))
@@ -64,6 +67,7 @@ module _ (known : ℕ → Bool) (S : Sense) where
         is : Kept known (rule t.cert) cert_of (cert_of c) (w.cert known (cert_of c)) front
         same : leaves ts ≡ leaves front
         good : AreGood known ts → AreGood known front
+        silent : HasNoOutput ts → HasNoOutput front
 
       inside : (c : t.Cert) (ts : List Token) → Spells S (bracketed t.cert) c ts → Inside c ts
       inside c ts s =
@@ -80,11 +84,12 @@ module _ (known : ℕ → Bool) (S : Sense) where
                 ap leaves m.4 ∙ leaves_append m.0 m.1 ∙ ap (λ l. l ++ leaves m.1) (ap leaves o ∙ ap (λ i. leaf i s.0.0.value ++ []) m.2.0)
                 ∙ ap leaves r.4 ∙ leaves_append r.0 r.1 ∙ ap (λ l. leaves r.0 ++ l) (ap leaves d ∙ ap (λ i. leaf i n.0.1.value ++ []) r.3.0) ∙ append-nil (leaves r.0);
             good = λ g. good_left known r.0 r.1 (subst (AreGood known) r.4 (good_right known m.0 m.1 (subst (AreGood known) m.4 g)));
+            silent = λ g. silent_left r.0 r.1 (subst HasNoOutput r.4 (silent_right m.0 m.1 (subst HasNoOutput m.4 g)));
           }
 
       bracketed_part : Turns known S (bracketed t.cert) part cert_of part_words
       bracketed_part = record {
-        kept = λ c ts s. let m = inside c ts s in in_part (is_word (cert_of c)) c ts m.front refl (bracketed_keeps.kept c ts s) m.is m.same m.good;
+        kept = λ c ts s. let m = inside c ts s in in_part (is_word (cert_of c)) c ts m.front refl (bracketed_keeps.kept c ts s) m.is m.same m.good m.silent;
       }
 
       pub part_turns : Turns known S part part cert_of part_words
@@ -128,7 +133,7 @@ module _ (known : ℕ → Bool) (S : Sense) where
       bracketed_cert = record {
         kept = λ c ts s.
             let m = inside c ts s in
-            record { same = m.same ∙ m.is.same; fit = λ g. m.is.fit (m.good g); spelt = λ g. m.is.spelt (m.good g) };
+            record { same = m.same ∙ m.is.same; fit = λ g. m.is.fit (m.good g); silent = λ g. m.is.silent (m.silent g); spelt = λ g. m.is.spelt (m.good g) };
       }
 
       parts_turn : Turns known S part (rule t.cert) cert_of words

@@ -1,20 +1,21 @@
 -- The canonical tokens of declarations and programs spell them.
-use Rattle.std.proofs.Common.{◌≡◌, ℕ, List, [], ◌∷◌, ◌++◌, Bool, false, Option, Some, None, map, option_map, flat_map, refl, sym, ap, subst, ◌∙◌, inl, inr}
+use Rattle.std.proofs.Common.{◌≡◌, ℕ, ◌==◌, if◌then◌else◌, arith, List, [], ◌∷◌, ◌++◌, Bool, false, Option, Some, None, map, option_map, flat_map, refl, sym, ap, subst, ◌∙◌, inl, inr}
 use Rattle.cov_expr.specs.Term.{Term}
 use Rattle.cov_expr.specs.declared.kind.Kind.{Kind}
 use Rattle.cov_expr.specs.declared.kind.Kind.TheVariants as k
 use Rattle.cov_grammar.specs.declared.token.Token.{Token}
 use Rattle.cov_grammar.specs.PlacedTrees as t
 use Rattle.cov_grammar.specs.PlacedTrees.{Placed}
-use Rattle.cov_grammar.specs.Shapes.{rule, seq, act, Sense, Spells}
-use Rattle.cov_grammar.specs.Grammar.{◌▸◌, listed, names, class, low_or, var_decl, lock_decl, two_lists, modes_behind, two_modes, thread_decl, program}
+use Rattle.cov_grammar.specs.Shapes.{rule, seq, opt, act, Sense, Spells}
+use Rattle.cov_grammar.specs.Grammar.{◌▸◌, listed, names, class, low_or, var_decl, lock_decl, two_lists, modes_behind, two_modes, thread_decl, version, version_of, program}
 use Rattle.cov_grammar.specs.Spells.{Within, Is}
+use Rattle.cov_grammar.proofs.Senses.{OfShape}
 use Rattle.cov_ast.specs.Syntax as s
 use Rattle.cov_text.specs.GivenTrees.{expr_of, class_of, block_of, name_of, var_of, lock_of, modes_of, thread_of}
 use Rattle.cov_print.specs.Unplaced.{unplaced_block, unplaced_var, unplaced_lock, unplaced_thread}
 use Rattle.cov_print.proofs.Written as w
 use Rattle.cov_print.proofs.Written.{Word, plain}
-use Rattle.cov_print.proofs.Keeps.{Quiet, optional, Kept, Keeps, keeps_seq, keeps_act, keeps_alt, keeps_key, keeps_end, keeps_sign, keeps_name, keeps_named, keeps_opt, keeps_many, keeps_separated, keeps_so, keeps_some, keeps_seen, keeps_word, NeverNil, separated_never, key_never}
+use Rattle.cov_print.proofs.Keeps.{Are, leaves, keeps_number, Quiet, optional, Kept, Keeps, keeps_seq, keeps_act, keeps_alt, keeps_key, keeps_end, keeps_sign, keeps_name, keeps_named, keeps_opt, keeps_many, keeps_separated, keeps_so, keeps_some, keeps_seen, keeps_word, NeverNil, separated_never, key_never}
 use Rattle.cov_print.proofs.Operands.{expr_keeps}
 use Rattle.cov_print.proofs.Statements.{whole_keeps, maybe_keeps, block_keeps}
 
@@ -32,8 +33,8 @@ seen_lock all l = unplaced_lock (lock_of all l)
 abbrev pub seen_thread : List (List ℕ) → t.Thread → s.Thread
 seen_thread all h = unplaced_thread (thread_of all h)
 
-abbrev pub seen_program : List (List ℕ) → t.Program → List s.Var × (List s.Lock × List s.Thread)
-seen_program all p = (map (seen_var all) p.vars, (map (seen_lock all) p.locks, map (seen_thread all) p.threads))
+abbrev pub seen_program : List (List ℕ) → t.Program → ℕ × (List s.Var × (List s.Lock × List s.Thread))
+seen_program all p = (p.version, (map (seen_var all) p.vars, (map (seen_lock all) p.locks, map (seen_thread all) p.threads)))
 
 -- the words of declarations
 abbrev pub var_words : (ℕ → Bool) → t.Var → List Word
@@ -45,8 +46,11 @@ lock_words known l = w.lock_decl known l.name.0 l.nowrite l.hide (option_map exp
 abbrev pub thread_words : (ℕ → Bool) → t.Thread → List Word
 thread_words known h = w.thread_decl known h.name.0 (modes_of h.modes) (block_of h.body)
 
+abbrev pub declaration_words : (ℕ → Bool) → t.Program → List Word
+declaration_words known p = flat_map (var_words known) p.vars ++ (flat_map (lock_words known) p.locks ++ flat_map (thread_words known) p.threads)
+
 abbrev pub program_words : (ℕ → Bool) → t.Program → List Word
-program_words known p = flat_map (var_words known) p.vars ++ (flat_map (lock_words known) p.locks ++ flat_map (thread_words known) p.threads)
+program_words known p = w.version p.version ++ declaration_words known p
 
 module _ (known : ℕ → Bool) (S : Sense) where
   -- Lists of names ---------------------------------------------------------------------------------------------
@@ -174,11 +178,46 @@ module _ (known : ℕ → Bool) (S : Sense) where
 
       -- Programs -------------------------------------------------------------------------------------------------
 
+      numbered_keeps : Keeps known S version (λ n. n) (λ n. plain k.Version ∷ (w.number n ∷ [] ++ plain k.Semicolon ∷ []))
+      unfolding version
+      numbered_keeps = keeps_key k.Version (λ v. refl) (keeps_end k.Semicolon (λ v. refl) keeps_number)
+
+      -- these words spell a version, whichever number the text has in their place
+      version_again : (ns : List Token) → Are (plain k.Version ∷ w.number 2 ∷ plain k.Semicolon ∷ []) ns → OfShape version 2 ns
+      unfolding version
+      version_again ns are =
+          let n = are.3 in
+          let c = n.3 in (
+            (are.0, 2),
+            refl,
+            (
+              are.0 ∷ [],
+              are.1,
+              (are.2, refl),
+              ((2, c.0), refl, (n.0 ∷ [], n.1, (n.0, n.2.1, (n.2.0, refl)), (c.2, c.4 ∙ ap (λ l. c.0 ∷ l) c.3), n.4)),
+              are.4,
+            ),
+          )
+
+      version_keeps : Keeps known S (opt version) version_of (λ x. w.version (version_of x))
+      version_keeps = record { kept = by }
+        where
+          by : (x : Option ℕ) (ts : List Token) → Spells S (opt version) x ts → Kept known (opt version) version_of (version_of x) (w.version (version_of x)) ts
+          by None ts h = record { same = ap leaves h; fit = λ g. tt; silent = λ g. tt; spelt = λ g ns are. (None, are, refl) }
+          by (Some n) ts h =
+              let m = numbered_keeps.kept n ts h in
+              record {
+                same = m.same;
+                fit = λ g. (tt, (omega arith, (tt, tt)));
+                silent = λ g. let i = m.silent g in (i.0, (tt, (i.1.1.0, tt)));
+                spelt = λ g ns are. (Some 2, version_again ns are, refl);
+              }
+
       pub program_keeps : Keeps known S program (seen_program names_are) (program_words known)
       unfolding program
       program_keeps =
-          keeps_act (λ x. record { vars = x.0; locks = x.1.0; threads = x.1.1 }) (seen_program names_are) (program_words known) (λ x. x) (λ x. refl) (λ x. refl)
-          (keeps_seq (keeps_many var_keeps) (keeps_seq (keeps_many lock_keeps) (keeps_many thread_keeps)))
+          keeps_act (λ x. record { version = version_of x.0; vars = x.1.0; locks = x.1.1.0; threads = x.1.1.1 }) (seen_program names_are) (program_words known) (λ x. x) (λ x. refl) (λ x. refl)
+          (keeps_seq version_keeps (keeps_seq (keeps_many var_keeps) (keeps_seq (keeps_many lock_keeps) (keeps_many thread_keeps))))
 
 -- The canonical tokens of a program spell it, places aside.
 pub program_kept : (known : ℕ → Bool) (all : List (List ℕ)) (p : t.Program) (ts : List Token) → Is program p ts → Kept known program (seen_program all) (seen_program all p) (program_words known p) ts

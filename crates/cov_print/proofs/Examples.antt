@@ -20,7 +20,7 @@ abbrev thread : s.Block → s.Thread
 thread body = record { name = codes "t"; at = 0; modes = no_modes; body = body; end = 0 }
 
 abbrev program : List s.Var → s.Block → s.Parsed
-program vars body = record { names = names; uses = []; vars = vars; locks = []; threads = thread body ∷ [] }
+program vars body = record { version = 1; names = names; uses = []; vars = vars; locks = []; threads = thread body ∷ [] }
 
 abbrev stated : List Term → List (ℕ × Term) → s.State
 stated preds types = record { preds = preds; types = types }
@@ -43,7 +43,23 @@ nested : spelling (program (variable (codes "a") s.low ∷ [])
 unfolding state_of stated_of
 nested = simp (decimal_digit 1 (lit< tt))
 
-empty : spelling (record { names = []; uses = []; vars = []; locks = []; threads = [] }) ≡ []
+-- version 2;var a:low;thread t{output a+1 by{3:hyp 1,8:auto};}
+put_out : spelling (record {
+  version = 2;
+  names = names;
+  uses = [];
+  vars = variable (codes "a") s.low ∷ [];
+  locks = [];
+  threads = thread (s.more 0 (s.output (bin Add (var 0) (const 1))) (proved 3 (s.hyp 1) ∷ proved 8 s.auto ∷ []) s.done) ∷ [];
+})
+    ≡ codes "version 2;\nvar a: low;\nthread t {\n  output a + 1 by { 3: hyp 1, 8: auto };\n}\n"
+put_out = simp (decimal_digit 1 (lit< tt), decimal_digit 3 (lit< tt), decimal_digit 8 (lit< tt))
+
+-- a text that has nothing but its version
+empty_second : spelling (record { version = 2; names = []; uses = []; vars = []; locks = []; threads = [] }) ≡ codes "version 2;\n"
+empty_second = refl
+
+empty : spelling (record { version = 1; names = []; uses = []; vars = []; locks = []; threads = [] }) ≡ []
 empty = refl
 
 -- Declarations -------------------------------------------------------------------------------------------------
@@ -77,6 +93,10 @@ full_assignment = simp (decimal_digit 0 (lit< tt), decimal_digit 1 (lit< tt), de
 locking : block names (codes "  ") (s.more 0 (s.lock 2) [] (s.more 0 s.skip [] (s.more 0 (s.unlock 2) (proved 1 s.ring ∷ []) s.done)))
     ≡ codes "  lock l;\n  skip;\n  unlock l by { 1: ring };\n"
 locking = simp (decimal_digit 1 (lit< tt))
+
+outputs : block names (codes "  ") (s.more 0 (s.output (var 1)) [] (s.more 0 (s.output (const 7)) (proved 2 s.calc ∷ []) s.done))
+    ≡ codes "  output s;\n  output 7 by { 2: calc };\n"
+outputs = simp (decimal_digit 2 (lit< tt), decimal_digit 7 (lit< tt))
 
 -- margins, a join and an invariant
 deep : block names (codes "  ")

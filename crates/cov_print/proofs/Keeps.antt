@@ -7,6 +7,7 @@ use Rattle.cov_grammar.specs.declared.token.Token.{Token}
 use Rattle.cov_grammar.specs.Shapes.{Shape, token, seq, alt, opt, many, act, placed, Each, Sense, Spells, place}
 use Rattle.cov_grammar.specs.Grammar.{◌▸◌, ◌◂◌, separated, listed, none_or, sign, name, named, number}
 use Rattle.cov_grammar.proofs.Senses.{OfShape}
+use Rattle.cov_text.proofs.SilentLaws.{HasNoOutput, silent_left, silent_right}
 use Rattle.cov_print.proofs.Written as w
 use Rattle.cov_print.proofs.Written.{Word, plain, commas}
 
@@ -56,6 +57,21 @@ pub leaves_of_append : (us vs : List Word) → leaves_of (us ++ vs) ≡ leaves_o
 leaves_of_append [] vs = refl
 leaves_of_append (u ∷ us) vs = ap (λ x. leaf_of u ++ x) (leaves_of_append us vs) ∙ sym (append_assoc (leaf_of u) (leaves_of us) (leaves_of vs))
 
+-- no word is `output`
+abbrev pub IsSilent : Word → Type 0
+IsSilent (w.plain j) = j ≡ k.Output → ⊥
+IsSilent (w.name x) = Unit {0}
+IsSilent (w.hole x) = Unit {0}
+IsSilent (w.number n) = Unit {0}
+
+abbrev pub HaveNoOutput : List Word → Type 0
+HaveNoOutput [] = Unit {0}
+HaveNoOutput (v ∷ vs) = IsSilent v × HaveNoOutput vs
+
+pub silent_append : (us vs : List Word) → HaveNoOutput us → HaveNoOutput vs → HaveNoOutput (us ++ vs)
+silent_append [] vs h g = g
+silent_append (u ∷ us) vs h g = (h.0, silent_append us vs h.1 g)
+
 -- no name and no hole
 abbrev pub Quiet : Kind → Type 0
 Quiet j = (v : ℕ) → leaf j v ≡ []
@@ -102,6 +118,7 @@ Spelt {A} a view b ws = (ts : List Token) → Are ws ts → (v : A) × OfShape a
 pub record Kept (known : ℕ → Bool) {A B : Type 0} (a : Shape A) (view : A → B) (b : B) (ws : List Word) (ts : List Token) : Type 0 where
   pub same : leaves ts ≡ leaves_of ws
   pub fit : AreGood known ts → AllFit known ws
+  pub silent : HasNoOutput ts → HaveNoOutput ws
   pub spelt : AreGood known ts → Spelt a view b ws
 
 -- Whatever is spelled is spelled by the words that are written for it too.
@@ -126,6 +143,7 @@ module _ (known : ℕ → Bool) where
   both a b f g x y vs ws us rs ts e p q = record {
     same = ap leaves e ∙ leaves_append us rs ∙ ap (λ l. l ++ leaves rs) p.same ∙ ap (λ l. leaves_of vs ++ l) q.same ∙ sym (leaves_of_append vs ws);
     fit = λ h. let i = subst (AreGood known) e h in fit_append known vs ws (p.fit (good_left known us rs i)) (q.fit (good_right known us rs i));
+    silent = λ h. let i = subst HasNoOutput e h in silent_append vs ws (p.silent (silent_left us rs i)) (q.silent (silent_right us rs i));
     spelt = λ h ns are.
         let i = subst (AreGood known) e h in
         let r = are_split vs ws ns are in
@@ -140,6 +158,7 @@ module _ (known : ℕ → Bool) where
   keyed j a view b ws t us ts quiet e g h = record {
     same = ap leaves e ∙ ap (λ i. leaf i t.value ++ leaves us) g ∙ ap (λ l. l ++ leaves us) (quiet t.value) ∙ h.same;
     fit = λ i. (tt, h.fit (subst (AreGood known) e i).1);
+    silent = λ i. let x = subst HasNoOutput e i in ((λ o. x.0 (g ∙ o)), h.silent x.1);
     spelt = λ i ns are.
         let m = h.spelt (subst (AreGood known) e i).1 are.1 are.3 in
         (m.0, ((are.0, m.0), refl, (are.0 ∷ [], are.1, (are.2, refl), m.1, are.4)), m.2);
@@ -153,6 +172,7 @@ module _ (known : ℕ → Bool) where
         ap leaves e ∙ leaves_append us (t ∷ []) ∙ ap (λ i. leaves us ++ (leaf i t.value ++ [])) g ∙ ap (λ l. leaves us ++ (l ++ [])) (quiet t.value)
         ∙ ap (λ l. l ++ []) h.same ∙ sym (leaves_of_append ws (plain j ∷ []));
     fit = λ i. fit_append known ws (plain j ∷ []) (h.fit (good_left known us (t ∷ []) (subst (AreGood known) e i))) (tt, tt);
+    silent = λ i. let x = subst HasNoOutput e i in silent_append ws (plain j ∷ []) (h.silent (silent_left us (t ∷ []) x)) ((λ o. (silent_right us (t ∷ []) x).0 (g ∙ o)), tt);
     spelt = λ i ns are.
         let r = are_split ws (plain j ∷ []) ns are in
         let m = h.spelt (good_left known us (t ∷ []) (subst (AreGood known) e i)) r.0 r.2 in
@@ -175,7 +195,7 @@ module _ {known : ℕ → Bool} {S : Sense} where
         recast known (act make a) view (made (f s.0)) (view v) (write s.0) (words v) ts (sym (seen s.0) ∙ ap view s.1) (sym (wrote s.0) ∙ ap words s.1)
         (record {
           same = m.same;
-          fit = m.fit;
+          fit = m.fit; silent = m.silent;
           spelt = λ i ns are. let n = m.spelt i ns are in (make n.0, (n.0, refl, n.1), seen n.0 ∙ ap made n.2);
         });
   }
@@ -186,10 +206,10 @@ module _ {known : ℕ → Bool} {S : Sense} where
       by : (v : A) (ts : List Token) → Spells S (alt a b) v ts → Kept known (alt a b) view (view v) (write v) ts
       by v ts (inl s) =
           let m = h.kept v ts s in
-          record { same = m.same; fit = m.fit; spelt = λ g ns are. let n = m.spelt g ns are in (n.0, inl n.1, n.2) }
+          record { same = m.same; fit = m.fit; silent = m.silent; spelt = λ g ns are. let n = m.spelt g ns are in (n.0, inl n.1, n.2) }
       by v ts (inr s) =
           let m = i.kept v ts s in
-          record { same = m.same; fit = m.fit; spelt = λ g ns are. let n = m.spelt g ns are in (n.0, inr n.1, n.2) }
+          record { same = m.same; fit = m.fit; silent = m.silent; spelt = λ g ns are. let n = m.spelt g ns are in (n.0, inr n.1, n.2) }
 
   pub keeps_key : {A B : Type 0} {a : Shape A} {view : A → B} {write : A → List Word} (j : Kind) → Quiet j → Keeps known S a view write → Keeps known S (j ▸ a) view (λ v. plain j ∷ write v)
   keeps_key {a = a} {view = view} {write = write} j quiet h = record {
@@ -214,6 +234,7 @@ module _ {known : ℕ → Bool} {S : Sense} where
         (record {
           same = ap leaves s.2.1 ∙ ap (λ i. leaf i s.0.value ++ []) s.2.0 ∙ ap (λ l. l ++ []) (quiet s.0.value);
           fit = λ i. (tt, tt);
+          silent = λ i. ((λ o. (subst HasNoOutput s.2.1 i).0 (s.2.0 ∙ o)), tt);
           spelt = λ i ns are. (v, (are.0, refl, (are.2, are.4 ∙ ap (λ l. are.0 ∷ l) are.3)), refl);
         });
   }
@@ -223,6 +244,7 @@ module _ {known : ℕ → Bool} {S : Sense} where
     kept = λ x ts s. record {
       same = ap leaves s.2.1 ∙ ap (λ i. leaf i s.0.value ++ []) s.2.0 ∙ ap (λ v. v ∷ []) s.1;
       fit = λ i. (subst (λ v. known v ≡ true) s.1 ((subst (AreGood known) s.2.1 i).0.named s.2.0), tt);
+      silent = λ i. (tt, tt);
       spelt = λ i ns are. (x, (are.0, are.2.1, (are.2.0, are.4 ∙ ap (λ l. are.0 ∷ l) are.3)), refl);
     };
   }
@@ -232,6 +254,7 @@ module _ {known : ℕ → Bool} {S : Sense} where
     kept = λ x ts s. record {
       same = ap leaves s.2.1 ∙ ap (λ i. leaf i s.0.value ++ []) s.2.0 ∙ ap (λ v. v.0 ∷ []) s.1;
       fit = λ i. (subst (λ v. known v.0 ≡ true) s.1 ((subst (AreGood known) s.2.1 i).0.named s.2.0), tt);
+      silent = λ i. (tt, tt);
       spelt = λ i ns are. ((are.0.value, are.0.at), (are.0, refl, (are.2.0, are.4 ∙ ap (λ l. are.0 ∷ l) are.3)), are.2.1);
     };
   }
@@ -241,6 +264,7 @@ module _ {known : ℕ → Bool} {S : Sense} where
     kept = λ x ts s. record {
       same = ap leaves s.2.1 ∙ ap (λ i. leaf i s.0.value ++ []) s.2.0;
       fit = λ i. (subst (λ v. v ≤ 4294967295) s.1 ((subst (AreGood known) s.2.1 i).0.small s.2.0), tt);
+      silent = λ i. (tt, tt);
       spelt = λ i ns are. (x, (are.0, are.2.1, (are.2.0, are.4 ∙ ap (λ l. are.0 ∷ l) are.3)), refl);
     };
   }
@@ -249,26 +273,26 @@ module _ {known : ℕ → Bool} {S : Sense} where
   keeps_placed {a = a} {view = view} {write = write} h = record {
     kept = λ x ts s.
         let m = h.kept x.1 ts s.1 in
-        record { same = m.same; fit = m.fit; spelt = λ g ns are. let n = m.spelt g ns are in ((place ns, n.0), (refl, n.1), n.2) };
+        record { same = m.same; fit = m.fit; silent = m.silent; spelt = λ g ns are. let n = m.spelt g ns are in ((place ns, n.0), (refl, n.1), n.2) };
   }
 
   pub keeps_opt : {A B : Type 0} {a : Shape A} {view : A → B} {write : A → List Word} → Keeps known S a view write → Keeps known S (opt a) (option_map view) (optional write)
   keeps_opt {A} {B} {a} {view} {write} h = record { kept = by }
     where
       by : (v : Option A) (ts : List Token) → Spells S (opt a) v ts → Kept known (opt a) (option_map view) (option_map view v) (optional write v) ts
-      by None ts s = record { same = ap leaves s; fit = λ g. tt; spelt = λ g ns are. (None, are, refl) }
+      by None ts s = record { same = ap leaves s; fit = λ g. tt; silent = λ g. tt; spelt = λ g ns are. (None, are, refl) }
       by (Some v) ts s =
           let m = h.kept v ts s in
-          record { same = m.same; fit = m.fit; spelt = λ g ns are. let n = m.spelt g ns are in (Some n.0, n.1, ap Some n.2) }
+          record { same = m.same; fit = m.fit; silent = m.silent; spelt = λ g ns are. let n = m.spelt g ns are in (Some n.0, n.1, ap Some n.2) }
 
   pub keeps_many : {A B : Type 0} {a : Shape A} {view : A → B} {write : A → List Word} → Keeps known S a view write → Keeps known S (many a) (map view) (flat_map write)
   keeps_many {A} {B} {a} {view} {write} h = record { kept = by }
     where
       by : (vs : List A) (ts : List Token) → Each (Spells S a) vs ts → Kept known (many a) (map view) (map view vs) (flat_map write vs) ts
-      by [] ts s = record { same = ap leaves s; fit = λ g. tt; spelt = λ g ns are. ([], are, refl) }
+      by [] ts s = record { same = ap leaves s; fit = λ g. tt; silent = λ g. tt; spelt = λ g ns are. ([], are, refl) }
       by (v ∷ vs) ts s =
           let x = both known a (many a) view (map view) (view v) (map view vs) (write v) (flat_map write vs) s.0 s.1 ts s.4 (h.kept v s.0 s.2) (by vs s.1 s.3) in
-          record { same = x.same; fit = x.fit; spelt = λ g ns are. let n = x.spelt g ns are in (n.0.0 ∷ n.0.1, n.1, ap (λ p. p.0 ∷ p.1) n.2) }
+          record { same = x.same; fit = x.fit; silent = x.silent; spelt = λ g ns are. let n = x.spelt g ns are in (n.0.0 ∷ n.0.1, n.1, ap (λ p. p.0 ∷ p.1) n.2) }
 
   -- written in another way
   pub keeps_so : {A B : Type 0} {a : Shape A} {view : A → B} {write : A → List Word} (words : A → List Word) → ((v : A) (ts : List Token) → Spells S a v ts → write v ≡ words v) → Keeps known S a view write
@@ -306,7 +330,7 @@ pub record Turns (known : ℕ → Bool) (S : Sense) {A B : Type 0} (a goal : Sha
 module _ {known : ℕ → Bool} {S : Sense} {A B : Type 0} {view : A → B} {write : A → List Word} where
   pub turn : {a : Shape A} {goal : Shape A} → ((v : A) (ts : List Token) → OfShape a v ts → OfShape goal v ts) → Keeps known S a view write → Turns known S a goal view write
   turn f h = record {
-    kept = λ v ts s. let m = h.kept v ts s in record { same = m.same; fit = m.fit; spelt = λ g ns are. let n = m.spelt g ns are in (n.0, f n.0 ns n.1, n.2) };
+    kept = λ v ts s. let m = h.kept v ts s in record { same = m.same; fit = m.fit; silent = m.silent; spelt = λ g ns are. let n = m.spelt g ns are in (n.0, f n.0 ns n.1, n.2) };
   }
 
   pub turn_either : {a b goal : Shape A} → Turns known S a goal view write → Turns known S b goal view write → Turns known S (alt a b) goal view write
@@ -360,7 +384,7 @@ made_kept : {A B C D : Type 0} (known : ℕ → Bool) (a : Shape A) (f : A → C
     → Kept known (act make a) view (made c) ws ts
 made_kept known a f make view made c ws ts seen m = record {
   same = m.same;
-  fit = m.fit;
+  fit = m.fit; silent = m.silent;
   spelt = λ g ns are. let n = m.spelt g ns are in (make n.0, (n.0, refl, n.1), seen n.0 ∙ ap made n.2);
 }
 
@@ -370,7 +394,7 @@ module _ {known : ℕ → Bool} {S : Sense} where
   keeps_seen {a = a} {view = view} {write = write} looks made seen h = record {
     kept = λ v ts s.
         let m = h.kept v ts s in
-        record { same = m.same; fit = m.fit; spelt = λ g ns are. let n = m.spelt g ns are in (n.0, n.1, seen n.0 ∙ ap made n.2 ∙ sym (seen v)) };
+        record { same = m.same; fit = m.fit; silent = m.silent; spelt = λ g ns are. let n = m.spelt g ns are in (n.0, n.1, seen n.0 ∙ ap made n.2 ∙ sym (seen v)) };
   }
 
   pub keeps_token : {B : Type 0} (j : Kind) (b : B) → Quiet j → Keeps known S (token j) (λ t. b) (λ t. plain j ∷ [])
@@ -378,6 +402,7 @@ module _ {known : ℕ → Bool} {S : Sense} where
     kept = λ v ts s. record {
       same = ap leaves s.1 ∙ ap (λ i. leaf i v.value ++ []) s.0 ∙ ap (λ l. l ++ []) (quiet v.value);
       fit = λ g. (tt, tt);
+      silent = λ i. ((λ o. (subst HasNoOutput s.1 i).0 (s.0 ∙ o)), tt);
       spelt = λ g ns are. (are.0, (are.2, are.4 ∙ ap (λ l. are.0 ∷ l) are.3), refl);
     };
   }

@@ -17,5 +17,6 @@ pub mod SameNames
 pub mod Sizes
 pub mod Shallow
 pub mod Programs
+pub mod Versions
 pub mod ReadBack
 pub mod PrintLaws

@@ -1,5 +1,6 @@
 -- The lines of the canonical spelling have the canonical tokens.
-use Rattle.std.proofs.Common.{◌≡◌, ℕ, List, [], ◌∷◌, ◌++◌, Option, Some, None, codes, flat_map, refl, ap, ◌∙◌, append_assoc}
+use Rattle.std.proofs.Common.{◌≡◌, ℕ, ◌==◌, List, [], ◌∷◌, ◌++◌, Bool, true, false, if◌then◌else◌, Option, Some, None, codes, flat_map, refl, sym, ap, ◌∙◌, lit<, append_assoc}
+use Rattle.std.proofs.lemmas.Fmt.{decimal_digit}
 use Rattle.cov_expr.specs.Term.{Term}
 use Rattle.cov_expr.specs.declared.kind.Kind.TheVariants as k
 use Rattle.cov_ast.specs.Syntax as s
@@ -8,7 +9,7 @@ use Rattle.cov_print.proofs.Written as w
 use Rattle.cov_print.proofs.Written.{Word, plain}
 use Rattle.cov_print.proofs.Readings as r
 use Rattle.cov_print.proofs.Readings.{known, Reads}
-use Rattle.cov_print.proofs.Leaves.{AreNames, name_}
+use Rattle.cov_print.proofs.Leaves.{AreNames, number_, name_}
 use Rattle.cov_print.proofs.Texts.{Ready, Writes, moved, after, whole_, by_, state_, of_3, of_4, of_5, listed_}
 
 -- Blanks in front of a line.
@@ -103,6 +104,10 @@ module _ (all : List (List ℕ)) (valid : AreNames all) where
         let p = by_ all valid ps (after (r.semicolon_ h.is) refl) in
         moved (ap (λ t. codes "note " ++ t) (of_3 (spec.state all j) (spec.by all ps) (codes ";") more)) (ap (λ t. plain k.Note ∷ t) (of_3 (w.state (known all) j) (w.by (known all) ps) (plain k.Semicolon ∷ []) vs))
         (r.note_ (r.blank (state_ all valid j.preds j.types p.is)) refl)
+    stm_ (s.output e) ps margin m {more} {vs} h =
+        let p = by_ all valid ps (after (r.semicolon_ h.is) refl) in
+        moved (ap (λ t. codes "output " ++ t) (of_3 (spec.whole all e) (spec.by all ps) (codes ";") more)) (ap (λ t. plain k.Output ∷ t) (of_3 (w.whole (known all) e) (w.by (known all) ps) (plain k.Semicolon ∷ []) vs))
+        (r.output_ (r.blank (whole_ all valid e p)) refl)
 
     block_ : (b : s.Block) (margin : List ℕ) → IsMargin all margin → {more : List ℕ} {vs : List Word} → Reads all more vs → Reads all (spec.block all margin b ++ more) (w.block (known all) b ++ vs)
     block_ s.done margin m h = h
@@ -111,6 +116,16 @@ module _ (all : List (List ℕ)) (valid : AreNames all) where
         (m.read (stm_ x ps margin m (after (r.line (block_ rest margin m h)) refl)))
 
   -- Declarations -----------------------------------------------------------------------------------------------
+
+  version_by : (b : Bool) {more : List ℕ} {vs : List Word} → Reads all more vs
+      → Reads all (spec.given b (codes "version 2;\n") ++ more) ((if b then plain k.Version ∷ w.number 2 ∷ plain k.Semicolon ∷ [] else []) ++ vs)
+  version_by false h = h
+  version_by true {more} {vs} h =
+      moved (ap (λ d. codes "version " ++ (d ++ (codes ";\n" ++ more))) (sym (decimal_digit 2 (lit< tt)))) refl
+      (r.version_ (r.blank (number_ 2 (r.semicolon_ (r.line h)) refl)) refl)
+
+  pub version_ : (v : ℕ) {more : List ℕ} {vs : List Word} → Reads all more vs → Reads all (spec.version_line v ++ more) (w.version v ++ vs)
+  version_ v h = version_by (v == 2) h
 
   name_each : Writes all (spec.name all) (λ x. w.name x ∷ [])
   name_each = record { each = λ x {more} {vs} h. name_ all valid x h.is h.stop }

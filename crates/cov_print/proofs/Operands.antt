@@ -14,7 +14,7 @@ use Rattle.cov_grammar.specs.Grammar.{sign, signs, grouped, compared, negated, c
 use Rattle.cov_grammar.specs.Spells.{Within}
 use Rattle.cov_print.proofs.Written as w
 use Rattle.cov_print.proofs.Written.{Word, plain, sign_of, expr}
-use Rattle.cov_print.proofs.Keeps.{Quiet, leaf, leaves, leaves_append, leaves_of, leaves_of_append, AreGood, good_left, good_right, AllFit, fit_append, Keeps}
+use Rattle.cov_print.proofs.Keeps.{Quiet, leaf, leaves, leaves_append, leaves_of, leaves_of_append, AreGood, good_left, good_right, AllFit, fit_append, HaveNoOutput, silent_append, Keeps}
 use Rattle.cov_print.proofs.Operators.{IsAtom, IsFine, expr_is, template_is}
 
 -- The operators of a level have no names.
@@ -261,6 +261,36 @@ module _ (known : ℕ → Bool) where
   expr_fits holes false (bin op x y) h =
       fit_append known (expr known true x) (plain (sign_of op) ∷ expr known true y) (expr_fits holes true x h.0) (tt, expr_fits holes true y h.1)
 
+  sign_silent_word : (op : Op) → sign_of op ≡ k.Output → ⊥
+  sign_silent_word ops.Add e = cc
+  sign_silent_word ops.Sub e = cc
+  sign_silent_word ops.Mul e = cc
+  sign_silent_word ops.And e = cc
+  sign_silent_word ops.Or e = cc
+  sign_silent_word ops.Xor e = cc
+  sign_silent_word ops.Eq e = cc
+  sign_silent_word ops.Ne e = cc
+  sign_silent_word ops.Lt e = cc
+  sign_silent_word ops.Le e = cc
+  sign_silent_word ops.Both e = cc
+  sign_silent_word ops.Either e = cc
+
+  variable_silent : (x : ℕ) (b : Bool) → HaveNoOutput ((if b then w.name x else w.hole x) ∷ [])
+  variable_silent x true = (tt, tt)
+  variable_silent x false = (tt, tt)
+
+  -- an expression puts nothing out
+  expr_silent : (operand : Bool) (e : Term) → HaveNoOutput (expr known operand e)
+  expr_silent operand (const n) = (tt, tt)
+  expr_silent operand (var x) = variable_silent x (known x)
+  expr_silent operand (neg e) = ((λ o. cc), expr_silent true e)
+  expr_silent true (bin op x y) = (
+    (λ o. cc),
+    silent_append (expr known true x ++ plain (sign_of op) ∷ expr known true y) (plain k.CloseParen ∷ [])
+        (silent_append (expr known true x) (plain (sign_of op) ∷ expr known true y) (expr_silent true x) (sign_silent_word op, expr_silent true y)) ((λ o. cc), tt),
+  )
+  expr_silent false (bin op x y) = silent_append (expr known true x) (plain (sign_of op) ∷ expr known true y) (expr_silent true x) (sign_silent_word op, expr_silent true y)
+
   pub expr_keeps : (d : ℕ) → Keeps known (Within d) (rule t.expr) (λ e. e) (expr known false)
   expr_keeps d = record {
     kept = λ e ts s.
@@ -268,6 +298,7 @@ module _ (known : ℕ → Bool) where
         record {
           same = m.same ∙ sym (leaves_of_expr false e);
           fit = λ g. expr_fits false false e (m.fine g);
+          silent = λ g. expr_silent false e;
           spelt = λ g ns are. (e, expr_is known e (m.fine g) ns are, refl);
         };
   }
@@ -279,6 +310,7 @@ module _ (known : ℕ → Bool) where
         record {
           same = m.same ∙ sym (leaves_of_expr false e);
           fit = λ g. expr_fits true false e (m.fine g);
+          silent = λ g. expr_silent false e;
           spelt = λ g ns are. (e, template_is known e (m.fine g) ns are, refl);
         };
   }

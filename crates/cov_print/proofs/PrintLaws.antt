@@ -9,7 +9,7 @@ use Rattle.cov_ast.specs.Ready as ready
 use Rattle.cov_ast.specs.Ready.{Use, uses_in_stm, uses_in_block, uses_in_class, uses_in_lock, uses_in_thread, uses_in_declarations}
 use Rattle.cov_ast.specs.declared.parsed.NameUse.{NameUse}
 use Rattle.cov_text.specs.Limits.{in_program}
-use Rattle.cov_text.specs.Text.{lexed_of, words_of, names_of, IsText, program_of}
+use Rattle.cov_text.specs.Text.{lexed_of, words_of, numbered_of, names_of, IsText, program_of}
 use Rattle.cov_text.specs.Uses.{uses_of}
 use Rattle.cov_text.specs.GivenTrees.{var_of, lock_of, thread_of, parsed_of}
 use Rattle.cov_text.proofs.NamesInOrder.{uses_in_order}
@@ -42,6 +42,7 @@ mutual
   stm_spelled names (s.loop e j b) margin ps =
       ap (λ x. codes "while " ++ spec.whole names e ++ spec.stated names (codes " inv ") j ++ codes " {\n" ++ x ++ margin ++ codes "}" ++ spec.by names ps) (block_spelled names b (spec.deeper margin))
   stm_spelled names (s.note j) margin ps = refl
+  stm_spelled names (s.output e) margin ps = refl
 
   block_spelled : (names : List (List ℕ)) (b : s.Block) (margin : List ℕ) → spec.block names margin (unplaced_block b) ≡ spec.block names margin b
   block_spelled names s.done margin = refl
@@ -53,7 +54,7 @@ thread_spelled names t = ap (λ b. codes "thread " ++ t.name ++ spec.modes names
 spelling_unplaced : (p : s.Parsed) → spec.spelling (unplaced p) ≡ spec.spelling p
 spelling_unplaced p =
     ap₂ (λ a b. a ++ b)
-    (ap₂ (λ a b. a ++ b) (flat_map_same unplaced_var (spec.var_line p.names) (spec.var_line p.names) (λ x. refl) p.vars) (flat_map_same unplaced_lock (spec.lock_line p.names) (spec.lock_line p.names) (λ x. refl) p.locks))
+    (ap₂ (λ a b. spec.version_line p.version ++ a ++ b) (flat_map_same unplaced_var (spec.var_line p.names) (spec.var_line p.names) (λ x. refl) p.vars) (flat_map_same unplaced_lock (spec.lock_line p.names) (spec.lock_line p.names) (λ x. refl) p.locks))
     (flat_map_same unplaced_thread (spec.thread_lines p.names) (spec.thread_lines p.names) (thread_spelled p.names) p.threads)
 
 -- and neither do uses
@@ -66,6 +67,7 @@ mutual
   stm_uses (s.branch e a b j) ps = ap₂ (λ x y. ready.uses_in e ++ x ++ y ++ ready.uses_in_state j ++ flat_map ready.uses_in_proof ps) (block_uses a) (block_uses b)
   stm_uses (s.loop e j b) ps = ap (λ x. ready.uses_in e ++ ready.uses_in_state j ++ x ++ flat_map ready.uses_in_proof ps) (block_uses b)
   stm_uses (s.note j) ps = refl
+  stm_uses (s.output e) ps = refl
 
   block_uses : (b : s.Block) → uses_in_block (unplaced_block b) ≡ uses_in_block b
   block_uses s.done = refl
@@ -80,14 +82,15 @@ uses_unplaced p =
 -- Declarations and uses ----------------------------------------------------------------------------------------
 
 abbrev Seen : Type 0
-Seen = List s.Var × (List s.Lock × List s.Thread)
+Seen = ℕ × (List s.Var × (List s.Lock × List s.Thread))
 
 -- the program of declarations without places
 abbrev of_seen : List (List ℕ) → List NameUse → Seen → s.Parsed
-of_seen names uses x = record { names = names; uses = uses; vars = x.0; locks = x.1.0; threads = x.1.1 }
+of_seen names uses x = record { version = x.0; names = names; uses = uses; vars = x.1.0; locks = x.1.1.0; threads = x.1.1.1 }
 
 seen_is : (names : List (List ℕ)) (uses : List NameUse) (p : Program) → unplaced (parsed_of names uses p) ≡ of_seen names (map unplaced_use uses) (seen_program names p)
 seen_is names uses p = λ i. record {
+  version = p.version;
   names = names;
   uses = map unplaced_use uses;
   vars = map_map (var_of names) unplaced_var p.vars i;
@@ -112,7 +115,7 @@ uses_of_seen names us vs p q e =
 
 -- what is printed of the tree of a text
 of_text : (text : List ℕ) (tree : Program) → IsText program in_program text tree → length (spec.spelling (program_of text tree)) ≤ MOST_BYTES → SpellsProgram (spec.spelling (program_of text tree)) (program_of text tree)
-unfolding names_of words_of
+unfolding names_of words_of numbered_of
 of_text text tree is short =
     let raw = lexed_of text in
     let b = back.reads_back text raw is.tokens.lexes tree is.spelled is.small (uses_of (words_of text)) short in

@@ -6,15 +6,16 @@ use Rattle.cov_grammar.specs.PlacedTrees as t
 use Rattle.cov_text.specs.GivenTrees.{class_of, block_of, var_of, lock_of, thread_of, parsed_of, modes_of, expr_of}
 use Rattle.cov_ast.specs.declared.parsed.NameUse.{NameUse}
 use Rattle.cov_print.specs.Spelling as spec
+use Rattle.cov_print.proofs.Written as w
 use Rattle.cov_print.proofs.Written.{Word}
 use Rattle.cov_print.proofs.Readings.{known, Reads}
 use Rattle.cov_print.proofs.Leaves.{AreNames}
 use Rattle.cov_print.proofs.Named.{get_same}
 use Rattle.cov_print.proofs.Texts.{moved}
-use Rattle.cov_print.proofs.Lines.{var_, lock_, thread_}
+use Rattle.cov_print.proofs.Lines.{version_, var_, lock_, thread_}
 use Rattle.cov_print.proofs.Declarations.{seen_var, seen_lock, seen_thread, seen_program, var_words, lock_words, thread_words, program_words}
 use Rattle.cov_print.proofs.Sizes.{var_fine, lock_fine, thread_fine, program_fine, counts}
-use Rattle.cov_print.proofs.Shallow.{Calm, same_words, var_calm, lock_calm, thread_calm, nothing_calm}
+use Rattle.cov_print.proofs.Shallow.{Calm, same_words, version_calm, var_calm, lock_calm, thread_calm, nothing_calm}
 
 module _ (all : List (List ℕ)) (valid : AreNames all) where
   vars_ : (xs : List t.Var) {more : List ℕ} {vs : List Word} → Reads all more vs → Reads all (flat_map (spec.var_line all) (map (var_of all) xs) ++ more) (flat_map (var_words (known all)) xs ++ vs)
@@ -38,17 +39,17 @@ module _ (all : List (List ℕ)) (valid : AreNames all) where
   nothing_ : Reads all [] []
   nothing_ = record { reads = λ fit front. ([], refl, refl) }
 
-  of_three : {A : Type 0} (a b c : List A) → a ++ b ++ c ≡ a ++ (b ++ (c ++ []))
-  of_three a b c = simp (append_assoc, append-nil)
+  of_four : {A : Type 0} (a b c d : List A) → a ++ b ++ c ++ d ≡ a ++ (b ++ (c ++ (d ++ [])))
+  of_four a b c d = simp (append_assoc, append-nil)
 
-  to_three : {A : Type 0} (a b c : List A) → a ++ (b ++ c) ≡ a ++ (b ++ (c ++ []))
-  to_three a b c = simp (append_assoc, append-nil)
+  to_four : {A : Type 0} (a b c d : List A) → a ++ (b ++ (c ++ d)) ≡ a ++ (b ++ (c ++ (d ++ [])))
+  to_four a b c d = simp (append_assoc, append-nil)
 
   pub program_ : (uses : List NameUse) (p : t.Program) → Reads all (spec.spelling (parsed_of all uses p)) (program_words (known all) p)
   program_ uses p =
-      moved (of_three (flat_map (spec.var_line all) (map (var_of all) p.vars)) (flat_map (spec.lock_line all) (map (lock_of all) p.locks)) (flat_map (spec.thread_lines all) (map (thread_of all) p.threads)))
-      (to_three (flat_map (var_words (known all)) p.vars) (flat_map (lock_words (known all)) p.locks) (flat_map (thread_words (known all)) p.threads))
-      (vars_ p.vars (locks_ p.locks (threads_ p.threads nothing_)))
+      moved (of_four (spec.version_line p.version) (flat_map (spec.var_line all) (map (var_of all) p.vars)) (flat_map (spec.lock_line all) (map (lock_of all) p.locks)) (flat_map (spec.thread_lines all) (map (thread_of all) p.threads)))
+      (to_four (w.version p.version) (flat_map (var_words (known all)) p.vars) (flat_map (lock_words (known all)) p.locks) (flat_map (thread_words (known all)) p.threads))
+      (version_ all valid p.version (vars_ p.vars (locks_ p.locks (threads_ p.threads nothing_))))
 
 module _ (known : ℕ → Bool) (all : List (List ℕ)) where
   vars_calm : (xs : List t.Var) → list_all var_fine (map (seen_var all) xs) ≡ true → {vs : List Word} → Calm 0 0 vs → Calm 0 0 (flat_map (var_words known) xs ++ vs)
@@ -75,11 +76,11 @@ module _ (known : ℕ → Bool) (all : List (List ℕ)) where
       let j = and_parts f g i.1 in
       (i.0, j.0, j.1)
 
-  to_end : {A : Type 0} (a b c : List A) → a ++ (b ++ c) ≡ a ++ (b ++ (c ++ []))
-  to_end a b c = simp (append_assoc, append-nil)
+  to_end : {A : Type 0} (a b c d : List A) → a ++ (b ++ (c ++ d)) ≡ a ++ (b ++ (c ++ (d ++ [])))
+  to_end a b c d = simp (append_assoc, append-nil)
 
   pub program_calm : (p : t.Program) → program_fine (seen_program all p) ≡ true → Calm 0 0 (program_words known p)
   program_calm p f =
       let i = last_parts (not (nat_lt 256 (length (map (seen_var all) p.vars)))) (not (nat_lt 64 (length (map (seen_lock all) p.locks)))) (not (nat_lt 16 (length (map (seen_thread all) p.threads)))) (not (nat_lt 20000 (counts (map (seen_thread all) p.threads)))) (list_all var_fine (map (seen_var all) p.vars)) (list_all lock_fine (map (seen_lock all) p.locks)) (list_all thread_fine (map (seen_thread all) p.threads)) f in
-      same_words (to_end (flat_map (var_words known) p.vars) (flat_map (lock_words known) p.locks) (flat_map (thread_words known) p.threads))
-      (vars_calm p.vars i.0 (locks_calm p.locks i.1 (threads_calm p.threads i.2 (nothing_calm known))))
+      same_words (to_end (w.version p.version) (flat_map (var_words known) p.vars) (flat_map (lock_words known) p.locks) (flat_map (thread_words known) p.threads))
+      (version_calm known p.version (vars_calm p.vars i.0 (locks_calm p.locks i.1 (threads_calm p.threads i.2 (nothing_calm known)))))

@@ -14,9 +14,11 @@ use Rattle.cov_ast.specs.declared.parsed.NameUse.{NameUse}
 use Rattle.cov_text.specs.Depth.{deep}
 use Rattle.cov_text.specs.Limits.{in_program}
 use Rattle.cov_text.specs.Numbered as words
+use Rattle.cov_text.specs.Versioned.{versioned}
 use Rattle.cov_text.specs.Text.{words_of, names_of, IsText}
 use Rattle.cov_text.specs.GivenTrees.{parsed_of}
 use Rattle.cov_text.proofs.TextLaws.{lexes_so, words_are, names_are}
+use Rattle.cov_text.proofs.SilentLaws.{tree_version, tokens_silent}
 use Rattle.cov_print.specs.Spelling as spec
 use Rattle.cov_print.proofs.Written.{Word}
 use Rattle.cov_print.proofs.Keeps.{Are, AreGood, AllFit, Kept}
@@ -28,6 +30,7 @@ use Rattle.cov_print.proofs.SameNames.{name_bytes, names_added, all_names, spell
 use Rattle.cov_print.proofs.Declarations.{seen_program, program_words, program_kept}
 use Rattle.cov_print.proofs.Sizes.{fine, fine_none, program_fine, limits_same}
 use Rattle.cov_print.proofs.Programs.{program_, program_calm}
+use Rattle.cov_print.proofs.Versions.{versioned_good, versioned_leaves, written_same}
 
 -- The tokens of a text that was read, and what is written of its tree.
 module _ (text : List ℕ) (raw : List lexed.Token) (lexes : tokens_of text ≡ Ok raw) where
@@ -49,18 +52,22 @@ module _ (text : List ℕ) (raw : List lexed.Token) (lexes : tokens_of text ≡ 
   distinct : AreDistinct all
   distinct = subst AreDistinct (sym names_is) (added_distinct [] (name_bytes text raw) tt)
 
-  good : AreGood (known all) (words.words_of text raw)
-  good = good_words all text raw sound in_all
+  -- the tokens of the text, and those that its version has
+  abbrev numbered : List Token
+  numbered = words.words_of text raw
 
-  module _ (tree : Program) (is : Is program tree (words.words_of text raw)) (small : in_program tree ≡ None) (uses : List NameUse) (short : length (spec.spelling (parsed_of all uses tree)) ≤ MOST_BYTES) where
+  good : AreGood (known all) (versioned numbered)
+  good = versioned_good (known all) numbered (good_words all text raw sound in_all)
+
+  module _ (tree : Program) (is : Is program tree (versioned numbered)) (small : in_program tree ≡ None) (uses : List NameUse) (short : length (spec.spelling (parsed_of all uses tree)) ≤ MOST_BYTES) where
     abbrev pub out : List ℕ
     out = spec.spelling (parsed_of all uses tree)
 
     abbrev written : List Word
     written = program_words (known all) tree
 
-    keeps : Kept (known all) program (seen_program all) (seen_program all tree) written (words.words_of text raw)
-    keeps = program_kept (known all) all tree (words.words_of text raw) is
+    keeps : Kept (known all) program (seen_program all) (seen_program all tree) written (versioned numbered)
+    keeps = program_kept (known all) all tree (versioned numbered) is
 
     fit : AllFit (known all) written
     fit = keeps.fit good
@@ -79,7 +86,7 @@ module _ (text : List ℕ) (raw : List lexed.Token) (lexes : tokens_of text ≡ 
     module _ (ts : List lexed.Token) (tokens : tokens_of out ≡ Ok ts) (show : Show all out written ts) where
       few : length all ≤ MOST_BYTES
       few =
-          omega (arith, ap length names_is, added_length [] (name_bytes text raw), name_leaves all text raw, ap length keeps.same, leaves_few all out written ts show, tokens_few out ts tokens, short)
+          omega (arith, ap length names_is, added_length [] (name_bytes text raw), name_leaves all text raw, ap length (versioned_leaves numbered), ap length keeps.same, leaves_few all out written ts show, tokens_few out ts tokens, short)
 
       no_hole : known all HOLE ≡ false
       no_hole = by (known all HOLE) refl
@@ -89,7 +96,7 @@ module _ (text : List ℕ) (raw : List lexed.Token) (lexes : tokens_of text ≡ 
           by true e = absurd (grind (arith, e, few))
 
       bytes_same : name_bytes out ts ≡ name_bytes text raw
-      bytes_same = sym (written_names all out written ts fit show) ∙ ap (spelled all) (sym keeps.same) ∙ own_names all text no_hole raw sound in_all
+      bytes_same = sym (written_names all out written ts fit show) ∙ ap (spelled all) (sym keeps.same ∙ versioned_leaves numbered) ∙ own_names all text no_hole raw sound in_all
 
       names_same : words.names_of out ts ≡ all
       names_same = names_added out [] ts ∙ ap (added []) bytes_same ∙ sym names_is
@@ -101,7 +108,9 @@ module _ (text : List ℕ) (raw : List lexed.Token) (lexes : tokens_of text ≡ 
       are = are_words all out distinct written ts fit show
 
       words_same : words_of out ≡ tokens_again
-      words_same = words_are out ts tokens ∙ ap (λ ns. map (words.word_of out ns) ts) names_same
+      words_same =
+          words_are out ts tokens ∙ ap (λ ns. versioned (map (words.word_of out ns) ts)) names_same
+          ∙ written_same (known all) tree tokens_again (tree_version all numbered tree is).known (λ first. keeps.silent (tokens_silent numbered tree is first)) are
 
       again : (v : Program) × OfShape program v tokens_again × (seen_program all v ≡ seen_program all tree)
       again = keeps.spelt good tokens_again are

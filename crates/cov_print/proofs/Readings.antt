@@ -159,6 +159,14 @@ module _ {all : List (List ℕ)} where
   unfolding is_keyword spelled.kind_of spellings
   note_ h stop = keyword (codes "note") k.Note (omega arith) (λ at. refl) refl (λ at. refl) refl stop h
 
+  pub version_ : {more : List ℕ} {vs : List Word} → Reads all more vs → Stops is_word more → Reads all (codes "version" ++ more) (plain k.Version ∷ vs)
+  unfolding is_keyword spelled.kind_of spellings
+  version_ h stop = keyword (codes "version") k.Version (omega arith) (λ at. refl) refl (λ at. refl) refl stop h
+
+  pub output_ : {more : List ℕ} {vs : List Word} → Reads all more vs → Stops is_word more → Reads all (codes "output" ++ more) (plain k.Output ∷ vs)
+  unfolding is_keyword spelled.kind_of spellings
+  output_ h stop = keyword (codes "output") k.Output (omega arith) (λ at. refl) refl (λ at. refl) refl stop h
+
   pub as_ : {more : List ℕ} {vs : List Word} → Reads all more vs → Stops is_word more → Reads all (codes "as" ++ more) (plain k.As ∷ vs)
   unfolding is_keyword spelled.kind_of spellings
   as_ h stop = keyword (codes "as") k.As (omega arith) (λ at. refl) refl (λ at. refl) refl stop h

@@ -334,6 +334,10 @@ module _ (known : ℕ → Bool) where
         let a = and_parts (state_fine j) (list_all proof_fine ps) f in
         same_words (ap (λ t. plain k.Note ∷ t) (of_3 (w.state known j) (w.by known ps) (plain k.Semicolon ∷ []) vs))
         (other_ 0 k.Note refl (state_calm j n m a.0 (by_calm ps n m a.1 (other_ 0 k.Semicolon refl h))))
+    stm_calm (s.output e) ps n room p m f {vs} h =
+        let a = and_parts (term_fine e) (list_all proof_fine ps) f in
+        same_words (ap (λ t. plain k.Output ∷ t) (of_3 (w.whole known e) (w.by known ps) (plain k.Semicolon ∷ []) vs))
+        (other_ 0 k.Output refl (whole_calm e n (omega (arith, m)) a.0 (by_calm ps n m a.1 (other_ 0 k.Semicolon refl h))))
 
     block_calm : (b : s.Block) (n room : ℕ) → n + room ≤ 65 → n ≤ 64 → block_fine room (unplaced_block b) ≡ true → {vs : List Word} → Calm n 0 vs → Calm n 0 (w.block known b ++ vs)
     block_calm s.done n room p m f h = h
@@ -342,6 +346,14 @@ module _ (known : ℕ → Bool) where
         same_words (append_assoc (w.stm known x ps) (w.block known rest) vs) (stm_calm x ps n room p m a.0 (block_calm rest n room p m a.1 h))
 
   -- Declarations -----------------------------------------------------------------------------------------------
+
+  pub version_calm : (v : ℕ) {vs : List Word} → Calm 0 0 vs → Calm 0 0 (w.version v ++ vs)
+  unfolding kind_is
+  version_calm v {vs} h = by (v == 2)
+    where
+      by : (b : Bool) → Calm 0 0 ((if b then plain k.Version ∷ w.number 2 ∷ plain k.Semicolon ∷ [] else []) ++ vs)
+      by true = other_ 0 k.Version refl (number_ 0 2 (other_ 0 k.Semicolon refl h))
+      by false = h
 
   names_calm : EachCalm 0 (λ x. true) (λ x. w.name x ∷ [])
   names_calm = record { each = λ x f {vs} h. name_ 0 x h }

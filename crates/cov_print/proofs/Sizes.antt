@@ -253,6 +253,7 @@ abbrev mutual
       term_fine e && ((not (room - 1 == 0) && block_fine (room - 1) a) && ((not (room - 1 == 0) && block_fine (room - 1) b) && (state_fine j && list_all proof_fine ps)))
   stm_fine room (s.loop e j b) ps = term_fine e && (state_fine j && ((not (room - 1 == 0) && block_fine (room - 1) b) && list_all proof_fine ps))
   stm_fine room (s.note j) ps = state_fine j && list_all proof_fine ps
+  stm_fine room (s.output e) ps = term_fine e && list_all proof_fine ps
 
   pub block_fine : (room : ℕ) → s.Block → Bool
   block_fine room s.done = true
@@ -285,6 +286,7 @@ mutual
       (both_fine (l.in_state_option j) _ (state_fine (state_or_none j)) _ (stated_same j)
       (both_fine (l.in_block (room - 1) b) (least l.in_proof ps) _ (list_all proof_fine (map proof_of ps)) (block_same (room - 1) b) (proofs_same ps)))
   stm_same room (t.note j ps) = both_fine (l.in_state j) (least l.in_proof ps) (state_fine (state_of j)) (list_all proof_fine (map proof_of ps)) (state_same j) (proofs_same ps)
+  stm_same room (t.output e ps) = both_fine (l.in_expr e) (least l.in_proof ps) (term_fine (expr_of e)) (list_all proof_fine (map proof_of ps)) (expr_same e) (proofs_same ps)
 
   block_same : (room : ℕ) (b : t.Block) → fine (l.in_block room b) ≡ (not (room == 0) && block_fine room (unplaced_block (block_of b)))
   block_same room (t.block begin end ss) = both_fine _ (l.in_stms room ss) (not (room == 0)) (block_fine room (unplaced_block (stms_of ss))) (fine_room room begin) (stms_same room ss)
@@ -323,6 +325,7 @@ abbrev mutual
   stms_in (s.branch e a b j) = count a + count b
   stms_in (s.loop e j b) = count b
   stms_in (s.note j) = 0
+  stms_in (s.output e) = 0
 
   pub count : s.Block → ℕ
   count s.done = 0
@@ -341,6 +344,7 @@ mutual
   places_in_same (t.branch e a b j ps) = omega (arith, length-append (l.places_of a) (l.places_of b), places_of_same a, places_of_same b)
   places_in_same (t.loop e j b ps) = places_of_same b
   places_in_same (t.note j ps) = refl
+  places_in_same (t.output e ps) = refl
 
   places_of_same : (b : t.Block) → length (l.places_of b) ≡ count (unplaced_block (block_of b))
   places_of_same (t.block begin end ss) = places_same ss
@@ -378,12 +382,12 @@ var_same all v = by v.class
     by (t.low_when e) = expr_same e
 
 abbrev pub Seen : Type 0
-Seen = List s.Var × (List s.Lock × List s.Thread)
+Seen = ℕ × (List s.Var × (List s.Lock × List s.Thread))
 
 abbrev pub program_fine : Seen → Bool
 program_fine p =
-    not (nat_lt 256 (length p.0)) && (not (nat_lt 64 (length p.1.0)) && (not (nat_lt 16 (length p.1.1)) && (not (nat_lt 20000 (counts p.1.1))
-    && (list_all var_fine p.0 && (list_all lock_fine p.1.0 && list_all thread_fine p.1.1)))))
+    not (nat_lt 256 (length p.1.0)) && (not (nat_lt 64 (length p.1.1.0)) && (not (nat_lt 16 (length p.1.1.1)) && (not (nat_lt 20000 (counts p.1.1.1))
+    && (list_all var_fine p.1.0 && (list_all lock_fine p.1.1.0 && list_all thread_fine p.1.1.1)))))
 
 few : {A B : Type 0} (most : ℕ) (c : Counted) (place : A → ℕ) (view : A → B) (xs : List A) → fine (past most c (map place xs)) ≡ not (nat_lt most (length (map view xs)))
 few most c place view xs = fine_past most c (map place xs) ∙ ap (λ n. not (nat_lt most n)) (sym (map_length place xs) ∙ map_length view xs)

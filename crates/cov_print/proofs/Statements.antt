@@ -58,19 +58,19 @@ module _ (known : ℕ → Bool) (S : Sense) (exprs : Keeps known S (rule t.expr)
         → Kept known (opt (j ▸ state)) state_or_none (record { preds = map expr_of preds; types = map pair_of ts }) (w.stated_of known j (map expr_of preds) (map pair_of ts)) us
     stated_at at [] [] us h =
         let m = keyed.kept (record { at = at; preds = []; types = [] }) us h in
-        record { same = m.same; fit = λ g. tt; spelt = λ g ns are. (None, are, refl) }
+        record { same = m.same; fit = λ g. tt; silent = λ g. tt; spelt = λ g ns are. (None, are, refl) }
     stated_at at (p ∷ ps) ts us h =
         let m = keyed.kept (record { at = at; preds = p ∷ ps; types = ts }) us h in
-        record { same = m.same; fit = m.fit; spelt = λ g ns are. let n = m.spelt g ns are in (Some n.0, n.1, n.2) }
+        record { same = m.same; fit = m.fit; silent = m.silent; spelt = λ g ns are. let n = m.spelt g ns are in (Some n.0, n.1, n.2) }
     stated_at at [] (x ∷ ts) us h =
         let m = keyed.kept (record { at = at; preds = []; types = x ∷ ts }) us h in
-        record { same = m.same; fit = m.fit; spelt = λ g ns are. let n = m.spelt g ns are in (Some n.0, n.1, n.2) }
+        record { same = m.same; fit = m.fit; silent = m.silent; spelt = λ g ns are. let n = m.spelt g ns are in (Some n.0, n.1, n.2) }
 
     pub stated_keeps : Keeps known S (opt (j ▸ state)) state_or_none (λ x. w.stated known j (state_or_none x))
     stated_keeps = record { kept = by }
       where
         by : (x : Option t.State) (ts : List Token) → Spells S (opt (j ▸ state)) x ts → Kept known (opt (j ▸ state)) state_or_none (state_or_none x) (w.stated known j (state_or_none x)) ts
-        by None ts h = record { same = ap Rattle.cov_print.proofs.Keeps.leaves h; fit = λ g. tt; spelt = λ g ns are. (None, are, refl) }
+        by None ts h = record { same = ap Rattle.cov_print.proofs.Keeps.leaves h; fit = λ g. tt; silent = λ g. tt; spelt = λ g ns are. (None, are, refl) }
         by (Some x) ts h = stated_at x.at x.preds x.types ts h
 
   -- Statements -------------------------------------------------------------------------------------------------
@@ -133,7 +133,8 @@ module _ (known : ℕ → Bool) (S : Sense) (exprs : Keeps known S (rule t.expr)
           (keeps_alt (keeps_words k.Unlock k.Semicolon (λ x. t.unlock x.0 x.1) seen words (λ x. (s.unlock x.0, x.1)) (λ v. refl) (λ v. refl) (λ x. refl) (λ x. refl) (keeps_seq keeps_name proofs_keep))
           (keeps_alt branch_keeps
           (keeps_alt loop_keeps
-          (keeps_words k.Note k.Semicolon (λ x. t.note x.0 x.1) seen words (λ x. (s.note x.0, x.1)) (λ v. refl) (λ v. refl) (λ x. refl) (λ x. refl) (keeps_seq state_keeps proofs_keep)))))))
+          (keeps_alt (keeps_words k.Note k.Semicolon (λ x. t.note x.0 x.1) seen words (λ x. (s.note x.0, x.1)) (λ v. refl) (λ v. refl) (λ x. refl) (λ x. refl) (keeps_seq state_keeps proofs_keep))
+          (keeps_words k.Output k.Semicolon (λ x. t.output x.0 x.1) seen words (λ x. (s.output x.0, x.1)) (λ v. refl) (λ v. refl) (λ x. refl) (λ x. refl) (keeps_seq whole_keeps proofs_keep))))))))
 
       -- Blocks -------------------------------------------------------------------------------------------------
 
@@ -163,7 +164,7 @@ module _ (known : ℕ → Bool) where
   block_kept zero b ts h = absurd h
   block_kept (suc d) b ts h =
       let m = (braces_keep known (Within d) (expr_keeps known d) (cert_keeps known d) (record { kept = block_kept d })).kept b ts h in
-      record { same = m.same; fit = m.fit; spelt = λ g ns are. let n = m.spelt g ns are in (n.0, close t.block n.0 ns n.1, n.2) }
+      record { same = m.same; fit = m.fit; silent = m.silent; spelt = λ g ns are. let n = m.spelt g ns are in (n.0, close t.block n.0 ns n.1, n.2) }
 
   pub block_keeps : (d : ℕ) → Keeps known (Within d) (rule t.block) (λ b. unplaced_block (block_of b)) (λ b. w.braces known (block_of b))
   block_keeps d = record { kept = block_kept d }

@@ -1,7 +1,7 @@
 -- The tokens of the canonical spelling, without their places: what a printer writes, as the grammar takes it.
 --
 -- `named` says of which numbers there are names; a variable whose number has none is the hole of a template.
-use Rattle.std.proofs.Common.{ℕ, List, [], ◌∷◌, ◌++◌, Bool, true, false, ◌&&◌, Option, Some, None, if◌then◌else◌, flat_map}
+use Rattle.std.proofs.Common.{ℕ, List, [], ◌∷◌, ◌++◌, ◌==◌, Bool, true, false, ◌&&◌, Option, Some, None, if◌then◌else◌, flat_map}
 use Rattle.cov_expr.specs.Term.{Term, const, var, neg, bin}
 use Rattle.cov_expr.specs.declared.expr.Op.{Op}
 use Rattle.cov_expr.specs.declared.expr.Op.TheVariants as ops
@@ -137,6 +137,7 @@ module _ (named : ℕ → Bool) where
     stm (s.loop e inv b) ps =
         plain k.While ∷ (whole e ++ (stated k.Inv inv ++ ((plain k.OpenBrace ∷ (block b ++ plain k.CloseBrace ∷ [])) ++ by ps)))
     stm (s.note j) ps = plain k.Note ∷ ((state j ++ by ps) ++ plain k.Semicolon ∷ [])
+    stm (s.output e) ps = plain k.Output ∷ ((whole e ++ by ps) ++ plain k.Semicolon ∷ [])
 
     -- the statements of a block, without its braces
     pub block : s.Block → List Word
@@ -178,3 +179,7 @@ module _ (named : ℕ → Bool) where
   abbrev pub thread_decl : ℕ → s.Modes → s.Block → List Word
   thread_decl x m b =
       plain k.Thread ∷ name x ∷ (modes k.Assume m.assume_nowrite m.assume_hide ++ (modes k.Guarantee m.guarantee_nowrite m.guarantee_hide ++ braces named b))
+
+-- the line of the version; the first isn't named
+abbrev pub version : ℕ → List Word
+version v = if v == 2 then plain k.Version ∷ number 2 ∷ plain k.Semicolon ∷ [] else []

@@ -1,5 +1,5 @@
 -- The tree of a text is of version 1 or 2, and one of version 1 puts nothing out: each token `output` of its text is foreign.
-use Rattle.std.proofs.Common.{◌≡◌, ℕ, zero, suc, List, [], ◌∷◌, ◌++◌, map, Bool, true, false, if◌then◌else◌, Option, Some, None, inl, inr, refl, sym, ap, subst, ◌∙◌}
+use Rattle.std.proofs.Common.{◌≡◌, ℕ, zero, suc, List, [], ◌∷◌, ◌++◌, map, Bool, true, false, if◌then◌else◌, Option, Some, None, ◌⊎◌, inl, inr, refl, sym, ap, subst, ◌∙◌}
 use Rattle.std.specs.List.{All}
 use Rattle.std.proofs.lemmas.List.Elements.{All-nil, All-cons, All-head, All-tail, All-map}
 use Rattle.cov_expr.specs.declared.kind.Kind.{Kind}
@@ -21,23 +21,23 @@ use Rattle.cov_text.specs.Text.{words_of, numbered_of}
 
 -- Tokens without `output` --------------------------------------------------------------------------------------
 
-abbrev HasNoOutput : List Token → Type 0
+abbrev pub HasNoOutput : List Token → Type 0
 HasNoOutput [] = Unit {0}
 HasNoOutput (t ∷ ts) = (t.kind ≡ k.Output → ⊥) × HasNoOutput ts
 
-split_left : (us vs : List Token) → HasNoOutput (us ++ vs) → HasNoOutput us
-split_left [] vs h = tt
-split_left (u ∷ us) vs h = (h.0, split_left us vs h.1)
+pub silent_left : (us vs : List Token) → HasNoOutput (us ++ vs) → HasNoOutput us
+silent_left [] vs h = tt
+silent_left (u ∷ us) vs h = (h.0, silent_left us vs h.1)
 
-split_right : (us vs : List Token) → HasNoOutput (us ++ vs) → HasNoOutput vs
-split_right [] vs h = h
-split_right (u ∷ us) vs h = split_right us vs h.1
+pub silent_right : (us vs : List Token) → HasNoOutput (us ++ vs) → HasNoOutput vs
+silent_right [] vs h = h
+silent_right (u ∷ us) vs h = silent_right us vs h.1
 
 left_of : (us vs ts : List Token) → ts ≡ us ++ vs → HasNoOutput ts → HasNoOutput us
-left_of us vs ts e h = split_left us vs (subst HasNoOutput e h)
+left_of us vs ts e h = silent_left us vs (subst HasNoOutput e h)
 
 right_of : (us vs ts : List Token) → ts ≡ us ++ vs → HasNoOutput ts → HasNoOutput vs
-right_of us vs ts e h = split_right us vs (subst HasNoOutput e h)
+right_of us vs ts e h = silent_right us vs (subst HasNoOutput e h)
 
 first_token : (t : Token) → (of_first t).kind ≡ k.Output → ⊥
 first_token t = by (kind_is k.Output t.kind) refl
@@ -183,28 +183,38 @@ begins_so : (d : ℕ) (x : List t.Var × (List t.Lock × List Thread)) (ts : Lis
 unfolding var_decl lock_decl thread_decl
 begins_so d x ts s = first_ok (Within d) (full_at d) (first_at d) declarations x ts s
 
-module _ (ns : List (List ℕ)) (d : ℕ) (raw : List Token) where
-  quiet_threads : (x : List t.Var × (List t.Lock × List Thread)) → Spells (Within d) declarations x (versioned raw) → All (λ h. IsSilent h.body) (map (thread_of ns) x.1.1)
-  quiet_threads x s =
-      let none = unnamed raw (begins_so d x (versioned raw) s) in
-      let r = s.3 in
-      let behind_vars = right_of s.0 s.1 (versioned raw) s.4 none in
-      All-map (λ h. IsSilent h.body) (thread_of ns) x.1.1
-      ((of_many (Within d) (quiet_thread (Within d) (quiet_block d))).of x.1.1 r.1 (right_of r.0 r.1 s.1 r.4 behind_vars) r.3)
+-- where a tree of version 1 was read, nothing is put out
+silent_by : (d : ℕ) (raw : List Token) (v : Option ℕ) (us vs : List Token) (x : List t.Var × (List t.Lock × List Thread)) → Spells (Within d) (opt version) v us → Spells (Within d) declarations x vs → versioned raw ≡ us ++ vs
+    → version_of v ≡ 1 → HasNoOutput (versioned raw)
+silent_by d raw None us vs x s r e first = unnamed raw (begins_so d x (versioned raw) (subst (Spells (Within d) declarations x) (sym (e ∙ ap (λ ws. ws ++ vs) s)) r))
+silent_by d raw (Some n) us vs x s r e first = cc
 
-  version_by : (v : Option ℕ) (us vs : List Token) (x : List t.Var × (List t.Lock × List Thread)) → Spells (Within d) (opt version) v us → Spells (Within d) declarations x vs → versioned raw ≡ us ++ vs
-      → IsOfVersion (version_of v) (map (thread_of ns) x.1.1)
-  version_by None us vs x s r e = record {
-    known = inl refl;
-    silent = λ first. quiet_threads x (subst (Spells (Within d) declarations x) (sym (e ∙ ap (λ ws. ws ++ vs) s)) r);
-  }
-  version_by (Some n) us vs x s r e = record { known = inr refl; silent = λ first. cc }
+pub tokens_silent : (raw : List Token) (tree : Program) → Is program tree (versioned raw) → tree.version ≡ 1 → HasNoOutput (versioned raw)
+unfolding program
+tokens_silent raw tree is first =
+    let s = is.1.2 in
+    silent_by is.0 raw is.1.0.0 s.0 s.1 is.1.0.1 s.2 s.3 s.4 (ap (λ p. p.version) is.1.1 ∙ first)
+
+version_known : (v : Option ℕ) → (version_of v ≡ 1) ⊎ (version_of v ≡ 2)
+version_known None = inl refl
+version_known (Some n) = inr refl
 
 pub tree_version : (ns : List (List ℕ)) (raw : List Token) (tree : Program) → Is program tree (versioned raw) → IsOfVersion tree.version (map (thread_of ns) tree.threads)
 unfolding program
 tree_version ns raw tree is =
     let s = is.1.2 in
-    subst (λ p. IsOfVersion p.version (map (thread_of ns) p.threads)) is.1.1 (version_by ns is.0 raw is.1.0.0 s.0 s.1 is.1.0.1 s.2 s.3 s.4)
+    let r = s.3 in
+    let u = r.3 in
+    let quiet = (of_many (Within is.0) (quiet_thread (Within is.0) (quiet_block is.0))).of in
+    subst (λ p. IsOfVersion p.version (map (thread_of ns) p.threads)) is.1.1
+    (record {
+      known = version_known is.1.0.0;
+      silent =
+          λ first. let none = silent_by is.0 raw is.1.0.0 s.0 s.1 is.1.0.1 s.2 r s.4 first in
+          let behind_version = right_of s.0 s.1 (versioned raw) s.4 none in
+          let behind_vars = right_of r.0 r.1 s.1 r.4 behind_version in
+          All-map (λ h. IsSilent h.body) (thread_of ns) is.1.0.1.1.1 (quiet is.1.0.1.1.1 u.1 (right_of u.0 u.1 r.1 u.4 behind_vars) u.3);
+    })
 
 pub text_version : (ns : List (List ℕ)) (text : List ℕ) (tree : Program) → Is program tree (words_of text) → IsOfVersion tree.version (map (thread_of ns) tree.threads)
 unfolding words_of

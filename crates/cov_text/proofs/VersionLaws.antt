@@ -1,11 +1,14 @@
 -- What the version of a text leaves of its tokens: their places, the numbers of names, and how many they are.
-use Rattle.std.proofs.Common.{◌≡◌, ℕ, ◌<◌, List, [], ◌∷◌, length, map, Bool, true, false, if◌then◌else◌, refl, sym, ap, ◌∙◌}
+use Rattle.std.proofs.Common.{◌≡◌, ℕ, ◌<◌, List, [], ◌∷◌, length, map, Bool, true, false, if◌then◌else◌, not, ◌&&◌, ◌==◌, refl, sym, ap, ◌∙◌}
 use Rattle.std.proofs.lemmas.List.{length-map}
 use Rattle.cov_expr.specs.declared.kind.Kind.TheVariants as k
 use Rattle.cov_grammar.specs.declared.token.Token.{Token}
-use Rattle.cov_grammar.specs.LookAhead.{kind_is}
+use Rattle.cov_grammar.specs.Shapes.{head}
+use Rattle.cov_grammar.specs.LookAhead.{kind_is, starts}
+use Rattle.cov_grammar.proofs.Basics.{kind_itself, kind_one, left_false}
 use Rattle.cov_text.specs.Versioned.{foreign, of_first, is_other_number, behind_version, versioned}
 use Rattle.cov_text.proofs.Summaries.{AreBelow, places}
+use Rattle.cov_text.proofs.SilentLaws.{HasNoOutput}
 
 -- one token, which may become foreign
 abbrev made : Bool → Token → Token
@@ -57,3 +60,32 @@ versioned_places (t ∷ ts) = by (kind_is k.Version t.kind)
 
 pub versioned_length : (ts : List Token) → length (versioned ts) ≡ length ts
 versioned_length ts = sym (length-map (versioned ts) (λ t. t.at)) ∙ ap length (versioned_places ts) ∙ length-map ts (λ t. t.at)
+
+-- Tokens that stay ---------------------------------------------------------------------------------------------
+
+not_output : (t : Token) → (t.kind ≡ k.Output → ⊥) → kind_is k.Output t.kind ≡ false
+not_output t h = by (kind_is k.Output t.kind) refl
+  where
+    by : (b : Bool) → kind_is k.Output t.kind ≡ b → b ≡ false
+    by true e = absurd (h (sym (kind_one k.Output t.kind e)))
+    by false e = refl
+
+first_same : (ts : List Token) → HasNoOutput ts → map of_first ts ≡ ts
+first_same [] h = refl
+first_same (t ∷ ts) h = ap (λ b. made b t ∷ map of_first ts) (not_output t h.0) ∙ ap (λ us. t ∷ us) (first_same ts h.1)
+
+-- tokens without outputs, of which the first isn't `version`
+pub unnamed_same : (ts : List Token) → starts (k.Version ∷ []) (head ts) ≡ false → HasNoOutput ts → versioned ts ≡ ts
+unnamed_same [] other h = refl
+unnamed_same (t ∷ ts) other h =
+    ap (λ b. if b then t ∷ behind_version ts else map of_first (t ∷ ts)) (left_false (kind_is k.Version t.kind) false other) ∙ first_same (t ∷ ts) h
+
+other_value : (b : Bool) (n : ℕ) → n ≡ 2 → (b && not (n == 2)) ≡ false
+other_value true n e = ap (λ m. not (m == 2)) e
+other_value false n e = refl
+
+-- tokens that begin with `version 2`
+pub named_same : (t u : Token) (ts : List Token) → t.kind ≡ k.Version → u.value ≡ 2 → versioned (t ∷ u ∷ ts) ≡ t ∷ u ∷ ts
+named_same t u ts e two =
+    ap (λ b. if b then t ∷ behind_version (u ∷ ts) else map of_first (t ∷ u ∷ ts)) (ap (kind_is k.Version) e ∙ kind_itself k.Version)
+    ∙ ap (λ b. t ∷ made b u ∷ ts) (other_value (kind_is k.Number u.kind) u.value two)
