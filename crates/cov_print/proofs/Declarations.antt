@@ -1,5 +1,5 @@
 -- The canonical tokens of declarations and programs spell them.
-use Rattle.std.proofs.Common.{◌≡◌, ℕ, ◌==◌, if◌then◌else◌, arith, List, [], ◌∷◌, ◌++◌, Bool, false, Option, Some, None, map, option_map, flat_map, refl, sym, ap, subst, ◌∙◌, inl, inr}
+use Rattle.std.proofs.Common.{◌≡◌, ℕ, arith, List, [], ◌∷◌, ◌++◌, Bool, false, Option, Some, None, map, option_map, flat_map, refl, sym, ap, subst, ◌∙◌, inl, inr}
 use Rattle.cov_expr.specs.Term.{Term}
 use Rattle.cov_expr.specs.declared.kind.Kind.{Kind}
 use Rattle.cov_expr.specs.declared.kind.Kind.TheVariants as k

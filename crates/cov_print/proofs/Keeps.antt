@@ -195,7 +195,8 @@ module _ {known : ℕ → Bool} {S : Sense} where
         recast known (act make a) view (made (f s.0)) (view v) (write s.0) (words v) ts (sym (seen s.0) ∙ ap view s.1) (sym (wrote s.0) ∙ ap words s.1)
         (record {
           same = m.same;
-          fit = m.fit; silent = m.silent;
+          fit = m.fit;
+          silent = m.silent;
           spelt = λ i ns are. let n = m.spelt i ns are in (make n.0, (n.0, refl, n.1), seen n.0 ∙ ap made n.2);
         });
   }
@@ -384,7 +385,8 @@ made_kept : {A B C D : Type 0} (known : ℕ → Bool) (a : Shape A) (f : A → C
     → Kept known (act make a) view (made c) ws ts
 made_kept known a f make view made c ws ts seen m = record {
   same = m.same;
-  fit = m.fit; silent = m.silent;
+  fit = m.fit;
+  silent = m.silent;
   spelt = λ g ns are. let n = m.spelt g ns are in (make n.0, (n.0, refl, n.1), seen n.0 ∙ ap made n.2);
 }
 

@@ -261,19 +261,19 @@ module _ (known : ℕ → Bool) where
   expr_fits holes false (bin op x y) h =
       fit_append known (expr known true x) (plain (sign_of op) ∷ expr known true y) (expr_fits holes true x h.0) (tt, expr_fits holes true y h.1)
 
-  sign_silent_word : (op : Op) → sign_of op ≡ k.Output → ⊥
-  sign_silent_word ops.Add e = cc
-  sign_silent_word ops.Sub e = cc
-  sign_silent_word ops.Mul e = cc
-  sign_silent_word ops.And e = cc
-  sign_silent_word ops.Or e = cc
-  sign_silent_word ops.Xor e = cc
-  sign_silent_word ops.Eq e = cc
-  sign_silent_word ops.Ne e = cc
-  sign_silent_word ops.Lt e = cc
-  sign_silent_word ops.Le e = cc
-  sign_silent_word ops.Both e = cc
-  sign_silent_word ops.Either e = cc
+  sign_no_output : (op : Op) → sign_of op ≡ k.Output → ⊥
+  sign_no_output ops.Add e = cc
+  sign_no_output ops.Sub e = cc
+  sign_no_output ops.Mul e = cc
+  sign_no_output ops.And e = cc
+  sign_no_output ops.Or e = cc
+  sign_no_output ops.Xor e = cc
+  sign_no_output ops.Eq e = cc
+  sign_no_output ops.Ne e = cc
+  sign_no_output ops.Lt e = cc
+  sign_no_output ops.Le e = cc
+  sign_no_output ops.Both e = cc
+  sign_no_output ops.Either e = cc
 
   variable_silent : (x : ℕ) (b : Bool) → HaveNoOutput ((if b then w.name x else w.hole x) ∷ [])
   variable_silent x true = (tt, tt)
@@ -287,9 +287,9 @@ module _ (known : ℕ → Bool) where
   expr_silent true (bin op x y) = (
     (λ o. cc),
     silent_append (expr known true x ++ plain (sign_of op) ∷ expr known true y) (plain k.CloseParen ∷ [])
-        (silent_append (expr known true x) (plain (sign_of op) ∷ expr known true y) (expr_silent true x) (sign_silent_word op, expr_silent true y)) ((λ o. cc), tt),
+        (silent_append (expr known true x) (plain (sign_of op) ∷ expr known true y) (expr_silent true x) (sign_no_output op, expr_silent true y)) ((λ o. cc), tt),
   )
-  expr_silent false (bin op x y) = silent_append (expr known true x) (plain (sign_of op) ∷ expr known true y) (expr_silent true x) (sign_silent_word op, expr_silent true y)
+  expr_silent false (bin op x y) = silent_append (expr known true x) (plain (sign_of op) ∷ expr known true y) (expr_silent true x) (sign_no_output op, expr_silent true y)
 
   pub expr_keeps : (d : ℕ) → Keeps known (Within d) (rule t.expr) (λ e. e) (expr known false)
   expr_keeps d = record {

@@ -1,6 +1,5 @@
 -- What the tokens of a text are as words: names by number, numbers, keywords and signs.
 use Rattle.std.proofs.Common.{◌≡◌, ℕ, zero, suc, ◌+◌, ◌-◌, ◌<◌, ◌≤◌, nat_lt, List, [], ◌∷◌, ◌++◌, length, map, get_or, take, drop, Bool, true, false, not, cond, ◌||◌, ◌&&◌, if◌then◌else◌, codes, Result, Ok, Err, IfOk, refl, sym, ap, subst, ◌∙◌, arith, true≢false, length-append, append-nil, append_assoc, IsTrue}
-use Rattle.std.proofs.lemmas.Slice.Eq.{bytes_eq-Decides}
 use Rattle.std.specs.List.{list_any, list_all, take_while}
 use Rattle.std.specs.Str.{bytes_eq}
 use Rattle.std.specs.Str.Parse.{digits_value}

@@ -1,5 +1,5 @@
 -- The tokens of the canonical spelling are those of its version, each as it is written.
-use Rattle.std.proofs.Common.{◌≡◌, ℕ, ◌==◌, List, [], ◌∷◌, ◌++◌, map, flat_map, Bool, true, false, ◌&&◌, if◌then◌else◌, ◌⊎◌, inl, inr, refl, sym, ap, subst, ◌∙◌}
+use Rattle.std.proofs.Common.{◌≡◌, ℕ, List, [], ◌∷◌, ◌++◌, map, flat_map, Bool, true, false, ◌||◌, if◌then◌else◌, ◌⊎◌, inl, inr, refl, sym, ap, subst, ◌∙◌}
 use Rattle.std.proofs.lemmas.Bool.{and_parts}
 use Rattle.cov_expr.specs.declared.kind.Kind.TheVariants as k
 use Rattle.cov_grammar.specs.declared.token.Token.{Token}
@@ -95,7 +95,7 @@ BeginsOther (w.number n ∷ vs) = ⊥
 other_tokens : (ws : List Word) (ts : List Token) → Are ws ts → BeginsOther ws → starts (k.Version ∷ []) (head ts) ≡ false
 other_tokens [] ts are h = ap (λ us. starts (k.Version ∷ []) (head us)) are
 other_tokens (w.plain j ∷ vs) ts are h =
-    ap (λ us. starts (k.Version ∷ []) (head us)) are.4 ∙ ap (λ i. Rattle.std.proofs.Common.◌||◌ (kind_is k.Version i) false) are.2 ∙ ap (λ b. Rattle.std.proofs.Common.◌||◌ b false) h
+    ap (λ us. starts (k.Version ∷ []) (head us)) are.4 ∙ ap (λ i. kind_is k.Version i || false) are.2 ∙ ap (λ b. b || false) h
 other_tokens (w.name x ∷ vs) ts are h = absurd h
 other_tokens (w.hole x ∷ vs) ts are h = absurd h
 other_tokens (w.number n ∷ vs) ts are h = absurd h

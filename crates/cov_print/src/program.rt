@@ -40,9 +40,9 @@ fn add_threads(
     Ok(())
 }
 
-/// The canonical spelling of a program: a text of lines that end with a line feed, without comments. A number that has
-/// no name is spelled `_`, as the hole of a template. It takes memory in proportion to the text, and recurses as deep
-/// as blocks, certificates or expressions nest.
+/// The canonical spelling of a program: a text of lines that end with a line feed, without comments. One of version 2
+/// begins with the line `version 2;`. A number that has no name is spelled `_`, as the hole of a template. It takes memory
+/// in proportion to the text, and recurses as deep as blocks, certificates or expressions nest.
 pub fn print(alloc: Global, p: &Parsed) -> Result<List<u8>, NoMemory>
     ensures spelled { IfOk result (λ text. text ≡ spec.spelling (view.parsed p.now)) }
     // Where some text of any length spells the program, places aside, what is printed does, unless it is longer than a

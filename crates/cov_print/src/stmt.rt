@@ -39,6 +39,21 @@ fn add_note(
     out.extend_from_slice(b";")
 }
 
+/// Adds an output with its proofs.
+fn add_output(
+    names: &NameTable,
+    e: &Expr,
+    proofs: &[Proof],
+    out: &mut List<u8>,
+) -> Result<(), NoMemory>
+    ensures { OnOk result (out.new ≡ out.old ++ (codes "output " ++ spec.whole names.now (term e.now) ++ spec.by names.now (map view.proof proofs.now) ++ codes ";")) }
+{
+    out.extend_from_slice(b"output ")?;
+    add_expr(names, false, e, out)?;
+    add_proofs(names, proofs, out)?;
+    out.extend_from_slice(b";")
+}
+
 /// Adds an `if` before its first block.
 fn begin_if(names: &NameTable, e: &Expr, out: &mut List<u8>) -> Result<(), NoMemory>
     ensures { OnOk result (out.new ≡ out.old ++ (codes "if " ++ spec.whole names.now (term e.now) ++ codes " {\n")) }
@@ -174,11 +189,6 @@ fn add_statement(
             end_while(names, margin, proofs, out)
         }
         StmtKind::Note(j) => add_note(names, j, proofs, out),
-        StmtKind::Output(e) => {
-            out.extend_from_slice(b"output ")?;
-            add_expr(names, false, e, out)?;
-            add_proofs(names, proofs, out)?;
-            out.extend_from_slice(b";")
-        }
+        StmtKind::Output(e) => add_output(names, e, proofs, out),
     }
 }

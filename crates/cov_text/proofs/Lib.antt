@@ -9,6 +9,7 @@ pub mod StmtSummaries
 pub mod DeclSummaries
 pub mod VersionLaws
 pub mod SilentLaws
+pub mod VersionExamples
 pub mod WordLaws
 pub mod NamesInOrder
 pub mod ReadyLaws
