@@ -1,5 +1,5 @@
 -- Small laws of kinds, lists of kinds, first tokens and truth values.
-use Rattle.std.proofs.Common.{◌≡◌, List, [], ◌∷◌, ◌++◌, Bool, true, false, not, ◌&&◌, ◌||◌, Option, Some, None, refl, sym, ap, subst, ◌∙◌}
+use Rattle.std.proofs.Common.{◌≡◌, List, [], ◌∷◌, ◌++◌, Bool, true, false, ◌||◌, Option, Some, None, refl, sym, ap, subst, ◌∙◌}
 use Rattle.std.proofs.lemmas.Bool.{not-true}
 use denote.Enum.Bare.{same_true, true_same}
 use Rattle.cov_expr.specs.declared.kind.Kind.{Kind}

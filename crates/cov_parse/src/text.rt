@@ -43,7 +43,8 @@ pub fn parse(alloc: Global, bytes: &[u8]) -> Result<Parsed, ParseFault>
     // What is answered is what the text spells, within the limits; else its first fault.
     ensures answer { Answers grammar.program limits.in_program bytes.now ast.parsed (program_of bytes.now) result }
     // Ids of the tree are numbers of names, its declarations are within bounds, the places of a thread's statements differ,
-    // and the list of uses has each name that the declarations use, in the order of the text.
+    // nothing is put out in version 1, and the list of uses has each name that the declarations use, in the order of the
+    // text.
     ensures ready { IfOk result (λ p. IsReady (ast.parsed p)) }
     ensures in_order { IfOk result (λ p. HasUsesInOrder (ast.parsed p)) }
     // What the text spells within the limits is answered.

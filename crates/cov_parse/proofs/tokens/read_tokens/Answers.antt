@@ -1,4 +1,5 @@
-use Rattle.std.proofs.Common.{◌≡◌, ◌∙◌, Err, ap, sym, subst, rules}
+use Rattle.std.proofs.Common.{◌≡◌, ◌∙◌, Err, length, ap, sym, subst, rules, arith}
+use Rattle.cov_expr.proofs.Lists.{refilled_whole}
 use Rattle.cov_text.specs.Text.{words_of}
 use Rattle.cov_text.specs.Versioned.{versioned}
 use Rattle.cov_parse.specs.Reads.{AreRead}
@@ -13,9 +14,10 @@ returns-in_err-tokens c =
 
 pub returns : goal.returns
 unfolding words_of
-returns c =
-    (
-      lexes_so c.args.bytes.now c.in_ok-tokens.ensures.tokens.read c.in_ok-tokens.ensures.tokens.lexes,
-      c.in_ok-names.ensures.names,
-      c.fit_version.ensures ∙ ap versioned (c.as_mut_slice.ensures.value ∙ c.in_ok-names.ensures.tokens),
-    )
+returns c = (
+  lexes_so c.args.bytes.now c.in_ok-tokens.ensures.tokens.read c.in_ok-tokens.ensures.tokens.lexes,
+  c.in_ok-names.ensures.names,
+  refilled_whole c.number_names.new.tokens c.fit_version.new.tokens (omega (arith, c.fit_version.auto.tokens, ap length c.as_mut_slice.ensures.value))
+      ∙ c.fit_version.ensures
+      ∙ ap versioned (c.as_mut_slice.ensures.value ∙ c.in_ok-names.ensures.tokens),
+)
