@@ -25,4 +25,4 @@ returns-clause-done c t a kept =
     let f : ℕ → Bool = λ y. not (mentions (class_of p y) c.args.x) in
     subst (AreDone f c.args.from count) (sym (c.if_below.ensures ∙ ap (λ n. if_below n next) c.var_count.ensures))
     (done_below f c.args.from 256 count next (omega (arith, c.requires.formed.limits.variables, length-map c.args.p.now.vars view.var))
-    (c.next_controlled.ensures.done p (subst (AreVariables p) (sym c.deref.ensures) kept.variables)))
+    (c.next_controlled.ensures.done p (subst (AreVariables p) (sym (c.deref-2.ensures ∙ ap (λ s. s.variables.value) c.deref.ensures)) kept.variables)))
