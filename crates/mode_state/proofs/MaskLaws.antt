@@ -86,6 +86,14 @@ tables_joined n m f g h s t small is_s is_t both x in_s in_t =
     table_at n h x lt_n ∙ both x (omega arith)
     ∙ (λ i. sym (table_at n f x lt_n) i || sym (table_at m g x lt_m) i) ∙ (λ i. has (is_s i) x || has (is_t i) x)
 
+-- the same of any number, where both sets have one bound
+pub joined_anywhere : (s t u : List Bool) → length t ≡ length s → length u ≡ length s
+    → ((x : ℕ) → x < length s → x < length t → has u x ≡ (has s x || has t x)) → (x : ℕ) → has u x ≡ (has s x || has t x)
+joined_anywhere s t u as_t as_u below x = elim (cases_lt x (length s)) [
+  | inl inside ↦ below x inside (omega arith)
+  | inr past ↦ get_or_past u x false (omega arith) ∙ (λ i. sym (get_or_past s x false past) i || sym (get_or_past t x false (omega arith)) i)
+]
+
 -- no number is in words of 0
 pub no_words : (n : ℕ) → table n (in_words (replicate 4 0)) ≡ replicate n false
 no_words n = table_same n (in_words (replicate 4 0)) (λ y. false) (λ x lt. ap (λ v. has_bit v (x % 64)) (zero (x / 64)) ∙ ap (λ b. b == 1) (bit_at-zero (x % 64))) ∙ sym (none_table n)

@@ -89,10 +89,11 @@ impl Mask {
         }
     }
 
-    /// Adds the numbers of another set; those past the bound are left out.
+    /// Adds the numbers of another set below the same bound.
     pub fn insert_set(&mut self, other: &Mask)
+        requires { length other.now ≡ length self.old }
         ensures length { length self.new ≡ length self.old }
-        ensures numbers { (x : ℕ) → x < length self.old → x < length other.now → has self.new x ≡ (has self.old x || has other.now x) }
+        ensures numbers { (x : ℕ) → has self.new x ≡ (has self.old x || has other.now x) }
     {
         self.words = joined(&self.words, &other.words);
     }

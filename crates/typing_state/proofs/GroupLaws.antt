@@ -1,5 +1,5 @@
 -- Laws of the variables that types mention, one by one and in groups.
-use Rattle.std.proofs.Common.{◌≡◌, ◌≢◌, ℕ, ◌+◌, ◌*◌, ◌/◌, ◌<◌, ◌≤◌, List, [], ◌∷◌, ◌++◌, Bool, true, false, not, ◌||◌, length, get_or, set, replicate, sym, ap, refl, ◌∙◌, arith, inl, inr, Option, Some, None}
+use Rattle.std.proofs.Common.{◌≡◌, ◌≢◌, ℕ, ◌*◌, ◌/◌, ◌<◌, ◌≤◌, List, [], ◌∷◌, ◌++◌, Bool, true, false, not, ◌||◌, length, get_or, set, replicate, sym, ap, refl, ◌∙◌, arith, inl, inr, Option, Some, None}
 use Rattle.std.proofs.lemmas.Bool.{cases_eq, cases_lt, or_parts}
 use Rattle.std.proofs.lemmas.List.{get_or-set_same, get_or-set_other, get_or_append_left, get_or_push, get_or_past, length-append, length-set}
 use Rattle.cov_expr.specs.Term.{Term}
@@ -8,9 +8,9 @@ use Rattle.cov_expr.proofs.Trees.{occurs}
 use Rattle.cov_expr.proofs.Values.{closed_mentions}
 use Rattle.cov_ast.specs.Tables.{has, table, with_all}
 use Rattle.cov_ast.proofs.TableLaws.{table_same, with_all_none}
-use Rattle.typing_state.specs.Groups.{AreGrouped, is_free}
+use Rattle.typing_state.specs.Inside.Groups.{AreGrouped, is_free}
 use Rattle.typing_state.specs.Terms.{is_closed_type}
-use Rattle.typing_state.specs.Walks.{AreDone}
+use Rattle.typing_state.specs.Next.{AreDone}
 
 pub all_mentioned : (n : ℕ) (e : Term) → with_all (replicate n false) (occurrences e) ≡ table n (mentions e)
 all_mentioned n e = with_all_none n (occurrences e) ∙ table_same n (has_number (occurrences e)) (mentions e) (λ x lt. occurs e x)
@@ -72,11 +72,11 @@ module _ (old new : List (List Bool)) (types : List (Option Term)) (grouped : Ar
 
 -- Walks over groups --------------------------------------------------------------------------------------------
 
--- the types of a group whose set lacks a variable
-pub group_free : (groups : List (List Bool)) (types : List (Option Term)) → AreGrouped groups types → (x z : ℕ) → x < 256 → has (get_or groups (z / 16) []) x ≡ false
-    → (k : ℕ) → z ≤ k → k < (z / 16 + 1) * 16 → k < 256 → is_free x (get_or types k None) ≡ true
-group_free groups types grouped x z below lacks k le lt small =
-    grouped k x small below (ap (λ g. has (get_or groups g []) x) (let same : k / 16 ≡ z / 16 = omega arith in same) ∙ lacks)
+-- the types of groups whose sets lack a variable
+pub groups_free : (groups : List (List Bool)) (types : List (Option Term)) → AreGrouped groups types → (x z next : ℕ) → x < 256
+    → ((g : ℕ) → z / 16 ≤ g → g < next → has (get_or groups g []) x ≡ false)
+    → (k : ℕ) → z ≤ k → k < next * 16 → k < 256 → is_free x (get_or types k None) ≡ true
+groups_free groups types grouped x z next below lack k le lt small = grouped k x small below (lack (k / 16) (omega arith) (omega arith))
 
 module _ (types : List (Option Term)) (x from start : ℕ) (begun : from ≤ start) (so_far : (k : ℕ) → from ≤ k → k < start → k < 256 → is_free x (get_or types k None) ≡ true) where
   -- no type before the next that mentions a variable mentions this one

@@ -1,6 +1,7 @@
 -- What is declared of variables, by number.
-use Rattle.std.proofs.Common.{◌≡◌, ℕ, ◌<◌, inl, inr, None, List, [], Bool, length, map, get_or, sym, ap, ◌∙◌, arith, ◌&&◌, not, true, Option, Some, if◌then◌else◌}
-use Rattle.std.proofs.lemmas.Bool.{cases_lt, not-true}
+use Rattle.std.proofs.Common.{◌≡◌, ℕ, ◌<◌, inl, inr, None, List, [], Bool, length, map, get_or, sym, ap, ◌∙◌, arith, ◌&&◌, not, true, false, Option, Some, if◌then◌else◌}
+use Rattle.std.specs.Prelude.{IfSome}
+use Rattle.std.proofs.lemmas.Bool.{cases_lt, not-false, not-true}
 use Rattle.std.proofs.lemmas.List.{get_or-map, get_or_past, length-map}
 use Rattle.std.proofs.lemmas.Simd.{map-map}
 use Rattle.std.proofs.lemmas.List.FromFn.{get_or-map-range_with_len, length-map-range_with_len}
@@ -11,7 +12,7 @@ use Rattle.cov_ast.specs.Plain.{Plain, class_term}
 use Rattle.cov_ast.specs.Tables.{has, table}
 use Rattle.cov_ast.proofs.TableLaws.{table_at, table_length}
 use Rattle.mode_state.specs.Sets.{Sets, modes_at}
-use Rattle.typing_state.specs.Groups.{is_free}
+use Rattle.typing_state.specs.Inside.Groups.{is_free}
 use Rattle.typing_state.specs.Point.{vars_of}
 use Rattle.typing_state.specs.After.{locked_type}
 
@@ -41,6 +42,12 @@ class_free p types is x y =
           ap (is_free x) (get_or_past (map (λ z. Some (class_of p z)) (vars_of p)) y None (omega (arith, length-map-range_with_len (λ z. Some (class_of p z)) 0 (length p.vars))))
           ∙ sym (ap (λ v. not (mentions (class_term v.class) x)) (get_or_past p.vars y no_var le))
     ]
+
+-- a variable whose class isn't free of another
+pub class_mentions : (p : Plain) (types : List (Option Term)) → types ≡ map (λ x. Some (class_of p x)) (vars_of p) → (x : ℕ) (y : Option ℕ)
+    → IfSome y (λ y. is_free x (get_or types y None) ≡ false) → IfSome y (λ y. mentions (class_of p y) x ≡ true)
+class_mentions p types is x None h = tt
+class_mentions p types is x (Some y) h = not-false (mentions (class_of p y) x) (sym (class_free p types is x y) ∙ h)
 
 -- the variables that a lock lists
 pub lists_is : (p : Plain) (t : ℕ) (held : List Bool) (s : Sets) (l x : ℕ) → s ≡ modes_at p t held → l < length p.locks → x < length p.vars

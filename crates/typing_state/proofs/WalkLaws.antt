@@ -8,7 +8,8 @@ use Rattle.cov_ast.specs.Tables.{has}
 use Rattle.mode_state.specs.Bits.{IsNext}
 use Rattle.typing_state.specs.After.{updated}
 use Rattle.typing_state.specs.Terms.{is_closed_type}
-use Rattle.typing_state.specs.Walks.{AreDone, earlier, if_below}
+use Rattle.typing_state.specs.Next.{AreDone}
+use Rattle.typing_state.specs.Inside.Least.{earlier, if_below}
 use Rattle.typing_state.proofs.Steps.{upto, upto_pass, upto_end, upto_from}
 
 -- The next one -----------------------------------------------------------------------------------------------------
@@ -34,6 +35,14 @@ done_below f from n end (Some x) le h = at (nat_lt x end) refl
 pub done_further : (f : ℕ → Bool) (from : ℕ) (x : Option ℕ) → AreDone f from 256 x → IfSome x (λ y. from ≤ y)
 done_further f from None h = tt
 done_further f from (Some x) h = h.1
+
+pub below_some : (P : ℕ → Type 0) (end : ℕ) (x : Option ℕ) → IfSome x P → IfSome (if_below end x) P
+below_some P end None h = tt
+below_some P end (Some x) h = at (nat_lt x end)
+  where
+    at : (b : Bool) → IfSome (if b then Some x else None) P
+    at true = h
+    at false = tt
 
 pub below_within : (from end : ℕ) (x : Option ℕ) → IfSome x (λ y. from ≤ y) → IfSome (if_below end x) (λ y. (from ≤ y) × (y < end))
 below_within from end None h = tt

@@ -6,12 +6,12 @@ ghost use Rattle.cov_ast.specs.Tables.{has};
 ghost use Rattle.cov_ast.specs.View as view;
 ghost use Rattle.cov_ast.specs.WellFormed.{IsWellFormed};
 ghost use Rattle.typing_state.specs.After as after;
-ghost use Rattle.typing_state.specs.Groups.{is_free};
-ghost use Rattle.typing_state.specs.Kept.{AtEach, AtModes, IsTrackedBeside, passes};
+ghost use Rattle.typing_state.specs.Inside.Groups.{is_free};
+ghost use Rattle.typing_state.specs.Inside.Tells.{AtEach, AtModes, IsTrackedBeside, passes};
 ghost use Rattle.typing_state.specs.Point as point;
 ghost use Rattle.typing_state.specs.Terms.{is_closed_type};
-ghost use Rattle.typing_state.specs.Walks as walks;
-ghost use Rattle.typing_state.specs.Walks.{AreDone};
+ghost use Rattle.typing_state.specs.Inside.Least as least;
+ghost use Rattle.typing_state.specs.Next.{AreDone};
 
 use crate::retain::is_kept;
 use crate::start::{is_tracked, var_count};
@@ -81,7 +81,7 @@ fn next_mentioning(p: &Program, types: &Types, x: u32, from: u32) -> Option<u32>
 
 /// The smaller of two numbers, where there are both.
 fn earlier(a: Option<u32>, b: Option<u32>) -> Option<u32>
-    ensures { result ≡ walks.earlier a b }
+    ensures { result ≡ least.earlier a b }
 {
     match (a, b) {
         (Some(x), Some(y)) => Some(x.min(y)),
@@ -92,7 +92,7 @@ fn earlier(a: Option<u32>, b: Option<u32>) -> Option<u32>
 
 /// A number, if it is below an end.
 pub fn if_below(end: u32, x: Option<u32>) -> Option<u32>
-    ensures { result ≡ walks.if_below end x }
+    ensures { result ≡ least.if_below end x }
 {
     match x {
         Some(x) if x < end => Some(x),

@@ -1,7 +1,7 @@
-ghost use Rattle.std.specs.Prelude.{◌≡◌, ◌<◌, ◌/◌, ℕ, [], Some, false, get_or, option_map, true, IfOk};
+ghost use Rattle.std.specs.Prelude.{◌≡◌, ◌<◌, ◌≤◌, ◌/◌, ℕ, [], Some, false, get_or, option_map, replicate, true, IfOk};
 ghost use Rattle.cov_expr.specs.View.{term};
 ghost use Rattle.cov_ast.specs.Tables.{has};
-ghost use Rattle.typing_state.specs.Groups.{is_free};
+ghost use Rattle.typing_state.specs.Inside.Groups.{is_free};
 
 use crate::types::Type;
 use cov_expr::{List, NoMemory};
@@ -29,7 +29,9 @@ impl Model for Groups {
 
 impl Groups {
     /// Sixteen groups, whose types mention nothing.
-    pub fn new(alloc: Global) -> Result<Self, NoMemory> {
+    pub fn new(alloc: Global) -> Result<Self, NoMemory>
+        ensures { IfOk result (λ made. made ≡ replicate 16 (replicate 256 false)) }
+    {
         let mut sets = List::with_capacity(alloc, 16)?;
         for _i in 0..16_usize {
             sets.push(Mask::new(256))?;
@@ -49,11 +51,25 @@ impl Groups {
     }
 
     /// Whether the types of a group may mention a variable.
-    pub fn has(&self, group: usize, x: u32) -> bool
+    fn has(&self, group: usize, x: u32) -> bool
         requires { group < 16 }
         ensures { result ≡ has (get_or self.now group []) x }
     {
         self.sets.as_slice()[group].has(x)
+    }
+
+    /// The first group from one on whose types may mention a variable, or 16.
+    pub fn next_with(&self, x: u32, from: usize) -> usize
+        requires { from < 16 }
+        ensures within { (from ≤ result) × (result ≤ 16) }
+        ensures passed { (g : ℕ) → from ≤ g → g < result → has (get_or self.now g []) x ≡ false }
+    {
+        for group in from..16 {
+            if self.has(group, x) {
+                return group;
+            }
+        }
+        16
     }
 
     /// Adds to the group of a variable what its type mentions. Variables from 256 on have no group.

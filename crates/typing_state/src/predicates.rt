@@ -5,7 +5,7 @@ ghost use Rattle.cov_expr.specs.View.{term};
 ghost use Rattle.cov_ast.specs.Plain.{plain};
 ghost use Rattle.cov_ast.specs.View as view;
 ghost use Rattle.cov_ast.specs.WellFormed.{IsWellFormed};
-ghost use Rattle.typing_state.specs.Kept.{AtModes};
+ghost use Rattle.typing_state.specs.Inside.Tells.{AtModes};
 ghost use Rattle.typing_state.specs.Point as point;
 ghost use Rattle.typing_state.specs.Terms.{distinct_terms, is_false, is_small, with_term, with_terms};
 

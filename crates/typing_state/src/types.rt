@@ -1,13 +1,13 @@
-ghost use Rattle.std.specs.Prelude.{◌≡◌, ◌<◌, ◌≤◌, ◌||◌, ℕ, true, [], ◌∷◌, ◌++◌, length, map, option_copied, option_map, get_or, set, is_some, not, IfOk, OnOk, None, if◌then◌else◌};
+ghost use Rattle.std.specs.Prelude.{◌≡◌, ◌<◌, ◌≤◌, ◌||◌, ℕ, true, false, [], ◌∷◌, ◌++◌, length, map, option_copied, option_map, get_or, set, is_some, not, IfOk, IfSome, OnOk, None, if◌then◌else◌};
 ghost use Rattle.std.specs.List.{list_all};
 ghost use Rattle.cov_expr.specs.Trees as tree;
 ghost use Rattle.cov_expr.specs.View.{term};
 ghost use Rattle.cov_ast.specs.Tables.{has};
 ghost use Rattle.cov_ast.specs.View as view;
 ghost use Rattle.typing_state.specs.After.{listed_or, retyped};
-ghost use Rattle.typing_state.specs.Groups.{is_free};
+ghost use Rattle.typing_state.specs.Inside.Groups.{is_free};
 ghost use Rattle.typing_state.specs.Terms.{is_small, is_small_type, is_closed_type};
-ghost use Rattle.typing_state.specs.Walks.{AreDone};
+ghost use Rattle.typing_state.specs.Next.{AreDone};
 
 use crate::groups::Groups;
 use crate::mentioned::mentioned;
@@ -77,6 +77,7 @@ impl Type {
         self.small
     }
 
+    /// Whether it mentions no variable.
     pub fn is_closed(&self) -> bool
         ensures { result ≡ tree.is_closed (term self.now) }
     {
@@ -120,7 +121,7 @@ impl Model for Types {
     ghost use Rattle.cov_expr.specs.contracts.expr.Expr as e;
     ghost use Rattle.cov_expr.specs.declared.expr.Expr.{Expr};
     ghost use Rattle.cov_expr.specs.View.{term};
-    ghost use Rattle.typing_state.specs.Groups.{AreGrouped};
+    ghost use Rattle.typing_state.specs.Inside.Groups.{AreGrouped};
     ghost use Rattle.typing_state.specs.Terms.{is_small_type, is_closed_type};
 
     ghost Value = { List (Option Expr) };
@@ -222,7 +223,8 @@ impl Types {
     /// whose types mentions it none is looked at.
     pub fn next_mentioning(&self, x: u32, from: u32) -> Option<u32>
         requires { x < 256 }
-        ensures { AreDone (λ k. is_free x (get_or (map (option_map term) self.now) k None)) from 256 result }
+        ensures done { AreDone (λ k. is_free x (get_or (map (option_map term) self.now) k None)) from 256 result }
+        ensures mentioning { IfSome result (λ z. is_free x (get_or (map (option_map term) self.now) z None) ≡ false) }
     {
         let mut start = from;
         while let Some(z) = self.next_varying(start) {
@@ -235,16 +237,19 @@ impl Types {
         None
     }
 
-    /// A number up to which no type from a variable on mentions another variable. It is the variable itself where its type
-    /// does.
+    /// A number up to which no type from a variable on mentions another variable. It is the variable itself exactly where its
+    /// type does.
     fn past_free(&self, z: u32, x: u32) -> u32
         requires small { x < 256 }
         requires below { z < 256 }
         ensures further { z ≤ result }
         ensures free { (k : ℕ) → z ≤ k → k < result → k < 256 → is_free x (get_or (map (option_map term) self.now) k None) ≡ true }
+        ensures stays { result ≡ z → is_free x (get_or (map (option_map term) self.now) z None) ≡ false }
     {
-        if !self.groups.has((z / 16) as usize, x) {
-            return (z / 16 + 1) * 16;
+        let group = (z / 16) as usize;
+        let next = self.groups.next_with(x, group);
+        if group < next {
+            return next as u32 * 16;
         }
         if self.is_free(z, x) {
             return z + 1;

@@ -3,7 +3,7 @@ use Rattle.cov_expr.specs.View.{term}
 use Rattle.cov_ast.specs.Plain.{plain}
 use Rattle.cov_ast.specs.View as view
 use Rattle.typing_state.specs.After.{forgotten_type}
-use Rattle.typing_state.specs.Kept.{AtEach}
+use Rattle.typing_state.specs.Inside.Tells.{AtEach}
 use Rattle.typing_state.proofs.Steps.{upto}
 use Rattle.typing_state.proofs.forget.forget_types.Given as goal
 

@@ -3,7 +3,7 @@ use Rattle.cov_expr.specs.View.{term}
 use Rattle.cov_ast.specs.Plain.{plain}
 use Rattle.cov_ast.specs.View as view
 use Rattle.typing_state.specs.After.{unlocked_type}
-use Rattle.typing_state.specs.Kept.{AtEach, IsTrackedBeside}
+use Rattle.typing_state.specs.Inside.Tells.{AtEach, IsTrackedBeside}
 use Rattle.typing_state.proofs.Steps.{upto}
 use Rattle.typing_state.proofs.forget.unlock_types.Given as goal
 

@@ -3,7 +3,7 @@ use Rattle.std.specs.Prelude.{filter}
 use Rattle.cov_expr.specs.View.{term}
 use Rattle.cov_ast.specs.Plain.{plain}
 use Rattle.cov_ast.specs.View as view
-use Rattle.typing_state.specs.Kept.{AtModes}
+use Rattle.typing_state.specs.Inside.Tells.{AtModes}
 use Rattle.typing_state.specs.Point.{is_over_stable}
 use Rattle.typing_state.proofs.DropLaws.{left_from}
 use Rattle.typing_state.proofs.predicates.Predicates.drop_unstable.Given as goal

@@ -1,7 +1,7 @@
 use Rattle.std.proofs.Common.{◌∙◌, ◌<◌, ap, sym, map, get_or, length, option_map, None}
 use Rattle.std.proofs.lemmas.Bool.{ltb-true}
 use Rattle.cov_expr.specs.View.{term}
-use Rattle.typing_state.specs.Groups.{is_free}
+use Rattle.typing_state.specs.Inside.Groups.{is_free}
 use Rattle.typing_state.proofs.SharedLaws.{type_at}
 use Rattle.typing_state.proofs.types.Types.is_free.Goals as goal
 

@@ -1,6 +1,6 @@
 use Rattle.std.proofs.Common.{◌≡◌, ◌≤◌, ◌<◌, ◌-◌, ℕ, None, get_or, map, option_map, true}
 use Rattle.cov_expr.specs.View.{term}
-use Rattle.typing_state.specs.Groups.{is_free}
+use Rattle.typing_state.specs.Inside.Groups.{is_free}
 use Rattle.typing_state.proofs.types.Types.next_mentioning.Given as goal
 
 abbrev pub invariant-loop-z : goal.invariant-loop-z

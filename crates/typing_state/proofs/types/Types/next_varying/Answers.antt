@@ -1,7 +1,7 @@
 use Rattle.std.proofs.Common.{ap, subst, map, option_map, get_or, None}
 use Rattle.cov_expr.specs.View.{term}
 use Rattle.typing_state.specs.Terms.{is_closed_type}
-use Rattle.typing_state.specs.Walks.{AreDone}
+use Rattle.typing_state.specs.Next.{AreDone}
 use Rattle.typing_state.proofs.WalkLaws.{next_done, marked_done}
 use Rattle.typing_state.proofs.types.Types.next_varying.Goals as goal
 

@@ -2,7 +2,7 @@ use Rattle.std.proofs.Common.{◌∙◌, ap, subst, sym, map, set, option_map, g
 use Rattle.std.proofs.lemmas.Grind.{common_steps}
 use Rattle.std.proofs.lemmas.List.{length-set}
 use Rattle.cov_ast.specs.Tables.{has}
-use Rattle.typing_state.specs.Groups.{AreGrouped}
+use Rattle.typing_state.specs.Inside.Groups.{AreGrouped}
 use Rattle.typing_state.specs.Terms.{is_closed_type}
 use Rattle.typing_state.proofs.GroupLaws.{grouped_set}
 use Rattle.typing_state.proofs.WalkLaws.{marked_set}
