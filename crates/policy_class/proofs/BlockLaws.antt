@@ -25,10 +25,11 @@ pub tables_resolve : (p : Parsed) (t : Ids) → AreIdsOf p t → (vars : List Va
     → vars ≡ map (resolved_variable (var_in t) (lock_in t)) p.vars
     → locks ≡ map (resolved_lock (var_in t) (lock_in t)) p.locks
     → threads ≡ map (resolved_thread (var_in t) (lock_in t)) p.threads
-    → (let made : Program = record { vars = vars; locks = locks; threads = threads } in made) ≡ resolved p
+    → (let made : Program = record { version = p.version; vars = vars; locks = locks; threads = threads } in made) ≡ resolved p
 tables_resolve p t h vars locks threads a b c =
-    (λ i. record { vars = a i; locks = b i; threads = c i })
+    (λ i. record { version = p.version; vars = a i; locks = b i; threads = c i })
     ∙ (λ i. record {
+      version = p.version;
       vars = map (resolved_variable (λ x. h.variables x i) (λ x. h.locks x i)) p.vars;
       locks = map (resolved_lock (λ x. h.variables x i) (λ x. h.locks x i)) p.locks;
       threads = map (resolved_thread (λ x. h.variables x i) (λ x. h.locks x i)) p.threads;

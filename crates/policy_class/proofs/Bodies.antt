@@ -1,4 +1,4 @@
--- Ids of names leave the places and the size of statements as they are.
+-- Ids of names leave the places and the size of statements as they are, and put nothing out.
 use Rattle.std.proofs.Common.{◌≡◌, ℕ, ◌+◌, ◌<◌, ◌==◌, List, [], ◌∷◌, ◌++◌, map, refl, subst, sym, ap, ap₂, ◌∙◌, Option, Some, None, All}
 use Rattle.std.specs.Prelude.{option_map, sum_by}
 use Rattle.std.proofs.lemmas.List.Sums.{sum_by-cons}
@@ -7,7 +7,7 @@ use Rattle.cov_expr.specs.Term.{Term, const, var, neg, bin}
 use Rattle.cov_expr.specs.Trees.{nodes}
 use Rattle.cov_ast.specs.Syntax.{State, Stm, Block, done, more, Thread}
 use Rattle.cov_ast.specs.Syntax as s
-use Rattle.cov_ast.specs.WellFormed.{places_within, places, types_size, state_size, type_size, stm_size, block_size, are_distinct, IsBodyFine, most_size}
+use Rattle.cov_ast.specs.WellFormed.{places_within, places, types_size, state_size, type_size, stm_size, block_size, are_distinct, IsBodyFine, IsSilent, IsSilentStm, most_size}
 use Rattle.policy_class.specs.Resolved as spec
 
 -- sums over lists that are made item by item
@@ -41,6 +41,7 @@ module _ (v l : ℕ → ℕ) where
     within_same (s.branch e a b join) = ap₂ (λ xs ys. xs ++ ys) (places_same a) (places_same b)
     within_same (s.loop e inv b) = places_same b
     within_same (s.note j) = refl
+    within_same (s.output e) = refl
 
     places_same : (b : Block) → places (spec.resolved_block v l b) ≡ places b
     places_same done = refl
@@ -55,10 +56,29 @@ module _ (v l : ℕ → ℕ) where
     stm_same (s.branch e a b join) = λ i. nodes_same e i + block_same a i + block_same b i + state_same join i
     stm_same (s.loop e inv b) = λ i. nodes_same e i + state_same inv i + block_same b i
     stm_same (s.note j) = state_same j
+    stm_same (s.output e) = nodes_same e
 
     block_same : (b : Block) → block_size (spec.resolved_block v l b) ≡ block_size b
     block_same done = refl
     block_same (more at c proofs b) = ap₂ (λ m n. 1 + m + n) (stm_same c) (block_same b)
+
+  mutual
+    stm_silent : (c : Stm) → IsSilentStm c → IsSilentStm (spec.resolved_stm v l c)
+    stm_silent s.skip h = h
+    stm_silent (s.assign x e q retypes) h = h
+    stm_silent (s.lock k) h = h
+    stm_silent (s.unlock k) h = h
+    stm_silent (s.branch e a b join) h = (block_silent a h.0, block_silent b h.1)
+    stm_silent (s.loop e inv b) h = block_silent b h
+    stm_silent (s.note j) h = h
+    stm_silent (s.output e) h = absurd h
+
+    block_silent : (b : Block) → IsSilent b → IsSilent (spec.resolved_block v l b)
+    block_silent done h = h
+    block_silent (more at c proofs b) h = (stm_silent c h.0, block_silent b h.1)
+
+  pub bodies_silent : (ts : List Thread) → All (λ t. IsSilent t.body) ts → All (λ t. IsSilent t.body) (map (spec.resolved_thread v l) ts)
+  bodies_silent ts h = All-map (λ t. IsSilent t.body) (spec.resolved_thread v l) ts (All-weaker _ _ (λ t. block_silent t.body) ts h)
 
   body_fine : (b : Block) → IsBodyFine b → IsBodyFine (spec.resolved_block v l b)
   body_fine b h = record {

@@ -39,7 +39,7 @@ w2 at letter = Some (declared_obligation W2 at (One (letter ∷ [])) false).refu
 
 -- var a: low; var a: low;
 twice : Parsed
-twice = record { names = (97 ∷ []) ∷ []; uses = []; vars = variable 97 4 low ∷ variable 97 16 low ∷ []; locks = []; threads = [] }
+twice = record { version = 1; names = (97 ∷ []) ∷ []; uses = []; vars = variable 97 4 low ∷ variable 97 16 low ∷ []; locks = []; threads = [] }
 
 twice-refused : first_false (name_obligations twice) ≡ w1 16 97
 unfolding twice
@@ -48,6 +48,7 @@ twice-refused = refl
 -- var t: low; thread t { a := 1; }
 thread_too : Parsed
 thread_too = record {
+  version = 1;
   names = (116 ∷ []) ∷ (97 ∷ []) ∷ [];
   uses = used 1 23 ∷ [];
   vars = variable 116 4 low ∷ [];
@@ -63,6 +64,7 @@ thread_too-refused = refl
 -- thread t { a := 1; }
 undeclared : Parsed
 undeclared = record {
+  version = 1;
   names = (116 ∷ []) ∷ (97 ∷ []) ∷ [];
   uses = used 1 11 ∷ [];
   vars = [];
@@ -77,6 +79,7 @@ undeclared-refused = refl
 -- lock l; thread t { l := 1; }
 lock_assigned : Parsed
 lock_assigned = record {
+  version = 1;
   names = (108 ∷ []) ∷ (116 ∷ []) ∷ [];
   uses = used 0 19 ∷ [];
   vars = [];
@@ -91,6 +94,7 @@ lock_assigned-refused = refl
 -- var a: low; thread t { lock a; }
 variable_locked : Parsed
 variable_locked = record {
+  version = 1;
   names = (97 ∷ []) ∷ (116 ∷ []) ∷ [];
   uses = used_lock 0 28 ∷ [];
   vars = variable 97 4 low ∷ [];
@@ -108,6 +112,7 @@ variable_locked-refused = refl
 -- thread t { lock l; b := a by { 1: fwd 1 [_ == a] auto }; unlock l; }
 abbrev text_by : (a lock_number : ℕ) → Parsed
 text_by a lock_number = record {
+  version = 1;
   names = (98 ∷ []) ∷ (97 ∷ []) ∷ (99 ∷ []) ∷ (108 ∷ []) ∷ (116 ∷ []) ∷ [];
   uses = used 1 16 ∷ used 0 63 ∷ used_lock 3 82 ∷ used 0 85 ∷ used 1 90 ∷ used 1 112 ∷ used_lock 3 130 ∷ [];
   vars = variable 98 4 (when (bin Eq (var a) (const 0))) ∷ variable 99 28 low ∷ variable 97 40 low ∷ [];

@@ -136,6 +136,7 @@ module _ (n : ℕ) (few : n ≤ HOLE) (vars locks : ℕ) (v l : ℕ → ℕ) whe
         let c = parts (uses_in e) (uses_in_state inv) b.0 in
         ((of_term e h.0 c.0, of_state inv h.1 c.1, of_block x h.2 b.1), a.1)
     of_stm (s.note j) proofs h u = let a = parts (uses_in_state j) (flat_map uses_in_proof proofs) u in (of_state j h a.0, a.1)
+    of_stm (s.output e) proofs h u = let a = parts (uses_in e) (flat_map uses_in_proof proofs) u in (of_term e h a.0, a.1)
 
     of_block : (b : Block) → IsBlockInRange n n b → AreDeclaredIds (uses_in_block b) → IsBlockInRange vars locks (spec.resolved_block v l b)
     of_block done h u = tt

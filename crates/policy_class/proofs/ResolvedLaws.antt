@@ -19,7 +19,7 @@ use Rattle.policy_class.proofs.NameLaws.{head_holds}
 use Rattle.policy_class.proofs.PositionLaws.{present}
 use Rattle.policy_class.proofs.Each.{Each, each_listed}
 use Rattle.policy_class.proofs.Formed.{ids_resolved}
-use Rattle.policy_class.proofs.Bodies.{bodies_fine}
+use Rattle.policy_class.proofs.Bodies.{bodies_fine, bodies_silent}
 
 -- Uses ---------------------------------------------------------------------------------------------------------
 
@@ -81,6 +81,7 @@ module _ (p : Parsed) where
     names_differ = ap (are_distinct bytes_eq) (names_same ∙ sym t.names) ∙ t.differ;
     limits = limits_same ready.limits;
     bodies = bodies_fine (var_id p) (lock_id p) p.threads ready.bodies;
+    version = record { known = ready.version.known; silent = λ first. bodies_silent (var_id p) (lock_id p) p.threads (ready.version.silent first) };
   }
 
 -- Answers ------------------------------------------------------------------------------------------------------

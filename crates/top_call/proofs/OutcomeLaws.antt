@@ -4,10 +4,10 @@ use Rattle.cov_io.specs.Counters.{Rose}
 use Rattle.cov_io.specs.Shelves.{File, Shelved, held}
 use Rattle.cov_io.specs.Sinks.{Sunk}
 use Rattle.top_call.specs.Check.{Judges, IsAcceptedText}
-use Rattle.top_call.specs.Commands.{Command, check, fmt, nothing}
+use Rattle.top_call.specs.Commands.{Command, check, fmt, migrate, nothing}
 use Rattle.top_call.specs.Ends.{Ends}
 use Rattle.cov_expr.specs.declared.limits.TheConstants.{MOST_BYTES}
-use Rattle.top_call.specs.Format.{Formats}
+use Rattle.top_call.specs.Format.{Formats, Migrates, migrated}
 use Rattle.top_call.specs.Headline.{HoldsSecure}
 use Rattle.top_call.specs.Outcome.{Does, Outcome, IsMet, IsSuccess}
 use Rattle.top_call.specs.Programs.{IsProgramText}
@@ -17,7 +17,7 @@ use Rattle.top_call.specs.declared.answers.Status.TheVariants as s
 use Rattle.top_call.proofs.CheckLaws.{judged_secure, judged_no_fault, judged_done}
 use Rattle.top_call.proofs.EndLaws.{ends_onward, status_is}
 use Rattle.top_call.proofs.FileLaws.{Reliable, reads_exact, done_read, fault_rose, held_given}
-use Rattle.top_call.proofs.FormatLaws.{formatted_no_fault, formatted_done}
+use Rattle.top_call.proofs.FormatLaws.{printed_no_fault, printed_done}
 
 -- The commands -------------------------------------------------------------------------------------------------
 
@@ -25,6 +25,7 @@ does_exact : (before after : Shelved) (files : List File) (command : Command) (r
     → Does before after command reply → Outcome files command reply
 does_exact before after files (check name) reply told reliable h = reads_exact name MOST_BYTES (Judges name) before after files reply told reliable h
 does_exact before after files (fmt name) reply told reliable h = reads_exact name MOST_BYTES (Formats name) before after files reply told reliable h
+does_exact before after files (migrate name) reply told reliable h = reads_exact name MOST_BYTES (Migrates name) before after files reply told reliable h
 does_exact before after files nothing reply told reliable h = h
 
 does_secure : (before after : Shelved) (command : Command) (reply : Reply) → Does before after command reply → status_of reply ≡ s.Done
@@ -35,12 +36,15 @@ does_secure before after (check name) reply h done files told =
     let secure = judged_secure name read.0 reply read.2 done in
     (read.0, at, secure.0, secure.1, secure.2, secure.3)
 does_secure before after (fmt name) reply h done files told = tt
+does_secure before after (migrate name) reply h done files told = tt
 does_secure before after nothing reply h done files told = let wrong : s.Usage ≡ s.Done = sym (ap status_of h) ∙ done in cc
 
 does_fault : (before after : Shelved) (command : Command) (reply : Reply) → Does before after command reply → status_of reply ≡ s.ReadFault
     → Rose before.faults after.faults
 does_fault before after (check name) reply h e = fault_rose before after name MOST_BYTES (Judges name) reply (λ bytes. judged_no_fault name bytes reply) h e
-does_fault before after (fmt name) reply h e = fault_rose before after name MOST_BYTES (Formats name) reply (λ bytes. formatted_no_fault name bytes reply) h e
+does_fault before after (fmt name) reply h e = fault_rose before after name MOST_BYTES (Formats name) reply (λ bytes. printed_no_fault (λ p. p) name bytes reply) h e
+does_fault before after (migrate name) reply h e =
+    fault_rose before after name MOST_BYTES (Migrates name) reply (λ bytes. printed_no_fault migrated name bytes reply) h e
 does_fault before after nothing reply h e = let wrong : s.Usage ≡ s.ReadFault = sym (ap status_of h) ∙ e in cc
 
 met_success : (files : List File) (command : Command) (reply : Reply) → IsMet files command → Outcome files command reply → IsSuccess command (status_of reply)
@@ -49,7 +53,10 @@ met_success files (check name) reply met h =
     judged_done name given.0 reply given.1 given.2
 met_success files (fmt name) reply met h =
     let given = held_given name MOST_BYTES (Formats name) files IsProgramText reply met h in
-    formatted_done name given.0 reply given.1 given.2
+    printed_done (λ p. p) name given.0 reply given.1 given.2
+met_success files (migrate name) reply met h =
+    let given = held_given name MOST_BYTES (Migrates name) files IsProgramText reply met h in
+    printed_done migrated name given.0 reply given.1 given.2
 met_success files nothing reply met h = absurd met
 
 -- A call -------------------------------------------------------------------------------------------------------

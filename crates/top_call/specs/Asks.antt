@@ -5,7 +5,7 @@ use Rattle.cov_io.specs.Shelves.{Shelved, Gives}
 use Rattle.cov_io.specs.declared.shelf.Fetched.{Fetched}
 use Rattle.cov_io.specs.declared.shelf.Fetched.TheVariants.{Whole}
 use Rattle.cov_io.specs.declared.shelf.ShelfFault.{ShelfFault}
-use Rattle.top_call.specs.Commands.{Command, check, fmt, nothing}
+use Rattle.top_call.specs.Commands.{Command, check, fmt, migrate, nothing}
 use Rattle.cov_expr.specs.declared.limits.TheConstants.{MOST_BYTES}
 use Rattle.top_call.specs.Programs.{IsProgramText}
 
@@ -28,6 +28,7 @@ IsFit (program name) bytes = IsProgramText bytes
 abbrev pub files_of : Command → List Wanted
 files_of (check name) = program name ∷ []
 files_of (fmt name) = program name ∷ []
+files_of (migrate name) = program name ∷ []
 files_of nothing = []
 
 -- The shelf is called once, for a file, and gives an answer.

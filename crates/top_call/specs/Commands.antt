@@ -6,10 +6,13 @@ use Rattle.std.specs.Str.{bytes_eq}
 pub data Command : Type 0 where
   check : (name : List ℕ) → Command
   fmt : (name : List ℕ) → Command
+  migrate : (name : List ℕ) → Command
   nothing : Command
 
 -- the command of the words behind the program's name, and nothing where they have none of the forms
 abbrev pub command_of : List (List ℕ) → Command
 command_of (word ∷ name ∷ []) =
-    if bytes_eq word (codes "check") then check name else (if bytes_eq word (codes "fmt") then fmt name else nothing)
+    if bytes_eq word (codes "check") then check name
+    else (if bytes_eq word (codes "fmt") then fmt name
+    else (if bytes_eq word (codes "migrate") then migrate name else nothing))
 command_of words = nothing

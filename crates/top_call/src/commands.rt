@@ -8,6 +8,7 @@ ghost use Rattle.top_call.specs.Outcome.{Does};
 use crate::answers::{Answer, Stop};
 use crate::check::check;
 use crate::fmt::format;
+use crate::migrate::migrate;
 use cov_io::Shelf;
 use std::alloc::Global;
 
@@ -24,6 +25,7 @@ pub fn answer<'w, S: Shelf>(
     match words {
         [command, name] if command.as_str() == "check" => check(alloc, name.as_str(), shelf),
         [command, name] if command.as_str() == "fmt" => format(alloc, name.as_str(), shelf),
+        [command, name] if command.as_str() == "migrate" => migrate(alloc, name.as_str(), shelf),
         _ => Ok(Answer::Usage),
     }
 }

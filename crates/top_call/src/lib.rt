@@ -1,8 +1,9 @@
 //! The top call: what the program does with a command line, as a library.
 //!
 //! [`covern`] takes the words of a command line, the files (a shelf) and the output (a sink), and ends with a [`Status`].
-//! Its contract says what each command replies, what is put, and what a reply means. [`one_outcome`] is a law without a body:
-//! over the same files a command has one reply.
+//! Its contract says what each command replies, what is put, and what a reply means. Two laws have no body: [`one_outcome`],
+//! over the same files a command has one reply; and [`migrated_stays`], in version 2 a program does what it did and is judged
+//! as it was.
 //!
 //! A call goes from top to bottom:
 //!
@@ -10,12 +11,12 @@
 //! |---|---|---|
 //! | `call` | | `covern`, with all its promises |
 //! | `commands` | `Commands`, `Outcome` | which command the words ask for; the step of each, in one row |
-//! | `check`, `fmt` | `Check`, `Format` | a module for each command: what it replies to the bytes of its files |
+//! | `check`, `fmt`, `migrate` | `Check`, `Format` | a module for each command: what it replies to the bytes of its files |
 //! | `files` | `Files`, `Programs`, `Asks` | how a file is fetched and read, what is replied where it isn't, and which are asked for |
 //! | `answers` | `Replies` | what a call can answer, and the status of each answer |
 //! | `reports`, `refusals` | `Reports` | the text of each answer |
 //! | `end` | `Ends` | the report is made and written |
-//! | `laws` | `Laws`, `Headline` | one reply; what it says of a file that it is accepted |
+//! | `laws` | `Laws`, `Headline` | one reply; a program in version 2; what it says of a file that it is accepted |
 //!
 //! A command is a module of `src/` with its step, a module of `specs/` with its replies, and a row in each of `Command`,
 //! `command_of`, `files_of`, `Does`, `Outcome`, `IsMet`, `IsSuccess`, `HoldsSecure` and in the function `answer`. Definitions by
@@ -31,9 +32,10 @@ mod end;
 mod files;
 mod fmt;
 mod laws;
+mod migrate;
 mod refusals;
 mod reports;
 
 pub use answers::Status;
 pub use call::covern;
-pub use laws::one_outcome;
+pub use laws::{migrated_stays, one_outcome};

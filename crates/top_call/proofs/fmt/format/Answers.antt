@@ -6,7 +6,7 @@ use Rattle.top_call.specs.Format.{Formats}
 use Rattle.top_call.specs.Asks.{program}
 use Rattle.top_call.specs.Inside.{LacksMemory}
 use Rattle.top_call.proofs.AskLaws.{asks_missed, asks_got}
-use Rattle.top_call.proofs.FormatLaws.{gets_formatted_fit}
+use Rattle.top_call.proofs.FormatLaws.{gets_printed_fit}
 use Rattle.top_call.proofs.FileLaws.{bytes_read}
 use Rattle.top_call.proofs.fmt.format.Goals as goal
 
@@ -30,4 +30,4 @@ returns-clause-asks g c =
     let read = c.as_slice.result.now in
     asks_got before after (program c.args.name.now) (LacksMemory c.format_text.result) c.fetch.ensures.counted read
     (subst (λ bytes. Gives before after c.args.name.now MOST_BYTES (Ok (Whole bytes))) (sym c.as_slice.ensures) c.in_ok-bytes.ensures.answer)
-    (gets_formatted_fit c.args.name.now read c.format_text.result c.format_text.ensures)
+    (gets_printed_fit (λ p. p) c.args.name.now read c.format_text.result c.format_text.ensures)
