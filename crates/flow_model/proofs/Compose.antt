@@ -5,7 +5,7 @@ use Rattle.std.proofs.Math.Decide.{ℕ_discrete}
 use Rattle.std.proofs.Math.ListN.{get_or-map, length-map}
 use Rattle.std.proofs.lemmas.List.{length-replicate}
 use Rattle.cov_expr.specs.Entailment.{Holds}
-use Rattle.cov_expr.specs.Words.{IsMemory, IsSchedule}
+use Rattle.cov_expr.specs.Words.{IsMemory, AreWords, IsSchedule}
 use Rattle.cov_ast.specs.Declarations.{is_low, no_thread, thread_at}
 use Rattle.cov_ast.specs.Plain.{Plain, class_term}
 use Rattle.cov_ast.specs.Syntax.{Class, low, high, when}
@@ -18,7 +18,7 @@ use Rattle.flow_model.proofs.WordBodies.{HasWordBodies}
 use Rattle.flow_model.proofs.Turns.{ItemsHaveWords, TurnHasWords, turn_words, long_memory, long_holders, items_words}
 
 abbrev local_of : Run → ℕ → Local
-local_of s t = local s.memory s.holders (items_of s t)
+local_of s t = local s.memory s.holders s.outputs (items_of s t)
 
 copies_of : Run → Run → ℕ → Copies
 copies_of s1 s2 t = record { left = local_of s1 t; right = local_of s2 t }
@@ -34,6 +34,7 @@ record Sound (p : Plain) (s : Run) : Type 0 where
   memory : IsMemory (length p.vars) s.memory
   locks : length s.holders ≡ length p.locks
   threads : length s.items ≡ length p.threads
+  outputs : AreWords s.outputs
   words : (t : ℕ) → ItemsHaveWords (items_of s t)
 
 record Paired (p : Plain) (m1 m2 : List ℕ) (s1 s2 : Run) : Type 0 where
@@ -58,60 +59,63 @@ items_other : (s : Run) (t u : ℕ) (r : Local) → t ≢ u → items_of (put_ba
 items_other s t u r d = get_or-set_other s.items u t r.items [] d
 
 abbrev turned : Run → ℕ → Local
-turned s u = turn u s.memory s.holders (items_of s u)
+turned s u = turn u s.memory s.holders s.outputs (items_of s u)
 
 sound_step : (p : Plain) (s : Run) (u : ℕ) → u < length p.threads → Sound p s → Sound p (step s u)
 sound_step p s u h k =
     record {
-      memory = record { complete = long_memory u s.memory s.holders (items_of s u) ∙ k.memory.complete; words = made.0 };
-      locks = long_holders u s.memory s.holders (items_of s u) ∙ k.locks;
+      memory = record { complete = long_memory u s.memory s.holders s.outputs (items_of s u) ∙ k.memory.complete; words = made.0 };
+      locks = long_holders u s.memory s.holders s.outputs (items_of s u) ∙ k.locks;
       threads = length-set s.items u (turned s u).items ∙ k.threads;
+      outputs = made.1;
       words = λ t. words_at t (ℕ_discrete t u);
     }
   where
     made : TurnHasWords (turned s u)
-    made = turn_words u s.memory s.holders (items_of s u) k.memory.words (k.words u)
+    made = turn_words u s.memory s.holders s.outputs (items_of s u) k.memory.words k.outputs (k.words u)
 
     words_at : (t : ℕ) → Dec (t ≡ u) → ItemsHaveWords (items_of (step s u) t)
-    words_at t (yes e) = rw (e, items_same s u (turned s u) (rw k.threads h)) made.1
+    words_at t (yes e) = rw (e, items_same s u (turned s u) (rw k.threads h)) made.2
     words_at t (no d) = subst ItemsHaveWords (sym (items_other s t u (turned s u) d)) (k.words t)
 
 -- copies whose items are the same
 standing : (c d : Local) (is js ks ls : List Item) → ks ≡ is → ls ≡ js
-    → ◌≡◌ {A = Copies} (record { left = local c.memory c.holders is; right = local d.memory d.holders js })
-    (record { left = local c.memory c.holders ks; right = local d.memory d.holders ls })
+    → ◌≡◌ {A = Copies} (record { left = local c.memory c.holders c.outputs is; right = local d.memory d.holders d.outputs js })
+    (record { left = local c.memory c.holders c.outputs ks; right = local d.memory d.holders d.outputs ls })
 standing c d is js ks ls e f =
-    ap₂ (λ (x y : List Item). let q : Copies = record { left = local c.memory c.holders x; right = local d.memory d.holders y } in q) (sym e) (sym f)
+    ap₂ (λ (x y : List Item). let q : Copies = record { left = local c.memory c.holders c.outputs x; right = local d.memory d.holders d.outputs y } in q) (sym e) (sym f)
 
 -- What an own move of u gives to all ------------------------------------------------------------------------------
 
 module _ (p : Plain) (m1 m2 : List ℕ) (compatible : HasCompatibleModes p) (s1 s2 : Run) (u : ℕ) (u_in : u < length p.threads) (k : Paired p m1 m2 s1 s2)
     (owes : IsSecureMove p u (copies_of s1 s2 u) (after_move u own (copies_of s1 s2 u))) where
-  leaves_left : (t : ℕ) → t < length p.threads → t ≢ u → MeetsAssumptions p t (local_of s1 t) (turned s1 u).memory (turned s1 u).holders
+  leaves_left : (t : ℕ) → t < length p.threads → t ≢ u → MeetsAssumptions p t (local_of s1 t) (turned s1 u).memory (turned s1 u).holders (turned s1 u).outputs
   unfolding copies_of
   leaves_left t t_in d =
       record {
         memory = (sound_step p s1 u u_in k.left).memory;
         holders = (sound_step p s1 u u_in k.left).locks;
+        outputs = (sound_step p s1 u u_in k.left).outputs;
         held = λ l. same_holder _ _ t u d (owes.left.held l);
         stable = λ x h. owes.left.kept x (λ w. compatible s1.holders t u x u_in d w h);
       }
 
-  leaves_right : (t : ℕ) → t < length p.threads → t ≢ u → MeetsAssumptions p t (local_of s2 t) (turned s2 u).memory (turned s2 u).holders
+  leaves_right : (t : ℕ) → t < length p.threads → t ≢ u → MeetsAssumptions p t (local_of s2 t) (turned s2 u).memory (turned s2 u).holders (turned s2 u).outputs
   unfolding copies_of
   leaves_right t t_in d =
       record {
         memory = (sound_step p s2 u u_in k.right).memory;
         holders = (sound_step p s2 u u_in k.right).locks;
+        outputs = (sound_step p s2 u u_in k.right).outputs;
         held = λ l. same_holder _ _ t u d (owes.right.held l);
         stable = λ x h. owes.right.kept x (λ w. compatible s2.holders t u x u_in d w h);
       }
 
   lawful_for : (t : ℕ) → t < length p.threads → t ≢ u
-      → IsLawfulOutside p t (copies_of s1 s2 t) (turned s1 u).memory (turned s1 u).holders (turned s2 u).memory (turned s2 u).holders
+      → IsLawfulOutside p t (copies_of s1 s2 t) (turned s1 u).memory (turned s1 u).holders (turned s1 u).outputs (turned s2 u).memory (turned s2 u).holders (turned s2 u).outputs
   unfolding copies_of
   lawful_for t t_in d =
-      record { left = leaves_left t t_in d; right = leaves_right t t_in d; memories = owes.memories; free_left = owes.free_left; free_right = owes.free_right }
+      record { left = leaves_left t t_in d; right = leaves_right t t_in d; memories = owes.memories; outputs = owes.outputs; free_left = owes.free_left; free_right = owes.free_right }
 
   alike_at : (t : ℕ) → Dec (t ≡ u) → AreAlike (items_of (step s1 u) t) (items_of (step s2 u) t)
   unfolding copies_of
@@ -122,7 +126,7 @@ module _ (p : Plain) (m1 m2 : List ℕ) (compatible : HasCompatibleModes p) (s1 
   follows_other : (t : ℕ) → t < length p.threads → t ≢ u → Follows p m1 m2 s1 s2 t → Follows p m1 m2 (step s1 u) (step s2 u) t
   unfolding copies_of
   follows_other t t_in d f =
-      let v : Move = outside (turned s1 u).memory (turned s1 u).holders (turned s2 u).memory (turned s2 u).holders in
+      let v : Move = outside (turned s1 u).memory (turned s1 u).holders (turned s1 u).outputs (turned s2 u).memory (turned s2 u).holders (turned s2 u).outputs in
       record {
         moves = v ∷ f.moves;
         lawful = (f.lawful, rw f.stands (lawful_for t t_in d));
@@ -149,7 +153,7 @@ module _ (p : Plain) (m1 m2 : List ℕ) (a : IsMemory (length p.vars) m1) (b : I
       record {
         left = sound_step p s1 u u_in k.left;
         right = sound_step p s2 u u_in k.right;
-        agree = record { memories = owes.memories; items = λ t. alike_at p m1 m2 compatible s1 s2 u u_in k owes t (ℕ_discrete t u) };
+        agree = record { memories = owes.memories; outputs = owes.outputs; items = λ t. alike_at p m1 m2 compatible s1 s2 u u_in k owes t (ℕ_discrete t u) };
         follows = λ t t_in. follows_at t t_in (ℕ_discrete t u);
       }
     where
@@ -176,6 +180,7 @@ sound_start p m w a =
       memory = a;
       locks = length-replicate (length p.locks) None;
       threads = length-map p.threads _;
+      outputs = tt;
       words = λ t. rw (items_at_start p m t) (items_words (thread_at p t).body [] (w t) tt);
     }
 
@@ -198,6 +203,7 @@ paired_start p m1 m2 w low_controls a b st =
           controls = λ c h. st.low c (low_holds _ m1 (low_controls c h));
           visible = λ x l _. st.low x l;
         };
+        outputs = refl;
         items = λ t. refl;
       };
       follows = λ t t_in. record { moves = []; lawful = tt; stands = standing (local_of (begin p m1) t) (local_of (begin p m2) t) _ _ _ _ (items_at_start p m1 t) (items_at_start p m2 t) };

@@ -6,8 +6,8 @@ use Rattle.cov_expr.specs.Words.{IsSchedule}
 use Rattle.cov_expr.specs.declared.expr.Op.TheVariants.{Add, Eq, Le}
 use Rattle.cov_ast.specs.Syntax.{low, high, when, Class, Var}
 use Rattle.cov_ast.specs.Declarations.{no_modes, assumes_hide, controls, is_control, is_plain_low, under, invariant_of}
-use Rattle.cov_ast.specs.Plain.{skip, assign, lock, unlock, branch, loop, Cmds, none, next, Plain, PlainThread}
-use Rattle.flow_model.specs.Source.{Item, Run, test, after, stayed, begin, items_of, step, first_place, Holders, holder, local}
+use Rattle.cov_ast.specs.Plain.{skip, assign, lock, unlock, branch, loop, output, Cmds, none, next, Plain, PlainThread}
+use Rattle.flow_model.specs.Source.{Item, Run, run, put, test, emit, after, stayed, stays_at, begin, items_of, step, first_place, Holders, holder, local}
 use Rattle.flow_model.specs.Holdings.{IsHiddenNow, IsStableNow, IsWritableNow}
 use Rattle.flow_model.specs.Agreement.{StatesAgree, MemoriesAgree, AreFitStarts, AreAlike, SameAt, IsLow}
 use Rattle.flow_model.specs.Secure.{IsSecure}
@@ -144,6 +144,7 @@ evaluated = record {
     controls = λ c h. absurd (leak-controls c h);
     visible = λ x is_low shown. only_first_low (0 ∷ 0 ∷ []) (0 ∷ 1 ∷ []) refl x is_low;
   };
+  outputs = refl;
   items = evaluated_alike;
 }
 
@@ -186,6 +187,7 @@ empty_is_secure : IsSecure empty
 empty_is_secure m1 m2 first second fit schedule entries =
     rw (no_steps schedule entries) (record {
       memories = record { holders = refl; controls = λ c h. cc; visible = λ x is_low shown. absurd (is_low refl) };
+      outputs = refl;
       items = λ t. refl;
     })
 
@@ -466,12 +468,13 @@ guarded_shown (inr (suc (suc t), h)) = cc
 
 -- the other takes the lock and gives k a secret
 abbrev other_writes : Move
-other_writes = outside (5 ∷ 0 ∷ []) held_by_other (6 ∷ 0 ∷ []) held_by_other
+other_writes = outside (5 ∷ 0 ∷ []) held_by_other [] (6 ∷ 0 ∷ []) held_by_other []
 
-leaves : (items : List Item) (k : ℕ) → k < 2 ^ 32 → MeetsAssumptions guarded 0 (local (0 ∷ 0 ∷ []) free items) (k ∷ 0 ∷ []) held_by_other
+leaves : (items : List Item) (k : ℕ) → k < 2 ^ 32 → MeetsAssumptions guarded 0 (local (0 ∷ 0 ∷ []) free [] items) (k ∷ 0 ∷ []) held_by_other []
 leaves items k word = record {
   memory = record { complete = refl; words = (word, (omega arith, tt)) };
   holders = refl;
+  outputs = tt;
   held = not_own;
   stable = λ x h. absurd (nothing_stable x h);
 }
@@ -485,6 +488,7 @@ other_is_lawful = record {
     controls = λ c h. guarded_control c h;
     visible = λ x low shown. guarded_low (5 ∷ 0 ∷ []) (6 ∷ 0 ∷ []) refl x low;
   };
+  outputs = refl;
   free_left = free_alone (5 ∷ 0 ∷ []);
   free_right = free_alone (6 ∷ 0 ∷ []);
 }
@@ -510,7 +514,115 @@ assuming = record {
       } ∷ [];
 }
 
-no_write_to_assumed : ¬ IsLawful assuming 0 (opening assuming 0 (0 ∷ []) (0 ∷ [])) (outside (1 ∷ []) [] (1 ∷ []) [])
+no_write_to_assumed : ¬ IsLawful assuming 0 (opening assuming 0 (0 ∷ []) (0 ∷ [])) (outside (1 ∷ []) [] [] (1 ∷ []) [] [])
 no_write_to_assumed lawful =
     let e : ◌≡◌ {A = ℕ} 1 0 = lawful.left.stable 0 (inl refl) in
+    cc
+
+-- What is put out: version 2; var a: low; var s: high; thread t { output a; output s; } ---------------------------
+
+abbrev puts_out : Plain
+puts_out = record {
+  vars = variable 97 15 low ∷ variable 115 27 high ∷ [];
+  locks = [];
+  threads = thread_named 116 (next 47 (output (var 0)) (next 57 (output (var 1)) none)) ∷ [];
+}
+
+-- the first step evaluates,
+evaluates-outputs : (after puts_out (3 ∷ 5 ∷ []) (0 ∷ [])).outputs ≡ []
+evaluates-outputs = refl
+
+evaluates-items : items_of (after puts_out (3 ∷ 5 ∷ []) (0 ∷ [])) 0 ≡ emit 47 3 ∷ run 57 (output (var 1)) ∷ []
+evaluates-items = refl
+
+evaluates-place : first_place (items_of (after puts_out (3 ∷ 5 ∷ []) (0 ∷ [])) 0) ≡ Some 47
+evaluates-place = refl
+
+-- and the second puts the word at the end.
+puts_out-first : (after puts_out (3 ∷ 5 ∷ []) (0 ∷ 0 ∷ [])).outputs ≡ 3 ∷ []
+puts_out-first = refl
+
+puts_out-both : (after puts_out (3 ∷ 5 ∷ []) (0 ∷ 0 ∷ 0 ∷ 0 ∷ [])).outputs ≡ 3 ∷ 5 ∷ []
+puts_out-both = refl
+
+puts_out-memory : (after puts_out (3 ∷ 5 ∷ []) (0 ∷ 0 ∷ 0 ∷ 0 ∷ [])).memory ≡ 3 ∷ 5 ∷ []
+puts_out-memory = refl
+
+puts_out-done : first_place (items_of (after puts_out (3 ∷ 5 ∷ []) (0 ∷ 0 ∷ 0 ∷ 0 ∷ [])) 0) ≡ None
+puts_out-done = refl
+
+puts_out-stayed : stayed puts_out (3 ∷ 5 ∷ []) (0 ∷ 0 ∷ 0 ∷ 0 ∷ 0 ∷ []) ≡ 0
+puts_out-stayed = refl
+
+output_moves : stays_at 0 [] (run 47 (output (var 0)) ∷ []) ≡ false
+output_moves = refl
+
+pending_output_moves : stays_at 0 [] (emit 47 3 ∷ []) ≡ false
+pending_output_moves = refl
+
+-- The word of a pending output doesn't count, that of its place does,
+pending_outputs_alike : AreAlike (emit 57 0 ∷ []) (emit 57 1 ∷ [])
+pending_outputs_alike = refl
+
+places_differ : ¬ AreAlike (emit 47 0 ∷ []) (emit 57 0 ∷ [])
+places_differ h = cc
+
+output_is_no_store : (x : ℕ) → ¬ AreAlike (emit 47 0 ∷ []) (put 47 x 0 ∷ [])
+output_is_no_store x h = cc
+
+spill_low : (m1 m2 : List ℕ) → SameAt m1 m2 0 → (x : ℕ) → IsLow puts_out m1 x → SameAt m1 m2 x
+spill_low m1 m2 e zero is_low = e
+spill_low m1 m2 e (suc zero) is_low = absurd (is_low refl)
+spill_low m1 m2 e (suc (suc x)) is_low = absurd (is_low refl)
+
+spill_control : (c : ℕ) → IsTrue (is_control puts_out c) → ⊥
+spill_control c h = cc
+
+spill-fit : AreFitStarts puts_out (0 ∷ 0 ∷ []) (0 ∷ 1 ∷ [])
+spill-fit = record {
+  low = spill_low (0 ∷ 0 ∷ []) (0 ∷ 1 ∷ []) refl;
+  left = λ l h. cc;
+  right = λ l h. cc;
+}
+
+pending_alike : (t : ℕ)
+    → AreAlike (items_of (after puts_out (0 ∷ 0 ∷ []) (0 ∷ 0 ∷ 0 ∷ [])) t) (items_of (after puts_out (0 ∷ 1 ∷ []) (0 ∷ 0 ∷ 0 ∷ [])) t)
+pending_alike zero = refl
+pending_alike (suc t) = refl
+
+-- so the states agree while the secret is pending,
+pending : StatesAgree puts_out (after puts_out (0 ∷ 0 ∷ []) (0 ∷ 0 ∷ 0 ∷ [])) (after puts_out (0 ∷ 1 ∷ []) (0 ∷ 0 ∷ 0 ∷ []))
+pending = record {
+  memories = record {
+    holders = refl;
+    controls = λ c h. absurd (spill_control c h);
+    visible = λ x is_low shown. spill_low (0 ∷ 0 ∷ []) (0 ∷ 1 ∷ []) refl x is_low;
+  };
+  outputs = refl;
+  items = pending_alike;
+}
+
+-- and no longer once it is put out.
+spilled : ¬ StatesAgree puts_out (after puts_out (0 ∷ 0 ∷ []) (0 ∷ 0 ∷ 0 ∷ 0 ∷ [])) (after puts_out (0 ∷ 1 ∷ []) (0 ∷ 0 ∷ 0 ∷ 0 ∷ []))
+spilled a =
+    let e : ◌≡◌ {A = List ℕ} (0 ∷ 0 ∷ []) (0 ∷ 1 ∷ []) = a.outputs in
+    cc
+
+spill_is_insecure : ¬ IsSecure puts_out
+spill_is_insecure secure =
+    spilled (secure (0 ∷ 0 ∷ []) (0 ∷ 1 ∷ []) (record { complete = refl; words = (omega arith, (omega arith, tt)) }) (record { complete = refl; words = (omega arith, (omega arith, tt)) })
+    spill-fit (0 ∷ 0 ∷ 0 ∷ 0 ∷ []) (omega arith, (omega arith, (omega arith, (omega arith, tt)))))
+
+-- The thread loses its game,
+spill_loses : ¬ IsSecureThread puts_out 0
+spill_loses secure =
+    let lost = secure (0 ∷ 0 ∷ []) (0 ∷ 1 ∷ []) (record { complete = refl; words = (omega arith, (omega arith, tt)) }) (record { complete = refl; words = (omega arith, (omega arith, tt)) })
+    spill-fit (own ∷ own ∷ own ∷ []) (((tt, tt), tt), tt) in
+    let e : ◌≡◌ {A = List ℕ} (0 ∷ 0 ∷ []) (0 ∷ 1 ∷ []) = lost.outputs in
+    cc
+
+-- and others put out the same in both copies.
+no_different_outputs : ¬ IsLawful assuming 0 (opening assuming 0 (0 ∷ []) (0 ∷ [])) (outside (0 ∷ []) [] (1 ∷ []) (0 ∷ []) [] (2 ∷ []))
+no_different_outputs lawful =
+    let e : ◌≡◌ {A = List ℕ} (1 ∷ []) (2 ∷ []) = lawful.outputs in
     cc

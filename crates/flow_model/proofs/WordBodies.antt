@@ -4,7 +4,7 @@ use Rattle.std.proofs.lemmas.Bool.{cases_lt}
 use Rattle.std.proofs.lemmas.List.{get_or-map, get_or_past, length-map}
 use Rattle.cov_expr.specs.Words.{HasWords}
 use Rattle.cov_ast.specs.Declarations.{no_modes, no_thread, thread_at}
-use Rattle.cov_ast.specs.Plain.{Cmd, skip, assign, lock, unlock, branch, loop, Cmds, none, next, Plain, plain, plain_stm, plain_block, plain_thread}
+use Rattle.cov_ast.specs.Plain.{Cmd, skip, assign, lock, unlock, branch, loop, output, Cmds, none, next, Plain, plain, plain_stm, plain_block, plain_thread}
 use Rattle.cov_ast.specs.Syntax.{Program, Stm, Block, done, more, Thread}
 use Rattle.cov_ast.specs.Syntax as annotated
 use Rattle.cov_ast.specs.WellFormed.{IsWellFormed, StmHasWords, BlockHasWords}
@@ -18,6 +18,7 @@ abbrev mutual
   CmdHasWords (unlock l) = Unit {0}
   CmdHasWords (branch e a b) = HasWords e × CmdsHaveWords a × CmdsHaveWords b
   CmdHasWords (loop e b) = HasWords e × CmdsHaveWords b
+  CmdHasWords (output e) = HasWords e
 
   -- the same of each statement, of nested ones too
   pub CmdsHaveWords : Cmds → Type 0
@@ -36,6 +37,7 @@ mutual
   stm_words (annotated.branch e yes_block no_block join) at rest h k = ((h.0, block_words yes_block h.1, block_words no_block h.2), k)
   stm_words (annotated.loop e inv b) at rest h k = ((h.0, block_words b h.2), k)
   stm_words (annotated.note j) at rest h k = k
+  stm_words (annotated.output e) at rest h k = (h, k)
 
   block_words : (b : Block) → BlockHasWords b → CmdsHaveWords (plain_block b)
   block_words done h = tt

@@ -12,7 +12,7 @@ use Rattle.cov_expr.specs.Trees.{has_number, nodes, mentions}
 use Rattle.cov_ast.specs.Declarations.{class_of, is_control, lock_at, no_lock}
 use Rattle.cov_ast.specs.Obligations.{all_hold}
 use Rattle.cov_ast.specs.Plain.{plain}
-use Rattle.cov_ast.specs.Syntax.{Lock, Program, State, Proof, Stm, skip, assign, lock, unlock, branch, loop, note, Block, done, more}
+use Rattle.cov_ast.specs.Syntax.{Lock, Program, State, Proof, Stm, skip, assign, lock, unlock, branch, loop, note, output, Block, done, more}
 use Rattle.cov_ast.specs.WellFormed.{IsWellFormed, IsStmInRange, IsBlockInRange, places, places_within, types_size, state_size, stm_size, block_size}
 use Rattle.lock_spec.specs.Locks.{listing_obligations, w4_from, invariant_obligations, lock_obligations}
 use Rattle.policy_class.specs.Policy.{policy_obligations}
@@ -25,7 +25,7 @@ use Rattle.typing_rules.specs.Counts.{entailment_count}
 use Rattle.typing_rules.specs.Blocks.{value_type, after_stm, after_block}
 use Rattle.typing_rules.specs.Entailments.{Entailment, from_preds, from_one_more, type_follows, state_follows, guard_follows, written_type, shown_value, shown_controlled, controlled_follows, controlled_values, retype_follows, assign_entailments, freed_value, unlock_entailments}
 use Rattle.typing_rules.specs.ThreadObligations.{flat, stm_parts, block_obligations}
-use Rattle.typing_rules.proofs.Counting.{count_skip, count_assign, count_lock, count_unlock, count_note, count_branch, count_loop, count_more}
+use Rattle.typing_rules.proofs.Counting.{count_skip, count_assign, count_lock, count_unlock, count_note, count_output, count_branch, count_loop, count_more}
 use Rattle.typing_rules.proofs.Soundness.FromObligations.{AllTrue, all_true, true_left, true_right}
 use Rattle.typing_rules.proofs.Soundness.Lists.{has_left, has_right}
 use Rattle.typing_rules.proofs.Soundness.Static.{clash, cond_is}
@@ -65,6 +65,7 @@ mutual
   few_places_within (branch e a b join) = omega (arith, length-append (places a) (places b), few_places a, few_places b)
   few_places_within (loop e inv b) = omega (arith, few_places b)
   few_places_within (note j) = omega arith
+  few_places_within (output e) = omega arith
 
   pub few_places : (b : Block) → length (places b) ≤ block_size b
   few_places done = omega arith
@@ -222,6 +223,7 @@ module _ (p : Program) (t : ℕ) where
             few_entailments_state end inv,
           )
       few_entailments_of (note j) at proofs a r = omega (arith, count_note (plain p) t at proofs a j, few_entailments_state a j)
+      few_entailments_of (output e) at proofs a r = omega (arith, count_output (plain p) t at proofs a e)
 
       pub few_entailments : (b : Block) (a : Point) → IsBlockInRange (length p.vars) (length p.locks) b
           → entailment_count (block_obligations (plain p) t b a) ≤ 1024 * block_size b

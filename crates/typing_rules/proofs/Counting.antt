@@ -6,7 +6,7 @@ use Rattle.cov_expr.specs.Trees.{vars}
 use Rattle.cov_ast.specs.Declarations.{is_control}
 use Rattle.cov_ast.specs.Obligations.{Obligation}
 use Rattle.cov_ast.specs.Plain.{Plain}
-use Rattle.cov_ast.specs.Syntax.{State, Proof, Stm, skip, assign, lock, unlock, branch, loop, note, Block, more}
+use Rattle.cov_ast.specs.Syntax.{State, Proof, Stm, skip, assign, lock, unlock, branch, loop, note, output, Block, more}
 use Rattle.cov_ast.specs.declared.refusal.Rule.TheVariants.{V5, V9}
 use Rattle.cov_ast.specs.declared.refusal.Detail.TheVariants.{Number}
 use Rattle.mode_state.specs.Sets.{is_stable}
@@ -114,6 +114,16 @@ module _ (p : Plain) (t at : ℕ) (proofs : List Proof) (a : Point) where
   count_note j =
       let gs = state_follows a j in
       omega (arith, count_flat (stm_parts p t (note j) at proofs a), count_state p t at a.held j, count_proved p t at proofs 1 gs, count_numbers p t at (length gs) proofs)
+
+  pub count_output : (e : Term) → entailment_count (flat (stm_parts p t (output e) at proofs a)) ≡ 1
+  count_output e =
+      omega (
+        arith,
+        count_flat (stm_parts p t (output e) at proofs a),
+        count_guard p t at a.held e,
+        count_proved p t at proofs 1 (guard_follows p t a e ∷ []),
+        count_numbers p t at 1 proofs,
+      )
 
   -- that of the guard, those of both blocks, and those of the join
   pub count_branch : (e : Term) (yes_block no_block : Block) (join : State)

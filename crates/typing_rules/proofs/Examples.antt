@@ -5,10 +5,10 @@ use Rattle.std.specs.List.{range_with_len}
 use Rattle.cov_expr.specs.declared.expr.Op.TheVariants.{Add, Eq, Lt, Le}
 use Rattle.cov_expr.specs.declared.expr.TheConstants.{HOLE}
 use Rattle.cov_expr.specs.Term.{Term, const, var, neg, bin}
-use Rattle.cov_ast.specs.Syntax.{Class, low, high, when, Var, Lock, Modes, State, Cert, Proof, Stm, skip, assign, lock, unlock, branch, loop, note, Block, done, Thread, Program}
+use Rattle.cov_ast.specs.Syntax.{Class, low, high, when, Var, Lock, Modes, State, Cert, Proof, Stm, skip, assign, lock, unlock, branch, loop, note, output, Block, done, Thread, Program}
 use Rattle.cov_ast.specs.Syntax as by
 use Rattle.cov_ast.specs.Declarations.{no_modes}
-use Rattle.cov_ast.specs.Plain.{no_state}
+use Rattle.cov_ast.specs.Plain.{no_state, plain}
 use Rattle.cov_ast.specs.View.{Placed, block_of}
 use Rattle.cov_ast.specs.Obligations.{first_false}
 use Rattle.cov_ast.specs.declared.refusal.Rule.{Rule}
@@ -16,6 +16,8 @@ use Rattle.cov_ast.specs.declared.refusal.Rule.TheVariants.{V1, V2, V3, V4, V5, 
 use Rattle.cov_ast.specs.declared.refusal.Detail.{Detail}
 use Rattle.cov_ast.specs.declared.refusal.Detail.TheVariants.{Nothing, One, Number}
 use Rattle.cov_ast.specs.declared.refusal.Refusal.{Refusal}
+use Rattle.typing_state.specs.Point.{Point}
+use Rattle.typing_rules.specs.Blocks.{after_stm}
 use Rattle.typing_rules.specs.ThreadObligations.{thread_obligations}
 use Rattle.typing_rules.specs.Counts.{counts}
 
@@ -65,6 +67,7 @@ raising = by.have (bin Eq (const 1) (const 0)) (by.rev 1 (bin Eq (var HOLE) (con
 -- var a: low; var s: high; thread t { s := a; }
 abbrev stores_low : Program
 stores_low = record {
+  version = 1;
   vars = variable (97 ∷ []) 4 low ∷ variable (115 ∷ []) 16 high ∷ [];
   locks = [];
   threads = thread_of (116 ∷ []) 32 no_modes (block_of (stm 36 (assign 1 (var 0) None []) [] ∷ [])) 44 ∷ [];
@@ -79,6 +82,7 @@ stores_low-counts = refl
 -- var a: low; var s: high; thread t { a := s; }
 abbrev stores_high : Program
 stores_high = record {
+  version = 1;
   vars = variable (97 ∷ []) 4 low ∷ variable (115 ∷ []) 16 high ∷ [];
   locks = [];
   threads = thread_of (116 ∷ []) 32 no_modes (block_of (stm 36 (assign 0 (var 1) None []) [] ∷ [])) 44 ∷ [];
@@ -91,6 +95,7 @@ stores_high-refused = refl
 -- := 1; unlock l by { 1: have [1 == 0] (rev 1 [_ == 0] (hyp 2)) (clash 3) }; }
 abbrev raises : Program
 raises = record {
+  version = 1;
   vars =
       variable (109 ∷ 111 ∷ 100 ∷ 101 ∷ []) 4 low
       ∷ variable (98 ∷ 117 ∷ 102 ∷ []) 19 (when is_zero)
@@ -114,6 +119,7 @@ raises-counts = refl
 -- := 1; unlock l; }
 abbrev raises_unproved : Program
 raises_unproved = record {
+  version = 1;
   vars =
       variable (109 ∷ 111 ∷ 100 ∷ 101 ∷ []) 4 low
       ∷ variable (98 ∷ 117 ∷ 102 ∷ []) 19 (when is_zero)
@@ -134,6 +140,7 @@ raises_unproved-refused = refl
 -- := key by { 1: have [1 == 0] (rev 1 [_ == 0] (hyp 2)) (clash 3) }; mode := 0; unlock l; }
 abbrev lowers : Program
 lowers = record {
+  version = 1;
   vars =
       variable (109 ∷ 111 ∷ 100 ∷ 101 ∷ []) 4 low
       ∷ variable (98 ∷ 117 ∷ 102 ∷ []) 19 (when is_zero)
@@ -156,6 +163,7 @@ lowers-refused = refl
 -- tmp; }
 abbrev reads : Program
 reads = record {
+  version = 1;
   vars =
       variable (109 ∷ 111 ∷ 100 ∷ 101 ∷ []) 4 low
       ∷ variable (98 ∷ 117 ∷ 102 ∷ []) 19 (when is_zero)
@@ -180,6 +188,7 @@ reads-counts = refl
 -- var key: high; thread t { if key { skip; } else { skip; } }
 abbrev branches_on_high : Program
 branches_on_high = record {
+  version = 1;
   vars = variable (107 ∷ 101 ∷ 121 ∷ []) 4 high ∷ [];
   locks = [];
   threads =
@@ -193,6 +202,7 @@ branches_on_high-refused = refl
 -- var a: high; var buf: high; lock l hide buf; thread t { a := buf; }
 abbrev reads_hidden : Program
 reads_hidden = record {
+  version = 1;
   vars = variable (97 ∷ []) 4 high ∷ variable (98 ∷ 117 ∷ 102 ∷ []) 17 high ∷ [];
   locks = lock_of (108 ∷ []) 33 [] (1 ∷ []) None ∷ [];
   threads = thread_of (116 ∷ []) 52 no_modes (block_of (stm 56 (assign 0 (var 1) None []) [] ∷ [])) 66 ∷ [];
@@ -204,6 +214,7 @@ reads_hidden-refused = refl
 -- var buf: high; lock l hide buf; thread t { buf := 0; }
 abbrev writes_hidden : Program
 writes_hidden = record {
+  version = 1;
   vars = variable (98 ∷ 117 ∷ 102 ∷ []) 4 high ∷ [];
   locks = lock_of (108 ∷ []) 20 [] (0 ∷ []) None ∷ [];
   threads = thread_of (116 ∷ []) 39 no_modes (block_of (stm 43 (assign 0 (const 0) None []) [] ∷ [])) 53 ∷ [];
@@ -215,6 +226,7 @@ writes_hidden-refused = refl
 -- var x: low; var y: low; var z: low; thread t { x := y + z; }
 abbrev reads_two : Program
 reads_two = record {
+  version = 1;
   vars = variable (120 ∷ []) 4 low ∷ variable (121 ∷ []) 16 low ∷ variable (122 ∷ []) 28 low ∷ [];
   locks = [];
   threads = thread_of (116 ∷ []) 43 no_modes (block_of (stm 47 (assign 0 (bin Add (var 1) (var 2)) None []) [] ∷ [])) 59 ∷ [];
@@ -226,6 +238,7 @@ reads_two-refused = refl
 -- var x: low; var y: low; var z: low; thread t { x := y + y; }
 abbrev reads_twice : Program
 reads_twice = record {
+  version = 1;
   vars = variable (120 ∷ []) 4 low ∷ variable (121 ∷ []) 16 low ∷ variable (122 ∷ []) 28 low ∷ [];
   locks = [];
   threads = thread_of (116 ∷ []) 43 no_modes (block_of (stm 47 (assign 0 (bin Add (var 1) (var 1)) None []) [] ∷ [])) 59 ∷ [];
@@ -237,6 +250,7 @@ reads_twice-refused = refl
 -- var n: low; lock l nowrite n inv n <= 3; thread t { lock l; n := n + 1; unlock l; }
 abbrev breaks_invariant : Program
 breaks_invariant = record {
+  version = 1;
   vars = variable (110 ∷ []) 4 low ∷ [];
   locks = lock_of (108 ∷ []) 17 (0 ∷ []) [] (Some (bin Le (var 0) (const 3))) ∷ [];
   threads =
@@ -254,6 +268,7 @@ breaks_invariant-refused = refl
 -- unlock l; }
 abbrev counts_to_three : Program
 counts_to_three = record {
+  version = 1;
   vars = variable (110 ∷ []) 4 low ∷ variable (116 ∷ 109 ∷ 112 ∷ []) 16 low ∷ [];
   locks = lock_of (108 ∷ []) 31 (0 ∷ []) [] (Some (bin Le (var 0) (const 3))) ∷ [];
   threads =
@@ -276,6 +291,7 @@ counts_to_three-counts = refl
 -- var n: low; lock l nowrite n; thread a { lock l; n := 1; unlock l; } thread b { lock l; n := 2; unlock l; }
 abbrev two_threads : Program
 two_threads = record {
+  version = 1;
   vars = variable (110 ∷ []) 4 low ∷ [];
   locks = lock_of (108 ∷ []) 17 (0 ∷ []) [] None ∷ [];
   threads =
@@ -301,6 +317,7 @@ two_threads-counts-1 = refl
 -- 0, tmp: 1 } unlock l; net := tmp; }
 abbrev writer_and_reader : Program
 writer_and_reader = record {
+  version = 1;
   vars =
       variable (109 ∷ 111 ∷ 100 ∷ 101 ∷ []) 4 low
       ∷ variable (98 ∷ 117 ∷ 102 ∷ []) 19 (when is_zero)
@@ -337,6 +354,7 @@ writer_and_reader-counts-1 = refl
 -- var a: low; thread t { a := 4294967295; }
 abbrev stores_number : Program
 stores_number = record {
+  version = 1;
   vars = variable (97 ∷ []) 4 low ∷ [];
   locks = [];
   threads = thread_of (116 ∷ []) 19 no_modes (block_of (stm 23 (assign 0 (const 4294967295) None []) [] ∷ [])) 40 ∷ [];
@@ -351,6 +369,7 @@ stores_number-counts = refl
 -- var x: low; thread t { x := 1 + (1 + (1 + (1 + (1 + (1 + 1))))); }
 abbrev nests_deep : Program
 nests_deep = record {
+  version = 1;
   vars = variable (120 ∷ []) 4 low ∷ [];
   locks = [];
   threads =
@@ -367,6 +386,7 @@ nests_deep-counts = refl
 -- var x: low; thread t { x := 1 + (1 + (1 + (1 + (1 + (1 + (1 + 1)))))); }
 abbrev nests_too_deep : Program
 nests_too_deep = record {
+  version = 1;
   vars = variable (120 ∷ []) 4 low ∷ [];
   locks = [];
   threads =
@@ -380,6 +400,7 @@ nests_too_deep-refused = refl
 -- lock l; thread t { lock l; }
 abbrev keeps_lock : Program
 keeps_lock = record {
+  version = 1;
   vars = [];
   locks = lock_of (108 ∷ []) 5 [] [] None ∷ [];
   threads = thread_of (116 ∷ []) 15 no_modes (block_of (stm 19 (lock 0) [] ∷ [])) 27 ∷ [];
@@ -391,6 +412,7 @@ keeps_lock-refused = refl
 -- var n: low; thread t assume nowrite n { n := 0; while 1 { n := n + 1; } }
 abbrev counts_up : Program
 counts_up = record {
+  version = 1;
   vars = variable (110 ∷ []) 4 low ∷ [];
   locks = [];
   threads =
@@ -408,6 +430,7 @@ counts_up-counts = refl
 -- lock l; thread t { lock l; lock l; unlock l; }
 abbrev locks_twice : Program
 locks_twice = record {
+  version = 1;
   vars = [];
   locks = lock_of (108 ∷ []) 5 [] [] None ∷ [];
   threads = thread_of (116 ∷ []) 15 no_modes (block_of (stm 19 (lock 0) [] ∷ stm 27 (lock 0) [] ∷ stm 35 (unlock 0) [] ∷ [])) 45 ∷ [];
@@ -419,6 +442,7 @@ locks_twice-refused = refl
 -- lock l; thread t { unlock l; }
 abbrev unlocks_free : Program
 unlocks_free = record {
+  version = 1;
   vars = [];
   locks = lock_of (108 ∷ []) 5 [] [] None ∷ [];
   threads = thread_of (116 ∷ []) 15 no_modes (block_of (stm 19 (unlock 0) [] ∷ [])) 29 ∷ [];
@@ -430,6 +454,7 @@ unlocks_free-refused = refl
 -- var x: low; var y: low; thread t { x := y as y; }
 abbrev type_over_unstable : Program
 type_over_unstable = record {
+  version = 1;
   vars = variable (120 ∷ []) 4 low ∷ variable (121 ∷ []) 16 low ∷ [];
   locks = [];
   threads = thread_of (116 ∷ []) 31 no_modes (block_of (stm 35 (assign 0 (var 1) (Some (var 1)) []) [] ∷ [])) 48 ∷ [];
@@ -441,6 +466,7 @@ type_over_unstable-refused = refl
 -- var c: low; var b: low when c == 0; var d: low; thread t { c := d; }
 abbrev control_from_unstable : Program
 control_from_unstable = record {
+  version = 1;
   vars = variable (99 ∷ []) 4 low ∷ variable (98 ∷ []) 16 (when is_zero) ∷ variable (100 ∷ []) 40 low ∷ [];
   locks = [];
   threads = thread_of (116 ∷ []) 55 no_modes (block_of (stm 59 (assign 0 (var 2) None []) [] ∷ [])) 67 ∷ [];
@@ -452,6 +478,7 @@ control_from_unstable-refused = refl
 -- var x: low; thread t { note { x == 0 }; }
 abbrev notes_unstable : Program
 notes_unstable = record {
+  version = 1;
   vars = variable (120 ∷ []) 4 low ∷ [];
   locks = [];
   threads = thread_of (116 ∷ []) 19 no_modes (block_of (stm 23 (note (says (is_zero ∷ []) [])) [] ∷ [])) 40 ∷ [];
@@ -463,6 +490,7 @@ notes_unstable-refused = refl
 -- var x: low; thread t { note { ; x: 1 }; }
 abbrev types_untracked : Program
 types_untracked = record {
+  version = 1;
   vars = variable (120 ∷ []) 4 low ∷ [];
   locks = [];
   threads = thread_of (116 ∷ []) 19 no_modes (block_of (stm 23 (note (says [] ((0, const 1) ∷ []))) [] ∷ [])) 40 ∷ [];
@@ -474,6 +502,7 @@ types_untracked-refused = refl
 -- thread t { note {} by { 1: auto }; }
 abbrev proves_nothing : Program
 proves_nothing = record {
+  version = 1;
   vars = [];
   locks = [];
   threads = thread_of (116 ∷ []) 7 no_modes (block_of (stm 11 (note no_state) (proof 1 by.auto ∷ []) ∷ [])) 35 ∷ [];
@@ -485,6 +514,7 @@ proves_nothing-refused = refl
 -- var x: low; thread t { note { 1, 1 } by { 1: auto, 2: auto, 2: auto, 1: auto }; }
 abbrev repeats_numbers : Program
 repeats_numbers = record {
+  version = 1;
   vars = variable (120 ∷ []) 4 low ∷ [];
   locks = [];
   threads =
@@ -498,6 +528,7 @@ repeats_numbers-refused = refl
 -- lock l; thread t { if 1 { lock l; } else { } }
 abbrev takes_in_one_branch : Program
 takes_in_one_branch = record {
+  version = 1;
   vars = [];
   locks = lock_of (108 ∷ []) 5 [] [] None ∷ [];
   threads =
@@ -512,6 +543,7 @@ takes_in_one_branch-refused = refl
 -- 50, 51, 52, 53, 54, 55, 56, 57, 58, 59, 60, 61, 62, 63 }; if x { } else { } }
 abbrev many_predicates : Program
 many_predicates = record {
+  version = 1;
   vars = variable (120 ∷ []) 4 low ∷ [];
   locks = [];
   threads =
@@ -531,6 +563,7 @@ many_predicates-counts = refl
 -- 50, 51, 52, 53, 54, 55, 56, 57, 58, 59, 60, 61, 62, 63, 64 }; if x { } else { } }
 abbrev too_many_predicates : Program
 too_many_predicates = record {
+  version = 1;
   vars = variable (120 ∷ []) 4 low ∷ [];
   locks = [];
   threads =
@@ -546,6 +579,7 @@ too_many_predicates-refused = refl
 -- == 5 }; }
 abbrev new_type : Program
 new_type = record {
+  version = 1;
   vars = variable (99 ∷ []) 4 low ∷ variable (98 ∷ []) 16 (when is_zero) ∷ [];
   locks = [];
   threads =
@@ -563,6 +597,7 @@ new_type-counts = refl
 -- var c: low; var b: low when c == 0; thread t assume nowrite c assume hide b { c := 0; note { ; b: c == 5 }; }
 abbrev type_lost : Program
 type_lost = record {
+  version = 1;
   vars = variable (99 ∷ []) 4 low ∷ variable (98 ∷ []) 16 (when is_zero) ∷ [];
   locks = [];
   threads =
@@ -577,6 +612,7 @@ type_lost-refused = refl
 -- var x: high; var z: high; thread t assume nowrite x, z { x := 0 retype z as 1; }
 abbrev types_without_control : Program
 types_without_control = record {
+  version = 1;
   vars = variable (120 ∷ []) 4 high ∷ variable (122 ∷ []) 17 high ∷ [];
   locks = [];
   threads =
@@ -589,6 +625,7 @@ types_without_control-refused = refl
 -- var c: low; var b: low when c == 0; thread t assume nowrite c assume hide b { c := 0 retype b as 1 retype b as 1; }
 abbrev types_twice : Program
 types_twice = record {
+  version = 1;
   vars = variable (99 ∷ []) 4 low ∷ variable (98 ∷ []) 16 (when is_zero) ∷ [];
   locks = [];
   threads =
@@ -601,6 +638,7 @@ types_twice-refused = refl
 -- var n: low; thread t assume nowrite n { n := 0; while n < 3 inv { ; n: 1 } { n := n + 1; } }
 abbrev keeps_type : Program
 keeps_type = record {
+  version = 1;
   vars = variable (110 ∷ []) 4 low ∷ [];
   locks = [];
   threads =
@@ -618,6 +656,7 @@ keeps_type-counts = refl
 -- var n: low; thread t assume nowrite n { n := 0; while n < 3 inv { n <= 3 ; n: 1 } { n := n + 1; } }
 abbrev unproved_loop : Program
 unproved_loop = record {
+  version = 1;
   vars = variable (110 ∷ []) 4 low ∷ [];
   locks = [];
   threads =
@@ -632,6 +671,7 @@ unproved_loop-refused = refl
 -- var n: low; var s: high; lock l nowrite n hide s inv n <= 3; thread t { lock l; unlock l by { 2: hyp 2, 1: hyp 1 }; }
 abbrev gives_invariant : Program
 gives_invariant = record {
+  version = 1;
   vars = variable (110 ∷ []) 4 low ∷ variable (115 ∷ []) 16 high ∷ [];
   locks = lock_of (108 ∷ []) 30 (0 ∷ []) (1 ∷ []) (Some (bin Le (var 0) (const 3))) ∷ [];
   threads =
@@ -647,6 +687,7 @@ gives_invariant-counts = refl
 -- var n: low; var s: high; lock l nowrite n hide s inv n <= 3; thread t { lock l; unlock l by { 2: hyp 1, 1: hyp 1 }; }
 abbrev gives_secret : Program
 gives_secret = record {
+  version = 1;
   vars = variable (110 ∷ []) 4 low ∷ variable (115 ∷ []) 16 high ∷ [];
   locks = lock_of (108 ∷ []) 30 (0 ∷ []) (1 ∷ []) (Some (bin Le (var 0) (const 3))) ∷ [];
   threads =
@@ -662,6 +703,7 @@ gives_secret-refused = refl
 -- unlock l; o := x; }
 abbrev big : Program
 big = record {
+  version = 1;
   vars =
       variable (109 ∷ []) 4 low
       ∷ variable (98 ∷ []) 16 (when is_zero)
@@ -702,6 +744,7 @@ big-counts-1 = refl
 -- a guard of so many nodes, and a note where it doesn't hold
 abbrev long_guard : ℕ → Program
 long_guard negations = record {
+  version = 1;
   vars = variable (120 ∷ []) 4 low ∷ [];
   locks = [];
   threads =
@@ -719,6 +762,7 @@ long_guard-refused = refl
 -- thread t { skip; }, of which the tree has a proof that no text can give
 abbrev skips_with_proof : Program
 skips_with_proof = record {
+  version = 1;
   vars = [];
   locks = [];
   threads = thread_of (116 ∷ []) 7 no_modes (block_of (stm 11 skip (proof 1 by.auto ∷ []) ∷ [])) 17 ∷ [];
@@ -726,3 +770,119 @@ skips_with_proof = record {
 
 skips_with_proof-refused : first_false (thread_obligations skips_with_proof 0) ≡ refused V13 0 11 (Number 1)
 skips_with_proof-refused = refl
+
+-- Outputs --------------------------------------------------------------------------------------------------------
+
+-- version 2; var a: low; thread t { output a; }
+abbrev puts_low : Program
+puts_low = record {
+  version = 2;
+  vars = variable (97 ∷ []) 15 low ∷ [];
+  locks = [];
+  threads = thread_of (116 ∷ []) 30 no_modes (block_of (stm 34 (output (var 0)) [] ∷ [])) 44 ∷ [];
+}
+
+puts_low-accepted : first_false (thread_obligations puts_low 0) ≡ None
+puts_low-accepted = refl
+
+puts_low-counts : counts puts_low 0 ≡ record { statements = 1; entailments = 1 }
+puts_low-counts = refl
+
+-- an output leaves the point as it is
+puts_low-stays : (a : Point) → after_stm (plain puts_low) 0 (output (var 0)) a ≡ a
+puts_low-stays a = refl
+
+-- version 2; var s: high; thread t { output s; }
+abbrev puts_high : Program
+puts_high = record {
+  version = 2;
+  vars = variable (115 ∷ []) 15 high ∷ [];
+  locks = [];
+  threads = thread_of (116 ∷ []) 31 no_modes (block_of (stm 35 (output (var 0)) [] ∷ [])) 45 ∷ [];
+}
+
+puts_high-refused : first_false (thread_obligations puts_high 0) ≡ refused V9 0 35 (Number 1)
+puts_high-refused = refl
+
+-- Where the class of a variable holds, it may be put out, and each output counts: version 2; var c: low; var b: low when
+-- c == 0; thread t assume nowrite c, b { if c == 0 { output b; } else { output 1; } }
+abbrev puts_where_low : Program
+puts_where_low = record {
+  version = 2;
+  vars = variable (99 ∷ []) 15 low ∷ variable (98 ∷ []) 27 (when is_zero) ∷ [];
+  locks = [];
+  threads =
+      thread_of (116 ∷ []) 54 (modes_of (0 ∷ 1 ∷ []) [] [] []) (block_of (
+      stm 78 (branch is_zero (block_of (stm 90 (output (var 1)) [] ∷ [])) (block_of (stm 109 (output (const 1)) [] ∷ [])) no_state) [] ∷ [])) 121 ∷ [];
+}
+
+puts_where_low-accepted : first_false (thread_obligations puts_where_low 0) ≡ None
+puts_where_low-accepted = refl
+
+puts_where_low-counts : counts puts_where_low 0 ≡ record { statements = 3; entailments = 3 }
+puts_where_low-counts = refl
+
+-- An output tells nothing of its value: version 2; var x: low; thread t assume nowrite x { output x; note { x }; }
+abbrev puts_and_notes : Program
+puts_and_notes = record {
+  version = 2;
+  vars = variable (120 ∷ []) 15 low ∷ [];
+  locks = [];
+  threads =
+      thread_of (116 ∷ []) 30 (modes_of (0 ∷ []) [] [] []) (block_of (
+      stm 51 (output (var 0)) []
+      ∷ stm 61 (note (says (var 0 ∷ []) [])) [] ∷ [])) 73 ∷ [];
+}
+
+puts_and_notes-refused : first_false (thread_obligations puts_and_notes 0) ≡ refused V9 0 61 (Number 1)
+puts_and_notes-refused = refl
+
+-- version 2; var b: high; lock l hide b; thread t { output b; }
+abbrev puts_hidden : Program
+puts_hidden = record {
+  version = 2;
+  vars = variable (98 ∷ []) 15 high ∷ [];
+  locks = lock_of (108 ∷ []) 29 [] (0 ∷ []) None ∷ [];
+  threads = thread_of (116 ∷ []) 46 no_modes (block_of (stm 50 (output (var 0)) [] ∷ [])) 60 ∷ [];
+}
+
+puts_hidden-refused : first_false (thread_obligations puts_hidden 0) ≡ refused V1 0 50 (One (98 ∷ []))
+puts_hidden-refused = refl
+
+-- version 2; var a: low; var b: low; thread t { output a + b; }
+abbrev puts_two : Program
+puts_two = record {
+  version = 2;
+  vars = variable (97 ∷ []) 15 low ∷ variable (98 ∷ []) 27 low ∷ [];
+  locks = [];
+  threads = thread_of (116 ∷ []) 42 no_modes (block_of (stm 46 (output (bin Add (var 0) (var 1))) [] ∷ [])) 60 ∷ [];
+}
+
+puts_two-refused : first_false (thread_obligations puts_two 0) ≡ refused V3 0 46 Nothing
+puts_two-refused = refl
+
+-- version 2; thread t { output 1 + (1 + (1 + (1 + (1 + (1 + (1 + 1)))))); }
+abbrev puts_wide : Program
+puts_wide = record {
+  version = 2;
+  vars = [];
+  locks = [];
+  threads =
+      thread_of (116 ∷ []) 18 no_modes (block_of (
+      stm 22 (output (one_plus (one_plus (one_plus (one_plus (one_plus (one_plus (one_plus (const 1))))))))) [] ∷ [])) 72 ∷ [];
+}
+
+puts_wide-refused : first_false (thread_obligations puts_wide 0) ≡ refused V10 0 22 Nothing
+puts_wide-refused = refl
+
+-- version 2; var a: low; thread t { output a by { 2: auto }; }
+abbrev puts_with_second_proof : Program
+puts_with_second_proof = record {
+  version = 2;
+  vars = variable (97 ∷ []) 15 low ∷ [];
+  locks = [];
+  threads = thread_of (116 ∷ []) 30 no_modes (block_of (stm 34 (output (var 0)) (proof 2 by.auto ∷ []) ∷ [])) 59 ∷ [];
+}
+
+puts_with_second_proof-refused : first_false (thread_obligations puts_with_second_proof 0) ≡ refused V13 0 34 (Number 2)
+puts_with_second_proof-refused = refl

@@ -10,7 +10,7 @@ use Rattle.cov_expr.specs.Words.{HasVarsBelow}
 use Rattle.cov_expr.specs.declared.expr.Op.TheVariants.{Both}
 use Rattle.cov_ast.specs.Declarations.{class_of, is_control, no_var, under}
 use Rattle.cov_ast.specs.Plain.{Plain, class_term, plain}
-use Rattle.cov_ast.specs.Syntax.{State, Stm, skip, assign, lock, unlock, branch, loop, note, Block, done, more}
+use Rattle.cov_ast.specs.Syntax.{State, Stm, skip, assign, lock, unlock, branch, loop, note, output, Block, done, more}
 use Rattle.cov_ast.specs.View as view
 use Rattle.cov_ast.specs.WellFormed.{AreTypesInRange, IsBlockInRange, IsStmInRange, IsTypeInRange, IsWellFormed}
 use Rattle.cov_ast.specs.declared.decl.Program as decl
@@ -161,6 +161,7 @@ module _ (p : Plain) (t n m : ℕ) (classes : HasClassesBelow p n) where
   stm_below (branch e yes_block no_block join) a r h = meet_below (after_block p t yes_block (with_guard p t a e)) join r.3.types
   stm_below (loop e inv b) a r h = meet_below a inv r.1.types
   stm_below (note j) a r h = note_below a h j r.types
+  stm_below (output e) a r h = h
 
   pub block_below : (b : Block) (a : Point) → IsBlockInRange n m b → HasTypesBelow a n → HasTypesBelow (after_block p t b a) n
   block_below done a r h = h

@@ -4,7 +4,7 @@ use Rattle.cov_expr.specs.View.{term}
 use Rattle.cov_expr.specs.declared.expr.Expr.{Expr}
 use Rattle.cov_ast.specs.Obligations.{Decides, first_false}
 use Rattle.cov_ast.specs.Plain.{Plain}
-use Rattle.cov_ast.specs.Syntax.{Proof, Stm, skip, assign, lock, unlock, branch, loop, note, Block, done, more}
+use Rattle.cov_ast.specs.Syntax.{Proof, Stm, skip, assign, lock, unlock, branch, loop, note, output, Block, done, more}
 use Rattle.cov_ast.specs.View as view
 use Rattle.cov_ast.specs.declared.refusal.CheckFault.{CheckFault}
 use Rattle.cov_ast.specs.declared.state.State.{State}
@@ -85,6 +85,9 @@ loop_is e j b = ap view.kind (sym (kinds.rolls-While e j b)) ∙ fold-roll-StmtK
 
 pub note_is : (j : State) → view.kind (kinds.Note j) ≡ note (view.state j)
 note_is j = ap view.kind (sym (kinds.rolls-Note j)) ∙ fold-roll-StmtKind _ _ view.kind_step view.stmt_step (StmtKind-F.Note j)
+
+pub output_is : (e : Expr) → view.kind (kinds.Output e) ≡ output (term e)
+output_is e = ap view.kind (sym (kinds.rolls-Output e)) ∙ fold-roll-StmtKind _ _ view.kind_step view.stmt_step (StmtKind-F.Output e)
 
 -- A branch or a loop whose blocks are seen as lists is this one.
 

@@ -1,5 +1,5 @@
 -- Every run of a program whose statements keep the rules is disciplined.
-use Rattle.std.proofs.Common.{◌≡◌, ◌≢◌, ℕ, zero, suc, ◌+◌, ◌<◌, ◌≤◌, not, List, [], ◌∷◌, length, get_or, set, replicate, Bool, true, false, inl, inr, Option, Some, None, refl, sym, ◌∙◌, ap, subst, arith, IsTrue, if◌then◌else◌, cond, count_by, zero-add, length-set, get_or-set_same, get_or-set_other, eq-eqb, eqb-true}
+use Rattle.std.proofs.Common.{◌≡◌, ◌≢◌, ℕ, zero, suc, ◌+◌, ◌<◌, ◌≤◌, not, List, [], ◌∷◌, ◌++◌, length, get_or, set, replicate, Bool, true, false, inl, inr, Option, Some, None, refl, sym, ◌∙◌, ap, subst, arith, IsTrue, if◌then◌else◌, cond, count_by, zero-add, length-set, get_or-set_same, get_or-set_other, eq-eqb, eqb-true}
 use Rattle.std.proofs.Math.Decide.{ℕ_discrete}
 use Rattle.std.specs.Option.{ForSome}
 use Rattle.std.specs.Prelude.{All, AllPairs, IfSome}
@@ -11,13 +11,13 @@ use Rattle.cov_expr.specs.Term.{Term, value, is_set}
 use Rattle.cov_expr.specs.Trees.{occurrences, width}
 use Rattle.cov_expr.specs.Words.{IsSchedule}
 use Rattle.cov_ast.specs.Declarations.{no_thread}
-use Rattle.cov_ast.specs.Plain.{skip, assign, lock, unlock, branch, loop, Cmds, none, next, ◌then_all◌, Plain, plain, plain_block, plain_thread}
+use Rattle.cov_ast.specs.Plain.{skip, assign, lock, unlock, branch, loop, output, Cmds, none, next, ◌then_all◌, Plain, plain, plain_block, plain_thread}
 use Rattle.cov_ast.specs.Syntax.{Program}
 use Rattle.cov_ast.specs.Obligations.{all_hold}
 use Rattle.cov_ast.specs.Tables.{has}
 use Rattle.cov_ast.specs.WellFormed.{IsWellFormed}
 use Rattle.cov_ast.proofs.ObligationLaws.{both_hold}
-use Rattle.flow_model.specs.Source.{Item, run, put, test, Holders, holder, Local, local, items_then, turn, is_held_by, after_lock, after_unlock, Run, items_of, run_from, step, begin, after}
+use Rattle.flow_model.specs.Source.{Item, run, put, test, emit, Holders, holder, Outputs, Local, local, items_then, turn, is_held_by, after_lock, after_unlock, Run, items_of, run_from, step, begin, after}
 use Rattle.flow_model.specs.Composable.{HasCompatibleModes}
 use Rattle.flow_model.specs.Holdings.{IsStableNow, IsWritableNow}
 use Rattle.flow_model.specs.Agreement.{SameAt}
@@ -104,11 +104,13 @@ module _ (p : Plain) (t : ℕ) (at_place : ℕ → List Bool) where
   PlacedItems (run at c ∷ is) H = (M : List Bool) × (at_place at ≡ H) × PlacedCmd p t at_place c H M × PlacedItems is M
   PlacedItems (put at x w ∷ is) H = ⊥
   PlacedItems (test at w a b ∷ is) H = ⊥
+  PlacedItems (emit at w ∷ is) H = ⊥
 
   -- what is left of the thread, where it holds these locks
   abbrev IsLeft : List Item → List Bool → Type 0
   IsLeft (put at x w ∷ is) H = (at_place at ≡ H) × IsTrue (may_write p t H x) × PlacedItems is H
   IsLeft (test at w a b ∷ is) H = (at_place at ≡ H) × PlacedItems (items_then a is) H × PlacedItems (items_then b is) H
+  IsLeft (emit at w ∷ is) H = (at_place at ≡ H) × PlacedItems is H
   IsLeft is H = PlacedItems is H
 
   left : (is : List Item) (H : List Bool) → PlacedItems is H → IsLeft is H
@@ -116,6 +118,7 @@ module _ (p : Plain) (t : ℕ) (at_place : ℕ → List Bool) where
   left (run at c ∷ is) H k = k
   left (put at x w ∷ is) H k = absurd k
   left (test at w a b ∷ is) H k = absurd k
+  left (emit at w ∷ is) H k = absurd k
 
   placed_then : (c : Cmds) (is : List Item) (H K : List Bool) → Placed p t at_place c H K → PlacedItems is K → PlacedItems (items_then c is) H
   placed_then none is H K k n = subst (PlacedItems is) (sym k) n
@@ -143,17 +146,17 @@ module _ (p : Plain) (t : ℕ) (at_place : ℕ → List Bool) where
   Goes m h r = Stands r.holders r.items × Leaves m h r
 
   -- memory and holders stay
-  still : (m : List ℕ) (h : Holders) (is : List Item) (H : List Bool) → length H ≡ length p.locks → AreHeldBy h t H → IsLeft is H
-      → Goes m h (local m h is)
-  still m h is H n held k =
+  still : (m : List ℕ) (h : Holders) (said : Outputs) (is : List Item) (H : List Bool) → length H ≡ length p.locks → AreHeldBy h t H → IsLeft is H
+      → Goes m h (local m h said is)
+  still m h said is H n held k =
       (record { held = H; sized = n; by = held; rest = k }, record { words = λ x w. refl; others = λ u d l. refl; locks = refl })
 
   -- a holder changes
-  switch : (m : List ℕ) (h : Holders) (l : ℕ) (o : Option ℕ) (is : List Item) (H : List Bool) (b : Bool) → length h ≡ length p.locks
+  switch : (m : List ℕ) (h : Holders) (said : Outputs) (l : ℕ) (o : Option ℕ) (is : List Item) (H : List Bool) (b : Bool) → length h ≡ length p.locks
       → length H ≡ length p.locks → AreHeldBy h t H → l < length p.locks → b ≡ is_held_by o t
       → ((u : ℕ) → u ≢ t → is_held_by (holder h l) u ≡ false) → ((u : ℕ) → u ≢ t → is_held_by o u ≡ false)
-      → PlacedItems is (set H l b) → Goes m h (local m (set h l o) is)
-  switch m h l o is H b nh nH held inside e before after k = (
+      → PlacedItems is (set H l b) → Goes m h (local m (set h l o) said is)
+  switch m h said l o is H b nh nH held inside e before after k = (
     record {
       held = set H l b;
       sized = length-set H l b ∙ nH;
@@ -167,18 +170,18 @@ module _ (p : Plain) (t : ℕ) (at_place : ℕ → List Bool) where
     },
   )
 
-  own_lock : (m : List ℕ) (h : Holders) (at l : ℕ) (is : List Item) (H : List Bool) → length h ≡ length p.locks → length H ≡ length p.locks
-      → AreHeldBy h t H → PlacedItems (run at (lock l) ∷ is) H → (o : Option ℕ) → holder h l ≡ o → Goes m h (after_lock t m h at l is o)
-  own_lock m h at l is H nh nH held k None e =
-      switch m h l (Some t) is H true nh nH held k.2.0 (sym (eq-eqb t t refl)) (λ u d. ap (λ (q : Option ℕ). is_held_by q u) e)
+  own_lock : (m : List ℕ) (h : Holders) (said : Outputs) (at l : ℕ) (is : List Item) (H : List Bool) → length h ≡ length p.locks → length H ≡ length p.locks
+      → AreHeldBy h t H → PlacedItems (run at (lock l) ∷ is) H → (o : Option ℕ) → holder h l ≡ o → Goes m h (after_lock t m h said at l is o)
+  own_lock m h said at l is H nh nH held k None e =
+      switch m h said l (Some t) is H true nh nH held k.2.0 (sym (eq-eqb t t refl)) (λ u d. ap (λ (q : Option ℕ). is_held_by q u) e)
       (λ u d. ne_eqb t u (λ i. d (sym i))) (subst (PlacedItems is) (sym k.2.1) k.3)
-  own_lock m h at l is H nh nH held k (Some u) e = still m h (run at (lock l) ∷ is) H nH held k
+  own_lock m h said at l is H nh nH held k (Some u) e = still m h said (run at (lock l) ∷ is) H nH held k
 
-  own_unlock : (m : List ℕ) (h : Holders) (at l : ℕ) (is : List Item) (H : List Bool) → length h ≡ length p.locks → length H ≡ length p.locks
-      → AreHeldBy h t H → PlacedItems (run at (unlock l) ∷ is) H → (b : Bool) → is_held_by (holder h l) t ≡ b → Goes m h (after_unlock m h at l is b)
-  own_unlock m h at l is H nh nH held k true e =
-      switch m h l None is H false nh nH held k.2.0 refl (λ u d. not_other (holder h l) t u d e) (λ u d. refl) (subst (PlacedItems is) (sym k.2.2) k.3)
-  own_unlock m h at l is H nh nH held k false e = still m h (run at (unlock l) ∷ is) H nH held k
+  own_unlock : (m : List ℕ) (h : Holders) (said : Outputs) (at l : ℕ) (is : List Item) (H : List Bool) → length h ≡ length p.locks → length H ≡ length p.locks
+      → AreHeldBy h t H → PlacedItems (run at (unlock l) ∷ is) H → (b : Bool) → is_held_by (holder h l) t ≡ b → Goes m h (after_unlock m h said at l is b)
+  own_unlock m h said at l is H nh nH held k true e =
+      switch m h said l None is H false nh nH held k.2.0 refl (λ u d. not_other (holder h l) t u d e) (λ u d. refl) (subst (PlacedItems is) (sym k.2.2) k.3)
+  own_unlock m h said at l is H nh nH held k false e = still m h said (run at (unlock l) ∷ is) H nH held k
 
   -- others keep what the thread holds
   stays : (h h' : Holders) (is : List Item) → ((l : ℕ) → is_held_by (holder h' l) t ≡ is_held_by (holder h l) t) → Stands h is → Stands h' is
@@ -193,22 +196,24 @@ module _ (p : Plain) (t : ℕ) (at_place : ℕ → List Bool) where
       go (no d) = get_or-set_other m x y w 0 d
 
   module _ (sets : (h : Holders) (H : List Bool) → AreHeldBy h t H → AreSetsOf p h t H) where
-    own_turn : (m : List ℕ) (h : Holders) (is : List Item) (H : List Bool) → length h ≡ length p.locks → length H ≡ length p.locks
-        → AreHeldBy h t H → IsLeft is H → Goes m h (turn t m h is)
-    own_turn m h [] H nh nH held k = still m h [] H nH held k
-    own_turn m h (run at skip ∷ is) H nh nH held k = still m h is H nH held (left is H (subst (PlacedItems is) (sym k.2) k.3))
-    own_turn m h (run at (assign x e) ∷ is) H nh nH held k =
-        still m h (put at x (value e m) ∷ is) H nH held (k.1, k.2.0, subst (PlacedItems is) (sym k.2.2) k.3)
-    own_turn m h (run at (lock l) ∷ is) H nh nH held k = own_lock m h at l is H nh nH held k (holder h l) refl
-    own_turn m h (run at (unlock l) ∷ is) H nh nH held k = own_unlock m h at l is H nh nH held k (is_held_by (holder h l) t) refl
-    own_turn m h (run at (branch e a b) ∷ is) H nh nH held k =
-        still m h (test at (value e m) a b ∷ is) H nH held (k.1, placed_then a is H k.0 k.2.1 k.3, placed_then b is H k.0 k.2.2 k.3)
-    own_turn m h (run at (loop e a) ∷ is) H nh nH held k =
+    own_turn : (m : List ℕ) (h : Holders) (said : Outputs) (is : List Item) (H : List Bool) → length h ≡ length p.locks → length H ≡ length p.locks
+        → AreHeldBy h t H → IsLeft is H → Goes m h (turn t m h said is)
+    own_turn m h said [] H nh nH held k = still m h said [] H nH held k
+    own_turn m h said (run at skip ∷ is) H nh nH held k = still m h said is H nH held (left is H (subst (PlacedItems is) (sym k.2) k.3))
+    own_turn m h said (run at (assign x e) ∷ is) H nh nH held k =
+        still m h said (put at x (value e m) ∷ is) H nH held (k.1, k.2.0, subst (PlacedItems is) (sym k.2.2) k.3)
+    own_turn m h said (run at (lock l) ∷ is) H nh nH held k = own_lock m h said at l is H nh nH held k (holder h l) refl
+    own_turn m h said (run at (unlock l) ∷ is) H nh nH held k = own_unlock m h said at l is H nh nH held k (is_held_by (holder h l) t) refl
+    own_turn m h said (run at (branch e a b) ∷ is) H nh nH held k =
+        still m h said (test at (value e m) a b ∷ is) H nH held (k.1, placed_then a is H k.0 k.2.1 k.3, placed_then b is H k.0 k.2.2 k.3)
+    own_turn m h said (run at (loop e a) ∷ is) H nh nH held k =
         let again : Cmds = next at (loop e a) none in
         let rest : PlacedItems is H = subst (PlacedItems is) (sym k.2.2) k.3 in
         let body : Placed p t at_place (◌then_all◌ a again) H H = placed_append a again H H H k.2.1 (H, k.1, (k.2.0, k.2.1, refl), refl) in
-        still m h (test at (value e m) (◌then_all◌ a again) none ∷ is) H nH held (k.1, placed_then (◌then_all◌ a again) is H H body rest, rest)
-    own_turn m h (put at x w ∷ is) H nh nH held k = (
+        still m h said (test at (value e m) (◌then_all◌ a again) none ∷ is) H nH held (k.1, placed_then (◌then_all◌ a again) is H H body rest, rest)
+    own_turn m h said (run at (output e) ∷ is) H nh nH held k =
+        still m h said (emit at (value e m) ∷ is) H nH held (k.1, subst (PlacedItems is) (sym k.2.1) k.3)
+    own_turn m h said (put at x w ∷ is) H nh nH held k = (
       record { held = H; sized = nH; by = held; rest = left is H k.2 },
       record {
         words = stored m h x w (((sets h H held).writable x).0 k.1);
@@ -216,11 +221,12 @@ module _ (p : Plain) (t : ℕ) (at_place : ℕ → List Bool) where
         locks = refl;
       },
     )
-    own_turn m h (test at w a b ∷ is) H nh nH held k =
-        elim (is_set w) as (λ (o : Bool). Goes m h (local m h (items_then (if o then a else b) is))) [
-          | true ↦ still m h (items_then a is) H nH held (left (items_then a is) H k.1)
-          | false ↦ still m h (items_then b is) H nH held (left (items_then b is) H k.2)
+    own_turn m h said (test at w a b ∷ is) H nh nH held k =
+        elim (is_set w) as (λ (o : Bool). Goes m h (local m h said (items_then (if o then a else b) is))) [
+          | true ↦ still m h said (items_then a is) H nH held (left (items_then a is) H k.1)
+          | false ↦ still m h said (items_then b is) H nH held (left (items_then b is) H k.2)
         ]
+    own_turn m h said (emit at w ∷ is) H nh nH held k = still m h (said ++ w ∷ []) is H nH held (left is H k.1)
 
     evaluates : (h : Holders) (is : List Item) (H : List Bool) → AreHeldBy h t H → IsLeft is H → IfSome (evaluated is) (IsEvaluable p h t)
     evaluates h [] H held k = tt
@@ -230,8 +236,10 @@ module _ (p : Plain) (t : ℕ) (at_place : ℕ → List Bool) where
     evaluates h (run at (unlock l) ∷ is) H held k = tt
     evaluates h (run at (branch e a b) ∷ is) H held k = evaluable p h t H (sets h H held) e k.2.0
     evaluates h (run at (loop e a) ∷ is) H held k = evaluable p h t H (sets h H held) e k.2.0
+    evaluates h (run at (output e) ∷ is) H held k = evaluable p h t H (sets h H held) e k.2.0
     evaluates h (put at x w ∷ is) H held k = tt
     evaluates h (test at w a b ∷ is) H held k = tt
+    evaluates h (emit at w ∷ is) H held k = tt
 
 -- Runs -----------------------------------------------------------------------------------------------------------
 
@@ -241,9 +249,10 @@ holds_locks p h t [] H held k = λ l. sym (k l) ∙ held l
 holds_locks p h t (run at c ∷ is) H held k = subst (AreHeldBy h t) (sym k.1) held
 holds_locks p h t (put at x w ∷ is) H held k = subst (AreHeldBy h t) (sym k.0) held
 holds_locks p h t (test at w a b ∷ is) H held k = subst (AreHeldBy h t) (sym k.0) held
+holds_locks p h t (emit at w ∷ is) H held k = subst (AreHeldBy h t) (sym k.0) held
 
 abbrev turned : Run → ℕ → Local
-turned s t = turn t s.memory s.holders (items_of s t)
+turned s t = turn t s.memory s.holders s.outputs (items_of s t)
 
 -- What is told of the locks that a thread holds says what is stable and writable for it.
 abbrev pub AreSets : Program → Type 0
@@ -262,7 +271,7 @@ module _ (p : Program) where
     goes : (s : Run) → Keeps s → (t : ℕ) → t < length (plain p).threads → Goes (plain p) t (held_at p t) s.memory s.holders (turned s t)
     goes s k t inside =
         let stand = k.stands t inside in
-        own_turn (plain p) t (held_at p t) (λ h H. sets h t H) s.memory s.holders (items_of s t) stand.held k.locks stand.sized stand.by stand.rest
+        own_turn (plain p) t (held_at p t) (λ h H. sets h t H) s.memory s.holders s.outputs (items_of s t) stand.held k.locks stand.sized stand.by stand.rest
 
     keeps_step : (s : Run) (u : ℕ) → u < length (plain p).threads → Keeps s → Keeps (step s u)
     keeps_step s u inside k =

@@ -3,14 +3,15 @@
 use Rattle.std.proofs.Common.{◌≡◌, ◌≤◌, ℕ, zero, suc, List, [], ◌∷◌, true, false, Some, None, refl, subst, inl, inr, arith}
 use Rattle.cov_expr.specs.declared.expr.Op.TheVariants.{Add, Eq, Le}
 use Rattle.cov_expr.specs.Term.{Term, const, var, bin}
-use Rattle.cov_ast.specs.Syntax.{Class, low, high, Var, Lock, Modes, Stm, skip, assign, lock, unlock, branch, loop, Thread, Program}
+use Rattle.cov_ast.specs.Syntax.{Class, low, high, Var, Lock, Modes, Stm, skip, assign, lock, unlock, branch, loop, output, Thread, Program}
 use Rattle.cov_ast.specs.Declarations.{no_modes}
 use Rattle.cov_ast.specs.Plain.{plain, no_state}
+use Rattle.cov_ast.specs.Plain as code
 use Rattle.cov_ast.specs.View.{Placed, block_of}
 use Rattle.cov_ast.specs.Obligations.{first_false}
 use Rattle.cov_ast.specs.declared.refusal.Rule.TheVariants.{V9, W9}
 use Rattle.cov_ast.specs.declared.refusal.Detail.TheVariants.{Number, Three}
-use Rattle.flow_model.specs.Source.{Run, after, items_of}
+use Rattle.flow_model.specs.Source.{Run, emit, run, after, items_of}
 use Rattle.flow_model.specs.Holdings.{IsStableNow}
 use Rattle.mode_compat.specs.HeldSets.{AreHeldBy}
 use Rattle.verify.specs.Accepted.{IsAccepted, program_obligations}
@@ -37,6 +38,7 @@ stm at s = record { at = at; stm = s; proofs = [] }
 -- Rules of declarations come first: var x: low; var h: high; thread a assume nowrite x { x := h; } thread b { }
 abbrev breaks_both : Program
 breaks_both = record {
+  version = 1;
   vars = variable 120 4 low ∷ variable 104 16 high ∷ [];
   locks = [];
   threads =
@@ -51,6 +53,7 @@ breaks_both-refused = refl
 -- Threads come by declaration: var x: low; var h: high; thread a { x := h; } thread b { x := h + h; }
 abbrev both_break : Program
 both_break = record {
+  version = 1;
   vars = variable 120 4 low ∷ variable 104 16 high ∷ [];
   locks = [];
   threads =
@@ -67,6 +70,7 @@ both_break-refused = refl
 -- unlock l; } thread b { lock l; n := 0; unlock l; }
 abbrev counts_under_lock : Program
 counts_under_lock = record {
+  version = 1;
   vars = variable 110 4 low ∷ [];
   locks = lock_of 17 (0 ∷ []) ∷ [];
   threads =
@@ -129,11 +133,40 @@ waiting-disciplined = record {
   spares = λ u x inside d stable. refl;
 }
 
+-- version 2; var n: low; lock l nowrite n; thread t { lock l; output n + n; unlock l; }
+abbrev speaks_under_lock : Program
+speaks_under_lock = record {
+  version = 2;
+  vars = variable 110 15 low ∷ [];
+  locks = lock_of 28 (0 ∷ []) ∷ [];
+  threads =
+      thread_of 116 48 no_modes (stm 52 (lock 0) ∷ stm 60 (output (bin Add (var 0) (var 0))) ∷ stm 74 (unlock 0) ∷ []) 84 ∷ [];
+}
+
+speaks_under_lock-accepted : IsAccepted speaks_under_lock
+speaks_under_lock-accepted = refl
+
+speaks_under_lock-counts : counts speaks_under_lock ≡ record { statements = 3; entailments = 1 }
+speaks_under_lock-counts = refl
+
+at_output : held_at speaks_under_lock 0 60 ≡ true ∷ []
+at_output = refl
+
+-- the thread is in front of an output that is pending
+abbrev speaking : Run
+speaking = after (plain speaks_under_lock) (2 ∷ []) (0 ∷ 0 ∷ [])
+
+speaking-items : items_of speaking 0 ≡ emit 60 4 ∷ run 74 (code.unlock 0) ∷ []
+speaking-items = refl
+
+speaking-held : held_in_front_of speaks_under_lock 0 (items_of speaking 0) ≡ true ∷ []
+speaking-held = refl
+
 -- Programs that aren't disciplined -------------------------------------------------------------------------------
 
 -- A thread ends with a lock: lock l; thread t { lock l; }
 abbrev keeps_lock : Program
-keeps_lock = record { vars = []; locks = lock_of 5 [] ∷ []; threads = thread_of 116 15 no_modes (stm 19 (lock 0) ∷ []) 27 ∷ [] }
+keeps_lock = record { version = 1; vars = []; locks = lock_of 5 [] ∷ []; threads = thread_of 116 15 no_modes (stm 19 (lock 0) ∷ []) 27 ∷ [] }
 
 keeps_lock-undisciplined : ¬ IsDisciplined keeps_lock
 keeps_lock-undisciplined k =
@@ -142,6 +175,7 @@ keeps_lock-undisciplined k =
 -- The text doesn't say who holds the lock: lock l; thread t { if 0 { lock l; } else { } skip; }
 abbrev locks_in_branch : Program
 locks_in_branch = record {
+  version = 1;
   vars = [];
   locks = lock_of 5 [] ∷ [];
   threads = thread_of 116 15 no_modes (stm 19 (branch (const 0) (block_of (stm 26 (lock 0) ∷ [])) (block_of []) no_state) ∷ stm 45 skip ∷ []) 51 ∷ [];
@@ -154,6 +188,7 @@ locks_in_branch-undisciplined k =
 -- A thread writes what another holds: var x: high; lock l nowrite x; thread a { lock l; } thread b { x := 1; }
 abbrev writes_locked : Program
 writes_locked = record {
+  version = 1;
   vars = variable 120 4 high ∷ [];
   locks = lock_of 18 (0 ∷ []) ∷ [];
   threads = thread_of 97 38 no_modes (stm 42 (lock 0) ∷ []) 50 ∷ thread_of 98 59 no_modes (stm 63 (assign 0 (const 1) None []) ∷ []) 71 ∷ [];
@@ -167,6 +202,7 @@ writes_locked-undisciplined k =
 -- Others may write both that are read: var x: high; var y: high; thread t { x := x + y; }
 abbrev reads_two : Program
 reads_two = record {
+  version = 1;
   vars = variable 120 4 high ∷ variable 121 17 high ∷ [];
   locks = [];
   threads = thread_of 116 33 no_modes (stm 37 (assign 0 (bin Add (var 0) (var 1)) None []) ∷ []) 48 ∷ [];
@@ -181,12 +217,31 @@ reads_two-undisciplined k =
     let at = k (0 ∷ 0 ∷ []) (record { complete = refl; words = (omega arith, (omega arith, tt)) }) [] tt 0 (omega arith) in
     (at.evaluates (bin Add (var 0) (var 1)) refl).one_unstable 0 1 0 (omega arith) (omega arith) (reads_two-unstable 0) (reads_two-unstable 1)
 
+-- The same of an output: version 2; var x: high; var y: high; thread t { output x + y; }
+abbrev puts_two : Program
+puts_two = record {
+  version = 2;
+  vars = variable 120 15 high ∷ variable 121 28 high ∷ [];
+  locks = [];
+  threads = thread_of 116 44 no_modes (stm 48 (output (bin Add (var 0) (var 1))) ∷ []) 62 ∷ [];
+}
+
+puts_two-unstable : (x : ℕ) → ¬ IsStableNow (plain puts_two) [] 0 x
+puts_two-unstable x (inl a) = let e : false ≡ true = a in cc
+puts_two-unstable x (inr (l, e, u)) = cc
+
+puts_two-undisciplined : ¬ IsDisciplined puts_two
+puts_two-undisciplined k =
+    let at = k (0 ∷ 0 ∷ []) (record { complete = refl; words = (omega arith, (omega arith, tt)) }) [] tt 0 (omega arith) in
+    (at.evaluates (bin Add (var 0) (var 1)) refl).one_unstable 0 1 0 (omega arith) (omega arith) (puts_two-unstable 0) (puts_two-unstable 1)
+
 -- An expression needs too many registers: var x: low; thread t { x := 1 + (1 + (1 + (1 + (1 + (1 + (1 + 1)))))); }
 abbrev wide : Term
 wide = one_plus (one_plus (one_plus (one_plus (one_plus (one_plus (one_plus (const 1)))))))
 
 abbrev reads_wide : Program
 reads_wide = record {
+  version = 1;
   vars = variable 120 4 low ∷ [];
   locks = [];
   threads = thread_of 116 19 no_modes (stm 23 (assign 0 wide None []) ∷ []) 71 ∷ [];

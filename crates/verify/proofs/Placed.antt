@@ -10,7 +10,7 @@ use Rattle.cov_expr.proofs.Tests.{each_below}
 use Rattle.cov_ast.specs.Obligations.{Obligation, all_hold}
 use Rattle.cov_ast.specs.Plain.{Cmd, Cmds, none, next, Plain, plain_stm, plain_block}
 use Rattle.cov_ast.specs.Plain as code
-use Rattle.cov_ast.specs.Syntax.{Proof, Stm, skip, assign, lock, unlock, branch, loop, note, Block, done, more}
+use Rattle.cov_ast.specs.Syntax.{Proof, Stm, skip, assign, lock, unlock, branch, loop, note, output, Block, done, more}
 use Rattle.cov_ast.specs.Tables.{has}
 use Rattle.cov_ast.specs.WellFormed.{IsStmInRange, IsBlockInRange}
 use Rattle.cov_ast.proofs.ObligationLaws.{both_hold}
@@ -38,6 +38,7 @@ module _ (p : Plain) (t : ℕ) where
       PlacedCmd (code.unlock l) H K = (l < length p.locks) × IsTrue (has H l) × (set H l false ≡ K)
       PlacedCmd (code.branch e a b) H K = Reads H e × Placed a H K × Placed b H K
       PlacedCmd (code.loop e a) H K = Reads H e × Placed a H H × (H ≡ K)
+      PlacedCmd (code.output e) H K = Reads H e × (H ≡ K)
 
       pub Placed : Cmds → (before after : List Bool) → Type 0
       Placed none H K = H ≡ K
@@ -91,6 +92,7 @@ module _ (p : Plain) (t : ℕ) where
     stm_sized (branch e yes_block no_block join) a = block_sized yes_block (with_guard p t a e)
     stm_sized (loop e inv b) a = refl
     stm_sized (note j) a = refl
+    stm_sized (output e) a = refl
 
     pub block_sized : (b : Block) (a : Point) → length (after_block p t b a).held ≡ length a.held
     block_sized done a = refl
@@ -150,6 +152,8 @@ module _ (p : Plain) (t : ℕ) where
             k,
           )
       placed_stm (note j) at proofs rest a K n r h e f k = k
+      placed_stm (output g) at proofs rest a K n r h e f k =
+          (a.held, e, (guard_reads at a.held g (parts (stm_parts p t (output g) at proofs a) h).0, refl), k)
 
       pub placed_block : (b : Block) (a : Point) → length a.held ≡ length p.locks → IsBlockInRange (length p.vars) (length p.locks) b
           → IsTrue (all_hold (block_obligations p t b a)) → AreFound at_place (points p t b a)

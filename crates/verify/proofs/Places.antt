@@ -6,7 +6,7 @@ use Rattle.std.proofs.lemmas.Bool.{and_parts, or_left, or_right, not-true, false
 use Rattle.std.proofs.lemmas.List.{map-append}
 use Rattle.cov_expr.specs.Term.{neg}
 use Rattle.cov_ast.specs.Plain.{Plain, plain}
-use Rattle.cov_ast.specs.Syntax.{Stm, skip, assign, lock, unlock, branch, loop, note, Block, done, more, Program}
+use Rattle.cov_ast.specs.Syntax.{Stm, skip, assign, lock, unlock, branch, loop, note, output, Block, done, more, Program}
 use Rattle.cov_ast.specs.WellFormed.{are_distinct, places, places_within, IsWellFormed}
 use Rattle.mode_compat.specs.Compatible.{numbered, no_thread}
 use Rattle.typing_state.specs.Point.{Point}
@@ -33,6 +33,7 @@ module _ (p : Plain) (t : ℕ) where
         ∙ (λ i. block_places yes_block yes i ++ block_places no_block no i)
     stm_places (loop e inv b) a = block_places b (with_guard p t (meet p t a inv) e)
     stm_places (note j) a = refl
+    stm_places (output e) a = refl
 
     block_places : (b : Block) (a : Point) → places_of (points p t b a) ≡ places b
     block_places done a = refl

@@ -7,7 +7,7 @@ use Rattle.cov_expr.specs.Trees as trees
 use Rattle.cov_expr.specs.Words.{AreWords, HasWords}
 use Rattle.cov_ast.specs.Declarations.{class_of, hides, invariant_of, is_control}
 use Rattle.cov_ast.specs.Plain.{Plain}
-use Rattle.cov_ast.specs.Syntax.{State, Stm, skip, assign, lock, unlock, branch, loop, note, Block, done, more}
+use Rattle.cov_ast.specs.Syntax.{State, Stm, skip, assign, lock, unlock, branch, loop, note, output, Block, done, more}
 use Rattle.cov_ast.specs.Tables.{has}
 use Rattle.mode_state.specs.Sets.{is_stable, is_hidden, may_read, may_write}
 use Rattle.typing_state.specs.Point.{Point, type_at, ty, ty_var, is_over_stable, is_over_controls}
@@ -78,6 +78,7 @@ module _ (p : Plain) (t : ℕ) where
         StateOver a.held inv × StateFollows a inv × GuardChecks head e × BlockChecks b (with_guard p t head e)
         × IsTrue (same_held p body_end.held a.held) × StateFollows body_end inv
     Checks (note j) a = StateOver a.held j × StateFollows a j
+    Checks (output e) a = GuardChecks a e
 
     pub BlockChecks : Block → Point → Type 0
     BlockChecks done a = Unit {0}

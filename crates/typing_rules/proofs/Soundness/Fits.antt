@@ -1,5 +1,5 @@
 -- What a point says of two copies of a thread, and what a statement has to do between two points.
-use Rattle.std.proofs.Common.{◌≡◌, ◌≢◌, ℕ, ◌<◌, List, [], ◌∷◌, length, set, false, Option, Some, None, IsTrue}
+use Rattle.std.proofs.Common.{◌≡◌, ◌≢◌, ℕ, ◌<◌, List, [], ◌∷◌, ◌++◌, length, set, false, Option, Some, None, IsTrue}
 use Rattle.cov_expr.specs.Entailment.{Holds, AllHold}
 use Rattle.cov_expr.specs.Term.{Term, value}
 use Rattle.cov_expr.specs.Trees.{mentions}
@@ -67,6 +67,10 @@ module _ (p : Plain) (t : ℕ) where
   -- the lock has another holder, or none
   abbrev pub holding : World → ℕ → Option ℕ → World
   holding w l o = record { left = w.left; right = w.right; holders = set w.holders l o; outputs = w.outputs }
+
+  -- both copies put out a word
+  abbrev pub saying : World → ℕ → World
+  saying w v = record { left = w.left; right = w.right; holders = w.holders; outputs = w.outputs ++ v ∷ [] }
 
   -- The words of a store of e that is pending in the copies: where the type q holds they are the same, and where e is stable
   -- they are still its values.

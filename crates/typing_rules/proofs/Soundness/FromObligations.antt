@@ -12,7 +12,7 @@ use Rattle.cov_expr.proofs.Tests.{left_true, right_true}
 use Rattle.cov_ast.specs.Declarations.{class_of, invariant_term, is_control, lock_at, no_var}
 use Rattle.cov_ast.specs.Obligations.{Obligation, all_hold}
 use Rattle.cov_ast.specs.Plain.{Plain, class_term}
-use Rattle.cov_ast.specs.Syntax.{State, Proof, Stm, skip, assign, lock, unlock, branch, loop, note, Block, done, more}
+use Rattle.cov_ast.specs.Syntax.{State, Proof, Stm, skip, assign, lock, unlock, branch, loop, note, output, Block, done, more}
 use Rattle.cov_ast.specs.WellFormed.{IsStmInRange, IsBlockInRange, CertHasWords, StmHasWords, BlockHasWords}
 use Rattle.cov_ast.specs.declared.refusal.Rule.TheVariants.{V1, V5}
 use Rattle.entail_cert.proofs.Instances.{valid_entails}
@@ -317,6 +317,7 @@ module _ (p : Plain) (t : ℕ) where
           state_gives body_end inv (all_follow at proofs (suc (length gs)) (state_follows body_end inv) c l.1.1.1.0),
         )
     stm_of (note j) at proofs a r w c h = (state_over at a.held j h.0, state_gives a j (all_follow at proofs 1 (state_follows a j) c h.1.1.0))
+    stm_of (output e) at proofs a r w c h = guard_of at a e h.0 (all_follow at proofs 1 (guard_follows p t a e ∷ []) c h.1.1.0).0
 
     pub block_of : (b : Block) (a : Point) → IsBlockInRange (length p.vars) (length p.locks) b → BlockHasWords b → AllTrue (block_obligations p t b a)
         → BlockChecks p t b a

@@ -22,7 +22,7 @@ use Rattle.typing_state.specs.Terms.{with_option, listed}
 use Rattle.typing_state.specs.Point.{Point, given_type, type_at, default_type, is_tracked, is_over_stable}
 use Rattle.typing_state.specs.After.{after_lock, locked_type, after_unlock, kept_type, unlocked_type, with_guard, meet, noted}
 use Rattle.typing_rules.proofs.Soundness.Conditions.{Each, StateFollows, StateOver, UnlockChecks, GuardChecks}
-use Rattle.typing_rules.proofs.Soundness.Fits.{World, Settled, Fits, IsNotForeign, AllOver, AllStable, OverStableControls, LockOk, UnlockOk, GuardOk, Weaker, holding}
+use Rattle.typing_rules.proofs.Soundness.Fits.{World, Settled, Fits, IsNotForeign, AllOver, AllStable, OverStableControls, LockOk, UnlockOk, OutputOk, GuardOk, Weaker, holding}
 use Rattle.typing_rules.proofs.Soundness.Static.{held_gives, over_gives, all_stable, stable_shown, not_foreign_of_shown, class_over, under_hide, clash, cond_is}
 use Rattle.typing_rules.proofs.Soundness.Lists.{distinct_holds, with_holds, listed_is, each_map, updated_is, retyped_is}
 use Rattle.typing_rules.proofs.Soundness.Exprs.{distinct_over, with_over, filter_holds, with_if_holds, with_if_over, filter_over, term_agrees, not_const_zero}
@@ -133,6 +133,11 @@ module _ (p : Plain) (d : IsDeclared p) (t : ℕ) (t_in : t < length p.threads) 
     taken = λ w f h. with_fits a e w f h;
     other = λ w f h. with_fits a (neg e) w f (λ s. let i = h s in (neg_holds e w.left i.0, neg_holds e w.right i.1));
   }
+
+  -- Output -------------------------------------------------------------------------------------------------------
+
+  pub output_ok : (a : Point) (e : Term) → GuardChecks p t a e → OutputOk p t e a a
+  output_ok a e k = record { same = (guard_ok a e k).same; after = λ w f. f }
 
   -- Lock ---------------------------------------------------------------------------------------------------------
 

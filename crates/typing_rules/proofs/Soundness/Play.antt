@@ -1,5 +1,5 @@
 -- The game of a typed thread: what holds where its copies stand.
-use Rattle.std.proofs.Common.{◌≡◌, ◌⊎◌, ◌↔◌, ℕ, zero, suc, ◌<◌, List, [], ◌∷◌, length, set, map, Bool, true, false, replicate, Option, Some, None, refl, sym, ◌∙◌, ap, subst, IsTrue, inl, inr, get_or-set_same, get_or-set_other, eq-eqb, eqb-true}
+use Rattle.std.proofs.Common.{◌≡◌, ◌⊎◌, ◌↔◌, ℕ, zero, suc, ◌<◌, List, [], ◌∷◌, ◌++◌, length, set, map, Bool, true, false, replicate, Option, Some, None, refl, sym, ◌∙◌, ap, ap₂, subst, IsTrue, inl, inr, get_or-set_same, get_or-set_other, eq-eqb, eqb-true}
 use Rattle.std.proofs.Math.Decide.{ℕ_discrete}
 use Rattle.cov_expr.specs.Entailment.{Holds, AllHold}
 use Rattle.cov_expr.specs.Term.{Term, value}
@@ -7,14 +7,14 @@ use Rattle.cov_expr.specs.Trees.{mentions}
 use Rattle.cov_expr.specs.Words.{IsMemory}
 use Rattle.cov_expr.proofs.Values.{value_mentioned, value_word}
 use Rattle.cov_ast.specs.Declarations.{thread_at}
-use Rattle.cov_ast.specs.Plain.{skip, assign, lock, unlock, branch, loop, Cmds, none, next, ◌then_all◌, Plain}
-use Rattle.flow_model.specs.Source.{Item, run, put, test, Holders, holder, local, items_then, after_lock, after_unlock, is_held_by}
+use Rattle.cov_ast.specs.Plain.{skip, assign, lock, unlock, branch, loop, output, Cmds, none, next, ◌then_all◌, Plain}
+use Rattle.flow_model.specs.Source.{Item, run, put, test, emit, Holders, Outputs, holder, local, items_then, after_lock, after_unlock, is_held_by}
 use Rattle.flow_model.specs.Holdings.{IsStableNow, IsWritableNow}
 use Rattle.flow_model.specs.Agreement.{AreFitStarts, SameAt, AreAlike, shape}
 use Rattle.flow_model.specs.Game.{AreLawful, after_moves, opening, IsSecureThread, Copies, Move, own, outside, after_move, IsLawfulOutside, MeetsGuarantees, IsSecureMove}
 use Rattle.flow_model.proofs.Holders.{held_is, is_held}
 use Rattle.typing_state.specs.Point.{Point, type_at}
-use Rattle.typing_rules.proofs.Soundness.Fits.{World, AllStable, AllOver, Settled, Fits, stored, holding, Pending, AssignOk, LockOk, UnlockOk, GuardOk, Typed, TypedItems, typed_then, typed_append}
+use Rattle.typing_rules.proofs.Soundness.Fits.{World, AllStable, AllOver, Settled, Fits, stored, holding, saying, Pending, AssignOk, LockOk, UnlockOk, GuardOk, Typed, TypedItems, typed_then, typed_append}
 
 pub same_truth : (a b : Bool) → (IsTrue a → IsTrue b) → (IsTrue b → IsTrue a) → a ≡ b
 same_truth true b h k = sym (h refl)
@@ -30,10 +30,10 @@ holds_same e m n h k = λ z. k (value_mentioned e m n h ∙ z)
 
 -- the copies with these items
 pub copies : World → List Item → List Item → Copies
-copies w is js = record { left = local w.left w.holders is; right = local w.right w.holders js }
+copies w is js = record { left = local w.left w.holders w.outputs is; right = local w.right w.holders w.outputs js }
 
-abbrev pub world : List ℕ → List ℕ → Holders → World
-world m1 m2 h = record { left = m1; right = m2; holders = h }
+abbrev pub world : List ℕ → List ℕ → Holders → Outputs → World
+world m1 m2 h o = record { left = m1; right = m2; holders = h; outputs = o }
 
 module _ (p : Plain) (t : ℕ) where
   -- Where the copies stand in the game: in front of statements,
@@ -62,6 +62,17 @@ module _ (p : Plain) (t : ℕ) where
     typed : TypedItems p t is b
     stands : q ≡ copies w (put at x v1 ∷ is) (put at x v2 ∷ is)
 
+  -- in front of an output that is pending, with the same word in both,
+  record Emitting (q : Copies) : Type 0 where
+    w : World
+    a : Point
+    at : ℕ
+    v : ℕ
+    is : List Item
+    fits : Fits p t a w
+    typed : TypedItems p t is a
+    stands : q ≡ copies w (emit at v ∷ is) (emit at v ∷ is)
+
   -- or in front of a test that is pending.
   record Testing (q : Copies) : Type 0 where
     w : World
@@ -85,12 +96,13 @@ module _ (p : Plain) (t : ℕ) where
   data Stage (q : Copies) : Type 0 where
     ready : Ready q → Stage q
     storing : Storing q → Stage q
+    emitting : Emitting q → Stage q
     testing : Testing q → Stage q
 
   -- An outside move ---------------------------------------------------------------------------------------------
 
-  module _ (w : World) (m1 : List ℕ) (h1 : Holders) (m2 : List ℕ) (h2 : Holders) (is js : List Item)
-      (k : IsLawfulOutside p t (copies w is js) m1 h1 m2 h2) where
+  module _ (w : World) (m1 : List ℕ) (h1 : Holders) (o1 : Outputs) (m2 : List ℕ) (h2 : Holders) (o2 : Outputs) (is js : List Item)
+      (k : IsLawfulOutside p t (copies w is js) m1 h1 o1 m2 h2 o2) where
     still_held : (l : ℕ) → (holder h1 l ≡ Some t) ↔ (holder w.holders l ≡ Some t)
     unfolding copies
     still_held l = k.left.held l
@@ -123,7 +135,7 @@ module _ (p : Plain) (t : ℕ) where
     all_over [] o = tt
     all_over (e ∷ es) o = ((λ y n. stable_after y (o.0 y n)), all_over es o.1)
 
-    moved_settled : Settled p t (world m1 m2 h1)
+    moved_settled : Settled p t (world m1 m2 h1 o1)
     moved_settled = record {
       memory1 = k.left.memory;
       memory2 = k.right.memory;
@@ -133,7 +145,7 @@ module _ (p : Plain) (t : ℕ) where
       free2 = λ l n. k.free_right l (ap (λ (h : Holders). holder h l) (sym k.memories.holders) ∙ n);
     }
 
-    moved_fits : (a : Point) → Fits p t a w → Fits p t a (world m1 m2 h1)
+    moved_fits : (a : Point) → Fits p t a w → Fits p t a (world m1 m2 h1 o1)
     moved_fits a f = record {
       settled = moved_settled;
       sized = f.sized;
@@ -155,7 +167,7 @@ module _ (p : Plain) (t : ℕ) where
     all_stable_before : (e : Term) → AllStable p t h1 e → AllStable p t w.holders e
     all_stable_before e s y n = stable_before y (s y n)
 
-    moved_pending : (e q : Term) (v1 v2 : ℕ) → AllStable p t w.holders q → Pending p t e q w v1 v2 → Pending p t e q (world m1 m2 h1) v1 v2
+    moved_pending : (e q : Term) (v1 v2 : ℕ) → AllStable p t w.holders q → Pending p t e q w v1 v2 → Pending p t e q (world m1 m2 h1 o1) v1 v2
     moved_pending e q v1 v2 o g = record {
       word1 = g.word1;
       word2 = g.word2;
@@ -164,28 +176,29 @@ module _ (p : Plain) (t : ℕ) where
       value2 = λ s. g.value2 (all_stable_before e s) ∙ same_value2 e s;
     }
 
-    moved_stands : after_move t (outside m1 h1 m2 h2) (copies w is js) ≡ copies (world m1 m2 h1) is js
+    moved_stands : after_move t (outside m1 h1 o1 m2 h2 o2) (copies w is js) ≡ copies (world m1 m2 h1 o1) is js
     unfolding copies
-    moved_stands = ap (λ (h : Holders). let q : Copies = record { left = local m1 h1 is; right = local m2 h js } in q) (sym k.memories.holders)
+    moved_stands =
+        ap₂ (λ (h : Holders) (o : Outputs). let q : Copies = record { left = local m1 h1 o1 is; right = local m2 h o js } in q) (sym k.memories.holders) (sym k.outputs)
 
-  after_outside : (q : Copies) (m1 : List ℕ) (h1 : Holders) (m2 : List ℕ) (h2 : Holders) → IsLawfulOutside p t q m1 h1 m2 h2 → Stage q
-      → Stage (after_move t (outside m1 h1 m2 h2) q)
-  after_outside q m1 h1 m2 h2 k (ready r) =
+  after_outside : (q : Copies) (m1 : List ℕ) (h1 : Holders) (o1 : Outputs) (m2 : List ℕ) (h2 : Holders) (o2 : Outputs) → IsLawfulOutside p t q m1 h1 o1 m2 h2 o2 → Stage q
+      → Stage (after_move t (outside m1 h1 o1 m2 h2 o2) q)
+  after_outside q m1 h1 o1 m2 h2 o2 k (ready r) =
       let k' = rw r.stands at k in
       ready (record {
-        w = world m1 m2 h1;
+        w = world m1 m2 h1 o1;
         a = r.a;
         is = r.is;
-        fits = moved_fits r.w m1 h1 m2 h2 r.is r.is k' r.a r.fits;
+        fits = moved_fits r.w m1 h1 o1 m2 h2 o2 r.is r.is k' r.a r.fits;
         typed = r.typed;
-        stands = ap (after_move t (outside m1 h1 m2 h2)) r.stands ∙ moved_stands r.w m1 h1 m2 h2 r.is r.is k';
+        stands = ap (after_move t (outside m1 h1 o1 m2 h2 o2)) r.stands ∙ moved_stands r.w m1 h1 o1 m2 h2 o2 r.is r.is k';
       })
-  after_outside q m1 h1 m2 h2 k (storing r) =
+  after_outside q m1 h1 o1 m2 h2 o2 k (storing r) =
       let is = put r.at r.x r.v1 ∷ r.is in
       let js = put r.at r.x r.v2 ∷ r.is in
       let k' = rw r.stands at k in
       storing (record {
-        w = world m1 m2 h1;
+        w = world m1 m2 h1 o1;
         a = r.a;
         b = r.b;
         at = r.at;
@@ -194,17 +207,30 @@ module _ (p : Plain) (t : ℕ) where
         v1 = r.v1;
         v2 = r.v2;
         is = r.is;
-        fits = moved_fits r.w m1 h1 m2 h2 is js k' r.a r.fits;
+        fits = moved_fits r.w m1 h1 o1 m2 h2 o2 is js k' r.a r.fits;
         ok = r.ok;
-        pending = moved_pending r.w m1 h1 m2 h2 is js k' r.e r.ok.q r.v1 r.v2 (r.ok.q_stable r.w r.fits) r.pending;
+        pending = moved_pending r.w m1 h1 o1 m2 h2 o2 is js k' r.e r.ok.q r.v1 r.v2 (r.ok.q_stable r.w r.fits) r.pending;
         typed = r.typed;
-        stands = ap (after_move t (outside m1 h1 m2 h2)) r.stands ∙ moved_stands r.w m1 h1 m2 h2 is js k';
+        stands = ap (after_move t (outside m1 h1 o1 m2 h2 o2)) r.stands ∙ moved_stands r.w m1 h1 o1 m2 h2 o2 is js k';
       })
-  after_outside q m1 h1 m2 h2 k (testing r) =
+  after_outside q m1 h1 o1 m2 h2 o2 k (emitting r) =
+      let is = emit r.at r.v ∷ r.is in
+      let k' = rw r.stands at k in
+      emitting (record {
+        w = world m1 m2 h1 o1;
+        a = r.a;
+        at = r.at;
+        v = r.v;
+        is = r.is;
+        fits = moved_fits r.w m1 h1 o1 m2 h2 o2 is is k' r.a r.fits;
+        typed = r.typed;
+        stands = ap (after_move t (outside m1 h1 o1 m2 h2 o2)) r.stands ∙ moved_stands r.w m1 h1 o1 m2 h2 o2 is is k';
+      })
+  after_outside q m1 h1 o1 m2 h2 o2 k (testing r) =
       let is = test r.at r.v r.c r.d ∷ r.is in
       let k' = rw r.stands at k in
       testing (record {
-        w = world m1 m2 h1;
+        w = world m1 m2 h1 o1;
         a = r.a;
         yes_point = r.yes_point;
         no_point = r.no_point;
@@ -214,13 +240,13 @@ module _ (p : Plain) (t : ℕ) where
         c = r.c;
         d = r.d;
         is = r.is;
-        fits = moved_fits r.w m1 h1 m2 h2 is is k' r.a r.fits;
+        fits = moved_fits r.w m1 h1 o1 m2 h2 o2 is is k' r.a r.fits;
         ok = r.ok;
-        value1 = λ s. r.value1 (all_stable_before r.w m1 h1 m2 h2 is is k' r.e s) ∙ same_value1 r.w m1 h1 m2 h2 is is k' r.e s;
-        value2 = λ s. r.value2 (all_stable_before r.w m1 h1 m2 h2 is is k' r.e s) ∙ same_value2 r.w m1 h1 m2 h2 is is k' r.e s;
+        value1 = λ s. r.value1 (all_stable_before r.w m1 h1 o1 m2 h2 o2 is is k' r.e s) ∙ same_value1 r.w m1 h1 o1 m2 h2 o2 is is k' r.e s;
+        value2 = λ s. r.value2 (all_stable_before r.w m1 h1 o1 m2 h2 o2 is is k' r.e s) ∙ same_value2 r.w m1 h1 o1 m2 h2 o2 is is k' r.e s;
         typed_yes = r.typed_yes;
         typed_no = r.typed_no;
-        stands = ap (after_move t (outside m1 h1 m2 h2)) r.stands ∙ moved_stands r.w m1 h1 m2 h2 is is k';
+        stands = ap (after_move t (outside m1 h1 o1 m2 h2 o2)) r.stands ∙ moved_stands r.w m1 h1 o1 m2 h2 o2 is is k';
       })
 
   -- An own move -------------------------------------------------------------------------------------------------
@@ -230,18 +256,18 @@ module _ (p : Plain) (t : ℕ) where
   Outcome q r = IsSecureMove p t q r × Stage r
 
   owes_of : (w w' : World) (is js is' js' : List Item) → Settled p t w' → AreAlike is' js'
-      → MeetsGuarantees p t (local w.left w.holders is) (local w'.left w'.holders is')
-      → MeetsGuarantees p t (local w.right w.holders js) (local w'.right w'.holders js') → IsSecureMove p t (copies w is js) (copies w' is' js')
+      → MeetsGuarantees p t (local w.left w.holders w.outputs is) (local w'.left w'.holders w'.outputs is')
+      → MeetsGuarantees p t (local w.right w.holders w.outputs js) (local w'.right w'.holders w'.outputs js') → IsSecureMove p t (copies w is js) (copies w' is' js')
   unfolding copies
-  owes_of w w' is js is' js' s a k1 k2 = record { items = a; memories = s.agree; free_left = s.free1; free_right = s.free2; left = k1; right = k2 }
+  owes_of w w' is js is' js' s a k1 k2 = record { items = a; memories = s.agree; outputs = refl; free_left = s.free1; free_right = s.free2; left = k1; right = k2 }
 
-  pub quiet : (m : List ℕ) (h : Holders) (is js : List Item) → MeetsGuarantees p t (local m h is) (local m h js)
-  quiet m h is js = record { kept = λ x n. refl; held = λ l. inl refl }
+  pub quiet : (m : List ℕ) (h : Holders) (o : Outputs) (is js : List Item) → MeetsGuarantees p t (local m h o is) (local m h o js)
+  quiet m h o is js = record { kept = λ x n. refl; held = λ l. inl refl; said = inl refl }
 
-  -- memory and holders stay
+  -- memory, holders and outputs stay
   still : (w : World) (is js is' js' : List Item) → Settled p t w → AreAlike is' js' → Stage (copies w is' js')
       → Outcome (copies w is js) (copies w is' js')
-  still w is js is' js' s a g = (owes_of w w is js is' js' s a (quiet w.left w.holders is is') (quiet w.right w.holders js js'), g)
+  still w is js is' js' s a g = (owes_of w w is js is' js' s a (quiet w.left w.holders w.outputs is is') (quiet w.right w.holders w.outputs js js'), g)
 
   stage_ready : (w : World) (a : Point) (is : List Item) → Fits p t a w → TypedItems p t is a → Stage (copies w is is)
   stage_ready w a is f k = ready (record { w = w; a = a; is = is; fits = f; typed = k; stands = refl })
@@ -255,30 +281,33 @@ module _ (p : Plain) (t : ℕ) where
   after_set h l o k (inr e) j (yes d) = inr (inr ((ap (holder h) d ∙ e.0), (ap (holder (set h l o)) d ∙ get_or-set_same h l o None k ∙ e.1)))
   after_set h l o k e j (no d) = inl (get_or-set_other h l j o None d)
 
-  pub locking : (m : List ℕ) (h : Holders) (l : ℕ) (o : Option ℕ) (is js : List Item) → l < length h
-      → (holder h l ≡ None) × (o ≡ Some t) ⊎ (holder h l ≡ Some t) × (o ≡ None) → MeetsGuarantees p t (local m h is) (local m (set h l o) js)
-  locking m h l o is js k e = record { kept = λ x n. refl; held = λ j. after_set h l o k e j (ℕ_discrete j l) }
+  pub locking : (m : List ℕ) (h : Holders) (l : ℕ) (o : Option ℕ) (said : Outputs) (is js : List Item) → l < length h
+      → (holder h l ≡ None) × (o ≡ Some t) ⊎ (holder h l ≡ Some t) × (o ≡ None) → MeetsGuarantees p t (local m h said is) (local m (set h l o) said js)
+  locking m h l o said is js k e = record { kept = λ x n. refl; held = λ j. after_set h l o k e j (ℕ_discrete j l); said = inl refl }
 
   stored_at : (m : List ℕ) (h : Holders) (x v y : ℕ) → IsWritableNow p h t x → ¬ IsWritableNow p h t y → Dec (y ≡ x) → SameAt (set m x v) m y
   stored_at m h x v y k n (yes e) = absurd (n (subst (IsWritableNow p h t) (sym e) k))
   stored_at m h x v y k n (no d) = get_or-set_other m x y v 0 d
 
-  pub storing_one : (m : List ℕ) (h : Holders) (x v : ℕ) (is js : List Item) → IsWritableNow p h t x
-      → MeetsGuarantees p t (local m h is) (local (set m x v) h js)
-  storing_one m h x v is js k = record { kept = λ y n. stored_at m h x v y k n (ℕ_discrete y x); held = λ l. inl refl }
+  pub storing_one : (m : List ℕ) (h : Holders) (o : Outputs) (x v : ℕ) (is js : List Item) → IsWritableNow p h t x
+      → MeetsGuarantees p t (local m h o is) (local (set m x v) h o js)
+  storing_one m h o x v is js k = record { kept = λ y n. stored_at m h x v y k n (ℕ_discrete y x); held = λ l. inl refl; said = inl refl }
+
+  emitting_one : (m : List ℕ) (h : Holders) (o : Outputs) (v : ℕ) (is js : List Item) → MeetsGuarantees p t (local m h o is) (local m h (o ++ v ∷ []) js)
+  emitting_one m h o v is js = record { kept = λ x n. refl; held = λ l. inl refl; said = inr (v, refl) }
 
   own_lock : (w : World) (a b : Point) (at l : ℕ) (is : List Item) → Fits p t a w → LockOk p t l a b → TypedItems p t is b
       → (o : Option ℕ) → holder w.holders l ≡ o
       → Outcome (copies w (run at (lock l) ∷ is) (run at (lock l) ∷ is))
-      (record { left = after_lock t w.left w.holders at l is o; right = after_lock t w.right w.holders at l is o })
+      (record { left = after_lock t w.left w.holders w.outputs at l is o; right = after_lock t w.right w.holders w.outputs at l is o })
   unfolding copies
   own_lock w a b at l is f ok k None e =
       let w' = holding p t w l (Some t) in
       let in_range : l < length w.holders = rw f.settled.locks ok.in_range in
       let f' = ok.takes w f e in (
         owes_of w w' (run at (lock l) ∷ is) (run at (lock l) ∷ is) is is f'.settled refl
-            (locking w.left w.holders l (Some t) (run at (lock l) ∷ is) is in_range (inl (e, refl)))
-            (locking w.right w.holders l (Some t) (run at (lock l) ∷ is) is in_range (inl (e, refl))),
+            (locking w.left w.holders l (Some t) w.outputs (run at (lock l) ∷ is) is in_range (inl (e, refl)))
+            (locking w.right w.holders l (Some t) w.outputs (run at (lock l) ∷ is) is in_range (inl (e, refl))),
         stage_ready w' b is f' k,
       )
   own_lock w a b at l is f ok k (Some u) e =
@@ -288,15 +317,15 @@ module _ (p : Plain) (t : ℕ) where
   own_unlock : (w : World) (a b : Point) (at l : ℕ) (is : List Item) → Fits p t a w → UnlockOk p t l a b → TypedItems p t is b
       → (o : Bool) → o ≡ true
       → Outcome (copies w (run at (unlock l) ∷ is) (run at (unlock l) ∷ is))
-      (record { left = after_unlock w.left w.holders at l is o; right = after_unlock w.right w.holders at l is o })
+      (record { left = after_unlock w.left w.holders w.outputs at l is o; right = after_unlock w.right w.holders w.outputs at l is o })
   unfolding copies
   own_unlock w a b at l is f ok k true e =
       let w' = holding p t w l None in
       let in_range : l < length w.holders = rw f.settled.locks ok.in_range in
       let f' = ok.gives w f in (
         owes_of w w' (run at (unlock l) ∷ is) (run at (unlock l) ∷ is) is is f'.settled refl
-            (locking w.left w.holders l None (run at (unlock l) ∷ is) is in_range (inr (ok.held w f, refl)))
-            (locking w.right w.holders l None (run at (unlock l) ∷ is) is in_range (inr (ok.held w f, refl))),
+            (locking w.left w.holders l None w.outputs (run at (unlock l) ∷ is) is in_range (inr (ok.held w f, refl)))
+            (locking w.right w.holders l None w.outputs (run at (unlock l) ∷ is) is in_range (inr (ok.held w f, refl))),
         stage_ready w' b is f' k,
       )
   own_unlock w a b at l is f ok k false e = absurd cc
@@ -325,10 +354,30 @@ module _ (p : Plain) (t : ℕ) where
         typed_no = n;
         stands = ap (λ (v : ℕ).
             let q : Copies = record {
-              left = local w.left w.holders (test at (value e w.left) x y ∷ is);
-              right = local w.right w.holders (test at v x y ∷ is);
+              left = local w.left w.holders w.outputs (test at (value e w.left) x y ∷ is);
+              right = local w.right w.holders w.outputs (test at v x y ∷ is);
             } in
             q) (sym (ok.same w f));
+      })
+
+  stage_emitting : (w : World) (a : Point) (at : ℕ) (e : Term) (is : List Item) → Fits p t a w → value e w.left ≡ value e w.right → TypedItems p t is a
+      → Stage (copies w (emit at (value e w.left) ∷ is) (emit at (value e w.right) ∷ is))
+  unfolding copies
+  stage_emitting w a at e is f same k =
+      emitting (record {
+        w = w;
+        a = a;
+        at = at;
+        v = value e w.left;
+        is = is;
+        fits = f;
+        typed = k;
+        stands = ap (λ (v : ℕ).
+            let q : Copies = record {
+              left = local w.left w.holders w.outputs (emit at (value e w.left) ∷ is);
+              right = local w.right w.holders w.outputs (emit at v ∷ is);
+            } in
+            q) (sym same);
       })
 
   own_ready : (w : World) (a : Point) (is : List Item) → Fits p t a w → TypedItems p t is a
@@ -379,8 +428,13 @@ module _ (p : Plain) (t : ℕ) where
       (typed_then p t (◌then_all◌ x again) is c.1 k.0
       (typed_append p t x again c.1 c.0 k.0 c.4 (k.0, (c.0, c.1, (λ w g. g), c.3, c.4), (λ w g. g))) k.2)
       k.2)
+  own_ready w a (run at (output e) ∷ is) f k =
+      let ok = k.1 in
+      still w _ _ (emit at (value e w.left) ∷ is) (emit at (value e w.right) ∷ is) f.settled refl
+      (stage_emitting w k.0 at e is (ok.after w f) (ok.same w f) k.2)
   own_ready w a (put at x v ∷ is) f k = absurd k.1
   own_ready w a (test at v x y ∷ is) f k = absurd k.1
+  own_ready w a (emit at v ∷ is) f k = absurd k.1
 
   own_test : (w : World) (a b c : Point) (at : ℕ) (e : Term) (x y : Cmds) (is : List Item) → Fits p t a w → GuardOk p t e a b c
       → TypedItems p t (items_then x is) b → TypedItems p t (items_then y is) c
@@ -401,15 +455,47 @@ module _ (p : Plain) (t : ℕ) where
   own_store w a b at x e v1 v2 is f ok g k =
       let f' = ok.after_store w v1 v2 f g in (
         owes_of w (stored p t w x v1 v2) (put at x v1 ∷ is) (put at x v2 ∷ is) is is f'.settled refl
-            (storing_one w.left w.holders x v1 (put at x v1 ∷ is) is (ok.writable w f))
-            (storing_one w.right w.holders x v2 (put at x v2 ∷ is) is (ok.writable w f)),
+            (storing_one w.left w.holders w.outputs x v1 (put at x v1 ∷ is) is (ok.writable w f))
+            (storing_one w.right w.holders w.outputs x v2 (put at x v2 ∷ is) is (ok.writable w f)),
         stage_ready (stored p t w x v1 v2) b is f' k,
+      )
+
+  -- a point says nothing of outputs
+  saying_fits : (w : World) (a : Point) (v : ℕ) → Fits p t a w → Fits p t a (saying p t w v)
+  saying_fits w a v f = record {
+    settled = record {
+      memory1 = f.settled.memory1;
+      memory2 = f.settled.memory2;
+      locks = f.settled.locks;
+      agree = f.settled.agree;
+      free1 = f.settled.free1;
+      free2 = f.settled.free2;
+    };
+    sized = f.sized;
+    held = f.held;
+    preds1 = f.preds1;
+    preds2 = f.preds2;
+    over = f.over;
+    types = f.types;
+    types_over = f.types_over;
+  }
+
+  own_emit : (w : World) (a : Point) (at v : ℕ) (is : List Item) → Fits p t a w → TypedItems p t is a
+      → Outcome (copies w (emit at v ∷ is) (emit at v ∷ is)) (after_move t own (copies w (emit at v ∷ is) (emit at v ∷ is)))
+  unfolding copies
+  own_emit w a at v is f k =
+      let f' = saying_fits w a v f in (
+        owes_of w (saying p t w v) (emit at v ∷ is) (emit at v ∷ is) is is f'.settled refl
+            (emitting_one w.left w.holders w.outputs v (emit at v ∷ is) is)
+            (emitting_one w.right w.holders w.outputs v (emit at v ∷ is) is),
+        stage_ready (saying p t w v) a is f' k,
       )
 
   after_own : (q : Copies) → Stage q → Outcome q (after_move t own q)
   after_own q (ready r) = subst (λ q. Outcome q (after_move t own q)) (sym r.stands) (own_ready r.w r.a r.is r.fits r.typed)
   after_own q (storing r) =
       subst (λ q. Outcome q (after_move t own q)) (sym r.stands) (own_store r.w r.a r.b r.at r.x r.e r.v1 r.v2 r.is r.fits r.ok r.pending r.typed)
+  after_own q (emitting r) = subst (λ q. Outcome q (after_move t own q)) (sym r.stands) (own_emit r.w r.a r.at r.v r.is r.fits r.typed)
   after_own q (testing r) =
       subst (λ q. Outcome q (after_move t own q)) (sym r.stands)
       (own_test r.w r.a r.yes_point r.no_point r.at r.e r.c r.d r.is r.fits r.ok r.typed_yes r.typed_no r.v r.value1 r.value2)
@@ -419,12 +505,12 @@ module _ (p : Plain) (t : ℕ) where
   after_all : (q : Copies) → Stage q → (ms : List Move) → AreLawful p t ms q → Stage (after_moves t ms q)
   after_all q g [] k = g
   after_all q g (own ∷ ms) k = (after_own (after_moves t ms q) (after_all q g ms k.0)).1
-  after_all q g (outside m1 h1 m2 h2 ∷ ms) k = after_outside (after_moves t ms q) m1 h1 m2 h2 k.1 (after_all q g ms k.0)
+  after_all q g (outside m1 h1 o1 m2 h2 o2 ∷ ms) k = after_outside (after_moves t ms q) m1 h1 o1 m2 h2 o2 k.1 (after_all q g ms k.0)
 
   -- what a start must meet: the first point fits each fit start
   pub secure_of : (a b : Point) → Typed p t (thread_at p t).body a b
       → ((m1 m2 : List ℕ) → IsMemory (length p.vars) m1 → IsMemory (length p.vars) m2 → AreFitStarts p m1 m2
-      → Fits p t a (world m1 m2 (replicate (length p.locks) None)))
+      → Fits p t a (world m1 m2 (replicate (length p.locks) None) []))
       → IsSecureThread p t
   unfolding copies
   secure_of a b k start m1 m2 i1 i2 st ms l = (after_own (after_moves t ms q) (after_all q g ms l)).0
@@ -433,5 +519,5 @@ module _ (p : Plain) (t : ℕ) where
       q = opening p t m1 m2
 
       g : Stage q
-      g = stage_ready (world m1 m2 (replicate (length p.locks) None)) a (items_then (thread_at p t).body []) (start m1 m2 i1 i2 st)
+      g = stage_ready (world m1 m2 (replicate (length p.locks) None) []) a (items_then (thread_at p t).body []) (start m1 m2 i1 i2 st)
           (typed_then p t (thread_at p t).body [] a b k tt)

@@ -1,5 +1,5 @@
 -- A thread that meets the conditions of its rules is secure.
-use Rattle.std.proofs.Common.{◌≡◌, ℕ, zero, suc, ◌<◌, ◌≤◌, List, length, map, replicate, Bool, true, false, Option, Some, None, refl, sym, ◌∙◌, ap, subst, arith, IsTrue, inl, inr, unwrap_or, cond, length-set}
+use Rattle.std.proofs.Common.{◌≡◌, ℕ, zero, suc, ◌<◌, ◌≤◌, List, [], length, map, replicate, Bool, true, false, Option, Some, None, refl, sym, ◌∙◌, ap, subst, arith, IsTrue, inl, inr, unwrap_or, cond, length-set}
 use Rattle.std.proofs.lemmas.Bool.{cases_lt}
 use Rattle.std.proofs.lemmas.List.{get_or_past, length-replicate}
 use Rattle.std.proofs.lemmas.List.FromFn.{get_or-map-range_with_len, length-map-range_with_len}
@@ -9,7 +9,7 @@ use Rattle.cov_expr.specs.Words.{IsMemory}
 use Rattle.cov_expr.proofs.Tests.{each_below}
 use Rattle.cov_ast.specs.Declarations.{class_of, thread_at}
 use Rattle.cov_ast.specs.Plain.{Plain, Cmds, plain_stm, plain_block}
-use Rattle.cov_ast.specs.Syntax.{Stm, skip, assign, lock, unlock, branch, loop, note, Block, done, more}
+use Rattle.cov_ast.specs.Syntax.{Stm, skip, assign, lock, unlock, branch, loop, note, output, Block, done, more}
 use Rattle.cov_ast.specs.Tables.{has}
 use Rattle.flow_model.specs.Source.{Holders, holder, is_held_by}
 use Rattle.flow_model.specs.Agreement.{AreFitStarts, SameAt}
@@ -26,7 +26,7 @@ use Rattle.typing_rules.proofs.Soundness.Conditions.{Checks, BlockChecks}
 use Rattle.typing_rules.proofs.Soundness.Static.{class_over, class_of_control, cond_is}
 use Rattle.typing_rules.proofs.Soundness.Exprs.{one_holds, not_const_zero}
 use Rattle.typing_rules.proofs.Soundness.Assign.{assign_ok}
-use Rattle.typing_rules.proofs.Soundness.Others.{met, noted_ok, guard_ok, lock_ok, unlock_ok}
+use Rattle.typing_rules.proofs.Soundness.Others.{met, noted_ok, guard_ok, output_ok, lock_ok, unlock_ok}
 
 pub agreed : (a b : Bool) → IsTrue (agree a b) → a ≡ b
 agreed true b h = sym h
@@ -51,6 +51,7 @@ module _ (p : Plain) (t : ℕ) where
     stm_sized (branch e yes_block no_block join) a = block_sized yes_block (with_guard p t a e)
     stm_sized (loop e inv b) a = refl
     stm_sized (note j) a = refl
+    stm_sized (output e) a = refl
 
     block_sized : (b : Block) (a : Point) → length (after_block p t b a).held ≡ length a.held
     block_sized done a = refl
@@ -101,6 +102,7 @@ module _ (p : Plain) (d : IsDeclared p) (t : ℕ) (t_in : t < length p.threads) 
           r,
         )
     typed_stm (note j) at rest a b h k r = typed_from p t rest a (noted a j) b (noted_ok p d t t_in a j k.0 k.1) r
+    typed_stm (output e) at rest a b h k r = (a, output_ok p d t t_in a e k, r)
 
     typed_block : (c : Block) (a b : Point) → length a.held ≡ length p.locks → BlockChecks p t c a → Weaker p t (after_block p t c a) b
         → Typed p t (plain_block c) a b
@@ -142,7 +144,7 @@ module _ (p : Plain) (d : IsDeclared p) (t : ℕ) (t_in : t < length p.threads) 
   unfolding h
   nothing_held l = none_marked (length p.locks) l ∙ sym (ap (λ (o : Option ℕ). is_held_by o t) (none_held (length p.locks) l))
 
-  start_fits : Fits p t (start p t) (world m1 m2 (replicate (length p.locks) None))
+  start_fits : Fits p t (start p t) (world m1 m2 (replicate (length p.locks) None) [])
   unfolding h
   start_fits = record {
     settled = record {

@@ -20,7 +20,7 @@ use Rattle.typing_rules.proofs.Counting.{count_branch, count_loop}
 use Rattle.typing_rules.proofs.Ranges.{block_below, classes_below, meet_below, stm_below}
 use Rattle.typing_rules.proofs.Splits.{branch_walks, first_refused, fork_refused, head_refused, loop_walks, second_refused, turn_refused}
 use Rattle.typing_rules.proofs.StatementLaws.{block_from}
-use Rattle.typing_rules.proofs.Walks.{assign_is, branch_seen, lock_is, loop_seen, Reaches, one_point, reaches_end, reaches_few, reaches_more, reaches_refused, reaches_start}
+use Rattle.typing_rules.proofs.Walks.{assign_is, branch_seen, lock_is, loop_seen, output_is, Reaches, one_point, reaches_end, reaches_few, reaches_more, reaches_refused, reaches_start}
 use Rattle.typing_rules.proofs.walk.Walk.+walk.Goals as goal
 
 -- ids in range of the program as it is seen
@@ -182,6 +182,16 @@ pub statement-returns-in-Lock : goal.statement-returns-in-Lock
 statement-returns-in-Lock t c =
     subst (λ s. WalksStm c.args.self.now c.args.at s (map view.proof c.args.proofs.now) c.args.point c.lock.result)
     (sym (ap view.kind c.in-Lock.is ∙ lock_is c.in-Lock.l)) (c.lock.ensures (map view.proof c.args.proofs.now))
+
+pub statement-output-requires-clause-range : goal.statement-output-requires-clause-range
+statement-output-requires-clause-range t c =
+    let p = c.args.self.now.program.now in
+    subst (IsStmInRange (length p.vars) (length p.locks)) (ap view.kind c.in-Output.is ∙ output_is c.in-Output.e) c.requires.range
+
+pub statement-returns-in-Output : goal.statement-returns-in-Output
+statement-returns-in-Output t c =
+    subst (λ s. WalksStm c.args.self.now c.args.at s (map view.proof c.args.proofs.now) c.args.point c.output.result)
+    (sym (ap view.kind c.in-Output.is ∙ output_is c.in-Output.e)) c.output.ensures
 
 -- Branches -------------------------------------------------------------------------------------------------------
 
