@@ -5,7 +5,7 @@
 use Rattle.std.specs.Prelude.{◌≡◌, ◌⊎◌, ◌↔◌, ℕ, List, [], ◌∷◌, ◌++◌, length, replicate}
 use Rattle.std.specs.Prelude.{Some, None}
 use Rattle.cov_expr.specs.Entailment.{Holds}
-use Rattle.cov_expr.specs.Words.{IsMemory, AreWords}
+use Rattle.cov_expr.specs.Words.{IsMemory, IsWord, AreWords}
 use Rattle.cov_ast.specs.Declarations.{invariant_of, thread_at}
 use Rattle.cov_ast.specs.Plain.{Plain}
 use Rattle.flow_model.specs.Source.{Holders, holder, Outputs, Local, local, items_then, turn}
@@ -78,14 +78,14 @@ AreLawful p t (v ∷ vs) q = AreLawful p t vs q × IsLawful p t (after_moves t v
 -- Own moves ----------------------------------------------------------------------------------------------------
 
 -- What the thread guarantees to others in one copy: a step of it keeps each word that isn't writable for it, changes a
--- holder from none to the thread or from the thread to none alone, and adds one output at most, at the end.
+-- holder from none to the thread or from the thread to none alone, and adds one word at most to the outputs, at the end.
 pub record MeetsGuarantees (p : Plain) (t : ℕ) (before after : Local) : Type 0 where
   pub kept : (x : ℕ) → ¬ IsWritableNow p before.holders t x → SameAt after.memory before.memory x
   pub held : (l : ℕ)
       → (holder after.holders l ≡ holder before.holders l)
       ⊎ ((holder before.holders l ≡ None) × (holder after.holders l ≡ Some t))
       ⊎ ((holder before.holders l ≡ Some t) × (holder after.holders l ≡ None))
-  pub said : (after.outputs ≡ before.outputs) ⊎ ((word : ℕ) × (after.outputs ≡ before.outputs ++ word ∷ []))
+  pub said : (after.outputs ≡ before.outputs) ⊎ ((word : ℕ) × IsWord word × (after.outputs ≡ before.outputs ++ word ∷ []))
 
 -- What an own move owes: the copies stand at the same items, their memories agree, their outputs are the same, the invariants
 -- of free locks hold, and the guarantees are met.

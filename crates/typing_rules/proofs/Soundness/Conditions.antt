@@ -78,7 +78,7 @@ module _ (p : Plain) (t : ℕ) where
         StateOver a.held inv × StateFollows a inv × GuardChecks head e × BlockChecks b (with_guard p t head e)
         × IsTrue (same_held p body_end.held a.held) × StateFollows body_end inv
     Checks (note j) a = StateOver a.held j × StateFollows a j
-    Checks (output e) a = GuardChecks a e
+    Checks (output e) a = HasWords e × GuardChecks a e
 
     pub BlockChecks : Block → Point → Type 0
     BlockChecks done a = Unit {0}

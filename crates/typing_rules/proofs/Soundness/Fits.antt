@@ -103,6 +103,7 @@ module _ (p : Plain) (t : ℕ) where
 
   -- an output, which has one value in both,
   pub record OutputOk (e : Term) (a b : Point) : Type 0 where
+    pub words : HasWords e
     pub same : (w : World) → Fits a w → value e w.left ≡ value e w.right
     pub after : Weaker a b
 
@@ -161,7 +162,7 @@ module _ (p : Plain) (t : ℕ) where
   cmd_from (unlock l) a b d k o = record { held = λ w f. o.held w (k w f); gives = λ w f. o.gives w (k w f); in_range = o.in_range }
   cmd_from (branch e c c') a b d k o = (o.0, o.1, guard_from e a b o.0 o.1 k o.2, o.3, o.4)
   cmd_from (loop e c) a b d k o = (o.0, o.1, (λ w f. o.2 w (k w f)), o.3, o.4)
-  cmd_from (output e) a b d k o = record { same = λ w f. o.same w (k w f); after = λ w f. o.after w (k w f) }
+  cmd_from (output e) a b d k o = record { words = o.words; same = λ w f. o.same w (k w f); after = λ w f. o.after w (k w f) }
 
   pub typed_from : (cs : Cmds) (a b d : Point) → Weaker a b → Typed cs b d → Typed cs a d
   typed_from none a b d k o = λ w f. o w (k w f)

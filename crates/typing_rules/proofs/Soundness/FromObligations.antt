@@ -317,7 +317,7 @@ module _ (p : Plain) (t : ℕ) where
           state_gives body_end inv (all_follow at proofs (suc (length gs)) (state_follows body_end inv) c l.1.1.1.0),
         )
     stm_of (note j) at proofs a r w c h = (state_over at a.held j h.0, state_gives a j (all_follow at proofs 1 (state_follows a j) c h.1.1.0))
-    stm_of (output e) at proofs a r w c h = guard_of at a e h.0 (all_follow at proofs 1 (guard_follows p t a e ∷ []) c h.1.1.0).0
+    stm_of (output e) at proofs a r w c h = (w, guard_of at a e h.0 (all_follow at proofs 1 (guard_follows p t a e ∷ []) c h.1.1.0).0)
 
     pub block_of : (b : Block) (a : Point) → IsBlockInRange (length p.vars) (length p.locks) b → BlockHasWords b → AllTrue (block_obligations p t b a)
         → BlockChecks p t b a

@@ -4,7 +4,7 @@ use Rattle.std.proofs.lemmas.Bool.{or_right, and_from}
 use Rattle.std.proofs.Math.Decide.{ℕ_discrete}
 use Rattle.cov_expr.specs.Entailment.{Holds, AllHold, Entails}
 use Rattle.cov_expr.specs.Term.{Term, const, neg, value, flag, is_set}
-use Rattle.cov_expr.specs.Words.{AreWords}
+use Rattle.cov_expr.specs.Words.{AreWords, HasWords}
 use Rattle.cov_expr.proofs.Tests.{left_true}
 use Rattle.cov_ast.specs.Declarations.{assumes, class_of, hides, invariant_of, invariant_term, is_control, lock_at, under}
 use Rattle.cov_ast.specs.Plain.{Plain}
@@ -136,8 +136,8 @@ module _ (p : Plain) (d : IsDeclared p) (t : ℕ) (t_in : t < length p.threads) 
 
   -- Output -------------------------------------------------------------------------------------------------------
 
-  pub output_ok : (a : Point) (e : Term) → GuardChecks p t a e → OutputOk p t e a a
-  output_ok a e k = record { same = (guard_ok a e k).same; after = λ w f. f }
+  pub output_ok : (a : Point) (e : Term) → HasWords e → GuardChecks p t a e → OutputOk p t e a a
+  output_ok a e n k = record { words = n; same = (guard_ok a e k).same; after = λ w f. f }
 
   -- Lock ---------------------------------------------------------------------------------------------------------
 

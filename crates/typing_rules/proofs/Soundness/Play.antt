@@ -4,7 +4,7 @@ use Rattle.std.proofs.Math.Decide.{ℕ_discrete}
 use Rattle.cov_expr.specs.Entailment.{Holds, AllHold}
 use Rattle.cov_expr.specs.Term.{Term, value}
 use Rattle.cov_expr.specs.Trees.{mentions}
-use Rattle.cov_expr.specs.Words.{IsMemory}
+use Rattle.cov_expr.specs.Words.{IsMemory, IsWord, HasWords}
 use Rattle.cov_expr.proofs.Values.{value_mentioned, value_word}
 use Rattle.cov_ast.specs.Declarations.{thread_at}
 use Rattle.cov_ast.specs.Plain.{skip, assign, lock, unlock, branch, loop, output, Cmds, none, next, ◌then_all◌, Plain}
@@ -70,6 +70,7 @@ module _ (p : Plain) (t : ℕ) where
     v : ℕ
     is : List Item
     fits : Fits p t a w
+    word : IsWord v
     typed : TypedItems p t is a
     stands : q ≡ copies w (emit at v ∷ is) (emit at v ∷ is)
 
@@ -223,6 +224,7 @@ module _ (p : Plain) (t : ℕ) where
         v = r.v;
         is = r.is;
         fits = moved_fits r.w m1 h1 o1 m2 h2 o2 is is k' r.a r.fits;
+        word = r.word;
         typed = r.typed;
         stands = ap (after_move t (outside m1 h1 o1 m2 h2 o2)) r.stands ∙ moved_stands r.w m1 h1 o1 m2 h2 o2 is is k';
       })
@@ -293,8 +295,8 @@ module _ (p : Plain) (t : ℕ) where
       → MeetsGuarantees p t (local m h o is) (local (set m x v) h o js)
   storing_one m h o x v is js k = record { kept = λ y n. stored_at m h x v y k n (ℕ_discrete y x); held = λ l. inl refl; said = inl refl }
 
-  emitting_one : (m : List ℕ) (h : Holders) (o : Outputs) (v : ℕ) (is js : List Item) → MeetsGuarantees p t (local m h o is) (local m h (o ++ v ∷ []) js)
-  emitting_one m h o v is js = record { kept = λ x n. refl; held = λ l. inl refl; said = inr (v, refl) }
+  emitting_one : (m : List ℕ) (h : Holders) (o : Outputs) (v : ℕ) (is js : List Item) → IsWord v → MeetsGuarantees p t (local m h o is) (local m h (o ++ v ∷ []) js)
+  emitting_one m h o v is js n = record { kept = λ x n. refl; held = λ l. inl refl; said = inr (v, n, refl) }
 
   own_lock : (w : World) (a b : Point) (at l : ℕ) (is : List Item) → Fits p t a w → LockOk p t l a b → TypedItems p t is b
       → (o : Option ℕ) → holder w.holders l ≡ o
@@ -360,10 +362,10 @@ module _ (p : Plain) (t : ℕ) where
             q) (sym (ok.same w f));
       })
 
-  stage_emitting : (w : World) (a : Point) (at : ℕ) (e : Term) (is : List Item) → Fits p t a w → value e w.left ≡ value e w.right → TypedItems p t is a
+  stage_emitting : (w : World) (a : Point) (at : ℕ) (e : Term) (is : List Item) → HasWords e → Fits p t a w → value e w.left ≡ value e w.right → TypedItems p t is a
       → Stage (copies w (emit at (value e w.left) ∷ is) (emit at (value e w.right) ∷ is))
   unfolding copies
-  stage_emitting w a at e is f same k =
+  stage_emitting w a at e is n f same k =
       emitting (record {
         w = w;
         a = a;
@@ -371,6 +373,7 @@ module _ (p : Plain) (t : ℕ) where
         v = value e w.left;
         is = is;
         fits = f;
+        word = value_word e w.left n f.settled.memory1.words;
         typed = k;
         stands = ap (λ (v : ℕ).
             let q : Copies = record {
@@ -431,7 +434,7 @@ module _ (p : Plain) (t : ℕ) where
   own_ready w a (run at (output e) ∷ is) f k =
       let ok = k.1 in
       still w _ _ (emit at (value e w.left) ∷ is) (emit at (value e w.right) ∷ is) f.settled refl
-      (stage_emitting w k.0 at e is (ok.after w f) (ok.same w f) k.2)
+      (stage_emitting w k.0 at e is ok.words (ok.after w f) (ok.same w f) k.2)
   own_ready w a (put at x v ∷ is) f k = absurd k.1
   own_ready w a (test at v x y ∷ is) f k = absurd k.1
   own_ready w a (emit at v ∷ is) f k = absurd k.1
@@ -480,14 +483,14 @@ module _ (p : Plain) (t : ℕ) where
     types_over = f.types_over;
   }
 
-  own_emit : (w : World) (a : Point) (at v : ℕ) (is : List Item) → Fits p t a w → TypedItems p t is a
+  own_emit : (w : World) (a : Point) (at v : ℕ) (is : List Item) → Fits p t a w → IsWord v → TypedItems p t is a
       → Outcome (copies w (emit at v ∷ is) (emit at v ∷ is)) (after_move t own (copies w (emit at v ∷ is) (emit at v ∷ is)))
   unfolding copies
-  own_emit w a at v is f k =
+  own_emit w a at v is f n k =
       let f' = saying_fits w a v f in (
         owes_of w (saying p t w v) (emit at v ∷ is) (emit at v ∷ is) is is f'.settled refl
-            (emitting_one w.left w.holders w.outputs v (emit at v ∷ is) is)
-            (emitting_one w.right w.holders w.outputs v (emit at v ∷ is) is),
+            (emitting_one w.left w.holders w.outputs v (emit at v ∷ is) is n)
+            (emitting_one w.right w.holders w.outputs v (emit at v ∷ is) is n),
         stage_ready (saying p t w v) a is f' k,
       )
 
@@ -495,7 +498,7 @@ module _ (p : Plain) (t : ℕ) where
   after_own q (ready r) = subst (λ q. Outcome q (after_move t own q)) (sym r.stands) (own_ready r.w r.a r.is r.fits r.typed)
   after_own q (storing r) =
       subst (λ q. Outcome q (after_move t own q)) (sym r.stands) (own_store r.w r.a r.b r.at r.x r.e r.v1 r.v2 r.is r.fits r.ok r.pending r.typed)
-  after_own q (emitting r) = subst (λ q. Outcome q (after_move t own q)) (sym r.stands) (own_emit r.w r.a r.at r.v r.is r.fits r.typed)
+  after_own q (emitting r) = subst (λ q. Outcome q (after_move t own q)) (sym r.stands) (own_emit r.w r.a r.at r.v r.is r.fits r.word r.typed)
   after_own q (testing r) =
       subst (λ q. Outcome q (after_move t own q)) (sym r.stands)
       (own_test r.w r.a r.yes_point r.no_point r.at r.e r.c r.d r.is r.fits r.ok r.typed_yes r.typed_no r.v r.value1 r.value2)

@@ -102,7 +102,7 @@ module _ (p : Plain) (d : IsDeclared p) (t : ℕ) (t_in : t < length p.threads) 
           r,
         )
     typed_stm (note j) at rest a b h k r = typed_from p t rest a (noted a j) b (noted_ok p d t t_in a j k.0 k.1) r
-    typed_stm (output e) at rest a b h k r = (a, output_ok p d t t_in a e k, r)
+    typed_stm (output e) at rest a b h k r = (a, output_ok p d t t_in a e k.0 k.1, r)
 
     typed_block : (c : Block) (a b : Point) → length a.held ≡ length p.locks → BlockChecks p t c a → Weaker p t (after_block p t c a) b
         → Typed p t (plain_block c) a b
