@@ -6,7 +6,7 @@ use Rattle.cov_expr.specs.declared.kind.Kind.TheVariants as k
 use Rattle.cov_grammar.specs.declared.token.Token.{Token}
 use Rattle.cov_grammar.specs.PlacedTrees as t
 use Rattle.cov_grammar.specs.PlacedTrees.{Placed}
-use Rattle.cov_grammar.specs.Shapes.{rule, seq, opt, act, Sense, Spells}
+use Rattle.cov_grammar.specs.Shapes.{rule, seq, opt, many, act, Sense, Spells}
 use Rattle.cov_grammar.specs.Grammar.{◌▸◌, listed, names, class, low_or, var_decl, lock_decl, two_lists, modes_behind, two_modes, thread_decl, version, version_of, program}
 use Rattle.cov_grammar.specs.Spells.{Within, Is}
 use Rattle.cov_grammar.proofs.Senses.{OfShape}
@@ -15,7 +15,7 @@ use Rattle.cov_text.specs.GivenTrees.{expr_of, class_of, block_of, name_of, var_
 use Rattle.cov_print.specs.Unplaced.{unplaced_block, unplaced_var, unplaced_lock, unplaced_thread}
 use Rattle.cov_print.proofs.Written as w
 use Rattle.cov_print.proofs.Written.{Word, plain}
-use Rattle.cov_print.proofs.Keeps.{Are, leaves, keeps_number, Quiet, optional, Kept, Keeps, keeps_seq, keeps_act, keeps_alt, keeps_key, keeps_end, keeps_sign, keeps_name, keeps_named, keeps_opt, keeps_many, keeps_separated, keeps_so, keeps_some, keeps_seen, keeps_word, NeverNil, separated_never, key_never}
+use Rattle.cov_print.proofs.Keeps.{Are, leaves, keeps_number, Quiet, optional, Kept, Keeps, keeps_seq, keeps_act, keeps_alt, keeps_key, keeps_end, both, made_kept, two, keeps_sign, keeps_name, keeps_named, keeps_opt, keeps_many, keeps_separated, keeps_so, keeps_some, keeps_seen, keeps_word, NeverNil, separated_never, key_never}
 use Rattle.cov_print.proofs.Operands.{expr_keeps}
 use Rattle.cov_print.proofs.Statements.{whole_keeps, maybe_keeps, block_keeps}
 
@@ -51,6 +51,10 @@ declaration_words known p = flat_map (var_words known) p.vars ++ (flat_map (lock
 
 abbrev pub program_words : (ℕ → Bool) → t.Program → List Word
 program_words known p = w.version p.version ++ declaration_words known p
+
+-- the same program in version 2
+abbrev pub second : t.Program → t.Program
+second p = record { version = 2; vars = p.vars; locks = p.locks; threads = p.threads }
 
 module _ (known : ℕ → Bool) (S : Sense) where
   -- Lists of names ---------------------------------------------------------------------------------------------
@@ -213,12 +217,52 @@ module _ (known : ℕ → Bool) (S : Sense) where
                 spelt = λ g ns are. (Some 2, version_again ns are, refl);
               }
 
+      -- the words of version 2, whichever version the text has
+      version_second : (x : Option ℕ) (ts : List Token) → Spells S (opt version) x ts → Kept known (opt version) version_of 2 (w.version 2) ts
+      version_second (Some n) ts h = version_keeps.kept (Some n) ts h
+      version_second None ts h = record {
+        same = ap leaves h;
+        fit = λ g. (tt, (omega arith, (tt, tt)));
+        silent = λ g. ((λ o. cc), (tt, ((λ o. cc), tt)));
+        spelt = λ g ns are. (Some 2, version_again ns are, refl);
+      }
+
+      abbrev Declared : Type 0
+      Declared = List t.Var × (List t.Lock × List t.Thread)
+
+      abbrev seen_declared : Declared → List s.Var × (List s.Lock × List s.Thread)
+      seen_declared = two (map (seen_var names_are)) (two (map (seen_lock names_are)) (map (seen_thread names_are)))
+
+      abbrev declared_words : Declared → List Word
+      declared_words x = flat_map (var_words known) x.0 ++ (flat_map (lock_words known) x.1.0 ++ flat_map (thread_words known) x.1.1)
+
+      declared_keep : Keeps known S (seq (many var_decl) (seq (many lock_decl) (many thread_decl))) seen_declared declared_words
+      declared_keep = keeps_seq (keeps_many var_keeps) (keeps_seq (keeps_many lock_keeps) (keeps_many thread_keeps))
+
+      -- the program of its parts
+      abbrev program_from : Option ℕ × Declared → t.Program
+      program_from x = record { version = version_of x.0; vars = x.1.0; locks = x.1.1.0; threads = x.1.1.1 }
+
       pub program_keeps : Keeps known S program (seen_program names_are) (program_words known)
       unfolding program
-      program_keeps =
-          keeps_act (λ x. record { version = version_of x.0; vars = x.1.0; locks = x.1.1.0; threads = x.1.1.1 }) (seen_program names_are) (program_words known) (λ x. x) (λ x. refl) (λ x. refl)
-          (keeps_seq version_keeps (keeps_seq (keeps_many var_keeps) (keeps_seq (keeps_many lock_keeps) (keeps_many thread_keeps))))
+      program_keeps = keeps_act program_from (seen_program names_are) (program_words known) (λ x. x) (λ x. refl) (λ x. refl) (keeps_seq version_keeps declared_keep)
+
+      -- what is written of it in version 2 spells it there
+      pub program_second : (p : t.Program) (ts : List Token) → Spells S program p ts → Kept known program (seen_program names_are) (seen_program names_are (second p)) (program_words known (second p)) ts
+      unfolding program
+      program_second p ts h =
+          let x = h.0 in
+          let parts = h.2 in
+          subst (λ q. Kept known program (seen_program names_are) (seen_program names_are (second q)) (program_words known (second q)) ts) h.1
+          (made_kept known (seq (opt version) (seq (many var_decl) (seq (many lock_decl) (many thread_decl)))) (two version_of seen_declared) program_from (seen_program names_are) (λ v. v) (2, seen_declared x.1)
+          (w.version 2 ++ declared_words x.1) ts (λ v. refl)
+          (both known (opt version) (seq (many var_decl) (seq (many lock_decl) (many thread_decl))) version_of seen_declared 2 (seen_declared x.1) (w.version 2) (declared_words x.1) parts.0 parts.1 ts parts.4
+          (version_second x.0 parts.0 parts.2) (declared_keep.kept x.1 parts.1 parts.3)))
 
 -- The canonical tokens of a program spell it, places aside.
 pub program_kept : (known : ℕ → Bool) (all : List (List ℕ)) (p : t.Program) (ts : List Token) → Is program p ts → Kept known program (seen_program all) (seen_program all p) (program_words known p) ts
 program_kept known all p ts h = (program_keeps known (Within h.0) all (expr_keeps known h.0) (block_keeps known h.0)).kept p ts h.1
+
+-- Those of a program in version 2 spell that, places aside, whichever version the text has.
+pub program_kept_second : (known : ℕ → Bool) (all : List (List ℕ)) (p : t.Program) (ts : List Token) → Is program p ts → Kept known program (seen_program all) (seen_program all (second p)) (program_words known (second p)) ts
+program_kept_second known all p ts h = program_second known (Within h.0) all (expr_keeps known h.0) (block_keeps known h.0) p ts h.1

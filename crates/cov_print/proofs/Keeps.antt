@@ -381,7 +381,7 @@ module _ {S : Sense} {A : Type 0} where
 -- More right sides ---------------------------------------------------------------------------------------------
 
 -- a value made of what was kept
-made_kept : {A B C D : Type 0} (known : ℕ → Bool) (a : Shape A) (f : A → C) (make : A → B) (view : B → D) (made : C → D) (c : C) (ws : List Word) (ts : List Token) → ((x : A) → view (make x) ≡ made (f x)) → Kept known a f c ws ts
+pub made_kept : {A B C D : Type 0} (known : ℕ → Bool) (a : Shape A) (f : A → C) (make : A → B) (view : B → D) (made : C → D) (c : C) (ws : List Word) (ts : List Token) → ((x : A) → view (make x) ≡ made (f x)) → Kept known a f c ws ts
     → Kept known (act make a) view (made c) ws ts
 made_kept known a f make view made c ws ts seen m = record {
   same = m.same;

@@ -1,4 +1,4 @@
--- What is printed is read back to the same program, places aside.
+-- What is printed is read back to the same program, places aside, and what is printed in version 2 to the program there.
 use Rattle.std.proofs.Common.{◌≡◌, ℕ, ◌≤◌, List, [], ◌∷◌, ◌++◌, length, map, flat_map, codes, refl, sym, ap, ap₂, subst, ◌∙◌, arith}
 use Rattle.cov_expr.specs.declared.limits.TheConstants.{MOST_BYTES}
 use Rattle.cov_expr.specs.declared.expr.TheConstants.{HOLE}
@@ -15,8 +15,8 @@ use Rattle.cov_text.specs.GivenTrees.{var_of, lock_of, thread_of, parsed_of}
 use Rattle.cov_text.proofs.NamesInOrder.{uses_in_order}
 use Rattle.cov_print.specs.Spelling as spec
 use Rattle.cov_print.specs.Unplaced.{unplaced, unplaced_stm, unplaced_block, unplaced_var, unplaced_lock, unplaced_thread, unplaced_use}
-use Rattle.cov_print.specs.ReadBack.{SpellsProgram, SpellsAgain}
-use Rattle.cov_print.proofs.Declarations.{seen_program}
+use Rattle.cov_print.specs.ReadBack.{SpellsProgram, SpellsAgain, in_second, SpellsInSecond}
+use Rattle.cov_print.proofs.Declarations.{seen_program, second}
 use Rattle.cov_print.proofs.ReadBack as back
 
 map_map : {A B C : Type 0} (f : A → B) (g : B → C) (xs : List A) → map g (map f xs) ≡ map (λ x. g (f x)) xs
@@ -113,30 +113,48 @@ uses_of_seen names us vs p q e =
 
 -- The law ------------------------------------------------------------------------------------------------------
 
--- what is printed of the tree of a text
-of_text : (text : List ℕ) (tree : Program) → IsText program in_program text tree → length (spec.spelling (program_of text tree)) ≤ MOST_BYTES → SpellsProgram (spec.spelling (program_of text tree)) (program_of text tree)
-unfolding names_of words_of numbered_of
-of_text text tree is short =
-    let raw = lexed_of text in
-    let b = back.reads_back text raw is.tokens.lexes tree is.spelled is.small (uses_of (words_of text)) short in
-    let out = spec.spelling (program_of text tree) in
+-- what is printed of a program that has the declarations of a text's tree
+of_made : (text : List ℕ) (tree made : Program) → IsText program in_program text tree → uses_in_declarations (program_of text made) ≡ uses_in_declarations (program_of text tree)
+    → back.Back (names_of text) (spec.spelling (program_of text made)) made → SpellsProgram (spec.spelling (program_of text made)) (program_of text made)
+of_made text tree made is declared b =
+    let out = spec.spelling (program_of text made) in
     let again = b.tree_again in
     let few : length (names_of text) ≤ HOLE = omega (arith, b.names_few) in
     let few_again : length (names_of out) ≤ HOLE = omega (arith, b.names_few, ap length b.names_again) in
-    let first = uses_in_order text few tree is in
-    let second = uses_in_order out few_again again b.is_text in
+    let before = uses_in_order text few tree is in
+    let behind = uses_in_order out few_again again b.is_text in
     let renamed : program_of out again ≡ parsed_of (names_of text) (uses_of (words_of out)) again = ap (λ ns. parsed_of ns (uses_of (words_of out)) again) b.names_again in
     let alike : uses_in_declarations (program_of out again) ≡ uses_in_declarations (program_of text tree) =
-    ap uses_in_declarations renamed ∙ uses_of_seen (names_of text) (uses_of (words_of out)) (uses_of (words_of text)) again tree b.seen_again in
+    ap uses_in_declarations renamed ∙ uses_of_seen (names_of text) (uses_of (words_of out)) (uses_of (words_of text)) again made b.seen_again ∙ declared in
     let uses : map unplaced_use (uses_of (words_of out)) ≡ map unplaced_use (uses_of (words_of text)) =
-    uses_are (uses_of (words_of out)) (uses_in_declarations (program_of text tree)) (second ∙ alike) ∙ sym (uses_are (uses_of (words_of text)) (uses_in_declarations (program_of text tree)) first) in
+    uses_are (uses_of (words_of out)) (uses_in_declarations (program_of text tree)) (behind ∙ alike) ∙ sym (uses_are (uses_of (words_of text)) (uses_in_declarations (program_of text tree)) before) in
     record {
       tree = again;
       is_text = b.is_text;
       same =
           ap unplaced renamed ∙ seen_is (names_of text) (uses_of (words_of out)) again
-          ∙ ap₂ (λ us x. of_seen (names_of text) us x) uses b.seen_again ∙ sym (seen_is (names_of text) (uses_of (words_of text)) tree);
+          ∙ ap₂ (λ us x. of_seen (names_of text) us x) uses b.seen_again ∙ sym (seen_is (names_of text) (uses_of (words_of text)) made);
     }
+
+-- what is written of the tree of a text is read back
+back_of : (text : List ℕ) (tree : Program) → IsText program in_program text tree → length (spec.spelling (program_of text tree)) ≤ MOST_BYTES → back.Back (names_of text) (spec.spelling (program_of text tree)) tree
+unfolding names_of words_of numbered_of
+back_of text tree is short = back.reads_back text (lexed_of text) is.tokens.lexes tree is.spelled is.small (uses_of (words_of text)) short
+
+-- and so is what is written of it in version 2
+second_of : (text : List ℕ) (tree : Program) → IsText program in_program text tree → length (spec.spelling (program_of text (second tree))) ≤ MOST_BYTES
+    → back.Back (names_of text) (spec.spelling (program_of text (second tree))) (second tree)
+unfolding names_of words_of numbered_of
+second_of text tree is short = back.reads_second text (lexed_of text) is.tokens.lexes tree is.spelled is.small (uses_of (words_of text)) short
+
+-- what is printed of the tree of a text
+of_text : (text : List ℕ) (tree : Program) → IsText program in_program text tree → length (spec.spelling (program_of text tree)) ≤ MOST_BYTES → SpellsProgram (spec.spelling (program_of text tree)) (program_of text tree)
+of_text text tree is short = of_made text tree tree is refl (back_of text tree is short)
+
+-- and of it in version 2
+of_second : (text : List ℕ) (tree : Program) → IsText program in_program text tree → length (spec.spelling (in_second (program_of text tree))) ≤ MOST_BYTES
+    → SpellsProgram (spec.spelling (in_second (program_of text tree))) (in_second (program_of text tree))
+of_second text tree is short = of_made text tree (second tree) is refl (second_of text tree is short)
 
 -- What is printed of a program that some text spells, spells it too.
 pub spells_again : (p : s.Parsed) (printed : List ℕ) → printed ≡ spec.spelling p → SpellsAgain printed p
@@ -145,3 +163,13 @@ spells_again p printed e text h short =
     let same : spec.spelling (program_of text h.tree) ≡ printed = sym (spelling_unplaced (program_of text h.tree)) ∙ ap spec.spelling h.same ∙ spelling_unplaced p ∙ sym e in
     let r = of_text text h.tree h.is_text (subst (λ t. length t ≤ MOST_BYTES) (sym same) short) in
     subst (λ t. SpellsProgram t p) same (record { tree = r.tree; is_text = r.is_text; same = r.same ∙ h.same })
+
+-- What is printed in version 2 of a program that some text spells, spells it there.
+pub spells_in_second : (p : s.Parsed) → SpellsInSecond (spec.spelling (in_second p)) p
+unfolding SpellsInSecond
+spells_in_second p text h short =
+    let q = program_of text h.tree in
+    let same : spec.spelling (in_second q) ≡ spec.spelling (in_second p) =
+    sym (spelling_unplaced (in_second q)) ∙ ap (λ x. spec.spelling (in_second x)) h.same ∙ spelling_unplaced (in_second p) in
+    let r = of_second text h.tree h.is_text (subst (λ t. length t ≤ MOST_BYTES) (sym same) short) in
+    subst (λ t. SpellsProgram t (in_second p)) same (record { tree = r.tree; is_text = r.is_text; same = r.same ∙ ap in_second h.same })

@@ -12,7 +12,7 @@ use Rattle.cov_grammar.specs.Spells.{Is}
 use Rattle.cov_grammar.proofs.Senses.{OfShape, gather}
 use Rattle.cov_ast.specs.declared.parsed.NameUse.{NameUse}
 use Rattle.cov_text.specs.Depth.{deep}
-use Rattle.cov_text.specs.Limits.{in_program}
+use Rattle.cov_text.specs.Limits.{in_program, past_variables, past_locks, past_threads, past_statements}
 use Rattle.cov_text.specs.Numbered as words
 use Rattle.cov_text.specs.Versioned.{versioned}
 use Rattle.cov_text.specs.Text.{words_of, names_of, IsText}
@@ -27,12 +27,20 @@ use Rattle.cov_print.proofs.Leaves.{AreNames}
 use Rattle.cov_print.proofs.Named.{Every, every_at, AreDistinct, added, added_distinct, added_every, added_length, IsIn, added_all}
 use Rattle.cov_print.proofs.Source.{IsSound, sound_tokens}
 use Rattle.cov_print.proofs.SameNames.{name_bytes, names_added, all_names, spelled, good_words, own_names, name_leaves, written_names, leaves_few, are_words, tokens_few}
-use Rattle.cov_print.proofs.Declarations.{seen_program, program_words, program_kept}
+use Rattle.cov_print.proofs.Declarations.{seen_program, program_words, second, program_kept, program_kept_second}
 use Rattle.cov_print.proofs.Sizes.{fine, fine_none, program_fine, limits_same}
 use Rattle.cov_print.proofs.Programs.{program_, program_calm}
-use Rattle.cov_print.proofs.Versions.{versioned_good, versioned_leaves, written_same}
+use Rattle.cov_print.proofs.Versions.{versioned_good, versioned_leaves, second_written, written_same}
 
--- The tokens of a text that was read, and what is written of its tree.
+-- What a text that is written of a program is read as.
+pub record Back (all : List (List ℕ)) (out : List ℕ) (made : Program) : Type 0 where
+  pub tree_again : Program
+  pub is_text : IsText program in_program out tree_again
+  pub names_again : names_of out ≡ all
+  pub names_few : length all ≤ MOST_BYTES
+  pub seen_again : seen_program all tree_again ≡ seen_program all made
+
+-- The tokens of a text that was read, and what is written of a program that keeps them.
 module _ (text : List ℕ) (raw : List lexed.Token) (lexes : tokens_of text ≡ Ok raw) where
   abbrev pub all : List (List ℕ)
   all = words.names_of text raw
@@ -59,29 +67,25 @@ module _ (text : List ℕ) (raw : List lexed.Token) (lexes : tokens_of text ≡ 
   good : AreGood (known all) (versioned numbered)
   good = versioned_good (known all) numbered (good_words all text raw sound in_all)
 
-  module _ (tree : Program) (is : Is program tree (versioned numbered)) (small : in_program tree ≡ None) (uses : List NameUse) (short : length (spec.spelling (parsed_of all uses tree)) ≤ MOST_BYTES) where
-    abbrev pub out : List ℕ
-    out = spec.spelling (parsed_of all uses tree)
+  abbrev IsKept : Program → Type 0
+  IsKept made = Kept (known all) program (seen_program all) (seen_program all made) (program_words (known all) made) (versioned numbered)
+
+  -- the words that are written are those of their version
+  abbrev AreVersioned : Program → Type 0
+  AreVersioned made = (ts : List Token) → Are (program_words (known all) made) ts → versioned ts ≡ ts
+
+  module _ (made : Program) (keeps : IsKept made) (same_words : AreVersioned made) (small : in_program made ≡ None) (uses : List NameUse) (short : length (spec.spelling (parsed_of all uses made)) ≤ MOST_BYTES) where
+    abbrev out : List ℕ
+    out = spec.spelling (parsed_of all uses made)
 
     abbrev written : List Word
-    written = program_words (known all) tree
-
-    keeps : Kept (known all) program (seen_program all) (seen_program all tree) written (versioned numbered)
-    keeps = program_kept (known all) all tree (versioned numbered) is
+    written = program_words (known all) made
 
     fit : AllFit (known all) written
     fit = keeps.fit good
 
     read : (ts : List lexed.Token) × (tokens_from 0 0 out ≡ Ok ts) × Show all out written ts
-    read = (program_ all valid uses tree).reads fit []
-
-    -- What the text that is written is read as.
-    pub record Back : Type 0 where
-      pub tree_again : Program
-      pub is_text : IsText program in_program out tree_again
-      pub names_again : names_of out ≡ all
-      pub names_few : length all ≤ MOST_BYTES
-      pub seen_again : seen_program all tree_again ≡ seen_program all tree
+    read = (program_ all valid uses made).reads fit []
 
     module _ (ts : List lexed.Token) (tokens : tokens_of out ≡ Ok ts) (show : Show all out written ts) where
       few : length all ≤ MOST_BYTES
@@ -109,28 +113,47 @@ module _ (text : List ℕ) (raw : List lexed.Token) (lexes : tokens_of text ≡ 
 
       words_same : words_of out ≡ tokens_again
       words_same =
-          words_are out ts tokens ∙ ap (λ ns. versioned (map (words.word_of out ns) ts)) names_same
-          ∙ written_same (known all) tree tokens_again (tree_version all numbered tree is).known (λ first. keeps.silent (tokens_silent numbered tree is first)) are
+          words_are out ts tokens ∙ ap (λ ns. versioned (map (words.word_of out ns) ts)) names_same ∙ same_words tokens_again are
 
-      again : (v : Program) × OfShape program v tokens_again × (seen_program all v ≡ seen_program all tree)
+      again : (v : Program) × OfShape program v tokens_again × (seen_program all v ≡ seen_program all made)
       again = keeps.spelt good tokens_again are
 
-      back : Back
+      back : Back all out made
       back = record {
         tree_again = again.0;
         is_text = record {
           tokens = record {
             lexes = lexes_so out ts tokens;
-            shallow = ap (deep 0 0) words_same ∙ (program_calm (known all) all tree (sym (limits_same all tree) ∙ ap fine small)).calm tokens_again are;
+            shallow = ap (deep 0 0) words_same ∙ (program_calm (known all) all made (sym (limits_same all made) ∙ ap fine small)).calm tokens_again are;
           };
           spelled = subst (Is program again.0) (sym words_same) (gather program again.0 tokens_again again.1);
-          small = fine_none (in_program again.0) (limits_same all again.0 ∙ ap program_fine again.2 ∙ sym (limits_same all tree) ∙ ap fine small);
+          small = fine_none (in_program again.0) (limits_same all again.0 ∙ ap program_fine again.2 ∙ sym (limits_same all made) ∙ ap fine small);
         };
         names_again = names_are out ts tokens ∙ names_same;
         names_few = few;
         seen_again = again.2;
       }
 
-    pub reads_back : Back
+    reads_made : Back all out made
     unfolding tokens_of
-    reads_back = back read.0 read.1 read.2
+    reads_made = back read.0 read.1 read.2
+
+  module _ (tree : Program) (is : Is program tree (versioned numbered)) (small : in_program tree ≡ None) (uses : List NameUse) where
+    keeps_tree : IsKept tree
+    keeps_tree = program_kept (known all) all tree (versioned numbered) is
+
+    tree_words : AreVersioned tree
+    tree_words ts are = written_same (known all) tree ts (tree_version all numbered tree is).known (λ first. keeps_tree.silent (tokens_silent numbered tree is first)) are
+
+    -- what is written of the tree of a text
+    pub reads_back : length (spec.spelling (parsed_of all uses tree)) ≤ MOST_BYTES → Back all (spec.spelling (parsed_of all uses tree)) tree
+    reads_back short = reads_made tree keeps_tree tree_words small uses short
+
+    small_second : in_program (second tree) ≡ None
+    unfolding past_variables past_locks past_threads past_statements
+    small_second = small
+
+    -- and what is written of it in version 2
+    pub reads_second : length (spec.spelling (parsed_of all uses (second tree))) ≤ MOST_BYTES → Back all (spec.spelling (parsed_of all uses (second tree))) (second tree)
+    reads_second short =
+        reads_made (second tree) (program_kept_second (known all) all tree (versioned numbered) is) (λ ts are. second_written (known all) 2 tree ts refl are) small_second uses short

@@ -122,7 +122,7 @@ module _ (known : ℕ → Bool) where
       let g = subst (λ n. Are (w.version n ++ declaration_words known p) ts) e are in
       unnamed_same ts (other_tokens (declaration_words known p) ts g (declarations_begin p.vars p.locks p.threads)) (silent_tokens (declaration_words known p) ts g i)
 
-  second_written : (v : ℕ) (p : t.Program) (ts : List Token) → v ≡ 2 → Are (w.version v ++ declaration_words known p) ts → versioned ts ≡ ts
+  pub second_written : (v : ℕ) (p : t.Program) (ts : List Token) → v ≡ 2 → Are (w.version v ++ declaration_words known p) ts → versioned ts ≡ ts
   second_written v p ts e are =
       let g = subst (λ n. Are (w.version n ++ declaration_words known p) ts) e are in
       let n = g.3 in

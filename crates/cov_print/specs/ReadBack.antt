@@ -17,3 +17,12 @@ pub record SpellsProgram (text : List ℕ) (p : Parsed) : Type 0 where
 -- A text spells a program where some text does, however long that one is, unless it is longer itself than a text may be.
 unfoldable pub SpellsAgain : (printed : List ℕ) → Parsed → Type 0
 SpellsAgain printed p = (text : List ℕ) → SpellsProgram text p → length printed ≤ MOST_BYTES → SpellsProgram printed p
+
+-- the same program in version 2 of the language
+abbrev pub in_second : Parsed → Parsed
+in_second p = record { version = 2; names = p.names; uses = p.uses; vars = p.vars; locks = p.locks; threads = p.threads }
+
+-- A text spells a program in version 2 where some text spells the program, in whichever version, unless it is longer than a
+-- text may be.
+unfoldable pub SpellsInSecond : (printed : List ℕ) → Parsed → Type 0
+SpellsInSecond printed p = (text : List ℕ) → SpellsProgram text p → length printed ≤ MOST_BYTES → SpellsProgram printed (in_second p)
