@@ -6,7 +6,6 @@ pub mod EndLaws
 -- One for each command.
 pub mod CheckLaws
 pub mod FormatLaws
-pub mod MigratedLaws
 -- Every command: what a call promises, and that it has one reply.
 pub mod OutcomeLaws
 pub mod OneReply

@@ -7,7 +7,8 @@ use Rattle.top_call.specs.Check.{Judges, IsAcceptedText}
 use Rattle.top_call.specs.Commands.{Command, check, fmt, migrate, nothing}
 use Rattle.top_call.specs.Ends.{Ends}
 use Rattle.cov_expr.specs.declared.limits.TheConstants.{MOST_BYTES}
-use Rattle.top_call.specs.Format.{Formats, Migrates, migrated}
+use Rattle.cov_print.specs.ReadBack.{in_second}
+use Rattle.top_call.specs.Format.{Formats, Migrates}
 use Rattle.top_call.specs.Headline.{HoldsSecure}
 use Rattle.top_call.specs.Outcome.{Does, Outcome, IsMet, IsSuccess}
 use Rattle.top_call.specs.Programs.{IsProgramText}
@@ -44,7 +45,7 @@ does_fault : (before after : Shelved) (command : Command) (reply : Reply) → Do
 does_fault before after (check name) reply h e = fault_rose before after name MOST_BYTES (Judges name) reply (λ bytes. judged_no_fault name bytes reply) h e
 does_fault before after (fmt name) reply h e = fault_rose before after name MOST_BYTES (Formats name) reply (λ bytes. printed_no_fault (λ p. p) name bytes reply) h e
 does_fault before after (migrate name) reply h e =
-    fault_rose before after name MOST_BYTES (Migrates name) reply (λ bytes. printed_no_fault migrated name bytes reply) h e
+    fault_rose before after name MOST_BYTES (Migrates name) reply (λ bytes. printed_no_fault in_second name bytes reply) h e
 does_fault before after nothing reply h e = let wrong : s.Usage ≡ s.ReadFault = sym (ap status_of h) ∙ e in cc
 
 met_success : (files : List File) (command : Command) (reply : Reply) → IsMet files command → Outcome files command reply → IsSuccess command (status_of reply)
@@ -56,7 +57,7 @@ met_success files (fmt name) reply met h =
     printed_done (λ p. p) name given.0 reply given.1 given.2
 met_success files (migrate name) reply met h =
     let given = held_given name MOST_BYTES (Migrates name) files IsProgramText reply met h in
-    printed_done migrated name given.0 reply given.1 given.2
+    printed_done in_second name given.0 reply given.1 given.2
 met_success files nothing reply met h = absurd met
 
 -- A call -------------------------------------------------------------------------------------------------------

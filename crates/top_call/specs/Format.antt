@@ -4,6 +4,7 @@ use Rattle.cov_ast.specs.Syntax.{Parsed}
 use Rattle.cov_grammar.specs.PlacedTrees as trees
 use Rattle.cov_text.specs.Text.{program_of}
 use Rattle.cov_print.specs.Spelling.{spelling}
+use Rattle.cov_print.specs.ReadBack.{in_second}
 use Rattle.top_call.specs.Programs.{SpellsTree, IsShownFault}
 use Rattle.top_call.specs.Replies.{Reply, malformed, spelled}
 
@@ -18,10 +19,6 @@ Prints made name bytes reply = ⊥
 abbrev pub Formats : (name bytes : List ℕ) → Reply → Type 0
 Formats name bytes reply = Prints (λ p. p) name bytes reply
 
--- the same program in version 2 of the language
-abbrev pub migrated : Parsed → Parsed
-migrated p = record { version = 2; names = p.names; uses = p.uses; vars = p.vars; locks = p.locks; threads = p.threads }
-
 -- The reply that migrates a file with these bytes: the program is spelled with version 2 in place of its own.
 abbrev pub Migrates : (name bytes : List ℕ) → Reply → Type 0
-Migrates name bytes reply = Prints migrated name bytes reply
+Migrates name bytes reply = Prints in_second name bytes reply

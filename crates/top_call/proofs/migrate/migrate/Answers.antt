@@ -2,7 +2,8 @@ use Rattle.std.proofs.Common.{subst, sym, Ok}
 use Rattle.cov_io.specs.declared.shelf.Fetched.TheVariants.{Whole}
 use Rattle.cov_io.specs.Shelves.{Gives}
 use Rattle.cov_expr.specs.declared.limits.TheConstants.{MOST_BYTES}
-use Rattle.top_call.specs.Format.{Migrates, migrated}
+use Rattle.cov_print.specs.ReadBack.{in_second}
+use Rattle.top_call.specs.Format.{Migrates}
 use Rattle.top_call.specs.Asks.{program}
 use Rattle.top_call.specs.Inside.{LacksMemory}
 use Rattle.top_call.proofs.AskLaws.{asks_missed, asks_got}
@@ -30,4 +31,4 @@ returns-clause-asks g c =
     let read = c.as_slice.result.now in
     asks_got before after (program c.args.name.now) (LacksMemory c.migrate_text.result) c.fetch.ensures.counted read
     (subst (λ bytes. Gives before after c.args.name.now MOST_BYTES (Ok (Whole bytes))) (sym c.as_slice.ensures) c.in_ok-bytes.ensures.answer)
-    (gets_printed_fit migrated c.args.name.now read c.migrate_text.result c.migrate_text.ensures)
+    (gets_printed_fit in_second c.args.name.now read c.migrate_text.result c.migrate_text.ensures)
