@@ -12,7 +12,7 @@ use Rattle.entail_cert.specs.declared.walk.Stop.{Stop}
 use Rattle.entail_cert.specs.declared.walk.Stop.TheVariants as stop
 use Rattle.entail_cert.specs.Axioms.{numbered}
 use Rattle.entail_cert.specs.Valid.{operands, operands_of, in_child, two, only_with, first_bad}
-use Rattle.entail_cert.specs.Walks.{Finds, hypotheses}
+use Rattle.entail_cert.specs.Inside.Findings.{Finds, hypotheses}
 
 in_child_free : (n : ℕ) (x : Option (List ℕ)) → in_child n x ≡ None → x ≡ None
 in_child_free n None h = refl

@@ -13,7 +13,7 @@ use Rattle.cov_ast.specs.Syntax as by
 use Rattle.cov_ast.specs.WellFormed.{CertHasWords}
 use Rattle.entail_cert.specs.Axioms.{axioms, numbered, instance, instance_for, axiom_for}
 use Rattle.entail_cert.specs.Valid.{first_bad, is_valid}
-use Rattle.entail_cert.specs.Walks.{InstancesHaveWords}
+use Rattle.entail_cert.specs.Inside.Findings.{InstancesHaveWords}
 use Rattle.entail_cert.specs.WordTests.{is_of_words}
 use Rattle.cov_expr.proofs.Values.{value_word}
 use Rattle.cov_expr.proofs.Tests.{left_true, right_true}

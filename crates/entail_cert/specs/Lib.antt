@@ -1,7 +1,6 @@
 pub mod Answers
 pub mod Axioms
-pub mod Facts
-pub mod Makes
+pub mod HeldTerms
+pub mod Inside
 pub mod Valid
-pub mod Walks
 pub mod WordTests

@@ -1,10 +1,10 @@
 ghost use Rattle.std.specs.Prelude.{◌≡◌, ◌++◌, IfOk, map};
 ghost use Rattle.cov_expr.specs.View.{term};
 ghost use Rattle.entail_range.specs.Range.{lent};
-ghost use Rattle.entail_cert.specs.Facts.{fact};
+ghost use Rattle.entail_cert.specs.HeldTerms.{held_term};
 ghost use Rattle.entail_cert.specs.Valid as spec;
 
-use crate::fact::Fact;
+use crate::held::Held;
 use crate::parts::operands;
 use cov_expr::{Expr, List, NoMemory, Op};
 use entail_range::range_valid_indexed;
@@ -34,8 +34,8 @@ pub fn is_range(
 }
 
 /// The hypotheses that a walk has added, each lent.
-pub fn lent_facts<'f>(alloc: Global, facts: &'f [Fact<'_>]) -> Result<List<&'f Expr>, NoMemory>
-    ensures { IfOk result (λ made. map lent made ≡ map fact facts.now) }
+pub fn lent_facts<'f>(alloc: Global, facts: &'f [Held<'_>]) -> Result<List<&'f Expr>, NoMemory>
+    ensures { IfOk result (λ made. map lent made ≡ map held_term facts.now) }
 {
     let mut made = List::new(alloc);
     for f in facts {

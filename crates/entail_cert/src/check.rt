@@ -3,10 +3,10 @@ ghost use Rattle.cov_expr.specs.Entailment.{Entails};
 ghost use Rattle.cov_expr.specs.View.{term};
 ghost use Rattle.cov_ast.specs.View as view;
 ghost use Rattle.entail_cert.specs.Answers.{Answers};
-ghost use Rattle.entail_cert.specs.Facts.{fact};
+ghost use Rattle.entail_cert.specs.HeldTerms.{held_term};
 ghost use Rattle.entail_cert.specs.Valid.{first_bad};
 
-use crate::fact::Fact;
+use crate::held::Held;
 use crate::walk::{Stop, Walk};
 use cov_ast::Cert;
 use cov_expr::{Expr, List, NoMemory};
@@ -61,20 +61,20 @@ pub fn check_cert_with(
     ensures entails { OnOk result (Entails (map term hyps.now ++ term more.now ∷ []) (term goal.now)) }
 {
     let mut added = List::new(alloc);
-    added.push(Fact::Lent(more))?;
+    added.push(Held::Lent(more))?;
     walked(alloc, added, hyps.as_slice(), goal, cert)
 }
 
 /// What a walk from the root of a certificate answers, with hypotheses that are added to the given ones.
 fn walked<'a>(
     alloc: Global,
-    added: List<Fact<'a>>,
+    added: List<Held<'a>>,
     given: &'a [Expr],
     goal: &Expr,
     cert: &'a Cert,
 ) -> Result<(), CertFault>
-    ensures answers { Answers (first_bad (map term given.now ++ map fact added.entry) (term goal.now) (view.cert cert.now)) result }
-    ensures entails { OnOk result (Entails (map term given.now ++ map fact added.entry) (term goal.now)) }
+    ensures answers { Answers (first_bad (map term given.now ++ map held_term added.entry) (term goal.now) (view.cert cert.now)) result }
+    ensures entails { OnOk result (Entails (map term given.now ++ map held_term added.entry) (term goal.now)) }
 {
     let mut walk = Walk {
         alloc,

@@ -5,12 +5,14 @@
 //! - [`axioms_hold`], [`valid_gives_entailment`] and [`expressions_are_of_words`] do nothing: their contracts are the laws on which its
 //!   answer rests.
 //!
+//! [`Held`] is an expression that is lent or made, as hypotheses are here and goals in the crates above.
+//!
 //! `specs/Valid.antt` says which certificates are valid, and `specs/Axioms.antt` has the axioms.
 #![tactic(auto)]
 
 mod arithmetic;
 mod check;
-mod fact;
+mod held;
 mod instance;
 mod known;
 mod laws;
@@ -19,4 +21,5 @@ mod shapes;
 mod walk;
 
 pub use check::{CertFault, check_cert, check_cert_with};
+pub use held::Held;
 pub use laws::{axioms_hold, expressions_are_of_words, valid_gives_entailment};

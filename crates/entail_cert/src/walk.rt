@@ -7,13 +7,13 @@ ghost use Rattle.cov_ast.specs.Syntax as by;
 ghost use Rattle.cov_ast.specs.View as view;
 ghost use Rattle.entail_cert.specs.declared.walk.Stop.TheVariants as stops;
 ghost use Rattle.entail_cert.specs.Axioms.{numbered};
-ghost use Rattle.entail_cert.specs.Facts.{fact};
+ghost use Rattle.entail_cert.specs.HeldTerms.{held_term};
 ghost use Rattle.entail_cert.specs.Valid.{filled, first_bad, in_child, is_negation, is_plain, is_some_and, two};
 ghost use Rattle.entail_cert.specs.Valid as spec;
-ghost use Rattle.entail_cert.specs.Walks.{Halves, Finds, Parts, InstancesHaveWords, Replaces, Rewrites, hypotheses};
+ghost use Rattle.entail_cert.specs.Inside.Findings.{Halves, Finds, Parts, InstancesHaveWords, Replaces, Rewrites, hypotheses};
 
 use crate::arithmetic::{is_range, is_ring, lent_facts};
-use crate::fact::Fact;
+use crate::held::Held;
 use crate::instance::axiom_for;
 use crate::known::{has_false, has_false_fact, knows_each};
 use crate::parts::{is_false, is_filled, is_negation_of, is_reflexive, is_true, negated, operands};
@@ -26,7 +26,7 @@ use std::alloc::Global;
 #[derive(Drop)]
 pub struct Walk<'a> {
     pub alloc: Global,
-    pub added: List<Fact<'a>>,
+    pub added: List<Held<'a>>,
     pub path: List<u8>,
 }
 
@@ -50,10 +50,10 @@ impl From<NoMemory> for Stop {
 }
 
 /// The negation of a copy.
-fn negation_of<'a>(alloc: Global, e: &Expr) -> Result<Fact<'a>, NoMemory>
-    ensures { IfOk result (λ made. fact made ≡ neg (term e.now)) }
+fn negation_of<'a>(alloc: Global, e: &Expr) -> Result<Held<'a>, NoMemory>
+    ensures { IfOk result (λ made. held_term made ≡ neg (term e.now)) }
 {
-    Ok(Fact::Made(Expr::Not(boxed(alloc, copy(alloc, e)?)?)))
+    Ok(Held::Made(Expr::Not(boxed(alloc, copy(alloc, e)?)?)))
 }
 
 /// The operands, where the expression has this operator.
@@ -63,9 +63,9 @@ fn parts<'a>(op: Op, e: &'a Expr) -> Result<(&'a Expr, &'a Expr), Stop>
     operands(op, e).ok_or(Stop::Bad)
 }
 
-/// The place, counted from 0, of what has this number, counted from 1.
-fn place_of(number: u32) -> Option<usize>
-    ensures { MatchOption result (number ≡ 0) (λ place. (1 ≤ number) × (place ≡ number - 1)) }
+/// The index, counted from 0, of what has this number, counted from 1.
+fn index_of(number: u32) -> Option<usize>
+    ensures { MatchOption result (number ≡ 0) (λ index. (1 ≤ number) × (index ≡ number - 1)) }
 {
     (number as usize).checked_sub(1)
 }
@@ -94,40 +94,40 @@ fn replaced(
 }
 
 /// The operands of a lent expression that has this operator.
-fn lent_halves<'a>(op: Op, e: &'a Expr) -> Result<(Fact<'a>, Fact<'a>), Stop>
+fn lent_halves<'a>(op: Op, e: &'a Expr) -> Result<(Held<'a>, Held<'a>), Stop>
     ensures { Halves (spec.operands op (term e.now)) result }
 {
     let (a, b) = parts(op, e)?;
-    Ok((Fact::Lent(a), Fact::Lent(b)))
+    Ok((Held::Lent(a), Held::Lent(b)))
 }
 
 impl<'a> Walk<'a> {
-    /// The added hypothesis at a place, counted from 0.
-    fn added_at(&self, place: usize) -> Option<&Expr>
-        ensures { option_map (λ e. term e.now) result ≡ slice_get (map fact self.now.added) place }
+    /// The added hypothesis at an index, counted from 0.
+    fn added_at(&self, index: usize) -> Option<&Expr>
+        ensures { option_map (λ e. term e.now) result ≡ slice_get (map held_term self.now.added) index }
     {
-        Some(self.added.as_slice().get(place)?.expr())
+        Some(self.added.as_slice().get(index)?.expr())
     }
 
     /// The hypothesis of a number, counted from 1.
     fn hypothesis<'h>(&'h self, given: &'h [Expr], number: u32) -> Option<&'h Expr>
         ensures { option_map (λ e. term e.now) result ≡ numbered (hypotheses given.now self.now) number }
     {
-        let place = place_of(number)?;
-        if place < given.len() {
-            given.get(place)
+        let index = index_of(number)?;
+        if index < given.len() {
+            given.get(index)
         } else {
-            self.added_at(place - given.len())
+            self.added_at(index - given.len())
         }
     }
 
-    /// The added hypothesis at a place, where it was lent to the walk.
-    fn lent_at(&self, place: usize) -> Option<&'a Expr>
-        ensures { IfSome result (λ e. slice_get (map fact self.now.added) place ≡ Some (term e.now)) }
+    /// The added hypothesis at an index, where it was lent to the walk.
+    fn lent_at(&self, index: usize) -> Option<&'a Expr>
+        ensures { IfSome result (λ e. slice_get (map held_term self.now.added) index ≡ Some (term e.now)) }
     {
-        match self.added.as_slice().get(place)? {
-            Fact::Lent(e) => Some(e),
-            Fact::Made(_) => None,
+        match self.added.as_slice().get(index)? {
+            Held::Lent(e) => Some(e),
+            Held::Made(_) => None,
         }
     }
 
@@ -135,11 +135,11 @@ impl<'a> Walk<'a> {
     fn lent(&self, given: &'a [Expr], number: u32) -> Option<&'a Expr>
         ensures { IfSome result (λ e. numbered (hypotheses given.now self.now) number ≡ Some (term e.now)) }
     {
-        let place = place_of(number)?;
-        if place < given.len() {
-            given.get(place)
+        let index = index_of(number)?;
+        if index < given.len() {
+            given.get(index)
         } else {
-            self.lent_at(place - given.len())
+            self.lent_at(index - given.len())
         }
     }
 
@@ -198,7 +198,7 @@ impl<'a> Walk<'a> {
     }
 
     /// The operands of a hypothesis that has this operator. They are copied where the walk made the hypothesis.
-    fn halves(&self, given: &'a [Expr], number: u32, op: Op) -> Result<(Fact<'a>, Fact<'a>), Stop>
+    fn halves(&self, given: &'a [Expr], number: u32, op: Op) -> Result<(Held<'a>, Held<'a>), Stop>
         ensures { Halves (spec.operands_of op (numbered (hypotheses given.now self.now) number)) result }
     {
         match self.lent(given, number) {
@@ -208,13 +208,13 @@ impl<'a> Walk<'a> {
     }
 
     /// Copies of the operands of a hypothesis that has this operator.
-    fn copies(&self, given: &[Expr], number: u32, op: Op) -> Result<(Fact<'a>, Fact<'a>), Stop>
+    fn copies(&self, given: &[Expr], number: u32, op: Op) -> Result<(Held<'a>, Held<'a>), Stop>
         ensures { Halves (spec.operands_of op (numbered (hypotheses given.now self.now) number)) result }
     {
         let (a, b) = self.operands_of(given, number, op).ok_or(Stop::Bad)?;
         Ok((
-            Fact::Made(copy(self.alloc, a)?),
-            Fact::Made(copy(self.alloc, b)?),
+            Held::Made(copy(self.alloc, a)?),
+            Held::Made(copy(self.alloc, b)?),
         ))
     }
 
@@ -270,12 +270,12 @@ impl<'a> Walk<'a> {
                 self.under(d, 2, b, given, goal)
             }
             Cert::Split(e, c, d) => {
-                self.under(c, 1, Fact::Lent(e), given, goal)?;
+                self.under(c, 1, Held::Lent(e), given, goal)?;
                 self.under(d, 2, negation_of(self.alloc, e)?, given, goal)
             }
             Cert::Have(e, c, d) => {
                 self.child(c, 1, given, e)?;
-                self.under(d, 2, Fact::Lent(e), given, goal)
+                self.under(d, 2, Held::Lent(e), given, goal)
             }
             Cert::Absurd(i, j) => accept(self.is_contradiction(given, *i, *j)),
             Cert::Not(c) => self.negation(c, given, goal),
@@ -325,7 +325,7 @@ impl<'a> Walk<'a> {
         ensures words { OnOk result (InstancesHaveWords (view.cert c.now)) }
     {
         let a = negated(goal).ok_or(Stop::Bad)?;
-        let fact = Fact::Made(copy(self.alloc, a)?);
+        let fact = Held::Made(copy(self.alloc, a)?);
         self.under(c, 1, fact, given, &Expr::Const(0))
     }
 
@@ -384,7 +384,7 @@ impl<'a> Walk<'a> {
     {
         match axiom_for(self.alloc, k, args.as_slice())? {
             None => Err(Stop::Bad),
-            Some(e) => self.under(c, 1, Fact::Made(e), given, goal),
+            Some(e) => self.under(c, 1, Held::Made(e), given, goal),
         }
     }
 
@@ -394,11 +394,11 @@ impl<'a> Walk<'a> {
         &mut self,
         c: &'a Cert,
         step: u8,
-        hypothesis: Fact<'a>,
+        hypothesis: Held<'a>,
         given: &'a [Expr],
         goal: &Expr,
     ) -> Result<(), Stop>
-        ensures finds { Finds self.old self.new (in_child step (first_bad (hypotheses given.now self.old ++ fact hypothesis.entry ∷ []) (term goal.now) (view.cert c.now))) result }
+        ensures finds { Finds self.old self.new (in_child step (first_bad (hypotheses given.now self.old ++ held_term hypothesis.entry ∷ []) (term goal.now) (view.cert c.now))) result }
         ensures words { OnOk result (InstancesHaveWords (view.cert c.now)) }
     {
         self.added.push(hypothesis)?;

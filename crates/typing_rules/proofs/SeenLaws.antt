@@ -12,8 +12,9 @@ use Rattle.cov_expr.specs.View.{term}
 use Rattle.entail_cert.specs.Valid.{is_all_known, is_false, is_plain}
 use Rattle.entail_cert.proofs.Conjuncts.{known_both, stated_known}
 use Rattle.typing_rules.specs.Entailments.{Entailment}
-use Rattle.typing_rules.specs.declared.entailments.Held.{Held}
-use Rattle.typing_rules.specs.Inside.Listed.{entailment_from, held_term}
+use Rattle.entail_cert.specs.declared.held.Held.{Held}
+use Rattle.entail_cert.specs.HeldTerms.{held_term}
+use Rattle.typing_rules.specs.Inside.Listed.{entailment_from}
 
 -- the expression at a place is one of them
 pub has_at : (es : List Expr) (i : ℕ) (f : Expr) (e : Term) → i < length es → f ≡ get_or es i f → same (term f) e ≡ true → has_term (map term es) e ≡ true

@@ -18,10 +18,11 @@ use Rattle.cov_ast.specs.declared.refusal.Rule.TheVariants.{V9}
 use Rattle.typing_state.specs.Point as spec
 use Rattle.typing_state.specs.declared.point.Point.{Point}
 use Rattle.typing_rules.specs.declared.entailments.Entailment as rust
-use Rattle.typing_rules.specs.declared.entailments.Held.{Held}
+use Rattle.entail_cert.specs.declared.held.Held.{Held}
 use Rattle.typing_rules.specs.declared.entailments_tried.Tried.{Tried}
 use Rattle.typing_rules.specs.declared.walk.Walk.{Walk}
-use Rattle.typing_rules.specs.Inside.Listed.{AreListed, entailment_of, entailment_from, entailments_of, held_term}
+use Rattle.entail_cert.specs.HeldTerms.{held_term}
+use Rattle.typing_rules.specs.Inside.Listed.{AreListed, entailment_of, entailment_from, entailments_of}
 use Rattle.typing_rules.specs.Inside.Walking.{Tries, Wherever, first_unproved}
 use Rattle.typing_rules.specs.Entailments.{Entailment, is_proved, is_small_entailment}
 use Rattle.typing_rules.specs.ThreadObligations.{obligation, proved}

@@ -6,11 +6,11 @@ ghost use Rattle.cov_ast.specs.Plain.{Plain, plain};
 ghost use Rattle.cov_ast.specs.View as view;
 ghost use Rattle.typing_state.specs.Point as point_spec;
 ghost use Rattle.typing_rules.specs.Inside.Walking.{AtPoint};
-ghost use Rattle.typing_rules.specs.Inside.Listed.{held_term};
+ghost use Rattle.entail_cert.specs.HeldTerms.{held_term};
 
-use crate::entailments::Held;
 use cov_ast::{Class, Program};
 use cov_expr::Expr;
+use entail_cert::Held;
 use policy_class::class_of;
 use typing_state::Point;
 

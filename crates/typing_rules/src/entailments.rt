@@ -8,7 +8,7 @@ ghost use Rattle.cov_ast.specs.View as view;
 ghost use Rattle.cov_ast.specs.WellFormed.{IsWellFormed};
 ghost use Rattle.typing_rules.specs.Inside.Walking.{AtPoint};
 ghost use Rattle.typing_rules.specs.Blocks.{value_type};
-ghost use Rattle.typing_rules.specs.Inside.Listed.{AreListed, entailments_of, held_term};
+ghost use Rattle.typing_rules.specs.Inside.Listed.{AreListed, entailments_of};
 ghost use Rattle.typing_rules.specs.Entailments as spec;
 
 use crate::entailments_of_assignments::{add_controlled, add_retypes, add_written};
@@ -16,27 +16,9 @@ use crate::entailments_of_states::{add_freed, add_inv, add_preds, add_types};
 use crate::sizes::MOST_PARTS;
 use cov_ast::{Program, Retype, State};
 use cov_expr::{Expr, List, NoMemory};
+use entail_cert::Held;
 use std::alloc::Global;
 use typing_state::Point;
-
-/// An expression of an entailment: a part of the program or of a point, or one that was made for the entailment.
-#[derive(Drop)]
-pub enum Held<'a> {
-    Lent(&'a Expr),
-    Made(Expr),
-}
-
-impl Held<'_> {
-    /// The expression that is lent or made.
-    pub fn expr(&self) -> &Expr
-        ensures { term result.now ≡ held_term self.now }
-    {
-        match self {
-            Held::Lent(e) => e,
-            Held::Made(e) => e,
-        }
-    }
-}
 
 /// What has to follow from the predicates of a point and, where there is one, from one expression more.
 #[derive(Drop)]

@@ -16,10 +16,11 @@ ghost use Rattle.typing_rules.specs.Inside.Listed.{Added, entailments_of, is_sho
 ghost use Rattle.typing_rules.specs.Entailments as spec;
 
 use crate::entailment_parts::{class_held, read_held, type_held};
-use crate::entailments::{Entailment, Held};
+use crate::entailments::Entailment;
 use crate::sizes::{MOST_PARTS, small_subst};
 use cov_ast::{Class, Program, Retype};
 use cov_expr::{Expr, List, NoMemory, mentions};
+use entail_cert::Held;
 use policy_class::class_of;
 use std::alloc::Global;
 use typing_state::Point;

@@ -11,9 +11,10 @@ ghost use Rattle.typing_rules.specs.Inside.Listed.{entailments_of};
 ghost use Rattle.typing_rules.specs.Entailments as spec;
 
 use crate::entailment_parts::{class_held, type_held};
-use crate::entailments::{Entailment, Held};
+use crate::entailments::Entailment;
 use cov_ast::Program;
 use cov_expr::{Expr, List, NoMemory};
+use entail_cert::Held;
 use typing_state::Point;
 
 /// Each of some predicates follows.

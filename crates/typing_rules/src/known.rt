@@ -5,7 +5,8 @@ ghost use Rattle.cov_expr.specs.Term.{Term};
 ghost use Rattle.cov_expr.specs.Trees.{has_term};
 ghost use Rattle.cov_expr.specs.View.{term};
 ghost use Rattle.entail_cert.specs.Valid.{is_all_known, is_plain};
-ghost use Rattle.typing_rules.specs.Inside.Listed.{entailment_of, held_term};
+ghost use Rattle.entail_cert.specs.HeldTerms.{held_term};
+ghost use Rattle.typing_rules.specs.Inside.Listed.{entailment_of};
 ghost use Rattle.typing_rules.specs.Inside.Seen.{Shows};
 
 use crate::entailments::Entailment;

@@ -16,7 +16,6 @@ ghost use Rattle.typing_rules.specs.ThreadObligations.{few_preds, flat, stm_part
 ghost use Rattle.typing_rules.specs.Inside.Walking.{IsWalk, Stands, Wherever, plain_of, type_parts, value_parts};
 
 use crate::entailment_parts::read_held;
-use crate::entailments::Held;
 use crate::evaluation::check_evaluation;
 use crate::site::{refused_at, require_at};
 use crate::sizes::{MOST_PARTS, check_few_preds};
@@ -25,6 +24,7 @@ use crate::walk::{Walk, both};
 use crate::writes::{check_access, check_stable_if};
 use cov_ast::{CheckFault, Detail, Retype, Rule};
 use cov_expr::{Expr, List, NoMemory, copy, vars};
+use entail_cert::Held;
 use typing_state::Point;
 
 impl Walk<'_> {

@@ -2,21 +2,15 @@
 use Rattle.std.specs.Prelude.{◌≡◌, ℕ, ◌&&◌, List, ◌++◌, Bool, true, false, not, map, Option, Some, None}
 use Rattle.std.specs.List.{list_all}
 use Rattle.cov_expr.specs.Term.{Term}
-use Rattle.cov_expr.specs.View.{term}
 use Rattle.cov_expr.specs.Trees.{mentions}
 use Rattle.cov_ast.specs.Declarations.{class_of}
 use Rattle.cov_ast.specs.Plain.{Plain}
 use Rattle.mode_state.specs.Sets.{is_hidden}
 use Rattle.typing_state.specs.Point.{Point}
 use Rattle.typing_rules.specs.Entailments.{Entailment, from_preds, from_one_more, is_small_entailment}
-use Rattle.typing_rules.specs.declared.entailments.Held.{Held}
-use Rattle.typing_rules.specs.declared.entailments.Held.TheVariants.{Lent, Made}
+use Rattle.entail_cert.specs.declared.held.Held.{Held}
+use Rattle.entail_cert.specs.HeldTerms.{held_term}
 use Rattle.typing_rules.specs.declared.entailments.Entailment as rust
-
--- the expression that is lent or made
-abbrev pub held_term : Held → Term
-held_term (Lent e) = term e.now
-held_term (Made e) = term e
 
 -- from the predicates, and the one expression more that an entailment may have
 abbrev pub entailment_from : List Term → Option Held → Term → Entailment

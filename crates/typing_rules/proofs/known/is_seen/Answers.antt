@@ -4,8 +4,9 @@ use Rattle.cov_expr.specs.declared.list.NoMemory.{NoMemory}
 use Rattle.cov_expr.specs.Term.{Term}
 use Rattle.entail_cert.specs.Valid.{is_all_known, is_plain}
 use Rattle.typing_state.specs.declared.point.Point.{Point}
-use Rattle.typing_rules.specs.declared.entailments.Held.{Held}
-use Rattle.typing_rules.specs.Inside.Listed.{entailment_from, held_term}
+use Rattle.entail_cert.specs.declared.held.Held.{Held}
+use Rattle.entail_cert.specs.HeldTerms.{held_term}
+use Rattle.typing_rules.specs.Inside.Listed.{entailment_from}
 use Rattle.typing_rules.specs.Inside.Seen.{Shows}
 use Rattle.typing_rules.proofs.SeenLaws.{known_plain}
 use Rattle.typing_rules.proofs.known.is_seen.Goals as goal

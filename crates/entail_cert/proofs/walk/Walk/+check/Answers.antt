@@ -1,6 +1,6 @@
 use Rattle.cov_expr.specs.View.{term}
 use Rattle.cov_ast.specs.View.{cert}
-use Rattle.entail_cert.specs.Facts.{fact}
+use Rattle.entail_cert.specs.HeldTerms.{held_term}
 use Rattle.cov_ast.proofs.CertViews.{cert-And, cert-Cases, cert-Have, cert-Split}
 use Rattle.entail_cert.proofs.Finds.{and_finds, cases_finds, cases_first, split_finds, split_first, have_finds, handed_on}
 use Rattle.entail_cert.proofs.walk.Walk.+check.Goals as goal
@@ -16,13 +16,13 @@ node-returns-in_err-under-in-Cases-clause-finds t c =
     rw (c.in-Cases.is, cert-Cases, ← c.deref-in-Cases.ensures)
     (handed_on c.args.self.now c.under.new.self _ c.in_err-under-in-Cases.field-0.0 c.from_residual-in_err-under-in-Cases.result
     c.from_residual-in_err-under-in-Cases.ensures.1
-    (cases_first c.args.given.now c.args.self.now c.under.new.self (term c.args.goal.now) c.in-Cases.i (fact c.in_ok-a-in-Cases.a) (fact c.in_ok-a-in-Cases.b) (cert c.deref-in-Cases.result.now) (cert c.in-Cases.d.value) _
+    (cases_first c.args.given.now c.args.self.now c.under.new.self (term c.args.goal.now) c.in-Cases.i (held_term c.in_ok-a-in-Cases.a) (held_term c.in_ok-a-in-Cases.b) (cert c.deref-in-Cases.result.now) (cert c.in-Cases.d.value) _
     c.in_ok-a-in-Cases.ensures c.in_err-under-in-Cases.ensures.finds))
 
 pub node-returns-in_ok-under-in-Cases-clause-finds : goal.node-returns-in_ok-under-in-Cases-clause-finds
 node-returns-in_ok-under-in-Cases-clause-finds t c =
     rw (c.in-Cases.is, cert-Cases, ← c.deref-in-Cases.ensures, ← c.deref-in-Cases-2.ensures)
-    (cases_finds c.args.given.now c.args.self.now c.under.new.self c.under-in-Cases.new.self (term c.args.goal.now) c.in-Cases.i (fact c.in_ok-a-in-Cases.a) (fact c.in_ok-a-in-Cases.b) (cert c.deref-in-Cases.result.now) (cert c.deref-in-Cases-2.result.now) _ _
+    (cases_finds c.args.given.now c.args.self.now c.under.new.self c.under-in-Cases.new.self (term c.args.goal.now) c.in-Cases.i (held_term c.in_ok-a-in-Cases.a) (held_term c.in_ok-a-in-Cases.b) (cert c.deref-in-Cases.result.now) (cert c.deref-in-Cases-2.result.now) _ _
     c.in_ok-a-in-Cases.ensures c.in_ok-under-in-Cases.ensures.finds c.under-in-Cases.ensures.finds)
 
 pub node-returns-in_err-under-in-Split-clause-finds : goal.node-returns-in_err-under-in-Split-clause-finds

@@ -7,18 +7,18 @@ use Rattle.cov_expr.specs.View.{term}
 use Rattle.cov_expr.specs.Words.{HasWords}
 use Rattle.cov_ast.specs.Syntax.{Cert}
 use Rattle.cov_ast.specs.Syntax as by
-use Rattle.entail_cert.specs.declared.fact.Fact.{Fact}
+use Rattle.entail_cert.specs.declared.held.Held.{Held}
 use Rattle.entail_cert.specs.declared.walk.Walk.{Walk}
 use Rattle.entail_cert.specs.declared.walk.Stop.{Stop}
 use Rattle.entail_cert.specs.declared.walk.Stop.TheVariants as stop
 use Rattle.cov_expr.specs.Trees.{same}
 use Rattle.entail_cert.specs.Axioms.{axiom_for}
-use Rattle.entail_cert.specs.Facts.{fact}
+use Rattle.entail_cert.specs.HeldTerms.{held_term}
 use Rattle.entail_cert.specs.Valid.{filled}
 
 -- the given hypotheses, and those that the walk has added
 abbrev pub hypotheses : List Expr → Walk → List Term
-hypotheses given walk = map term given ++ map fact walk.added
+hypotheses given walk = map term given ++ map held_term walk.added
 
 -- the operands that there are, or a condition that fails
 abbrev pub Parts : Option (Term × Term) → Result (Bor Expr × Bor Expr) Stop → Type 0
@@ -27,8 +27,8 @@ Parts parts (Err stop.Bad) = parts ≡ None
 Parts parts (Err stop.NoMemory) = Unit {0}
 
 -- the operands that there are, as hypotheses, or a condition that fails
-abbrev pub Halves : Option (Term × Term) → Result (Fact × Fact) Stop → Type 0
-Halves parts (Ok halves) = parts ≡ Some (fact halves.0, fact halves.1)
+abbrev pub Halves : Option (Term × Term) → Result (Held × Held) Stop → Type 0
+Halves parts (Ok halves) = parts ≡ Some (held_term halves.0, held_term halves.1)
 Halves parts (Err stop.Bad) = parts ≡ None
 Halves parts (Err stop.NoMemory) = Unit {0}
 
@@ -49,7 +49,7 @@ Rewrites (Some sides) forward t goal result = RewritesSides forward t goal sides
 -- The walk has looked for the first node that fails below the place where it stood. Where there is none it stands
 -- there again, with the same hypotheses. Where there is one it stands at that node.
 abbrev pub Finds : Walk → Walk → Option (List ℕ) → Result (Unit {0}) Stop → Type 0
-Finds before after bad (Ok _) = (bad ≡ None) × ((map fact after.added ≡ map fact before.added) × (after.path ≡ before.path))
+Finds before after bad (Ok _) = (bad ≡ None) × ((map held_term after.added ≡ map held_term before.added) × (after.path ≡ before.path))
 Finds before after bad (Err stop.Bad) = option_map (λ path. before.path ++ path) bad ≡ Some after.path
 Finds before after bad (Err stop.NoMemory) = Unit {0}
 
