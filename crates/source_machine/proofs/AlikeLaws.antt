@@ -29,7 +29,7 @@ module _ (at : ℕ) (proofs : List s.Proof) (b : Block) (bs : List Block) where
   abbrev left : Stm → List Item
   left c = items (more at c proofs b ∷ bs)
 
-  pub first_left : (c : Stm) → IsReady (more at c proofs b) → first_place (left c) ≡ Some at
+  first_left : (c : Stm) → IsReady (more at c proofs b) → first_place (left c) ≡ Some at
   first_left s.skip r = refl
   first_left (s.assign x e q retypes) r = refl
   first_left (s.lock l) r = refl

@@ -8,7 +8,7 @@ use Rattle.flow_model.specs.Source.{Item, run, items_then}
 use Rattle.source_machine.specs.Frames.{items}
 use Rattle.source_machine.specs.Inside.Entries.{without_notes, on_top, entered, height, stm_height, AreFrames}
 
-pub plain_without_notes : (b : Block) → plain_block (without_notes b) ≡ plain_block b
+plain_without_notes : (b : Block) → plain_block (without_notes b) ≡ plain_block b
 plain_without_notes done = refl
 plain_without_notes (more at (s.note j) proofs b) = plain_without_notes b
 plain_without_notes (more at _ proofs b) = refl
@@ -41,7 +41,7 @@ mutual
   height_small done = omega arith
   height_small (more at c proofs b) = let i = stm_height_small c in let j = height_small b in omega arith
 
-  pub stm_height_small : (c : s.Stm) → stm_height c ≤ 1 + stm_size c
+  stm_height_small : (c : s.Stm) → stm_height c ≤ 1 + stm_size c
   stm_height_small (s.branch e a b join) = let i = height_small a in let j = height_small b in omega arith
   stm_height_small (s.loop e inv b) = let j = height_small b in omega arith
   stm_height_small _ = omega arith

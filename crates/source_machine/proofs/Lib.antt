@@ -1,4 +1,4 @@
-pub mod Statements
+mod Examples
 pub mod FrameLaws
 pub mod StackLaws
 pub mod TurnLaws
@@ -7,4 +7,3 @@ pub mod PlaceLaws
 pub mod AlikeLaws
 pub mod MachineLaws
 pub mod SourceLaws
-pub mod Made

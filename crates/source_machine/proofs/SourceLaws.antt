@@ -33,7 +33,7 @@ first_is vars locks room [] w f = ap first_place (with_nothing w)
 first_is vars locks room (done ∷ bs) w f = absurd f.1
 first_is vars locks room (more at c proofs b ∷ bs) w f = first_with_word at proofs b bs w c f.1
 
-pub nothing_first : (is : List Item) → first_place is ≡ None → is ≡ []
+nothing_first : (is : List Item) → first_place is ≡ None → is ≡ []
 nothing_first [] e = refl
 nothing_first (i ∷ is) e = absurd cc
 
@@ -144,7 +144,7 @@ start_frames vars locks b x r f =
     subst (AreFrames vars locks (vec_capacity x.frames)) (sym f.frames)
     (entered_fine vars locks (vec_capacity x.frames) b [] r (let k = f.room in omega arith) tt)
 
-pub start_fine : (vars locks : ℕ) (decls : List ThreadDecl) (threads : List Thread) → AllStart (map (λ d. view.block d.body) decls) threads
+start_fine : (vars locks : ℕ) (decls : List ThreadDecl) (threads : List Thread) → AllStart (map (λ d. view.block d.body) decls) threads
     → ((k : ℕ) (d : ThreadDecl) → k < length decls → IsBlockInRange vars locks (view.block (get_or decls k d).body)) → AreThreads vars locks (map view.thread decls) threads
 start_fine vars locks [] [] h r = tt
 start_fine vars locks [] (x ∷ threads) h r = absurd h
@@ -157,7 +157,7 @@ start_fine vars locks (d ∷ decls) (x ∷ threads) h r = (
 start_left : (b : Block) (x : Thread) → Starts b x → items_left (standing x) ≡ items_then (plain_block b) []
 start_left b x f = items_seen x ∙ ap (λ w. with_word w (items (frames_of x))) f.word ∙ ap items f.frames ∙ items_entered b []
 
-pub start_run : (decls : List ThreadDecl) (threads : List Thread) → AllStart (map (λ d. view.block d.body) decls) threads
+start_run : (decls : List ThreadDecl) (threads : List Thread) → AllStart (map (λ d. view.block d.body) decls) threads
     → all_left threads ≡ map (λ t. items_then t.body []) (map plain_thread (map view.thread decls))
 start_run [] [] h = refl
 start_run [] (x ∷ threads) h = absurd h
@@ -170,7 +170,7 @@ module _ (p : Program) (formed : IsWellFormed (view.program p)) where
       subst (λ t. block_size t.body < most_size) (get_or-map view.thread p.threads k d no_thread inside)
       (formed.bodies k no_thread (subst (λ n. k < n) (sym (length-map p.threads view.thread)) inside)).small
 
-  pub bodies_in_range : (k : ℕ) (d : ThreadDecl) → k < length p.threads → IsBlockInRange (length p.vars) (length p.locks) (view.block (get_or p.threads k d).body)
+  bodies_in_range : (k : ℕ) (d : ThreadDecl) → k < length p.threads → IsBlockInRange (length p.vars) (length p.locks) (view.block (get_or p.threads k d).body)
   bodies_in_range k d inside = (thread_in_range p formed k (get_or p.threads k d) inside (get_or_default p.threads k d (get_or p.threads k d) inside)).body
 
 module _ (p : Program) (s : Shared) (threads : List Thread) where

@@ -1,30 +1,22 @@
 -- The frames of the code, as the last of them changes.
-use Rattle.std.proofs.Common.{◌≡◌, ℕ, ◌+◌, ◌<◌, ◌≤◌, ◌⊎◌, inl, inr, List, [], ◌∷◌, ◌++◌, length, map, reverse, refl, ap, sym, ◌∙◌, arith}
-use Rattle.std.proofs.lemmas.List.{map-append, reverse-append, length-map, length-reverse}
+use Rattle.std.proofs.Common.{◌≡◌, ℕ, ◌<◌, ◌≤◌, ◌⊎◌, inl, inr, List, [], ◌∷◌, ◌++◌, length, map, reverse, refl, ap, sym, ◌∙◌, arith}
+use Rattle.std.proofs.lemmas.List.{map-append, reverse-append}
 use Rattle.std.specs.Borrow.{Bor}
 use Rattle.cov_ast.specs.Syntax.{Block, done, more}
 use Rattle.cov_ast.specs.Syntax as s
 use Rattle.cov_ast.specs.View as view
 use Rattle.cov_ast.specs.declared.stmt.Stmt.{Stmt}
-use Rattle.source_machine.specs.Inside.Entries.{without_notes, on_top, entered, height, outer}
+use Rattle.source_machine.specs.Inside.Entries.{without_notes, on_top, entered, height}
 use Rattle.source_machine.specs.Inside.Stacks.{stack_of}
-use Rattle.source_machine.proofs.Statements.{begins}
 
 pub pushed : (fs : List (Bor (List Stmt))) (f : Bor (List Stmt)) → stack_of (fs ++ f ∷ []) ≡ view.block f.now ∷ stack_of fs
 pushed fs f =
     ap reverse (map-append (λ f. view.block f.now) fs (f ∷ [])) ∙ reverse-append (map (λ f. view.block f.now) fs) (view.block f.now ∷ [])
 
-pub length_stack : (fs : List (Bor (List Stmt))) → length (stack_of fs) ≡ length fs
-length_stack fs = length-reverse (map (λ f. view.block f.now) fs) ∙ length-map fs (λ f. view.block f.now)
-
 -- what `enter` puts on top, where something of the block runs
 pub entered_some : (r : List Stmt) (b : Block) (bs : List Block) → view.block r ≡ without_notes b → 0 < length r → entered b bs ≡ view.block r ∷ bs
 entered_some [] b bs e h = absurd (omega arith)
 entered_some (x ∷ r) b bs e h = ap (λ w. on_top w bs) (sym e)
-
-pub entered_none : (r : List Stmt) (b : Block) (bs : List Block) → view.block r ≡ without_notes b → length r ≡ 0 → entered b bs ≡ bs
-entered_none [] b bs e h = ap (λ w. on_top w bs) (sym e)
-entered_none (x ∷ r) b bs e h = absurd (omega arith)
 
 something_runs : (b : Block) → (without_notes b ≡ done) ⊎ (1 ≤ height b)
 something_runs done = inl refl
@@ -39,20 +31,3 @@ height_some (x ∷ r) b e h = elim (something_runs b) [ inl is ↦ absurd (more_
   where
     more_is_not_done : {at : ℕ} {c : s.Stm} {proofs : List s.Proof} {b : Block} → more at c proofs b ≡ done → ⊥
     more_is_not_done e = cc
-
--- the frames around the last
-pub outer_popped : (fs around : List (Bor (List Stmt))) (f : Bor (List Stmt)) → fs ≡ around ++ f ∷ [] → outer (stack_of fs) ≡ stack_of around
-outer_popped fs around f last = ap (λ gs. outer (stack_of gs)) last ∙ ap outer (pushed around f)
-
-pub length_outer : (bs : List Block) → length bs ≤ length (outer bs) + 1
-length_outer [] = omega arith
-length_outer (b ∷ bs) = omega arith
-
--- the first statement of the innermost frame, and what is behind it
-pub innermost : (fs around : List (Bor (List Stmt))) (f : Bor (List Stmt)) (x : Stmt) (rest : List Stmt) → fs ≡ around ++ f ∷ [] → f.now ≡ x ∷ rest
-    → stack_of fs ≡ more x.at (view.kind x.kind) (map view.proof x.proofs) (view.block rest) ∷ stack_of around
-innermost fs around f x rest last first = ap stack_of last ∙ pushed around f ∙ ap (λ c. c ∷ stack_of around) (begins f.now x rest first)
-
--- frames of which the innermost is empty, if there is one
-pub nothing_first : (fs around : List (Bor (List Stmt))) (f : Bor (List Stmt)) → fs ≡ around ++ f ∷ [] → f.now ≡ [] → stack_of fs ≡ done ∷ stack_of around
-nothing_first fs around f last none = ap stack_of last ∙ pushed around f ∙ ap (λ r. view.block r ∷ stack_of around) none

@@ -2,8 +2,8 @@
 --
 -- A frame is what is left of a block that the thread stands in, the innermost first. A frame below the body of a loop begins
 -- with that loop: the items are those of the body, and then the loop itself.
-use Rattle.std.specs.Prelude.{ℕ, List, [], ◌∷◌, Option, Some, None}
-use Rattle.cov_ast.specs.Plain.{skip, assign, lock, unlock, branch, loop, output, next, none, ◌then_all◌, plain_block}
+use Rattle.std.specs.Prelude.{ℕ, List, [], ◌∷◌, Option, Some}
+use Rattle.cov_ast.specs.Plain.{assign, branch, loop, output, next, none, ◌then_all◌, plain_block}
 use Rattle.cov_ast.specs.Syntax.{Block}
 use Rattle.flow_model.specs.Source.{Item, run, put, test, emit, items_then}
 

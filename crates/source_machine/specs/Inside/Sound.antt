@@ -1,5 +1,5 @@
 -- What is true of each machine.
-use Rattle.std.specs.Prelude.{◌≡◌, ℕ, ◌≤◌, List, [], ◌∷◌, length, map}
+use Rattle.std.specs.Prelude.{◌≡◌, ℕ, List, [], ◌∷◌, length, map}
 use Rattle.std.specs.Vec.{vec_capacity}
 use Rattle.cov_ast.specs.Syntax.{Block}
 use Rattle.cov_ast.specs.Syntax as s
