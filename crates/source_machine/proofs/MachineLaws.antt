@@ -1,5 +1,5 @@
 -- A step of a thread is a step of the machine, and leaves it sound.
-use Rattle.std.proofs.Common.{◌≡◌, ℕ, ◌<◌, zero, suc, List, [], ◌∷◌, length, map, reverse, get_or, set, refl, ap, sym, ◌∙◌, subst, arith}
+use Rattle.std.proofs.Common.{◌≡◌, ℕ, ◌+◌, ◌<◌, ◌≤◌, zero, suc, List, [], ◌∷◌, length, map, reverse, get_or, set, refl, ap, sym, ◌∙◌, subst, arith}
 use Rattle.std.proofs.lemmas.List.{get_or-map, length-map, map-set}
 use Rattle.std.specs.Borrow.{Bor}
 use Rattle.std.specs.Vec.{vec_capacity}
@@ -20,7 +20,7 @@ use Rattle.source_machine.specs.Inside.Stacks.{frames_of, rooms, turned_from, tu
 use Rattle.source_machine.specs.declared.shared.Shared.{Shared}
 use Rattle.source_machine.specs.declared.thread.Thread.{Thread}
 use Rattle.source_machine.proofs.PartLaws.{turned_stands}
-use Rattle.source_machine.proofs.TurnLaws.{IsTurn, turned_is, turned_fine, turned_memory, turned_holders}
+use Rattle.source_machine.proofs.TurnLaws.{IsTurn, turned_is, turned_fine, turned_memory, turned_holders, turned_outputs}
 
 frames_seen : (fs : List (Bor (List Stmt))) → map view.block (map (λ f. f.now) fs) ≡ map (λ f. view.block f.now) fs
 frames_seen [] = refl
@@ -109,6 +109,10 @@ module _ (t : ℕ) (s : Shared) (thread : Thread) (n : Shared) (next : Thread) (
   holders_stay =
       sym (length-map n.holders held_by) ∙ ap (λ r. length r.holders) q.turned_so
       ∙ turned_holders t s.memory (holders_of s.holders) s.said.items (frames_of thread) thread.word ∙ length-map s.holders held_by
+
+  pub outputs_grow : length n.said.items ≤ length s.said.items + 1
+  outputs_grow = subst (λ k. k ≤ length s.said.items + 1) (sym (ap (λ r. length r.outputs) q.turned_so))
+      (turned_outputs t s.memory (holders_of s.holders) s.said.items (frames_of thread) thread.word)
 
   pub turn_fine : (body : Block) → Stands body (items (frames_of thread)) → IsThread (length s.memory) (length s.holders) body next
   turn_fine body stands = record {

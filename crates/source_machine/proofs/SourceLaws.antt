@@ -1,5 +1,5 @@
 -- What a sound machine says of its threads.
-use Rattle.std.proofs.Common.{◌≡◌, ℕ, ◌<◌, ◌≤◌, suc, List, [], ◌∷◌, ◌++◌, length, map, get_or, set, replicate, refl, ap, sym, ◌∙◌, subst, arith, Bool, true, false, Option, Some, None, is_some, option_map, IsTrue, ◌↔◌, not, ◌==◌}
+use Rattle.std.proofs.Common.{◌≡◌, ℕ, ◌+◌, ◌<◌, ◌≤◌, suc, List, [], ◌∷◌, ◌++◌, length, map, get_or, set, replicate, refl, ap, sym, ◌∙◌, subst, arith, Bool, true, false, Option, Some, None, is_some, option_map, IsTrue, ◌↔◌, not, ◌==◌}
 use Rattle.std.proofs.lemmas.List.{get_or-map, get_or_default, get_or_past, length-map, length-replicate}
 use Rattle.std.specs.Vec.{vec_capacity}
 use Rattle.cov_ast.specs.Plain.{plain, plain_block, plain_thread}
@@ -24,7 +24,7 @@ use Rattle.source_machine.specs.declared.thread.Thread.{Thread}
 use Rattle.flow_model.specs.declared.machine.Stepped.{Stepped}
 use Rattle.source_machine.proofs.AlikeLaws.{alike_sound, alike_complete, first_with_word, with_nothing}
 use Rattle.source_machine.proofs.FrameLaws.{items_entered, entered_fine}
-use Rattle.source_machine.proofs.MachineLaws.{remaining, all_left, run_with, left_at, items_seen, no_thread, each_length, each_at, each_set, Turns, turn_runs, turn_says, turn_fine, memory_stays, holders_stay}
+use Rattle.source_machine.proofs.MachineLaws.{remaining, all_left, run_with, left_at, items_seen, no_thread, each_length, each_at, each_set, Turns, turn_runs, turn_says, turn_fine, memory_stays, holders_stay, outputs_grow}
 use Rattle.source_machine.proofs.PartLaws.{part_start}
 
 -- the place of the first statement is that of the first item
@@ -73,6 +73,9 @@ module _ (p : Program) (s : Shared) (threads : List Thread) (a : IsSound p s thr
 
     pub next_says : answer ≡ step_says t (holders_of s.holders) (get_or (all_left threads) t [])
     next_says = turn_says t s x n y answer turns threads inside is
+
+    pub next_grows : length n.said.items ≤ length s.said.items + 1
+    next_grows = outputs_grow t s x n y answer turns
 
     pub next_sound : IsSound p n (set threads t y)
     next_sound =

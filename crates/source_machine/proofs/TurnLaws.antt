@@ -1,6 +1,6 @@
 -- A step on frames is the step of the definition on what they stand for.
 use Rattle.std.proofs.Common.{◌≡◌, ℕ, ◌+◌, ◌≤◌, List, [], ◌∷◌, ◌++◌, length, set, refl, ap, sym, ◌∙◌, arith, Bool, true, false, not, Option, Some, None, is_some, if◌then◌else◌}
-use Rattle.std.proofs.lemmas.List.{length-set}
+use Rattle.std.proofs.lemmas.List.{length-append, length-set}
 use Rattle.cov_expr.specs.Term.{Term, is_set}
 use Rattle.cov_ast.specs.Plain.{plain_block, none}
 use Rattle.cov_ast.specs.Plain as p
@@ -189,3 +189,33 @@ module _ (t : ℕ) (m : List ℕ) (h : Holders) (o : Outputs) where
   turned_holders (more at (s.note j) proofs rest ∷ bs) word = refl
   turned_holders (more at (s.output e) proofs rest ∷ bs) None = refl
   turned_holders (more at (s.output e) proofs rest ∷ bs) (Some w) = refl
+
+-- Outputs grow by one word at most -----------------------------------------------------------------------------
+
+lock_outputs : (m : List ℕ) (h : Holders) (o : Outputs) (bs : List Block) (rest : Block) (t : ℕ) (word : Option ℕ) (l : ℕ) (u : Option ℕ) → (locked m h o bs rest t word l u).outputs ≡ o
+lock_outputs m h o bs rest t word l None = refl
+lock_outputs m h o bs rest t word l (Some u) = refl
+
+unlock_outputs : (m : List ℕ) (h : Holders) (o : Outputs) (bs : List Block) (rest : Block) (word : Option ℕ) (l : ℕ) (u : Bool) → (unlocked m h o bs rest word l u).outputs ≡ o
+unlock_outputs m h o bs rest word l true = refl
+unlock_outputs m h o bs rest word l false = refl
+
+module _ (t : ℕ) (m : List ℕ) (h : Holders) (o : Outputs) where
+  as_many : (n : Outputs) → n ≡ o → length n ≤ length o + 1
+  as_many n e = let k = ap length e in omega arith
+
+  pub turned_outputs : (bs : List Block) (word : Option ℕ) → length (turned t m h o bs word).outputs ≤ length o + 1
+  turned_outputs [] word = as_many o refl
+  turned_outputs (done ∷ bs) word = as_many o refl
+  turned_outputs (more at (s.lock l) proofs rest ∷ bs) word = as_many _ (lock_outputs m h o (more at (s.lock l) proofs rest ∷ bs) rest t word l (holder h l))
+  turned_outputs (more at (s.unlock l) proofs rest ∷ bs) word = as_many _ (unlock_outputs m h o (more at (s.unlock l) proofs rest ∷ bs) rest word l (is_held_by (holder h l) t))
+  turned_outputs (more at (s.output e) proofs rest ∷ bs) (Some w) = let k = length-append o (w ∷ []) in omega arith
+  turned_outputs (more at (s.output e) proofs rest ∷ bs) None = as_many o refl
+  turned_outputs (more at (s.assign x e q retypes) proofs rest ∷ bs) None = as_many o refl
+  turned_outputs (more at (s.assign x e q retypes) proofs rest ∷ bs) (Some w) = as_many o refl
+  turned_outputs (more at (s.branch e one other join) proofs rest ∷ bs) None = as_many o refl
+  turned_outputs (more at (s.branch e one other join) proofs rest ∷ bs) (Some w) = as_many o refl
+  turned_outputs (more at (s.loop e inv body) proofs rest ∷ bs) None = as_many o refl
+  turned_outputs (more at (s.loop e inv body) proofs rest ∷ bs) (Some w) = as_many o refl
+  turned_outputs (more at s.skip proofs rest ∷ bs) word = as_many o refl
+  turned_outputs (more at (s.note j) proofs rest ∷ bs) word = as_many o refl

@@ -1,4 +1,4 @@
-ghost use Rattle.std.specs.Prelude.{◌≡◌, ◌<◌, ◌↔◌, ℕ, [], length, map, All, IfOk, IsTrue, MatchOption};
+ghost use Rattle.std.specs.Prelude.{◌≡◌, ◌+◌, ◌<◌, ◌≤◌, ◌↔◌, ℕ, [], length, map, All, IfOk, IsTrue, MatchOption};
 ghost use Rattle.cov_ast.specs.View as view;
 ghost use Rattle.cov_ast.specs.Plain.{plain};
 ghost use Rattle.cov_ast.specs.WellFormed.{IsWellFormed, block_size, most_size};
@@ -84,6 +84,7 @@ impl<'p> Source<'p> {
         ensures program { (self.new).program ≡ (self.old).program }
         ensures run { run_of self.new ≡ spec.step (run_of self.old) t }
         ensures room { (self.new).room ≡ (self.old).room }
+        ensures grows { length (run_of self.new).outputs ≤ length (run_of self.old).outputs + 1 }
         ensures says { result ≡ step_says t (run_of self.old).holders (spec.items_of (run_of self.old) t) }
     {
         let thread = &mut self.threads[t as usize];

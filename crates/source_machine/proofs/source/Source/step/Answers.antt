@@ -1,5 +1,5 @@
 use Rattle.std.proofs.Common.{arith}
-use Rattle.source_machine.proofs.SourceLaws.{count, thread_fine, next_runs, next_says, next_sound}
+use Rattle.source_machine.proofs.SourceLaws.{count, thread_fine, next_runs, next_says, next_grows, next_sound}
 use Rattle.source_machine.proofs.source.Source.step.Goals as goal
 
 pub index_mut-thread-requires : goal.index_mut-thread-requires
@@ -35,4 +35,12 @@ returns-clause-says c =
     let h = rw (← c.self.view_is) at c.requires.thread in
     rw (← c.self.view_is)
     (next_says _ c.self.inside.shared _ c.self.invariant c.args.t c.index_mut-thread.result.now c.turn.new.self c.turn.new.shared c.turn.result (omega arith)
+    c.index_mut-thread.ensures.value c.turn.ensures.turned c.turn.ensures.room)
+
+pub returns-clause-grows : goal.returns-clause-grows
+returns-clause-grows c =
+    let k = count _ _ _ c.self.invariant in
+    let h = rw (← c.self.view_is) at c.requires.thread in
+    rw (← c.self.view_is)
+    (next_grows _ c.self.inside.shared _ c.self.invariant c.args.t c.index_mut-thread.result.now c.turn.new.self c.turn.new.shared c.turn.result (omega arith)
     c.index_mut-thread.ensures.value c.turn.ensures.turned c.turn.ensures.room)
