@@ -1,0 +1,7 @@
+use Rattle.std.proofs.Common.{ℕ, ◌<◌}
+use Rattle.source_machine.specs.Machine.{run_of, IsAlikeAt}
+use Rattle.source_machine.proofs.source.Source.same_lists.Given as goal
+
+-- the threads so far are alike
+abbrev pub invariant-loop-t : goal.invariant-loop-t
+invariant-loop-t l = (u : ℕ) → u < l.t → IsAlikeAt (run_of l.self) (run_of l.other) u

@@ -1,0 +1,52 @@
+-- What contracts see of a program that runs, the run of the definition for which it stands, and what calls answer.
+use Rattle.std.specs.Prelude.{ℕ, ◌<◌, List, [], ◌∷◌, map, reverse, Option, if◌then◌else◌}
+use Rattle.cov_ast.specs.View as view
+use Rattle.cov_ast.specs.declared.decl.Program.{Program}
+use Rattle.cov_ast.specs.declared.stmt.Stmt.{Stmt}
+use Rattle.flow_model.specs.Agreement.{AreAlike}
+use Rattle.flow_model.specs.FirstDifference.{holders_of}
+use Rattle.flow_model.specs.Source.{Item, Holders, Outputs, Run, items_of, stays_at}
+use Rattle.flow_model.specs.declared.machine.Holder.{Holder}
+use Rattle.flow_model.specs.declared.machine.Stepped.{Stepped}
+use Rattle.flow_model.specs.declared.machine.Stepped.TheVariants as stepped
+use Rattle.source_machine.specs.Frames.{items, with_word}
+
+-- where a thread stands: what is left of each block that it is in, the innermost last, and the word that the expression of
+-- its first statement gave, where it was evaluated
+pub record Standing : Type 0 where
+  pub frames : List (List Stmt)
+  pub word : Option ℕ
+
+-- a program that runs, with room for so many outputs
+pub record Machine : Type 0 where
+  pub program : Program
+  pub memory : List ℕ
+  pub holders : List Holder
+  pub outputs : Outputs
+  pub room : ℕ
+  pub threads : List Standing
+
+-- the items for which a thread stands
+abbrev pub items_left : Standing → List Item
+items_left q = with_word q.word (items (reverse (map view.block q.frames)))
+
+-- the run of the definition
+abbrev pub run_of : Machine → Run
+run_of m = record { memory = m.memory; holders = holders_of m.holders; outputs = m.outputs; items = map items_left m.threads }
+
+-- Answers ------------------------------------------------------------------------------------------------------
+
+-- What a step answers, by the items before it: a finished thread is idle, and one stays where the definition says so.
+abbrev pub step_says : ℕ → Holders → List Item → Stepped
+step_says t h [] = stepped.Idle
+step_says t h (i ∷ is) = if stays_at t h (i ∷ is) then stepped.Stayed else stepped.Moved
+
+-- What remains of a thread is the same in two runs, but for the words of pending stores and pending outputs.
+abbrev pub IsAlikeAt : Run → Run → ℕ → Type 0
+IsAlikeAt r s t = AreAlike (items_of r t) (items_of s t)
+
+-- Of so many threads it is the first that isn't alike.
+pub record IsFirstApart (r s : Run) (count t : ℕ) : Type 0 where
+  pub inside : t < count
+  pub apart : ¬ IsAlikeAt r s t
+  pub before : (u : ℕ) → u < t → IsAlikeAt r s u
