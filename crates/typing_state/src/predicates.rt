@@ -1,4 +1,4 @@
-ghost use Rattle.std.specs.Prelude.{◌≡◌, ◌<◌, ◌≤◌, [], if◌then◌else◌, is_some, length, map, not, filter, position, remove, take, IfOk, OnOk};
+ghost use Rattle.std.specs.Prelude.{◌≡◌, ◌+◌, ◌<◌, ◌≤◌, [], if◌then◌else◌, is_some, length, map, not, filter, position, remove, take, IfOk, OnOk};
 ghost use Rattle.std.specs.List.{list_all, list_any};
 ghost use Rattle.cov_expr.specs.Trees as tree;
 ghost use Rattle.cov_expr.specs.View.{term};
@@ -205,8 +205,8 @@ impl Predicates {
     {
         let e = self.list.remove(place);
         self.index.shift_remove_index(place);
-        self.false_ones -= count_false(&e);
-        self.large_ones -= count_large(&e);
+        self.false_ones = false_without(self.false_ones, &e);
+        self.large_ones = large_without(self.large_ones, &e);
     }
 }
 
@@ -230,6 +230,28 @@ fn count_false(e: &Expr) -> usize
     ensures { result ≡ (if is_false (term e.now) then 1 else 0) }
 {
     (closed(e) && eval(e, &[]) == 0) as usize
+}
+
+/// How many are closed and don't hold once an expression is dropped. Where there are none it isn't looked at.
+fn false_without(count: usize, e: &Expr) -> usize
+    requires { (if is_false (term e.now) then 1 else 0) ≤ count }
+    ensures { result + (if is_false (term e.now) then 1 else 0) ≡ count }
+{
+    if count == 0 {
+        return 0;
+    }
+    count - count_false(e)
+}
+
+/// How many have more than 1,000 nodes once an expression is dropped. Where there are none its nodes aren't counted.
+fn large_without(count: usize, e: &Expr) -> usize
+    requires { (if not (is_small (term e.now)) then 1 else 0) ≤ count }
+    ensures { result + (if not (is_small (term e.now)) then 1 else 0) ≡ count }
+{
+    if count == 0 {
+        return 0;
+    }
+    count - count_large(e)
 }
 
 /// One for an expression of more than 1,000 nodes.

@@ -251,10 +251,24 @@ impl Types {
         if group < next {
             return next as u32 * 16;
         }
-        if self.is_free(z, x) {
-            return z + 1;
+        self.past_free_of_group(z, x)
+    }
+
+    /// The same of the sixteen variables alone to which this one belongs.
+    fn past_free_of_group(&self, z: u32, x: u32) -> u32
+        requires small { x < 256 }
+        requires below { z < 256 }
+        ensures further { z ≤ result }
+        ensures free { (k : ℕ) → z ≤ k → k < result → is_free x (get_or (map (option_map term) self.now) k None) ≡ true }
+        ensures stays { result ≡ z → is_free x (get_or (map (option_map term) self.now) z None) ≡ false }
+    {
+        let end = (z / 16 + 1) * 16;
+        for k in z..end {
+            if !self.is_free(k, x) {
+                return k;
+            }
         }
-        z
+        end
     }
 
     /// Whether the type of a variable, if there is one, doesn't mention another variable.
