@@ -55,7 +55,12 @@ impl<'p> Source<'p> {
 
     /// A program at its start: this memory, one word for each variable, all locks free, nothing put out, and each thread in
     /// front of its body. The memory for all frames and for `room` outputs is taken here.
-    pub fn start(alloc: Global, p: &'p Program, memory: List<u32>, room: usize) -> Result<Source<'p>, NoMemory>
+    pub fn start(
+        alloc: Global,
+        p: &'p Program,
+        memory: List<u32>,
+        room: usize,
+    ) -> Result<Source<'p>, NoMemory>
         requires formed { IsWellFormed (view.program p.now) }
         requires memory { length memory ≡ length p.now.vars }
         ensures program { IfOk result (λ source. source.program ≡ p.now) }

@@ -110,7 +110,7 @@ impl<'p> Thread<'p> {
         requires room { length (outer (frames_of self.old)) + spec.height (view.block rest.now) ≤ vec_capacity self.old.frames }
         ensures turned { turned_to shared.new self.new result
             ≡ turns.locked shared.old.memory (holders_of shared.old.holders) shared.old.said.items (frames_of self.old) (view.block rest.now) t self.old.word l
-              (holder (holders_of shared.old.holders) l) }
+            (holder (holders_of shared.old.holders) l) }
         ensures room { rooms shared.new self.new ≡ rooms shared.old self.old }
     {
         if shared.is_held(l) {
@@ -126,7 +126,7 @@ impl<'p> Thread<'p> {
         requires room { length (outer (frames_of self.old)) + spec.height (view.block rest.now) ≤ vec_capacity self.old.frames }
         ensures turned { turned_to shared.new self.new result
             ≡ turns.unlocked shared.old.memory (holders_of shared.old.holders) shared.old.said.items (frames_of self.old) (view.block rest.now) self.old.word l
-              (is_held_by (holder (holders_of shared.old.holders) l) t) }
+            (is_held_by (holder (holders_of shared.old.holders) l) t) }
         ensures room { rooms shared.new self.new ≡ rooms shared.old self.old }
     {
         if !shared.is_held_by(l, t) {
@@ -137,13 +137,20 @@ impl<'p> Thread<'p> {
     }
 
     /// At a branch: evaluates the guard, or enters a block.
-    fn branch(&mut self, shared: &Shared, e: &Expr, a: &'p [Stmt], b: &'p [Stmt], rest: &'p [Stmt]) -> Stepped
+    fn branch(
+        &mut self,
+        shared: &Shared,
+        e: &Expr,
+        a: &'p [Stmt],
+        b: &'p [Stmt],
+        rest: &'p [Stmt],
+    ) -> Stepped
         requires reads { HasVarsBelow (term e.now) (length shared.now.memory) }
         requires room { length (outer (frames_of self.old)) + max (1 + max (spec.height (view.block a.now)) (spec.height (view.block b.now))) (spec.height (view.block rest.now))
             ≤ vec_capacity self.old.frames }
         ensures turned { turned_to shared.now self.new result
             ≡ turns.branched shared.now.memory (holders_of shared.now.holders) shared.now.said.items (frames_of self.old) (view.block rest.now)
-              (term e.now) (view.block a.now) (view.block b.now) self.old.word }
+            (term e.now) (view.block a.now) (view.block b.now) self.old.word }
         ensures room { vec_capacity self.new.frames ≡ vec_capacity self.old.frames }
     {
         let Some(word) = self.word else {
@@ -159,7 +166,7 @@ impl<'p> Thread<'p> {
         requires room { length (outer (frames_of self.old)) + max (1 + spec.height (view.block body.now)) (spec.height (view.block rest.now)) ≤ vec_capacity self.old.frames }
         ensures turned { turned_to shared.now self.new result
             ≡ turns.looped shared.now.memory (holders_of shared.now.holders) shared.now.said.items (frames_of self.old) (view.block rest.now)
-              (term e.now) (view.block body.now) self.old.word }
+            (term e.now) (view.block body.now) self.old.word }
         ensures room { vec_capacity self.new.frames ≡ vec_capacity self.old.frames }
     {
         let Some(word) = self.word else {

@@ -28,7 +28,6 @@ outer (b ∷ bs) = bs
 
 -- Heights ------------------------------------------------------------------------------------------------------
 
-
 abbrev mutual
   -- how many frames a thread has at most while it runs a statement, and a block
   pub stm_height : Stm → ℕ
