@@ -1,10 +1,9 @@
 -- Small threads whose steps are known, by computation.
-use Rattle.std.proofs.Common.{◌≡◌, ℕ, zero, suc, List, [], ◌∷◌, Option, Some, None, refl, true, false}
+use Rattle.std.proofs.Common.{◌≡◌, ℕ, zero, suc, List, [], ◌∷◌, Some, None, refl, true, false}
 use Rattle.cov_expr.specs.Term.{const, var}
-use Rattle.cov_ast.specs.Plain.{no_state, lock, unlock, loop, output, assign, none, next, ◌then_all◌}
+use Rattle.cov_ast.specs.Plain.{no_state, lock, unlock, loop, output, assign, none, next}
 use Rattle.cov_ast.specs.Syntax.{Block, done, more}
 use Rattle.cov_ast.specs.Syntax as s
-use Rattle.flow_model.specs.Agreement.{AreAlike}
 use Rattle.flow_model.specs.Source.{Item, Holders, run, put, test, emit}
 use Rattle.flow_model.specs.declared.machine.Stepped.TheVariants as stepped
 use Rattle.source_machine.specs.Frames.{items, with_word}
