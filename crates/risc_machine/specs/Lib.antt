@@ -1,0 +1,4 @@
+pub mod Faults
+pub mod Machine
+pub mod Running
+pub mod Inside
