@@ -10,6 +10,7 @@ mod certificates;
 mod edges;
 mod faults;
 mod forms;
+mod machines;
 mod points;
 
 use cov_ast::{Parsed, Program};
