@@ -1,5 +1,6 @@
 pub mod Soundness
 mod Examples
+mod OutputExamples
 mod GuardLaws
 mod SeenLaws
 mod StateLaws
