@@ -1,0 +1,22 @@
+pub mod ListLaws
+pub mod Digits
+pub mod Cuts
+pub mod DraftLaws
+pub mod ReadLaws
+pub mod Every
+pub mod FieldLaws
+pub mod RangeLaws
+pub mod InstrLaws
+pub mod SoundLaws
+mod Examples
+pub mod BackLaws
+pub mod InstrBack
+pub mod NamesBack
+pub mod PiecesBack
+pub mod FreeLaws
+pub mod ChainLaws
+pub mod Filled
+pub mod PhaseLaws
+pub mod Complete
+pub mod LineLaws
+pub mod AnswerLaws

@@ -1,0 +1,24 @@
+-- What reading a text keeps to: it does what the definition by cases does, and no list outgrows the lines.
+use Rattle.std.specs.Prelude.{◌≡◌, ℕ, ◌≤◌, List, [], ◌∷◌, length, Result, Ok, Err}
+use Rattle.risc_machine.specs.declared.parts.Parts.{Parts}
+use Rattle.risc_machine.specs.declared.parts.ThreadCode.{ThreadCode}
+use Rattle.code_text.specs.declared.fault.CodeFault.{CodeFault}
+use Rattle.code_text.specs.declared.fault.CodeFault.TheVariants.{Line, Bad, NoMemory}
+
+-- The code reads what the definition reads, unless memory runs out.
+abbrev pub Agrees : Result Parts CodeFault → Result Parts ℕ → Type 0
+Agrees (Ok p) r = r ≡ Ok p
+Agrees (Err (Line n)) r = r ≡ Err n
+Agrees (Err (Bad f)) r = ⊥
+Agrees (Err NoMemory) r = Unit {0}
+
+abbrev pub AreShort : ℕ → List ThreadCode → Type 0
+AreShort n [] = Unit {0}
+AreShort n (t ∷ ts) = (length t.lines ≤ n) × AreShort n ts
+
+-- No list of the parts is longer than so many lines are.
+pub record IsSmall (n : ℕ) (p : Parts) : Type 0 where
+  pub vars : length p.vars ≤ n
+  pub locks : length p.locks ≤ n
+  pub threads : length p.threads ≤ n
+  pub lines : AreShort n p.threads

@@ -1,0 +1,146 @@
+ghost use Rattle.std.specs.Prelude.{◌≡◌, ◌≤◌, ◌<◌, length, IsTrue, MatchOption};
+ghost use Rattle.std.specs.List.{list_all};
+ghost use Rattle.std.specs.Str.{bytes_eq};
+ghost use Rattle.std.specs.Str.Parse.{digits_value};
+ghost use Rattle.cov_expr.specs.Bytes as class;
+ghost use Rattle.code_text.specs.Inside.Reading as spec;
+
+use cov_expr::{Name, Op, is_digit};
+
+/// Whether a field is this word.
+pub fn is(field: &[u8], word: &[u8]) -> bool
+    ensures { result ≡ bytes_eq field.now word.now }
+{
+    field == word
+}
+
+/// The name that a field is.
+pub fn name_of(field: &[u8]) -> Option<Name>
+    ensures { result ≡ spec.name_of field.now }
+{
+    Name::new(field)
+}
+
+/// The number that a field is, without leading zeros.
+pub fn number_of(field: &[u8]) -> Option<u32>
+    ensures { result ≡ spec.number_of field.now }
+{
+    if is_number(field) { value(field) } else { None }
+}
+
+fn is_number(field: &[u8]) -> bool
+    ensures { result ≡ spec.is_number field.now }
+{
+    are_digits(field) && !field.is_empty() && (field[0] != b'0' || field.len() == 1)
+}
+
+fn are_digits(field: &[u8]) -> bool
+    ensures { result ≡ list_all class.is_digit field.now }
+{
+    for byte in field {
+        if !is_digit(*byte) {
+            return false;
+        }
+    }
+    true
+}
+
+/// The value of digits. `None` comes where it is above 4294967295.
+fn value(digits: &[u8]) -> Option<u32>
+    requires { IsTrue (list_all class.is_digit digits.now) }
+    ensures { MatchOption result (4294967295 < digits_value 10 digits.now) (λ n. n ≡ digits_value 10 digits.now) }
+{
+    let mut n: u64 = 0;
+    for digit in digits {
+        n = n * 10 + (*digit - b'0') as u64;
+        if n > 4294967295 {
+            return None;
+        }
+    }
+    Some(n as u32)
+}
+
+/// The register that a field is.
+pub fn register_of(field: &[u8]) -> Option<u8>
+    ensures { result ≡ spec.register_of field.now }
+{
+    match field {
+        [a, b] => {
+            if *a == b'r' && is_digit_below(8, *b) {
+                Some(*b - b'0')
+            } else {
+                None
+            }
+        }
+        _ => None,
+    }
+}
+
+/// The weight that a field is.
+pub fn weight_of(field: &[u8]) -> Option<u8>
+    ensures { result ≡ spec.weight_of field.now }
+{
+    match field {
+        [b] => {
+            if is_digit_below(3, *b) {
+                Some(*b - b'0')
+            } else {
+                None
+            }
+        }
+        _ => None,
+    }
+}
+
+fn is_digit_below(n: u8, byte: u8) -> bool
+    requires { n < 10 }
+    ensures { result ≡ spec.digit_below n byte }
+{
+    b'0' <= byte && byte < b'0' + n
+}
+
+/// The number of the first of these names that a field is.
+pub fn place_of(names: &[Name], field: &[u8]) -> Option<u32>
+    requires { length names.now < 4294967296 }
+    ensures { result ≡ spec.place_of names.now field.now }
+{
+    for (x, name) in names.iter().enumerate() {
+        if is(field, name.text()) {
+            return Some(x as u32);
+        }
+    }
+    None
+}
+
+/// The operator that a field is.
+pub fn op_of(field: &[u8]) -> Option<Op>
+    ensures { result ≡ spec.op_of field.now }
+{
+    if is(field, b"+") {
+        Some(Op::Add)
+    } else if is(field, b"-") {
+        Some(Op::Sub)
+    } else if is(field, b"*") {
+        Some(Op::Mul)
+    } else if is(field, b"&") {
+        Some(Op::And)
+    } else if is(field, b"|") {
+        Some(Op::Or)
+    } else if is(field, b"^") {
+        Some(Op::Xor)
+    } else if is(field, b"==") {
+        Some(Op::Eq)
+    } else if is(field, b"!=") {
+        Some(Op::Ne)
+    } else if is(field, b"<") {
+        Some(Op::Lt)
+    } else if is(field, b"<=") {
+        Some(Op::Le)
+    } else if is(field, b"&&") {
+        Some(Op::Both)
+    } else if is(field, b"||") {
+        Some(Op::Either)
+    } else {
+        None
+    }
+}
