@@ -60,7 +60,8 @@ first_apart p r s schedule i now other d l before a b x = record {
   some = omega arith;
   within = omega arith;
   before = before;
-  apart = λ y. x.1 (subst (λ z. StatesAgree (plain (view.program p)) now z) (sym b) (subst (λ z. StatesAgree (plain (view.program p)) z (after_steps s schedule (i + 1))) (sym a) y));
+  apart = λ y. x.1 (subst (λ z. StatesAgree (plain (view.program p)) now z) (sym b)
+      (subst (λ z. StatesAgree (plain (view.program p)) z (after_steps s schedule (i + 1))) (sym a) y));
   differ = subst (λ z. DiffersIn p (after_steps r schedule (i + 1)) z d) b (subst (λ z. DiffersIn p z other d) a x.0);
 }
 

@@ -71,7 +71,10 @@ module _ (before now : Machine) (schedule : List ℕ) (k : ℕ) (h : HasRun befo
   has_run_more next l s = record {
     program = s.program ∙ h.program;
     room = s.room ∙ h.room;
-    run = s.run ∙ ap (λ r. step r (get_or schedule k 0)) h.run ∙ sym (run_from_more (run_of before) (take k schedule) (get_or schedule k 0)) ∙ ap (run_from (run_of before)) (sym (take_more schedule k 0 l));
+    run =
+        s.run ∙ ap (λ r. step r (get_or schedule k 0)) h.run
+        ∙ sym (run_from_more (run_of before) (take k schedule) (get_or schedule k 0))
+        ∙ ap (run_from (run_of before)) (sym (take_more schedule k 0 l));
     outputs =
         let grown = grown_length _ _ (step_grows (run_of now) (get_or schedule k 0)) in
         let e = ap (λ r. length r.outputs) s.run in

@@ -54,8 +54,8 @@ pub fn run(s: &mut Source<'_>, schedule: &[u32]) -> u32
     stayed
 }
 
-/// Runs a schedule until an expression holds: it stops after the least number of steps, 0 included, after which the watch
-/// hits, or at the end of the schedule. It learns of the memory by the watch alone, and takes no memory itself.
+/// Runs a schedule until an expression holds: it stops after the least number of steps, 0 included, after which the
+/// watch hits, or at the end of the schedule. It learns of the memory by the watch alone, and takes no memory itself.
 pub fn run_until(s: &mut Source<'_>, schedule: &[u32], w: &Watch) -> Until
     requires threads { IsSchedule (length (s.old).program.threads) schedule.now }
     requires entries { length schedule.now ≤ most_entries }
@@ -85,10 +85,10 @@ pub fn run_until(s: &mut Source<'_>, schedule: &[u32], w: &Watch) -> Until
     }
 }
 
-/// Runs a schedule on two machines of one program, side by side, until they don't agree after a step. `None` comes exactly
-/// where they agree after each step, and both have run the whole schedule then; else both stand after the first step after
-/// which they don't. The start is not looked at. It takes no memory, and the time of one look at the declarations and the
-/// threads for each step, and of one look at each output.
+/// Runs a schedule on two machines of one program, side by side, until they don't agree after a step. `None` comes
+/// exactly where they agree after each step, and both have run the whole schedule then; else both stand after the
+/// first step after which they don't. The start is not looked at. It takes no memory, and the time of one look at the
+/// declarations and the threads for each step, and of one look at each output.
 pub fn pair<'p>(
     p: &'p Program,
     a: &mut Source<'p>,
@@ -170,8 +170,10 @@ fn memories_apart<'p>(p: &'p Program, a: &Source<'p>, b: &Source<'p>) -> Option<
     requires formed { IsWellFormed (view.program p.now) }
     requires first { (a.now).program ≡ p.now }
     requires second { (b.now).program ≡ p.now }
-    ensures first { result ≡ first_difference (plain (view.program p.now)) (run_of a.now).memory (run_of a.now).holders (run_of b.now).memory (run_of b.now).holders }
-    ensures agree { IsNone result ↔ MemoriesAgree (plain (view.program p.now)) (run_of a.now).memory (run_of a.now).holders (run_of b.now).memory (run_of b.now).holders }
+    ensures first { result ≡ first_difference (plain (view.program p.now))
+        (run_of a.now).memory (run_of a.now).holders (run_of b.now).memory (run_of b.now).holders }
+    ensures agree { IsNone result ↔ MemoriesAgree (plain (view.program p.now))
+        (run_of a.now).memory (run_of a.now).holders (run_of b.now).memory (run_of b.now).holders }
 {
     agree(p, a.memory(), a.holders(), b.memory(), b.holders())
 }

@@ -12,8 +12,8 @@ use std::alloc::Global;
 /// The most entries of a schedule.
 const MOST_ENTRIES: usize = 100000;
 
-/// The entries of a schedule, from a JSON list of numbers of threads, which are counted from 0 in the order of declaration. It
-/// takes memory for the value that is read and for the entries.
+/// The entries of a schedule, from a JSON list of numbers of threads, which are counted from 0 in the order of
+/// declaration. It takes memory for the value that is read and for the entries.
 pub fn read_schedule(alloc: Global, bytes: &[u8], threads: u32) -> Result<List<u32>, ScheduleFault>
     ensures { spec.GivesSchedule result (spec.schedule_of threads (value_of bytes.now)) }
 {

@@ -10,8 +10,9 @@ use cov_expr::{List, Name};
 use serde_json::{Map, Value};
 use std::alloc::Global;
 
-/// The words of a start, one for each variable in the order of the declarations, from a JSON object whose keys are their names.
-/// It takes memory for the value that is read and for the words. A name that is declared twice is one key.
+/// The words of a start, one for each variable in the order of the declarations, from a JSON object whose keys are
+/// their names. It takes memory for the value that is read and for the words. A name that is declared twice is one
+/// key.
 pub fn read_start(
     alloc: Global,
     bytes: &[u8],
@@ -59,8 +60,8 @@ fn first_missing(members: &Map<String, Value>, vars: &[VarDecl]) -> Option<Name>
     None
 }
 
-/// Whether each key is the name of a variable. Keys differ, so it looks at no more keys than there are variables, and at the
-/// first that is none.
+/// Whether each key is the name of a variable. Keys differ, so it looks at no more keys than there are variables, and
+/// at the first that is none.
 fn are_declared(members: &Map<String, Value>, vars: &[VarDecl]) -> bool
     ensures { result ≡ spec.are_declared vars.now (members_view members.now.entries) }
 {
