@@ -1,0 +1,4 @@
+mod Examples
+pub mod StepLaws
+pub mod PairLaws
+pub mod ReadLaws

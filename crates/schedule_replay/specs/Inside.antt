@@ -1,0 +1,63 @@
+-- Words of private contracts. What is promised doesn't rest on them.
+use Rattle.std.specs.Prelude.{◌≡◌, ℕ, ◌+◌, ◌≤◌, List, ◌++◌, length, take, if◌then◌else◌, Some, None, Result, Ok, Err}
+use Rattle.flow_model.specs.Source.{Run, step, run_from, items_of, stays_at}
+use Rattle.flow_model.specs.declared.machine.Stepped.{Stepped}
+use Rattle.flow_model.specs.declared.machine.Stepped.TheVariants as stepped
+use Rattle.serde_json.specs.View.{view}
+use Rattle.serde_json.specs.declared.value.Value.{Value}
+use Rattle.source_machine.specs.Machine.{Machine, run_of}
+use Rattle.schedule_replay.specs.Json.{value_of}
+use Rattle.schedule_replay.specs.declared.fault.ScheduleFault.{ScheduleFault}
+use Rattle.schedule_replay.specs.declared.fault.StartFault.{StartFault}
+use Rattle.schedule_replay.specs.declared.json.Unread.{Unread}
+use Rattle.schedule_replay.specs.declared.json.Unread.TheVariants as unread
+
+-- 1 for a step that stayed, else 0
+abbrev pub count_of : Stepped → ℕ
+count_of stepped.Moved = 0
+count_of stepped.Stayed = 1
+count_of stepped.Idle = 0
+
+-- 1 where the next step of the thread stays, else 0
+abbrev pub next_stays : Run → ℕ → ℕ
+next_stays r t = if stays_at t r.holders (items_of r t) then 1 else 0
+
+-- The list goes on with at most one more.
+pub record GrowsByOne (before after : List ℕ) : Type 0 where
+  pub more : List ℕ
+  pub few : length more ≤ 1
+  pub grown : after ≡ before ++ more
+
+-- So many of the first items are in both lists, and the same.
+pub record HasSameFront (n : ℕ) (xs ys : List ℕ) : Type 0 where
+  pub left : n ≤ length xs
+  pub right : n ≤ length ys
+  pub same : take n xs ≡ take n ys
+
+-- A machine after one step of a thread.
+pub record HasStepped (before now : Machine) (t : ℕ) : Type 0 where
+  pub program : now.program ≡ before.program
+  pub room : now.room ≡ before.room
+  pub run : run_of now ≡ step (run_of before) t
+
+-- A machine after so many steps of a schedule, with room for an output of each.
+pub record HasRun (before now : Machine) (schedule : List ℕ) (k : ℕ) : Type 0 where
+  pub program : now.program ≡ before.program
+  pub room : now.room ≡ before.room
+  pub run : run_of now ≡ run_from (run_of before) (take k schedule)
+  pub outputs : length (run_of now).outputs ≤ length (run_of before).outputs + k
+
+-- What was read is the value of the bytes, or they have none; else memory ran out.
+abbrev pub IsRead : List ℕ → Result Value Unread → Type 0
+IsRead bytes (Ok value) = value_of bytes ≡ Some (view value)
+IsRead bytes (Err unread.Json) = value_of bytes ≡ None
+IsRead bytes (Err unread.NoMemory) = Unit {0}
+
+-- words in front of what a reading gives
+abbrev pub onto_start : List ℕ → Result (List ℕ) StartFault → Result (List ℕ) StartFault
+onto_start words (Ok more) = Ok (words ++ more)
+onto_start words (Err fault) = Err fault
+
+abbrev pub onto_schedule : List ℕ → Result (List ℕ) ScheduleFault → Result (List ℕ) ScheduleFault
+onto_schedule entries (Ok more) = Ok (entries ++ more)
+onto_schedule entries (Err fault) = Err fault

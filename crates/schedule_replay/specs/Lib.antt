@@ -1,0 +1,5 @@
+pub mod Json
+pub mod Starts
+pub mod Schedules
+pub mod Replays
+pub mod Inside

@@ -1,0 +1,43 @@
+-- What a JSON value says as a schedule: a list of numbers of threads, which are counted from 0.
+use Rattle.std.specs.Prelude.{◌≡◌, ℕ, suc, List, [], ◌∷◌, nat_lt, if◌then◌else◌, Option, Some, None, Result, Ok, Err}
+use Rattle.serde_json.specs.Data.{Data, Items, no_items, item}
+use Rattle.serde_json.specs.Events.{items_len}
+use Rattle.serde_json.specs.Find.{as_array}
+use Rattle.schedule_replay.specs.Json.{number_below}
+use Rattle.schedule_replay.specs.declared.fault.ScheduleFault.{ScheduleFault}
+use Rattle.schedule_replay.specs.declared.fault.ScheduleFault.TheVariants as faults
+
+-- the most entries of a schedule
+abbrev pub most_entries : ℕ
+most_entries = 100000
+
+abbrev pub in_front : ℕ → Result (List ℕ) ScheduleFault → Result (List ℕ) ScheduleFault
+in_front entry (Ok entries) = Ok (entry ∷ entries)
+in_front entry (Err fault) = Err fault
+
+abbrev pub with_entry : ℕ → Option ℕ → Result (List ℕ) ScheduleFault → Result (List ℕ) ScheduleFault
+with_entry i None rest = Err (faults.BadEntry i)
+with_entry i (Some entry) rest = in_front entry rest
+
+-- the entries from a place on, or the first that is no number of one of so many threads
+abbrev pub entries_from : (threads : ℕ) → (i : ℕ) → Items → Result (List ℕ) ScheduleFault
+entries_from threads i no_items = Ok []
+entries_from threads i (item d ds) = with_entry i (number_below threads d) (entries_from threads (suc i) ds)
+
+abbrev pub schedule_at : (threads : ℕ) → Option Items → Result (List ℕ) ScheduleFault
+schedule_at threads None = Err faults.NotList
+schedule_at threads (Some ds) = if nat_lt most_entries (items_len ds) then Err faults.TooMany else entries_from threads 0 ds
+
+-- The entries, or the first fault. There may be no value.
+abbrev pub schedule_of : (threads : ℕ) → Option Data → Result (List ℕ) ScheduleFault
+schedule_of threads None = Err faults.Json
+schedule_of threads (Some d) = schedule_at threads (as_array d)
+
+-- What is answered is what the value says, unless memory ran out.
+abbrev pub GivesSchedule : (answer said : Result (List ℕ) ScheduleFault) → Type 0
+GivesSchedule (Ok entries) said = said ≡ Ok entries
+GivesSchedule (Err faults.Json) said = said ≡ Err faults.Json
+GivesSchedule (Err faults.NotList) said = said ≡ Err faults.NotList
+GivesSchedule (Err faults.TooMany) said = said ≡ Err faults.TooMany
+GivesSchedule (Err (faults.BadEntry i)) said = said ≡ Err (faults.BadEntry i)
+GivesSchedule (Err faults.NoMemory) said = Unit {0}

@@ -1,0 +1,21 @@
+//! Starts and schedules from JSON, and replays: a schedule is run on one machine, or on two side by side.
+//!
+//! - [`read_start`] and [`read_schedule`]: the words of a start and the entries of a schedule, or the first fault.
+//! - [`run`]: runs a schedule. [`run_until`]: until an expression holds. [`pair`]: on two machines, until they don't
+//!   agree.
+//!
+//! What a JSON value says stands in `specs/Starts.antt` and `specs/Schedules.antt`, as functions of the value that
+//! `serde_json` reads (`specs/Json.antt`). What replays answer stands in `specs/Replays.antt`, over the runs of
+//! `flow_model`. `specs/Inside` has words of private contracts alone. Replays take no memory.
+#![tactic(auto)]
+
+mod fault;
+mod json;
+mod replays;
+mod schedule;
+mod start;
+
+pub use fault::{ScheduleFault, StartFault};
+pub use replays::{Found, Until, pair, run, run_until};
+pub use schedule::read_schedule;
+pub use start::read_start;

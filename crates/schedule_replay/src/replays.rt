@@ -1,0 +1,193 @@
+ghost use Rattle.std.specs.Prelude.{◌≡◌, ◌↔◌, ◌+◌, ◌<◌, ◌≤◌, length, take, IsNone, IsTrue, MatchOption};
+ghost use Rattle.watch.specs.Kept.{expr_of, words_of};
+ghost use Rattle.cov_expr.specs.Words.{IsSchedule};
+ghost use Rattle.cov_ast.specs.Plain.{plain};
+ghost use Rattle.cov_ast.specs.View as view;
+ghost use Rattle.cov_ast.specs.WellFormed.{IsWellFormed};
+ghost use Rattle.flow_model.specs.Agreement.{MemoriesAgree, StatesAgree};
+ghost use Rattle.flow_model.specs.FirstDifference.{first_difference};
+ghost use Rattle.flow_model.specs.Source as spec;
+ghost use Rattle.schedule_replay.specs.Inside.{HasSameFront, HasStepped, count_of, next_stays};
+ghost use Rattle.schedule_replay.specs.Schedules.{most_entries};
+ghost use Rattle.schedule_replay.specs.Replays.{AgreeThroughout, DiffersIn, IsFirstStepApart, StopsAt, part_run};
+ghost use Rattle.source_machine.specs.Machine.{run_of};
+
+use cov_ast::Program;
+use flow_model::{Differ, Stepped, agree};
+use source_machine::Source;
+use watch::Watch;
+
+/// Where a run until an expression holds stopped.
+#[derive(Clone, Copy, Debug, PartialEq, Eq)]
+pub struct Until {
+    /// How many steps were run.
+    pub steps: u32,
+    /// How many of them stayed.
+    pub stayed: u32,
+    /// Whether the expression holds there. Where it doesn't, the whole schedule was run.
+    pub hit: bool,
+}
+
+/// Where two runs don't agree.
+#[derive(Clone, Copy, Debug, PartialEq, Eq)]
+pub struct Found {
+    /// The first step after which they don't agree, counted from 1.
+    pub step: u32,
+    /// What they don't agree on there.
+    pub differ: Differ,
+}
+
+/// Runs a whole schedule, and answers how many of its steps stayed. It takes no memory.
+pub fn run(s: &mut Source<'_>, schedule: &[u32]) -> u32
+    requires threads { IsSchedule (length (s.old).program.threads) schedule.now }
+    requires entries { length schedule.now ≤ most_entries }
+    requires room { length (run_of s.old).outputs + length schedule.now ≤ (s.old).room }
+    ensures program { (s.new).program ≡ (s.old).program }
+    ensures room { (s.new).room ≡ (s.old).room }
+    ensures run { run_of s.new ≡ spec.run_from (run_of s.old) schedule.now }
+    ensures stayed { result ≡ spec.stayed_from (run_of s.old) schedule.now }
+{
+    let mut stayed = 0;
+    for t in schedule {
+        stayed += advance(s, *t);
+    }
+    stayed
+}
+
+/// Runs a schedule until an expression holds: it stops after the least number of steps, 0 included, after which the
+/// watch hits, or at the end of the schedule. It learns of the memory by the watch alone, and takes no memory itself.
+pub fn run_until(s: &mut Source<'_>, schedule: &[u32], w: &Watch) -> Until
+    requires threads { IsSchedule (length (s.old).program.threads) schedule.now }
+    requires entries { length schedule.now ≤ most_entries }
+    requires room { length (run_of s.old).outputs + length schedule.now ≤ (s.old).room }
+    requires words { words_of w.now ≡ length (s.old).program.vars }
+    ensures program { (s.new).program ≡ (s.old).program }
+    ensures room { (s.new).room ≡ (s.old).room }
+    ensures run { run_of s.new ≡ spec.run_from (run_of s.old) (take result.steps schedule.now) }
+    ensures stops { StopsAt (expr_of w.now) (run_of s.old) schedule.now result }
+{
+    let mut stayed = 0;
+    for (i, t) in schedule.iter().enumerate() {
+        if w.hits(s.memory()) {
+            return Until {
+                steps: i as u32,
+                stayed,
+                hit: true,
+            };
+        }
+        stayed += advance(s, *t);
+    }
+    let hit = w.hits(s.memory());
+    Until {
+        steps: schedule.len() as u32,
+        stayed,
+        hit,
+    }
+}
+
+/// Runs a schedule on two machines of one program, side by side, until they don't agree after a step. `None` comes
+/// exactly where they agree after each step, and both have run the whole schedule then; else both stand after the
+/// first step after which they don't. The start is not looked at. It takes no memory, and the time of one look at the
+/// declarations and the threads for each step, and of one look at each output.
+pub fn pair<'p>(
+    p: &'p Program,
+    a: &mut Source<'p>,
+    b: &mut Source<'p>,
+    schedule: &[u32],
+) -> Option<Found>
+    requires formed { IsWellFormed (view.program p.now) }
+    requires first { (a.old).program ≡ p.now }
+    requires second { (b.old).program ≡ p.now }
+    requires threads { IsSchedule (length p.now.threads) schedule.now }
+    requires entries { length schedule.now ≤ most_entries }
+    requires first_room { length (run_of a.old).outputs + length schedule.now ≤ (a.old).room }
+    requires second_room { length (run_of b.old).outputs + length schedule.now ≤ (b.old).room }
+    ensures found { MatchOption result (AgreeThroughout (plain (view.program p.now)) (run_of a.old) (run_of b.old) schedule.now)
+        (λ found. IsFirstStepApart p.now (run_of a.old) (run_of b.old) schedule.now found) }
+    ensures first_program { (a.new).program ≡ p.now }
+    ensures second_program { (b.new).program ≡ p.now }
+    ensures first_room { (a.new).room ≡ (a.old).room }
+    ensures second_room { (b.new).room ≡ (b.old).room }
+    ensures first_run { run_of a.new ≡ spec.run_from (run_of a.old) (part_run schedule.now result) }
+    ensures second_run { run_of b.new ≡ spec.run_from (run_of b.old) (part_run schedule.now result) }
+{
+    let mut seen = 0;
+    for (i, t) in schedule.iter().enumerate() {
+        advance(a, *t);
+        advance(b, *t);
+        if let Some(differ) = difference(p, a, b, seen) {
+            return Some(Found {
+                step: i as u32 + 1,
+                differ,
+            });
+        }
+        seen = a.said().len();
+    }
+    None
+}
+
+/// One step of a thread, and 1 where it stayed, else 0.
+fn advance(s: &mut Source<'_>, t: u32) -> u32
+    requires thread { t < length (s.old).program.threads }
+    requires room { length (run_of s.old).outputs < (s.old).room }
+    ensures stepped { HasStepped s.old s.new t }
+    ensures stayed { result ≡ next_stays (run_of s.old) t }
+    ensures small { result ≤ 1 }
+{
+    count(s.step(t))
+}
+
+fn count(stepped: Stepped) -> u32
+    ensures count { result ≡ count_of stepped }
+    ensures small { result ≤ 1 }
+{
+    match stepped {
+        Stepped::Stayed => 1,
+        Stepped::Moved | Stepped::Idle => 0,
+    }
+}
+
+/// What two machines of one program don't agree on, if anything. So many outputs were seen to be the same already.
+fn difference<'p>(p: &'p Program, a: &Source<'p>, b: &Source<'p>, seen: usize) -> Option<Differ>
+    requires formed { IsWellFormed (view.program p.now) }
+    requires first { (a.now).program ≡ p.now }
+    requires second { (b.now).program ≡ p.now }
+    requires seen { HasSameFront seen (run_of a.now).outputs (run_of b.now).outputs }
+    ensures { MatchOption result (StatesAgree (plain (view.program p.now)) (run_of a.now) (run_of b.now))
+        (λ d. DiffersIn p.now (run_of a.now) (run_of b.now) d × ¬ StatesAgree (plain (view.program p.now)) (run_of a.now) (run_of b.now)) }
+{
+    if let Some(differ) = memories_apart(p, a, b) {
+        return Some(differ);
+    }
+    if !same_words(a.said(), b.said(), seen) {
+        return Some(Differ::Output);
+    }
+    a.same_lists(b).map(Differ::Thread)
+}
+
+/// The first lock or variable on which two machines of one program don't agree.
+fn memories_apart<'p>(p: &'p Program, a: &Source<'p>, b: &Source<'p>) -> Option<Differ>
+    requires formed { IsWellFormed (view.program p.now) }
+    requires first { (a.now).program ≡ p.now }
+    requires second { (b.now).program ≡ p.now }
+    ensures first { result ≡ first_difference (plain (view.program p.now))
+        (run_of a.now).memory (run_of a.now).holders (run_of b.now).memory (run_of b.now).holders }
+    ensures agree { IsNone result ↔ MemoriesAgree (plain (view.program p.now))
+        (run_of a.now).memory (run_of a.now).holders (run_of b.now).memory (run_of b.now).holders }
+{
+    agree(p, a.memory(), a.holders(), b.memory(), b.holders())
+}
+
+/// Whether two lists are the same that begin with so many words of which that is known.
+fn same_words(left: &[u32], right: &[u32], seen: usize) -> bool
+    requires { HasSameFront seen left.now right.now }
+    ensures { IsTrue result ↔ (left.now ≡ right.now) }
+{
+    same_slice(&left[seen..], &right[seen..])
+}
+
+fn same_slice(left: &[u32], right: &[u32]) -> bool
+    ensures { IsTrue result ↔ (left.now ≡ right.now) }
+{
+    left == right
+}
