@@ -1,6 +1,6 @@
 -- The listing of parts is read, as the parts in which each number of a variable or a lock is that of the first declaration of
 -- its name. These are the parts themselves where no name equals an earlier one.
-use Rattle.std.proofs.Common.{◌≡◌, ℕ, nat_lt, ◌<◌, ◌≤◌, ◌^◌, ◌==◌, ◌||◌, List, [], ◌∷◌, ◌++◌, length, map, flat_map, get_or, codes, decimal, zero, suc, refl, ap, sym, ◌∙◌, subst, arith, append_assoc, Bool, true, false, if◌then◌else◌, Option, Some, None, Result, Ok, Err, ◌⊎◌, inl, inr}
+use Rattle.std.proofs.Common.{◌≡◌, ℕ, nat_lt, ◌<◌, ◌^◌, ◌==◌, ◌||◌, List, [], ◌∷◌, ◌++◌, length, map, flat_map, codes, zero, suc, refl, ap, sym, ◌∙◌, arith, append_assoc, true, if◌then◌else◌, Option, Some, None, Ok, ◌⊎◌, inl, inr}
 use Rattle.std.proofs.lemmas.Bool.{ltb-true}
 use Rattle.std.proofs.lemmas.Fmt.{decimal_digit}
 use Rattle.cov_expr.specs.Names.{IsName}
@@ -15,8 +15,8 @@ use Rattle.risc_machine.specs.declared.parts.Parts.{Parts}
 use Rattle.risc_machine.specs.declared.parts.ThreadCode.{ThreadCode}
 use Rattle.risc_machine.proofs.FaultLaws.{repeated-append}
 use Rattle.risc_machine.proofs.StepLaws.{none_left, none_right}
-use Rattle.code_text.specs.Inside.Reading.{pieces, read_text, begin_with, read_lines, begun, version_of}
-use Rattle.code_text.specs.Listing.{register, name, sign, declared, instr, line, head, thread_rows, rows, spelled, listing, IsListedInstr, IsListedLine}
+use Rattle.code_text.specs.Inside.Reading.{pieces, read_text, begin_with, begun, version_of}
+use Rattle.code_text.specs.Listing.{name, sign, declared, instr, line, head, thread_rows, rows, spelled, listing, IsListedInstr, IsListedLine}
 use Rattle.code_text.proofs.ChainLaws.{IsRowWithout, AreRowsWithout, read_chain}
 use Rattle.code_text.proofs.Every.{Every, every_append}
 use Rattle.code_text.proofs.Filled.{HasListing, IsThread}

@@ -7,22 +7,36 @@ use Rattle.risc_machine.specs.declared.parts.Instr.TheVariants.{Load, Store, Jum
 use Rattle.risc_machine.specs.declared.parts.Parts.{Parts}
 use Rattle.code_text.specs.Listing.{listing}
 use Rattle.code_text.specs.Inside.Reading.{pieces, read_text}
+use Rattle.code_text.specs.Outcome.{IsFaultyLine}
+use Rattle.code_text.proofs.LineLaws.{faulty_line}
 use Rattle.code_text.proofs.SoundLaws.{text_sound}
 
 pub empty_text : read_text (pieces 10 []) ≡ Err 1
 empty_text = refl
 
+pub empty_text_line : IsFaultyLine [] 1
+empty_text_line = faulty_line [] 1 empty_text
+
 pub bad_register : read_text (pieces 10 (codes "code 1\nthread t 1\n1 load r8 a\n")) ≡ Err 3
 unfolding is_keyword kind_of spellings
 bad_register = refl
+
+pub bad_register_line : IsFaultyLine (codes "code 1\nthread t 1\n1 load r8 a\n") 3
+bad_register_line = faulty_line (codes "code 1\nthread t 1\n1 load r8 a\n") 3 bad_register
 
 pub early_end : read_text (pieces 10 (codes "code 1\nthread t 2\n1 nop\n")) ≡ Err 4
 unfolding is_keyword kind_of spellings
 early_end = refl
 
+pub early_end_line : IsFaultyLine (codes "code 1\nthread t 2\n1 nop\n") 4
+early_end_line = faulty_line (codes "code 1\nthread t 2\n1 nop\n") 4 early_end
+
 pub output_in_version_1 : read_text (pieces 10 (codes "code 1\nthread t 1\n1 out r0\n")) ≡ Err 3
 unfolding is_keyword kind_of spellings
 output_in_version_1 = refl
+
+pub output_in_version_1_line : IsFaultyLine (codes "code 1\nthread t 1\n1 out r0\n") 3
+output_in_version_1_line = faulty_line (codes "code 1\nthread t 1\n1 out r0\n") 3 output_in_version_1
 
 abbrev pub jumping : Parts
 jumping = record { version = 1; vars = []; locks = []; threads = record { name = codes "t"; lines = record { weight = 1; instr = Jump 5 } ∷ [] } ∷ [] }

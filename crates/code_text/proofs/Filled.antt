@@ -14,7 +14,7 @@ use Rattle.code_text.specs.declared.row.Row.{Row}
 use Rattle.code_text.specs.declared.row.Row.TheVariants as row
 use Rattle.code_text.proofs.ChainLaws.{Chain}
 use Rattle.code_text.proofs.Every.{Every, every_from, all_from, every_append, every_front, every_copy, every_same}
-use Rattle.code_text.proofs.SoundLaws.{IsRow, Stands, row_is, added, still, draft_rows, names_rows, open_rows, open_none}
+use Rattle.code_text.proofs.SoundLaws.{IsRow, Stands, row_is, added, still, draft_rows, names_rows, open_rows}
 
 -- Item by item ----------------------------------------------------------------------------------------------------
 

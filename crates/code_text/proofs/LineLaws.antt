@@ -1,18 +1,18 @@
 -- Where reading stops: the lines before it begin a listing, and together with it they begin none.
-use Rattle.std.proofs.Common.{◌≡◌, ℕ, ◌+◌, ◌-◌, ◌==◌, ◌&&◌, zero, suc, List, [], ◌∷◌, ◌++◌, length, map, take, codes, refl, ap, sym, ◌∙◌, subst, arith, append_assoc, length-append, Bool, true, false, if◌then◌else◌, Option, Some, None, Result, Ok, Err, ◌⊎◌, inl, inr}
+use Rattle.std.proofs.Common.{◌≡◌, ℕ, ◌+◌, ◌-◌, ◌==◌, ◌&&◌, suc, List, [], ◌∷◌, ◌++◌, length, map, take, codes, refl, ap, sym, ◌∙◌, subst, arith, length-append, Bool, true, false, if◌then◌else◌, Option, Some, None, Ok, Err, ◌⊎◌, inl, inr}
 use Rattle.std.proofs.lemmas.Bool.{eqb-true}
 use Rattle.std.proofs.lemmas.List.{map-append, length-map}
 use Rattle.std.specs.Str.{bytes_eq}
 use Rattle.risc_machine.specs.declared.parts.Parts.{Parts}
 use Rattle.code_text.specs.Inside.Reading.{pieces, is_none, row_of, with_row, ended, go_on, read_lines, read_text, begin_with, begun, version_of}
-use Rattle.code_text.specs.Listing.{head, rows, spelled, listing, onto, lines_of, IsListed, IsListingOf, BeginsListing}
+use Rattle.code_text.specs.Listing.{head, rows, spelled, onto, lines_of, IsListed, IsListingOf, BeginsListing}
 use Rattle.code_text.specs.Outcome.{IsFaultyLine}
 use Rattle.code_text.specs.declared.draft.Draft.{Draft}
 use Rattle.code_text.specs.declared.row.Row.{Row}
 use Rattle.code_text.proofs.ChainLaws.{Chain, chain_takes, IsRowWithout, AreRowsWithout, split, pieces_row}
 use Rattle.code_text.proofs.Complete.{complete, rows_without_blanks, version_back}
 use Rattle.code_text.proofs.Cuts.{glue, some_piece}
-use Rattle.code_text.proofs.Filled.{has_listing, is_listed, filled, filled_rows, reached, begun_listing}
+use Rattle.code_text.proofs.Filled.{HasListing, has_listing, is_listed, filled, filled_rows, reached, begun_listing}
 use Rattle.code_text.proofs.PhaseLaws.{first_parts, body, chain_body}
 use Rattle.code_text.proofs.PiecesBack.{IsFree, AreFree, pieces_free, free_not}
 use Rattle.code_text.proofs.SoundLaws.{Stands, joined, spelled_is, spelled_line, version_is}
@@ -178,19 +178,21 @@ module _ (l : List ℕ) (v m : ℕ) (ls : List (List ℕ)) (says : version_of l 
       (filled s.last, is_listed (filled s.last) r.listing, map spelled k.0,
         ap (map spelled) (k.1 ∙ ap (λ x. x ++ k.0) r.grown) ∙ map-append spelled (head v ∷ s.taken) k.0 ∙ ap (λ x. x ∷ (map spelled s.taken ++ map spelled k.0)) here)
 
+  -- no parts of this version continue these rows by the line
+  refuted : (q : Parts) → HasListing q → v ≡ q.version → Continues (body q) s.taken s.line → ⊥
+  refuted q h version (fs, ys, same, is, free) =
+      let e : Draft = record { parts = first_parts q; left = 0 } in
+      let from_v : Chain (begun v) (body q) e = subst (λ w. Chain (begun w) (body q) e) (sym version) (chain_body q h) in
+      chain_takes s.taken ys fs (begun v) s.last e (subst (λ rs. Chain (begun v) rs e) same from_v) s.chain (s.refused fs free is)
+
   faulty : ¬ BeginsListing ((l ++ codes "\n") ∷ (map spelled s.taken ++ s.line ∷ []))
-  faulty b =
-      let q = b.0 in
-      let listed = b.1 in
+  faulty (q, listed, rest, e) =
       let h = has_listing q listed in
-      let first : spelled (head q.version) ≡ l ++ codes "\n" = cc b.3 in
-      let others : map spelled (body q) ≡ (map spelled s.taken ++ s.line ∷ []) ++ b.2 = cc b.3 in
+      let first : spelled (head q.version) ≡ l ++ codes "\n" = cc e in
+      let others : map spelled (body q) ≡ (map spelled s.taken ++ s.line ∷ []) ++ rest = cc e in
       let same : Some v ≡ Some q.version = sym says ∙ said_version q listed l first in
       let version : v ≡ q.version = cc same in
-      let k = same_rows (body q) s.taken s.line b.2 (rows_without_blanks q h).1 s.plain others in
-      let c : Chain (begun v) (s.taken ++ k.0 ∷ k.1) (record { parts = first_parts q; left = 0 }) =
-          subst (λ rs. Chain (begun v) rs (record { parts = first_parts q; left = 0 })) k.2 (subst (λ w. Chain (begun w) (body q) (record { parts = first_parts q; left = 0 })) (sym version) (chain_body q h)) in
-      chain_takes s.taken k.1 k.0 (begun v) s.last (record { parts = first_parts q; left = 0 }) c s.chain (s.refused k.0 k.4 k.3)
+      refuted q h version (same_rows (body q) s.taken s.line rest (rows_without_blanks q h).1 s.plain others)
 
 -- Texts -----------------------------------------------------------------------------------------------------------
 

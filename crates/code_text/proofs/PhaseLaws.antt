@@ -1,5 +1,5 @@
 -- The rows of parts with a listing are taken one after another: names, and the lines of each thread.
-use Rattle.std.proofs.Common.{◌≡◌, ℕ, ◌-◌, nat_lt, List, [], ◌∷◌, ◌++◌, length, map, flat_map, decimal, refl, ap, sym, ◌∙◌, subst, arith, codes, append_assoc, true, Some, option_map}
+use Rattle.std.proofs.Common.{◌≡◌, ℕ, ◌-◌, nat_lt, List, [], ◌∷◌, ◌++◌, length, map, flat_map, decimal, ap, sym, ◌∙◌, subst, arith, codes, append_assoc, Some, option_map}
 use Rattle.std.proofs.lemmas.List.{append-nil}
 use Rattle.cov_expr.specs.Names.{IsName}
 use Rattle.risc_machine.specs.declared.parts.Line.{Line}

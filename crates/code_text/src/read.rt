@@ -3,6 +3,7 @@ ghost use Rattle.code_text.specs.Inside.Drafts.{Agrees, IsSmall};
 ghost use Rattle.code_text.specs.Inside.Reading as spec;
 ghost use Rattle.code_text.specs.Listing.{IsListingOf};
 ghost use Rattle.code_text.specs.Outcome.{IsReading, IsAnswerTo};
+ghost use Rattle.code_text.specs.declared.limits.TheConstants.{MOST_LISTING_BYTES};
 ghost use Rattle.risc_machine.specs.Faults.{AreCounted};
 ghost use Rattle.risc_machine.specs.declared.parts.Parts.{Parts};
 
@@ -16,7 +17,7 @@ use std::alloc::Global;
 
 /// The code of a listing. It answers with the code exactly where the text is the listing of one, unless memory runs out.
 pub fn read_code(alloc: Global, bytes: &[u8]) -> Result<Code, CodeFault>
-    requires { length bytes.now ≤ 268435456 }
+    requires { length bytes.now ≤ MOST_LISTING_BYTES }
     ensures reading { IsReading bytes.now result }
     ensures exact { (p : Parts) → IsListingOf p bytes.now → IsAnswerTo p result }
 {
@@ -28,7 +29,7 @@ pub fn read_code(alloc: Global, bytes: &[u8]) -> Result<Code, CodeFault>
 
 /// The parts of which a text is the listing, or the number of the first line with which no listing begins.
 fn read_parts(alloc: Global, bytes: &[u8]) -> Result<Parts, CodeFault>
-    requires { length bytes.now ≤ 268435456 }
+    requires { length bytes.now ≤ MOST_LISTING_BYTES }
     ensures agrees { Agrees result (spec.read_text (spec.pieces 10 bytes.now)) }
     ensures counted { IfOk result AreCounted }
 {
@@ -43,7 +44,7 @@ fn read_parts(alloc: Global, bytes: &[u8]) -> Result<Parts, CodeFault>
 
 /// The parts behind the first line, whose draft stands at line 2.
 fn read_lines(alloc: Global, first: Draft, text: &[u8]) -> Result<Parts, CodeFault>
-    requires short { length text.now ≤ 268435456 }
+    requires short { length text.now ≤ MOST_LISTING_BYTES }
     requires small { IsSmall 2 first.parts }
     ensures agrees { Agrees result (spec.read_lines (spec.pieces 10 text.now) first 2) }
     ensures counted { IfOk result AreCounted }
@@ -98,7 +99,7 @@ fn find(byte: u8, text: &[u8]) -> Option<usize>
 /// What stands behind the byte at an index.
 fn past(text: &[u8], i: usize) -> &[u8]
     requires inside { i < length text.now }
-    requires short { length text.now ≤ 268435456 }
+    requires short { length text.now ≤ MOST_LISTING_BYTES }
     ensures { result.now ≡ drop (i + 1) text.now }
 {
     &text[i + 1..]
@@ -106,7 +107,7 @@ fn past(text: &[u8], i: usize) -> &[u8]
 
 /// What stands between the blanks of a line.
 fn split<'a>(alloc: Global, line: &'a [u8]) -> Result<Vec<&'a [u8]>, NoMemory>
-    requires { length line.now ≤ 268435456 }
+    requires { length line.now ≤ MOST_LISTING_BYTES }
     ensures { IfOk result (λ fields. map (λ f. f.now) fields.items ≡ spec.pieces 32 line.now) }
 {
     let mut fields = Vec::new(alloc);

@@ -1,7 +1,7 @@
-ghost use Rattle.std.specs.Prelude.{◌≡◌, MatchResult, Some};
-ghost use Rattle.risc_machine.specs.Faults.{AreCounted, AreGood, fault_of};
+ghost use Rattle.std.specs.Prelude.{◌≡◌, [], MatchResult, Some};
+ghost use Rattle.risc_machine.specs.Faults.{AreCounted, AreGood, fault_of, names_of, repeated};
 
-use crate::faults::first_fault;
+use crate::faults::{first_fault, first_other_fault};
 use crate::parts::{CodeBad, Parts};
 use std::marker::Model;
 
@@ -39,12 +39,26 @@ pub struct Rejected {
 
 impl Code {
     /// The code of these parts. Parts with a fault come back with the first: the version, or else the first name that equals
-    /// an earlier one, or else the first faulty line by thread and by position. It takes no memory.
+    /// an earlier one, or else the first faulty line by thread and by position. It takes no memory, and compares
+    /// each two names.
     pub fn new(parts: Parts) -> Result<Code, Rejected>
         requires { AreCounted parts }
         ensures { MatchResult result (λ code. (code ≡ parts) × (fault_of parts ≡ None)) (λ rejected. (rejected.parts ≡ parts) × (fault_of parts ≡ Some rejected.fault)) }
     {
         match first_fault(&parts) {
+            None => Ok(Code { parts }),
+            Some(fault) => Err(Rejected { parts, fault }),
+        }
+    }
+
+    /// The code of parts of which the caller knows that no name equals an earlier one. It compares no names, and so takes
+    /// linear time; else it is as `new`.
+    pub fn with_distinct_names(parts: Parts) -> Result<Code, Rejected>
+        requires counted { AreCounted parts }
+        requires distinct { repeated [] (names_of parts) ≡ None }
+        ensures { MatchResult result (λ code. (code ≡ parts) × (fault_of parts ≡ None)) (λ rejected. (rejected.parts ≡ parts) × (fault_of parts ≡ Some rejected.fault)) }
+    {
+        match first_other_fault(&parts) {
             None => Ok(Code { parts }),
             Some(fault) => Err(Rejected { parts, fault }),
         }

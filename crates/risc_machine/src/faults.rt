@@ -1,4 +1,4 @@
-ghost use Rattle.std.specs.Prelude.{◌≡◌, ◌++◌, ◌||◌, ◌<◌, [], length, map, None, Some};
+ghost use Rattle.std.specs.Prelude.{◌≡◌, ◌==◌, ◌++◌, ◌||◌, ◌<◌, [], length, map, None, Some};
 ghost use Rattle.std.specs.List.{list_any};
 ghost use Rattle.std.specs.Str.{bytes_eq};
 ghost use Rattle.cov_expr.specs.Words.{IsWord};
@@ -13,13 +13,32 @@ pub fn first_fault(parts: &Parts) -> Option<CodeBad>
     requires { AreCounted parts.now }
     ensures { result ≡ spec.fault_of parts.now }
 {
-    if parts.version != 1 && parts.version != 2 {
+    if !is_version(parts.version) {
         return Some(CodeBad::BadVersion(parts.version));
     }
     if let Some(name) = repeated_name(parts) {
         return Some(CodeBad::SameName(name));
     }
     faulty_line(parts)
+}
+
+/// The first fault of parts whose names are distinct.
+pub fn first_other_fault(parts: &Parts) -> Option<CodeBad>
+    requires counted { AreCounted parts.now }
+    requires distinct { spec.repeated [] (spec.names_of parts.now) ≡ None }
+    ensures { result ≡ spec.fault_of parts.now }
+{
+    if is_version(parts.version) {
+        faulty_line(parts)
+    } else {
+        Some(CodeBad::BadVersion(parts.version))
+    }
+}
+
+fn is_version(version: u8) -> bool
+    ensures { result ≡ (version == 1 || version == 2) }
+{
+    version == 1 || version == 2
 }
 
 /// The first name that equals an earlier one.

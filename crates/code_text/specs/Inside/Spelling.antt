@@ -1,5 +1,5 @@
 -- Which lines are written, and what is known of them behind that.
-use Rattle.std.specs.Prelude.{ℕ, ◌≤◌, List, length, IsTrue, All}
+use Rattle.std.specs.Prelude.{ℕ, List, length, IsTrue, All}
 use Rattle.cov_expr.specs.Names.{IsName}
 use Rattle.risc_machine.specs.Faults.{has_registers, has_variable, has_lock}
 use Rattle.risc_machine.specs.declared.parts.Line.{Line}
