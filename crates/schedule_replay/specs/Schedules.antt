@@ -35,9 +35,5 @@ schedule_of threads (Some d) = schedule_at threads (as_array d)
 
 -- What is answered is what the value says, unless memory ran out.
 abbrev pub GivesSchedule : (answer said : Result (List ℕ) ScheduleFault) → Type 0
-GivesSchedule (Ok entries) said = said ≡ Ok entries
-GivesSchedule (Err faults.Json) said = said ≡ Err faults.Json
-GivesSchedule (Err faults.NotList) said = said ≡ Err faults.NotList
-GivesSchedule (Err faults.TooMany) said = said ≡ Err faults.TooMany
-GivesSchedule (Err (faults.BadEntry i)) said = said ≡ Err (faults.BadEntry i)
 GivesSchedule (Err faults.NoMemory) said = Unit {0}
+GivesSchedule answer said = said ≡ answer

@@ -59,10 +59,5 @@ start_of vs (Some d) = start_at vs (as_object d)
 
 -- What is answered is what the value says, unless memory ran out.
 abbrev pub GivesStart : (answer said : Result (List ℕ) StartFault) → Type 0
-GivesStart (Ok words) said = said ≡ Ok words
-GivesStart (Err faults.Json) said = said ≡ Err faults.Json
-GivesStart (Err faults.NotObject) said = said ≡ Err faults.NotObject
-GivesStart (Err (faults.Missing name)) said = said ≡ Err (faults.Missing name)
-GivesStart (Err faults.Unknown) said = said ≡ Err faults.Unknown
-GivesStart (Err (faults.NotWord name)) said = said ≡ Err (faults.NotWord name)
 GivesStart (Err faults.NoMemory) said = Unit {0}
+GivesStart answer said = said ≡ answer
