@@ -124,7 +124,7 @@ module _ (p : Parsed) (program : Program) (is : program ≡ resolved p) (named :
   same_verdict (Some refusal) = ap (refused refusal) (same_name p refusal.thread)
   same_verdict None =
       ap (λ n. accepted n (counts (resolved p)).statements (counts (resolved p)).entailments)
-      (length-map (resolved_thread (var_id p) (lock_id p)) p.threads)
+      (length-map p.threads (resolved_thread (var_id p) (lock_id p)))
 
   -- what is replied to the program is replied to the text
   pub program_judged : (r : Result Answer Stop) → Gets (JudgesProgram program) r → Gets (Judges p) r

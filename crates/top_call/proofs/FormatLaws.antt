@@ -1,6 +1,6 @@
 -- Laws of `fmt` and `migrate`.
 use Rattle.std.proofs.Common.{◌≡◌, List, ℕ, sym, ap, ◌∙◌}
-use Rattle.top_call.specs.Replies.{Reply, spelled, status_of}
+use Rattle.top_call.specs.Replies.{spelled, status_of}
 use Rattle.top_call.specs.declared.answers.Status.TheVariants as s
 use Rattle.top_call.proofs.PlanLaws.{IsSoundReply}
 

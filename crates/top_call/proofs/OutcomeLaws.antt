@@ -1,5 +1,5 @@
 -- What a call promises, for every command.
-use Rattle.std.proofs.Common.{◌≡◌, ◌⊎◌, List, Option, Some, None, IfSome, refl, sym, ap, ◌∙◌, subst, inl, inr}
+use Rattle.std.proofs.Common.{◌≡◌, ◌⊎◌, ℕ, List, Option, Some, None, IfSome, refl, sym, ap, ◌∙◌, subst, inl, inr}
 use Rattle.cov_ast.specs.Syntax.{Parsed}
 use Rattle.cov_io.specs.Counters.{Rose}
 use Rattle.cov_io.specs.Shelves.{File, Shelved, held}
@@ -16,7 +16,7 @@ use Rattle.top_call.specs.Headline.{HoldsSecure}
 use Rattle.top_call.specs.Outcome.{Does, Outcome, IsMet, IsSuccess, plan_of}
 use Rattle.top_call.specs.Plans.{MayReply, RepliesTo, replies}
 use Rattle.top_call.specs.Programs.{SpellsProgram, IsShownFault}
-use Rattle.top_call.specs.Replies.{Reply, usage, malformed, status_of}
+use Rattle.top_call.specs.Replies.{Reply, usage, status_of}
 use Rattle.top_call.specs.declared.answers.Status.{Status}
 use Rattle.top_call.specs.declared.answers.Status.TheVariants as s
 use Rattle.top_call.proofs.CheckLaws.{check_sound, judged_accepted, names_hold}
@@ -67,7 +67,7 @@ does_secure : (before after : Shelved) (command : Command) (reply : Reply) → D
     → (files : List File) → before.told ≡ Some files → HoldsSecure files command
 does_secure before after (check name) reply h done files told =
     let read = done_read before after name MOST_BYTES
-        (RepliesTo SpellsProgram IsShownFault name (λ p. MayReply before after (replies (IsAcceptedText p) (Judges p)))) reply h done in
+    (RepliesTo SpellsProgram IsShownFault name (λ p. MayReply before after (replies (IsAcceptedText p) (Judges p)))) reply h done in
     let at : held files name ≡ Some read.0 = subst (λ t. IfSome t (λ fs. held fs name ≡ Some read.0)) told read.1.1 in
     let text = judged_text before after name read.0 reply read.2 done in
     let is : text.0 ≡ program_of read.0 text.1.0 = text.1.2 in

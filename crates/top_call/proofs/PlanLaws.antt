@@ -1,13 +1,14 @@
 -- Laws of plans, whatever the command: what is replied by the calls of a shelf and by the files that it tells, and which calls
 -- are made.
-use Rattle.std.proofs.Common.{◌≡◌, ◌⊎◌, ℕ, List, Result, Ok, Err, refl, sym, ◌∙◌, subst, inl, inr, Some}
+use Rattle.std.proofs.Common.{◌≡◌, ℕ, List, Result, Ok, Err, refl, sym, ◌∙◌, subst, inl, inr, Some}
 use Rattle.cov_io.specs.Counters.{Rose, raised}
-use Rattle.cov_io.specs.Shelves.{File, Shelved, Gives, Passes, held}
+use Rattle.cov_io.specs.Shelves.{File, Shelved, Passes, held}
+use Rattle.cov_io.specs.declared.shelf.Fetched.{Fetched}
 use Rattle.cov_io.specs.declared.shelf.Fetched.TheVariants.{Whole, TooLong}
+use Rattle.cov_io.specs.declared.shelf.ShelfFault.{ShelfFault}
 use Rattle.cov_io.specs.declared.shelf.ShelfFault.TheVariants as faults
 use Rattle.cov_io.proofs.ShelfLaws.{passes_none, passes_both, gives_within}
-use Rattle.top_call.specs.Asks.{Asks}
-use Rattle.top_call.specs.Files.{Reads, Misses}
+use Rattle.top_call.specs.Asks.{Asks, Follows}
 use Rattle.top_call.specs.Inside.{Stops, Gets, LacksMemory, CarriesOut, Takes, Fails, IsUnread}
 use Rattle.top_call.specs.Plans.{Plan, replies, file, RepliesTo, MayReply, RepliesOver, IsPlanMet}
 use Rattle.top_call.specs.Replies.{Reply, malformed, status_of}
@@ -119,7 +120,7 @@ reply_success IsSuccess files (file name most IsRead IsFault next) reply sound m
 -- no file is left
 pub carried_end : (shelf : Shelved) (IsAsked : Type 0) (may_reply : Reply → Type 0) (r : Result Answer Stop) → Gets may_reply r
     → CarriesOut shelf shelf (replies IsAsked may_reply) r
-carried_end shelf IsAsked may_reply r h = record { does = h; asks = refl; passes = passes_none shelf; }
+carried_end shelf IsAsked may_reply r h = record { does = h; asks = refl; passes = passes_none shelf }
 
 module _ {A : Type 0} (IsRead : List ℕ → A → Type 0) (IsFault : List ℕ → Fault → Type 0) (name : List ℕ) (most : ℕ) (next : A → Plan) where
   -- a file is read, and what follows is carried out
@@ -127,9 +128,11 @@ module _ {A : Type 0} (IsRead : List ℕ → A → Type 0) (IsFault : List ℕ �
       → CarriesOut between after (next x) r → CarriesOut before after (file name most IsRead IsFault next) r
   carried_on before between after x r took h = record {
     does = gets_onward (MayReply between after (next x)) (MayReply before after (file name most IsRead IsFault next)) r
-        (λ reply given. inl (took.bytes,
-        gives_within before before between after name most (Ok (Whole took.bytes)) (passes_none before) h.passes took.gives,
-        inl (x, took.is_read, reply_within before between after took.passes h.passes (next x) reply given))) h.does;
+        (λ reply given. inl (
+          took.bytes,
+          gives_within before before between after name most (Ok (Whole took.bytes)) (passes_none before) h.passes took.gives,
+          inl (x, took.is_read, reply_within before between after took.passes h.passes (next x) reply given),
+        )) h.does;
     asks = (between, Ok (Whole took.bytes), record { gives = took.gives; counted = took.counted }, inl (x, took.is_read, h.asks));
     passes = passes_both before between after took.passes h.passes;
   }
@@ -152,3 +155,25 @@ module _ {A : Type 0} (IsRead : List ℕ → A → Type 0) (IsFault : List ℕ �
     asks = asks_failed reading before after stop failed.stops failed.counted;
     passes = failed.passes;
   }
+
+-- Another way to say that memory ran out -----------------------------------------------------------------------
+
+module _ {A : Type 0} (IsRead : List ℕ → A → Type 0) (GoesOn GoesOn' : A → Type 0) (Halts Lacks Lacks' : Type 0) where
+  follows_onward : (answer : Result Fetched ShelfFault) → ((x : A) → GoesOn x → GoesOn' x) → (Lacks → Lacks')
+      → Follows IsRead answer GoesOn Halts Lacks → Follows IsRead answer GoesOn' Halts Lacks'
+  follows_onward (Ok (Whole bytes)) on lack (inl (x, is_read, goes)) = inl (x, is_read, on x goes)
+  follows_onward (Ok (Whole bytes)) on lack (inr (halts, inl unread)) = inr (halts, inl unread)
+  follows_onward (Ok (Whole bytes)) on lack (inr (halts, inr lacks)) = inr (halts, inr (lack lacks))
+  follows_onward (Ok TooLong) on lack halts = halts
+  follows_onward (Err faults.Failed) on lack halts = halts
+  follows_onward (Err faults.NoMemory) on lack halts = halts
+
+pub asks_onward : (before after : Shelved) (plan : Plan) (Lacks Lacks' : Type 0) → (Lacks → Lacks') → Asks before after plan Lacks → Asks before after plan Lacks'
+asks_onward before after (replies IsAsked may_reply) Lacks Lacks' lack same = same
+asks_onward before after (file name most IsRead IsFault next) Lacks Lacks' lack (between, answer, calls, follows) = (
+  between,
+  answer,
+  calls,
+  follows_onward IsRead (λ x. Asks between after (next x) Lacks) (λ x. Asks between after (next x) Lacks') (after ≡ between) Lacks Lacks' answer
+      (λ x. asks_onward between after (next x) Lacks Lacks' lack) lack follows,
+)

@@ -76,7 +76,7 @@ program_or_shown : (bytes : List ℕ) (p : Parsed) (fault : Fault) → SpellsPro
 program_or_shown bytes p fault (tree, h, is) wrong = tree_or_shown bytes tree fault h wrong
 
 pub program_reading : IsReading SpellsProgram IsShownFault
-program_reading = record { one_value = one_program; one_fault = one_shown; not_both = program_or_shown; }
+program_reading = record { one_value = one_program; one_fault = one_shown; not_both = program_or_shown }
 
 -- What is answered ---------------------------------------------------------------------------------------------
 
