@@ -2,15 +2,16 @@
 use Rattle.std.proofs.Common.{◌≡◌, ◌⊎◌, ℕ, ◌<◌, ◌≤◌, nat_lt, List, Bool, true, false, Result, Option, Ok, Err, Some, None, IfSome, IsSomeAnd, IsNone, IsTrue, length, subst, ap, sym, ◌∙◌, inl, inr, arith}
 use Rattle.std.specs.Prelude.{MatchBool}
 use Rattle.std.proofs.lemmas.Bool.Decides.{nat_tests}
-use Rattle.cov_io.specs.Counters.{Rose}
-use Rattle.cov_io.specs.Shelves.{File, Shelved, Gives, held}
-use Rattle.cov_io.specs.declared.shelf.Fetched.TheVariants.{Whole}
-use Rattle.top_call.specs.Files.{Reads, GivenBy}
-use Rattle.top_call.specs.Inside.{Stops, Gets, LacksMemory}
-use Rattle.top_call.specs.Outcome.{HoldsFile}
-use Rattle.top_call.specs.Programs.{IsProgramText}
+use Rattle.cov_io.specs.Counters.{Rose, raised}
+use Rattle.cov_io.specs.Shelves.{File, Shelved, Gives, Passes, held}
+use Rattle.cov_io.specs.declared.shelf.Fetched.TheVariants.{Whole, TooLong}
+use Rattle.cov_io.specs.declared.shelf.ShelfFault.TheVariants as faults
+use Rattle.cov_io.proofs.ShelfLaws.{gives_within}
+use Rattle.top_call.specs.Files.{Misses, Reads, GivenBy}
+use Rattle.top_call.specs.Inside.{Stops, Gets, Fails, IsUnread}
 use Rattle.top_call.specs.Replies.{Reply, read_fault, too_long, status_of}
 use Rattle.top_call.specs.declared.answers.Answer.{Answer}
+use Rattle.top_call.specs.declared.answers.Fault.{Fault}
 use Rattle.top_call.specs.declared.answers.Status.TheVariants as s
 use Rattle.top_call.specs.declared.answers.Stop.{Stop}
 use Rattle.top_call.specs.declared.answers.Stop.TheVariants as stops
@@ -26,40 +27,44 @@ pub gets_onward : (does does' : Reply → Type 0) (r : Result Answer Stop) → (
 gets_onward does does' (Ok answer) each h = each _ h
 gets_onward does does' (Err stop) each h = stops_onward does does' stop each h
 
--- A reply says whether bytes spell a program; so does a step, unless memory ran out.
-pub gets_fit : (does : Reply → Type 0) (bytes : List ℕ) → ((reply : Reply) → does reply → IsProgramText bytes ⊎ (¬ IsProgramText bytes))
-    → (r : Result Answer Stop) → Gets does r → IsProgramText bytes ⊎ (¬ IsProgramText bytes) ⊎ LacksMemory r
-gets_fit does bytes fit r h = by r h
-  where
-    onward : (r : Result Answer Stop) → IsProgramText bytes ⊎ (¬ IsProgramText bytes) → IsProgramText bytes ⊎ (¬ IsProgramText bytes) ⊎ LacksMemory r
-    onward r (inl h) = inl h
-    onward r (inr h) = inr (inl h)
+module _ (before after : Shelved) (name : List ℕ) (most : ℕ) where
+  module _ (next next' : List ℕ → Reply → Type 0) where
+    pub reads_onward : (reply : Reply) → ((bytes : List ℕ) → next bytes reply → next' bytes reply) → Reads before after name most next reply
+        → Reads before after name most next' reply
+    reads_onward reply each (inl (bytes, fetched, h)) = inl (bytes, fetched, each bytes h)
+    reads_onward reply each (inr h) = inr h
 
-    by : (r : Result Answer Stop) → Gets does r → IsProgramText bytes ⊎ (¬ IsProgramText bytes) ⊎ LacksMemory r
-    by (Ok answer) h = onward (Ok answer) (fit _ h)
-    by (Err (stops.Answer answer)) h = onward (Err (stops.Answer answer)) (fit _ h)
-    by (Err stops.NoMemory) h = inr (inr tt)
+  module _ (next : List ℕ → Reply → Type 0) where
+    -- a read fault comes only where the shelf's faults rose
+    pub fault_rose : (reply : Reply) → ((bytes : List ℕ) → next bytes reply → status_of reply ≡ s.ReadFault → Rose before.faults after.faults)
+        → Reads before after name most next reply → status_of reply ≡ s.ReadFault → Rose before.faults after.faults
+    fault_rose reply each (inl (bytes, fetched, h)) e = each bytes h e
+    fault_rose reply each (inr (inl h)) e = let wrong : s.TooLong ≡ s.ReadFault = sym (ap status_of h.1) ∙ e in cc
+    fault_rose reply each (inr (inr h)) e = h.0.0
 
-module _ (before after : Shelved) (name : List ℕ) (most : ℕ) (next : List ℕ → Reply → Type 0) where
-  -- the bytes of a file, and what is replied to them
-  pub bytes_read : (bytes seen_bytes : List ℕ) (r : Result Answer Stop) → Gives before after name most (Ok (Whole bytes))
-      → seen_bytes ≡ bytes → Gets (next seen_bytes) r → Gets (Reads before after name most next) r
-  bytes_read bytes seen_bytes r fetched same h =
-      gets_onward (next seen_bytes) (Reads before after name most next) r (λ reply given. inl (bytes, fetched, subst (λ b. next b reply) same given)) h
+    -- only bytes that were fetched make a call Done
+    pub done_read : (reply : Reply) → Reads before after name most next reply → status_of reply ≡ s.Done
+        → (bytes : List ℕ) × Gives before after name most (Ok (Whole bytes)) × next bytes reply
+    done_read reply (inl read) done = read
+    done_read reply (inr (inl h)) done = let wrong : s.TooLong ≡ s.Done = sym (ap status_of h.1) ∙ done in cc
+    done_read reply (inr (inr h)) done = let wrong : s.ReadFault ≡ s.Done = sym (ap status_of h.1) ∙ done in cc
 
-  -- a read fault comes only where the shelf's faults rose
-  pub fault_rose : (reply : Reply) → ((bytes : List ℕ) → next bytes reply → status_of reply ≡ s.ReadFault → ⊥)
-      → Reads before after name most next reply → status_of reply ≡ s.ReadFault → Rose before.faults after.faults
-  fault_rose reply never (inl (bytes, fetched, h)) e = absurd (never bytes h e)
-  fault_rose reply never (inr (inl h)) e = let wrong : s.TooLong ≡ s.ReadFault = sym (ap status_of h.1) ∙ e in cc
-  fault_rose reply never (inr (inr h)) e = h.0.0
+-- what is given among several calls
+pub reads_within : (a b c d : Shelved) (name : List ℕ) (most : ℕ) (next : List ℕ → Reply → Type 0) (reply : Reply) → Passes a b → Passes c d
+    → Reads b c name most next reply → Reads a d name most next reply
+reads_within a b c d name most next reply earlier later (inl (bytes, fetched, h)) =
+    inl (bytes, gives_within a b c d name most (Ok (Whole bytes)) earlier later fetched, h)
+reads_within a b c d name most next reply earlier later (inr (inl h)) = inr (inl (gives_within a b c d name most (Ok TooLong) earlier later h.0, h.1))
+reads_within a b c d name most next reply earlier later (inr (inr h)) = inr (inr (gives_within a b c d name most (Err faults.Failed) earlier later h.0, h.1))
 
-  -- only bytes that were fetched make a call Done
-  pub done_read : (reply : Reply) → Reads before after name most next reply → status_of reply ≡ s.Done
-      → (bytes : List ℕ) × Gives before after name most (Ok (Whole bytes)) × next bytes reply
-  done_read reply (inl read) done = read
-  done_read reply (inr (inl h)) done = let wrong : s.TooLong ≡ s.Done = sym (ap status_of h.1) ∙ done in cc
-  done_read reply (inr (inr h)) done = let wrong : s.ReadFault ≡ s.Done = sym (ap status_of h.1) ∙ done in cc
+-- one call that doesn't give a file
+pub missed : (IsFault : List ℕ → Fault → Type 0) (before after : Shelved) (name : List ℕ) (most : ℕ) (stop : Stop) → Stops (Misses before after name most) stop
+    → after.calls ≡ raised before.calls 1 → Passes before after → Fails IsFault before after name most stop
+missed IsFault before after name most stop h counted passes = record {
+  stops = stops_onward (Misses before after name most) (IsUnread IsFault before after name most) stop (λ reply not_there. inr not_there) h;
+  counted = counted;
+  passes = passes;
+}
 
 -- What the files say -------------------------------------------------------------------------------------------
 
@@ -117,11 +122,8 @@ module _ (name : List ℕ) (most : ℕ) (next : List ℕ → Reply → Type 0) w
       by false h k = one bytes h k
 
   -- of a file that is there, within its limit, the bytes decide
-  pub held_given : (files : List File) (IsFit : List ℕ → Type 0) (reply : Reply) → HoldsFile files name most IsFit → GivenBy (held files name) name most next reply
-      → (bytes : List ℕ) × IsFit bytes × next bytes reply
-  held_given files IsFit reply (bytes, at, fits, fit) given = (
-    bytes,
-    fit,
-    from_false (reply ≡ too_long name) (next bytes reply) (nat_lt most (length bytes)) (not_above most (length bytes) fits)
-        (subst (λ o. GivenBy o name most next reply) at given),
-  )
+  pub held_given : (files : List File) (reply : Reply) (bytes : List ℕ) → held files name ≡ Some bytes → length bytes ≤ most
+      → GivenBy (held files name) name most next reply → next bytes reply
+  held_given files reply bytes at fits given =
+      from_false (reply ≡ too_long name) (next bytes reply) (nat_lt most (length bytes)) (not_above most (length bytes) fits)
+      (subst (λ o. GivenBy o name most next reply) at given)

@@ -1,64 +1,80 @@
 -- What a call promises, for every command.
-use Rattle.std.proofs.Common.{◌≡◌, ◌⊎◌, List, Option, Some, None, IfSome, refl, sym, ap, ◌∙◌, subst, inl, inr}
+use Rattle.std.proofs.Common.{◌≡◌, ◌⊎◌, ℕ, List, Option, Some, None, IfSome, refl, sym, ap, ◌∙◌, subst, inl, inr}
+use Rattle.cov_ast.specs.Syntax.{Parsed}
 use Rattle.cov_io.specs.Counters.{Rose}
 use Rattle.cov_io.specs.Shelves.{File, Shelved, held}
 use Rattle.cov_io.specs.Sinks.{Sunk}
-use Rattle.top_call.specs.Check.{Judges, IsAcceptedText}
-use Rattle.top_call.specs.Commands.{Command, check, fmt, migrate, nothing}
-use Rattle.top_call.specs.Ends.{Ends}
 use Rattle.cov_expr.specs.declared.limits.TheConstants.{MOST_BYTES}
 use Rattle.cov_print.specs.ReadBack.{in_second}
-use Rattle.top_call.specs.Format.{Formats, Migrates}
+use Rattle.cov_print.specs.Spelling.{spelling}
+use Rattle.cov_text.specs.Text.{program_of}
+use Rattle.flow_model.specs.Secure.{IsSecure}
+use Rattle.top_call.specs.Check.{Judges, IsAcceptedText, AreNamesInOrder, meaning}
+use Rattle.top_call.specs.Commands.{Command, check, fmt, migrate, nothing}
+use Rattle.top_call.specs.Ends.{Ends}
 use Rattle.top_call.specs.Headline.{HoldsSecure}
-use Rattle.top_call.specs.Outcome.{Does, Outcome, IsMet, IsSuccess}
-use Rattle.top_call.specs.Programs.{IsProgramText}
-use Rattle.top_call.specs.Replies.{Reply, status_of}
+use Rattle.top_call.specs.Outcome.{Does, Outcome, IsMet, IsSuccess, plan_of}
+use Rattle.top_call.specs.Plans.{MayReply, RepliesTo, replies}
+use Rattle.top_call.specs.Programs.{SpellsProgram, IsShownFault}
+use Rattle.top_call.specs.Replies.{Reply, usage, status_of}
 use Rattle.top_call.specs.declared.answers.Status.{Status}
 use Rattle.top_call.specs.declared.answers.Status.TheVariants as s
-use Rattle.top_call.proofs.CheckLaws.{judged_secure, judged_no_fault, judged_done}
+use Rattle.top_call.proofs.CheckLaws.{check_sound, judged_accepted, names_hold}
 use Rattle.top_call.proofs.EndLaws.{ends_onward, status_is}
-use Rattle.top_call.proofs.FileLaws.{Reliable, reads_exact, done_read, fault_rose, held_given}
-use Rattle.top_call.proofs.FormatLaws.{printed_no_fault, printed_done}
+use Rattle.top_call.proofs.FileLaws.{Reliable, done_read}
+use Rattle.top_call.proofs.FormatLaws.{spelled_sound}
+use Rattle.top_call.proofs.PlanLaws.{IsSound, IsSoundReply, reply_exact, reply_fault, reply_success}
+use Rattle.top_call.proofs.TextLaws.{program_reading}
 
 -- The commands -------------------------------------------------------------------------------------------------
 
+nothing_sound : IsSoundReply (IsSuccess nothing) ⊥ (λ reply. reply ≡ usage)
+nothing_sound = record {
+  one = λ reply other h k. h ∙ sym k;
+  no_fault = λ reply h e. let wrong : s.Usage ≡ s.ReadFault = sym (ap status_of h) ∙ e in cc;
+  success = λ reply met h. met;
+}
+
+-- the plan of each command is sound
+pub sound : (command : Command) → IsSound (IsSuccess command) (plan_of command)
+sound (check name) = (program_reading, check_sound)
+sound (fmt name) = (program_reading, λ p. spelled_sound (spelling p))
+sound (migrate name) = (program_reading, λ p. spelled_sound (spelling (in_second p)))
+sound nothing = nothing_sound
+
 does_exact : (before after : Shelved) (files : List File) (command : Command) (reply : Reply) → before.told ≡ Some files → Reliable before after
     → Does before after command reply → Outcome files command reply
-does_exact before after files (check name) reply told reliable h = reads_exact name MOST_BYTES (Judges name) before after files reply told reliable h
-does_exact before after files (fmt name) reply told reliable h = reads_exact name MOST_BYTES (Formats name) before after files reply told reliable h
-does_exact before after files (migrate name) reply told reliable h = reads_exact name MOST_BYTES (Migrates name) before after files reply told reliable h
-does_exact before after files nothing reply told reliable h = h
+does_exact before after files command reply told reliable h = reply_exact before after files told reliable (plan_of command) reply h
+
+does_fault : (before after : Shelved) (command : Command) (reply : Reply) → Does before after command reply → status_of reply ≡ s.ReadFault
+    → Rose before.faults after.faults
+does_fault before after command reply h e = reply_fault (IsSuccess command) before after (plan_of command) reply (sound command) h e
+
+met_success : (files : List File) (command : Command) (reply : Reply) → IsMet files command → Outcome files command reply → IsSuccess command (status_of reply)
+met_success files command reply met h = reply_success (IsSuccess command) files (plan_of command) reply (sound command) met h
+
+-- bytes of which a check is done
+judged_text : (before after : Shelved) (name bytes : List ℕ) (reply : Reply)
+    → RepliesTo SpellsProgram IsShownFault name (λ p. MayReply before after (replies (IsAcceptedText p) (Judges p))) bytes reply
+    → status_of reply ≡ s.Done → (p : Parsed) × SpellsProgram bytes p × AreNamesInOrder p × IsSecure (meaning p)
+judged_text before after name bytes reply (inl (p, spells, judged)) done =
+    let is_accepted = judged_accepted p reply judged done in
+    (p, spells, names_hold p is_accepted, judged.secure is_accepted)
+judged_text before after name bytes reply (inr (fault, is, same)) done =
+    let wrong : s.Malformed ≡ s.Done = sym (ap status_of same) ∙ done in cc
 
 does_secure : (before after : Shelved) (command : Command) (reply : Reply) → Does before after command reply → status_of reply ≡ s.Done
     → (files : List File) → before.told ≡ Some files → HoldsSecure files command
 does_secure before after (check name) reply h done files told =
-    let read = done_read before after name MOST_BYTES (Judges name) reply h done in
+    let read = done_read before after name MOST_BYTES
+    (RepliesTo SpellsProgram IsShownFault name (λ p. MayReply before after (replies (IsAcceptedText p) (Judges p)))) reply h done in
     let at : held files name ≡ Some read.0 = subst (λ t. IfSome t (λ fs. held fs name ≡ Some read.0)) told read.1.1 in
-    let secure = judged_secure name read.0 reply read.2 done in
-    (read.0, at, secure.0, secure.1, secure.2, secure.3)
+    let text = judged_text before after name read.0 reply read.2 done in
+    let is : text.0 ≡ program_of read.0 text.1.0 = text.1.2 in
+    (read.0, at, text.1.0, text.1.1, subst AreNamesInOrder is text.2, subst (λ p. IsSecure (meaning p)) is text.3)
 does_secure before after (fmt name) reply h done files told = tt
 does_secure before after (migrate name) reply h done files told = tt
 does_secure before after nothing reply h done files told = let wrong : s.Usage ≡ s.Done = sym (ap status_of h) ∙ done in cc
-
-does_fault : (before after : Shelved) (command : Command) (reply : Reply) → Does before after command reply → status_of reply ≡ s.ReadFault
-    → Rose before.faults after.faults
-does_fault before after (check name) reply h e = fault_rose before after name MOST_BYTES (Judges name) reply (λ bytes. judged_no_fault name bytes reply) h e
-does_fault before after (fmt name) reply h e = fault_rose before after name MOST_BYTES (Formats name) reply (λ bytes. printed_no_fault (λ p. p) name bytes reply) h e
-does_fault before after (migrate name) reply h e =
-    fault_rose before after name MOST_BYTES (Migrates name) reply (λ bytes. printed_no_fault in_second name bytes reply) h e
-does_fault before after nothing reply h e = let wrong : s.Usage ≡ s.ReadFault = sym (ap status_of h) ∙ e in cc
-
-met_success : (files : List File) (command : Command) (reply : Reply) → IsMet files command → Outcome files command reply → IsSuccess command (status_of reply)
-met_success files (check name) reply met h =
-    let given = held_given name MOST_BYTES (Judges name) files IsAcceptedText reply met h in
-    judged_done name given.0 reply given.1 given.2
-met_success files (fmt name) reply met h =
-    let given = held_given name MOST_BYTES (Formats name) files IsProgramText reply met h in
-    printed_done (λ p. p) name given.0 reply given.1 given.2
-met_success files (migrate name) reply met h =
-    let given = held_given name MOST_BYTES (Migrates name) files IsProgramText reply met h in
-    printed_done in_second name given.0 reply given.1 given.2
-met_success files nothing reply met h = absurd met
 
 -- A call -------------------------------------------------------------------------------------------------------
 

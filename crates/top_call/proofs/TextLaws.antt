@@ -9,11 +9,20 @@ use Rattle.cov_grammar.specs.Grammar as grammar
 use Rattle.cov_grammar.specs.declared.token.Token.{Token}
 use Rattle.cov_grammar.proofs.Exactness.{program_decided}
 use Rattle.cov_text.specs.Limits.{in_program}
-use Rattle.cov_text.specs.Text.{IsShallow, IsFirstFault, IsFault, fault_of, words_of}
+use Rattle.cov_text.specs.Text.{IsShallow, IsFirstFault, IsFault, fault_of, words_of, Answers, program_of}
 use Rattle.cov_text.specs.declared.fault.ParseFault.{ParseFault}
 use Rattle.cov_text.specs.declared.fault.ParseFault.TheVariants as faults
-use Rattle.top_call.specs.Programs.{SpellsTree, IsShownFault, shown}
+use Rattle.cov_ast.specs.Syntax.{Parsed}
+use Rattle.cov_ast.specs.View as view
+use Rattle.cov_io.specs.Shelves.{Shelved, Gives}
+use Rattle.cov_io.specs.declared.shelf.Fetched.TheVariants.{Whole}
+use Rattle.top_call.specs.Inside.{Stops, IsUnread}
+use Rattle.top_call.specs.Programs.{SpellsTree, SpellsProgram, IsShownFault, shown}
+use Rattle.top_call.specs.Replies.{malformed}
 use Rattle.top_call.specs.declared.answers.Fault.{Fault}
+use Rattle.top_call.specs.declared.answers.Stop.{Stop}
+use Rattle.top_call.specs.declared.answers.Stop.TheVariants as stops
+use Rattle.top_call.proofs.PlanLaws.{IsReading}
 
 some_one : {X : Type 0} (o : Option X) (x y : X) → o ≡ Some x → o ≡ Some y → x ≡ y
 some_one o x y h k = let e : Some x ≡ Some y = sym h ∙ k in cc
@@ -21,7 +30,7 @@ some_one o x y h k = let e : Some x ≡ Some y = sym h ∙ k in cc
 not_some : {X : Type 0} (o : Option X) (x : X) → o ≡ None → o ≡ Some x → ⊥
 not_some o x h k = let e : None ≡ Some x = sym h ∙ k in cc
 
-pub one_tree : (bytes : List ℕ) (p q : trees.Program) → SpellsTree bytes p → SpellsTree bytes q → p ≡ q
+one_tree : (bytes : List ℕ) (p q : trees.Program) → SpellsTree bytes p → SpellsTree bytes q → p ≡ q
 one_tree bytes p q h k = program_decided.one_value (words_of bytes) p q h.spelled k.spelled
 
 -- tokens that aren't too deep have no fault before the grammar's
@@ -30,7 +39,7 @@ shallow_not_first bytes fault h first =
     let deepest = subst (λ r. IsFirstFault r (words_of bytes) fault) h.lexes first in
     not_some _ deepest.0 h.shallow deepest.1
 
-pub tree_or_fault : (bytes : List ℕ) (tree : trees.Program) (fault : ParseFault) → SpellsTree bytes tree → IsFault grammar.program in_program bytes fault → ⊥
+tree_or_fault : (bytes : List ℕ) (tree : trees.Program) (fault : ParseFault) → SpellsTree bytes tree → IsFault grammar.program in_program bytes fault → ⊥
 tree_or_fault bytes tree fault h (inl first) = shallow_not_first bytes fault h.tokens first
 tree_or_fault bytes tree fault h (inr (inl wrong)) = program_decided.not_both (words_of bytes) wrong.bad tree h.spelled wrong.first
 tree_or_fault bytes tree fault h (inr (inr past)) =
@@ -54,8 +63,31 @@ one_fault bytes f g (inr (inr a)) (inr (inr b)) =
     let tree = program_decided.one_value (words_of bytes) a.tree b.tree a.spelled b.spelled in
     a.is ∙ ap fault_of (some_one (in_program b.tree) a.excess b.excess (sym (ap in_program tree) ∙ a.least) b.least) ∙ sym b.is
 
-pub one_shown : (bytes : List ℕ) (f g : Fault) → IsShownFault bytes f → IsShownFault bytes g → f ≡ g
+one_shown : (bytes : List ℕ) (f g : Fault) → IsShownFault bytes f → IsShownFault bytes g → f ≡ g
 one_shown bytes f g (found, h, is) (found', h', is') = some_one (shown found') f g (sym (ap shown (one_fault bytes found found' h h')) ∙ is) is'
 
-pub tree_or_shown : (bytes : List ℕ) (tree : trees.Program) (fault : Fault) → SpellsTree bytes tree → IsShownFault bytes fault → ⊥
+tree_or_shown : (bytes : List ℕ) (tree : trees.Program) (fault : Fault) → SpellsTree bytes tree → IsShownFault bytes fault → ⊥
 tree_or_shown bytes tree fault h (found, is, e) = tree_or_fault bytes tree found h is
+
+one_program : (bytes : List ℕ) (p q : Parsed) → SpellsProgram bytes p → SpellsProgram bytes q → p ≡ q
+one_program bytes p q (tree, h, is) (tree', h', is') = is ∙ ap (program_of bytes) (one_tree bytes tree tree' h h') ∙ sym is'
+
+program_or_shown : (bytes : List ℕ) (p : Parsed) (fault : Fault) → SpellsProgram bytes p → IsShownFault bytes fault → ⊥
+program_or_shown bytes p fault (tree, h, is) wrong = tree_or_shown bytes tree fault h wrong
+
+pub program_reading : IsReading SpellsProgram IsShownFault
+program_reading = record { one_value = one_program; one_fault = one_shown; not_both = program_or_shown }
+
+-- What is answered ---------------------------------------------------------------------------------------------
+
+fault_found : (bytes : List ℕ) (fault : ParseFault) (found : Fault) → Answers grammar.program in_program bytes view.parsed (program_of bytes) (Err fault)
+    → shown fault ≡ Some found → IsShownFault bytes found
+fault_found bytes faults.NoMemory found h e = let wrong : None ≡ Some found = e in cc
+fault_found bytes fault found h e = (fault, h, e)
+
+pub program_unread : (before after : Shelved) (name : List ℕ) (most : ℕ) (bytes : List ℕ) (fault : ParseFault) (stop : Stop)
+    → Gives before after name most (Ok (Whole bytes)) → Answers grammar.program in_program bytes view.parsed (program_of bytes) (Err fault)
+    → Stops (λ reply. (found : Fault) × (shown fault ≡ Some found) × (reply ≡ malformed name found)) stop → Stops (IsUnread IsShownFault before after name most) stop
+program_unread before after name most bytes fault (stops.Answer answer) gives h (found, e, is) =
+    inl (bytes, gives, (found, fault_found bytes fault found h e, is))
+program_unread before after name most bytes fault stops.NoMemory gives h unread = tt

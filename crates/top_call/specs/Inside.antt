@@ -2,13 +2,20 @@
 use Rattle.std.specs.Prelude.{◌≡◌, ℕ, List, length, map, slice_get, Option, Some, None, Result, Ok, Err}
 use Rattle.cov_ast.specs.Obligations.{first_false}
 use Rattle.cov_ast.specs.Plain.{plain}
-use Rattle.cov_ast.specs.Syntax.{Parsed, Program, Thread}
+use Rattle.cov_ast.specs.Syntax.{Program, Thread}
+use Rattle.cov_ast.specs.declared.refusal.Refusal.{Refusal}
+use Rattle.cov_io.specs.Counters.{raised}
+use Rattle.cov_io.specs.Shelves.{Shelved, Gives, Passes}
+use Rattle.cov_io.specs.declared.shelf.Fetched.TheVariants.{Whole}
 use Rattle.flow_model.specs.Secure.{IsSecure}
 use Rattle.verify.specs.Accepted.{IsAccepted, program_obligations}
 use Rattle.verify.specs.Verdicts.{counts}
-use Rattle.top_call.specs.Check.{Refuses, Accepts}
+use Rattle.top_call.specs.Asks.{Asks}
+use Rattle.top_call.specs.Files.{Reads}
+use Rattle.top_call.specs.Plans.{Plan, MayReply}
 use Rattle.top_call.specs.Replies.{Reply, usage, read_fault, too_long, malformed, refused, accepted, spelled}
 use Rattle.top_call.specs.Reports.{report_of}
+use Rattle.top_call.specs.declared.answers.Fault.{Fault}
 use Rattle.top_call.specs.declared.answers.Answer.{Answer}
 use Rattle.top_call.specs.declared.answers.Answer.TheVariants as a
 use Rattle.top_call.specs.declared.answers.Stop.{Stop}
@@ -39,31 +46,45 @@ LacksMemory (Ok answer) = ⊥
 LacksMemory (Err (stops.Answer answer)) = ⊥
 LacksMemory (Err stops.NoMemory) = Unit {0}
 
--- The reply to a check of what a text spells: refused or accepted.
-abbrev pub JudgesTree : Parsed → Reply → Type 0
-JudgesTree p (refused refusal thread) = Refuses p refusal thread
-JudgesTree p (accepted threads statements entailments) = Accepts p threads statements entailments
-JudgesTree p reply = ⊥
+-- A step carries out a plan: it gives what the plan may reply, unless memory ran out, and calls the shelf for its files.
+pub record CarriesOut (before after : Shelved) (plan : Plan) (r : Result Answer Stop) : Type 0 where
+  pub does : Gets (MayReply before after plan) r
+  pub asks : Asks before after plan (LacksMemory r)
+  pub passes : Passes before after
+
+-- One call of the shelf for a file, whose bytes are read as x.
+pub record Takes {A : Type 0} (IsRead : List ℕ → A → Type 0) (before after : Shelved) (name : List ℕ) (most : ℕ) (x : A) : Type 0 where
+  pub bytes : List ℕ
+  pub gives : Gives before after name most (Ok (Whole bytes))
+  pub is_read : IsRead bytes x
+  pub counted : after.calls ≡ raised before.calls 1
+  pub passes : Passes before after
+
+-- the reply where a file isn't fetched, or its bytes have a fault
+abbrev pub IsUnread : (IsFault : List ℕ → Fault → Type 0) (before after : Shelved) (name : List ℕ) (most : ℕ) → Reply → Type 0
+IsUnread IsFault before after name most reply =
+    Reads before after name most (λ bytes r. (fault : Fault) × IsFault bytes fault × (r ≡ malformed name fault)) reply
+
+-- One call of the shelf for a file, which isn't read.
+pub record Fails (IsFault : List ℕ → Fault → Type 0) (before after : Shelved) (name : List ℕ) (most : ℕ) (stop : Stop) : Type 0 where
+  pub stops : Stops (IsUnread IsFault before after name most) stop
+  pub counted : after.calls ≡ raised before.calls 1
+  pub passes : Passes before after
 
 -- the name of a thread by its number
 abbrev pub name_in : List Thread → Option ℕ → Option (List ℕ)
 name_in threads None = None
 name_in threads (Some t) = slice_get (map (λ thread. thread.name) threads) t
 
--- A program is accepted, and secure; it has so many threads, statements and entailments.
-pub record AcceptsProgram (program : Program) (threads statements entailments : ℕ) : Type 0 where
-  pub is_accepted : IsAccepted program
-  pub thread_count : threads ≡ length program.threads
-  pub statement_count : statements ≡ (counts program).statements
-  pub entailment_count : entailments ≡ (counts program).entailments
-  pub secure : IsSecure (plain program)
+-- the reply by the first obligation of a program that doesn't hold
+abbrev pub program_verdict : Program → Option Refusal → Reply
+program_verdict program (Some refusal) = refused refusal (name_in program.threads refusal.thread)
+program_verdict program None = accepted (length program.threads) (counts program).statements (counts program).entailments
 
--- The reply to a check of a program whose names are in order: refused or accepted.
-abbrev pub JudgesProgram : Program → Reply → Type 0
-JudgesProgram program (refused refusal thread) =
-    (first_false (program_obligations program) ≡ Some refusal) × (thread ≡ name_in program.threads refusal.thread)
-JudgesProgram program (accepted threads statements entailments) = AcceptsProgram program threads statements entailments
-JudgesProgram program reply = ⊥
+-- The reply to a check of a program whose names are in order. What is accepted is secure.
+pub record JudgesProgram (program : Program) (reply : Reply) : Type 0 where
+  pub verdict : reply ≡ program_verdict program (first_false (program_obligations program))
+  pub secure : IsAccepted program → IsSecure (plain program)
 
 -- The text is the report of a reply that the code formats as one line.
 abbrev pub IsLine : Reply → List ℕ → Type 0

@@ -1,6 +1,7 @@
 pub mod Commands
 pub mod Outcome
 pub mod Headline
+pub mod Plans
 pub mod Check
 pub mod Format
 pub mod Programs

@@ -1,9 +1,10 @@
 -- The text of a program.
 use Rattle.std.specs.Prelude.{◌≡◌, ℕ, List, Option, Some, None}
+use Rattle.cov_ast.specs.Syntax.{Parsed}
 use Rattle.cov_grammar.specs.PlacedTrees as trees
 use Rattle.cov_grammar.specs.Grammar as grammar
 use Rattle.cov_text.specs.Limits.{in_program}
-use Rattle.cov_text.specs.Text.{IsText, IsFault}
+use Rattle.cov_text.specs.Text.{IsText, IsFault, program_of}
 use Rattle.cov_text.specs.declared.fault.ParseFault.{ParseFault}
 use Rattle.cov_text.specs.declared.fault.ParseFault.TheVariants as faults
 use Rattle.top_call.specs.declared.answers.Fault.{Fault}
@@ -14,9 +15,9 @@ use Rattle.top_call.specs.declared.answers.FaultKind.TheVariants as k
 abbrev pub SpellsTree : List ℕ → trees.Program → Type 0
 SpellsTree bytes tree = IsText grammar.program in_program bytes tree
 
--- The bytes spell some program.
-abbrev pub IsProgramText : List ℕ → Type 0
-IsProgramText bytes = (tree : trees.Program) × SpellsTree bytes tree
+-- The bytes spell a program, which callers get so.
+abbrev pub SpellsProgram : List ℕ → Parsed → Type 0
+SpellsProgram bytes p = (tree : trees.Program) × SpellsTree bytes tree × (p ≡ program_of bytes tree)
 
 abbrev pub fault_at : FaultKind → ℕ → Fault
 fault_at kind at = record { kind = kind; at = at }

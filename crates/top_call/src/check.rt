@@ -1,21 +1,17 @@
-ghost use Rattle.std.specs.Prelude.{◌≡◌, ◌≤◌, length, map};
-ghost use Rattle.cov_expr.specs.declared.limits.TheConstants.{MOST_BYTES};
+ghost use Rattle.std.specs.Prelude.{◌≡◌, map};
 ghost use Rattle.cov_ast.specs.Ready.{IsReady};
 ghost use Rattle.cov_ast.specs.View as view;
 ghost use Rattle.cov_ast.specs.WellFormed.{IsWellFormed};
-ghost use Rattle.cov_io.specs.Shelves.{Passes};
 ghost use Rattle.top_call.specs.Check.{Judges};
-ghost use Rattle.top_call.specs.Asks.{Asks, files_of};
 ghost use Rattle.top_call.specs.Commands as asked;
-ghost use Rattle.top_call.specs.Inside.{LacksMemory, Gets, JudgesProgram, JudgesTree, name_in};
-ghost use Rattle.top_call.specs.Outcome.{Does};
+ghost use Rattle.top_call.specs.Inside.{CarriesOut, Gets, JudgesProgram, name_in};
+ghost use Rattle.top_call.specs.Outcome.{plan_of};
 
 use crate::answers::{Answer, Counts, Stop};
-use crate::files::{fetch, unread};
+use crate::files::read_program;
 use cov_ast::{CheckFault, Parsed, Program, ThreadDecl};
-use cov_expr::{MOST_BYTES, Name};
+use cov_expr::Name;
 use cov_io::Shelf;
-use cov_parse::parse;
 use policy_class::resolve;
 use std::alloc::Global;
 use verify::check_program;
@@ -26,29 +22,16 @@ pub fn check<'w, S: Shelf>(
     name: &'w str,
     shelf: &mut S,
 ) -> Result<Answer<'w>, Stop<'w>>
-    ensures does { Gets (Does (S.shelved shelf.old) (S.shelved shelf.new) (asked.check name.now)) result }
-    ensures asks { Asks (S.shelved shelf.old) (S.shelved shelf.new) (files_of (asked.check name.now)) (LacksMemory result) }
-    ensures passes { Passes (S.shelved shelf.old) (S.shelved shelf.new) }
+    ensures { CarriesOut (S.shelved shelf.old) (S.shelved shelf.new) (plan_of (asked.check name.now)) result }
 {
-    let bytes = fetch(alloc, name, MOST_BYTES, shelf)?;
-    check_text(alloc, name, bytes.as_slice())
-}
-
-/// Checks the program of a text.
-fn check_text<'w>(alloc: Global, name: &'w str, bytes: &[u8]) -> Result<Answer<'w>, Stop<'w>>
-    requires { length bytes.now ≤ MOST_BYTES }
-    ensures { Gets (Judges name.now bytes.now) result }
-{
-    match parse(alloc, bytes) {
-        Ok(parsed) => judge(alloc, parsed),
-        Err(fault) => Err(unread(name, fault)),
-    }
+    let parsed = read_program(alloc, name, shelf)?;
+    judge(alloc, parsed)
 }
 
 /// Judges what a text spells. A name that is refused is that of no thread.
 fn judge<'w>(alloc: Global, parsed: Parsed) -> Result<Answer<'w>, Stop<'w>>
     requires { IsReady (view.parsed parsed) }
-    ensures { Gets (JudgesTree (view.parsed parsed)) result }
+    ensures { Gets (Judges (view.parsed parsed)) result }
 {
     match resolve(alloc, parsed) {
         Ok(program) => judge_program(alloc, &program),

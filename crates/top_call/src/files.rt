@@ -1,20 +1,43 @@
-ghost use Rattle.std.specs.Prelude.{◌≡◌, MatchResult, Ok, Some};
+ghost use Rattle.std.specs.Prelude.{◌≡◌, IfOk, MatchResult, Ok, Some};
+ghost use Rattle.cov_ast.specs.Ready.{IsReady};
+ghost use Rattle.cov_ast.specs.View as view;
+ghost use Rattle.cov_expr.specs.declared.limits.TheConstants.{MOST_BYTES};
 ghost use Rattle.cov_io.specs.Counters.{raised};
 ghost use Rattle.cov_io.specs.Shelves.{Gives, Passes};
 ghost use Rattle.cov_io.specs.declared.shelf.Fetched.TheVariants as fetched;
 ghost use Rattle.top_call.specs.Files.{Misses};
-ghost use Rattle.top_call.specs.Inside.{Stops};
-ghost use Rattle.top_call.specs.Programs.{shown};
+ghost use Rattle.top_call.specs.Inside.{Fails, Stops, Takes};
+ghost use Rattle.top_call.specs.Programs.{IsShownFault, SpellsProgram, shown};
 ghost use Rattle.top_call.specs.Replies.{malformed};
 
 use crate::answers::{Answer, Fault, FaultKind, Stop};
-use cov_expr::Blob;
+use cov_ast::Parsed;
+use cov_expr::{Blob, MOST_BYTES};
 use cov_io::{Fetched, Shelf, ShelfFault};
+use cov_parse::parse;
 use cov_text::ParseFault;
 use std::alloc::Global;
 
+/// The program that a file spells.
+pub fn read_program<'w, S: Shelf>(
+    alloc: Global,
+    name: &'w str,
+    shelf: &mut S,
+) -> Result<Parsed, Stop<'w>>
+    ensures read { MatchResult result
+        (λ p. Takes SpellsProgram (S.shelved shelf.old) (S.shelved shelf.new) name.now MOST_BYTES (view.parsed p))
+        (λ stop. Fails IsShownFault (S.shelved shelf.old) (S.shelved shelf.new) name.now MOST_BYTES stop) }
+    ensures ready { IfOk result (λ p. IsReady (view.parsed p)) }
+{
+    let bytes = fetch(alloc, name, MOST_BYTES, shelf)?;
+    match parse(alloc, bytes.as_slice()) {
+        Ok(parsed) => Ok(parsed),
+        Err(fault) => Err(unread(name, fault)),
+    }
+}
+
 /// The bytes of a file.
-pub fn fetch<'w, S: Shelf>(
+fn fetch<'w, S: Shelf>(
     alloc: Global,
     name: &'w str,
     most: usize,
@@ -35,7 +58,7 @@ pub fn fetch<'w, S: Shelf>(
 }
 
 /// What is answered where the text of a file isn't read.
-pub fn unread<'w>(name: &'w str, fault: ParseFault) -> Stop<'w>
+fn unread<'w>(name: &'w str, fault: ParseFault) -> Stop<'w>
     ensures { Stops (λ reply. (fault_shown : Fault) × (shown fault ≡ Some fault_shown) × (reply ≡ malformed name.now fault_shown)) result }
 {
     let (kind, at) = match fault {

@@ -1,17 +1,13 @@
-ghost use Rattle.std.specs.Prelude.{length, ◌≤◌};
-ghost use Rattle.cov_expr.specs.declared.limits.TheConstants.{MOST_BYTES};
-ghost use Rattle.cov_io.specs.Shelves.{Passes};
-ghost use Rattle.top_call.specs.Asks.{Asks, files_of};
+ghost use Rattle.cov_ast.specs.View as view;
 ghost use Rattle.top_call.specs.Commands as asked;
 ghost use Rattle.top_call.specs.Format.{Formats};
-ghost use Rattle.top_call.specs.Inside.{LacksMemory, Gets};
-ghost use Rattle.top_call.specs.Outcome.{Does};
+ghost use Rattle.top_call.specs.Inside.{CarriesOut, Gets};
+ghost use Rattle.top_call.specs.Outcome.{plan_of};
 
 use crate::answers::{Answer, Stop};
-use crate::files::{fetch, unread};
-use cov_expr::MOST_BYTES;
+use crate::files::read_program;
+use cov_ast::Parsed;
 use cov_io::Shelf;
-use cov_parse::parse;
 use cov_print::print;
 use std::alloc::Global;
 
@@ -21,21 +17,15 @@ pub fn format<'w, S: Shelf>(
     name: &'w str,
     shelf: &mut S,
 ) -> Result<Answer<'w>, Stop<'w>>
-    ensures does { Gets (Does (S.shelved shelf.old) (S.shelved shelf.new) (asked.fmt name.now)) result }
-    ensures asks { Asks (S.shelved shelf.old) (S.shelved shelf.new) (files_of (asked.fmt name.now)) (LacksMemory result) }
-    ensures passes { Passes (S.shelved shelf.old) (S.shelved shelf.new) }
+    ensures { CarriesOut (S.shelved shelf.old) (S.shelved shelf.new) (plan_of (asked.fmt name.now)) result }
 {
-    let bytes = fetch(alloc, name, MOST_BYTES, shelf)?;
-    format_text(alloc, name, bytes.as_slice())
+    let parsed = read_program(alloc, name, shelf)?;
+    spell(alloc, &parsed)
 }
 
-/// Formats the program of a text.
-fn format_text<'w>(alloc: Global, name: &'w str, bytes: &[u8]) -> Result<Answer<'w>, Stop<'w>>
-    requires { length bytes.now ≤ MOST_BYTES }
-    ensures { Gets (Formats name.now bytes.now) result }
+/// Spells a program.
+pub fn spell<'w>(alloc: Global, parsed: &Parsed) -> Result<Answer<'w>, Stop<'w>>
+    ensures { Gets (Formats (view.parsed parsed.now)) result }
 {
-    match parse(alloc, bytes) {
-        Ok(parsed) => Ok(Answer::Spelled(print(alloc, &parsed)?)),
-        Err(fault) => Err(unread(name, fault)),
-    }
+    Ok(Answer::Spelled(print(alloc, parsed)?))
 }

@@ -10,18 +10,19 @@
 //! | `src/` | `specs/` | what it has |
 //! |---|---|---|
 //! | `call` | | `covern`, with all its promises |
-//! | `commands` | `Commands`, `Outcome` | which command the words ask for; the step of each, in one row |
-//! | `check`, `fmt`, `migrate` | `Check`, `Format` | a module for each command: what it replies to the bytes of its files |
-//! | `files` | `Files`, `Programs`, `Asks` | how a file is fetched and read, what is replied where it isn't, and which are asked for |
+//! | `commands` | `Commands`, `Outcome` | which command the words ask for; the plan of each, in one row |
+//! | | `Plans`, `Asks` | plans: which files are read one behind the other, and what is replied then; which calls they make |
+//! | `check`, `fmt`, `migrate` | `Check`, `Format` | a module for each command: what it replies to what its files spell |
+//! | `files` | `Files`, `Programs` | how a file is fetched and read, and what is replied where it isn't |
 //! | `answers` | `Replies` | what a call can answer, and the status of each answer |
 //! | `reports`, `refusals` | `Reports` | the text of each answer |
 //! | `end` | `Ends` | the report is made and written |
 //! | `laws` | `Laws`, `Headline` | one reply; a program in version 2; what it says of a file that it is accepted |
 //!
 //! A command is a module of `src/` with its step, a module of `specs/` with its replies, and a row in each of `Command`,
-//! `command_of`, `files_of`, `Does`, `Outcome`, `IsMet`, `IsSuccess`, `HoldsSecure` and in the function `answer`. Definitions by
-//! command have no row for the rest, so that none is forgotten. `specs/Inside` has the words of private contracts, which no
-//! promise of `covern` cites.
+//! `command_of`, `plan_of`, `IsSuccess`, `HoldsSecure` and in the function `answer`. Definitions by command have no row for the
+//! rest, so that none is forgotten. What a command may reply, what it replies over files, what it asks and which calls it makes
+//! are said once, by recursion on plans. `specs/Inside` has the words of private contracts, which no promise of `covern` cites.
 #![tactic(auto)]
 
 mod answers;

@@ -1,10 +1,10 @@
-use Rattle.std.proofs.Common.{◌≡◌, inl, inr, map, string_bytes, rules}
+use Rattle.std.proofs.Common.{◌≡◌, Err, refl, inl, inr, map, string_bytes, rules}
 use Rattle.top_call.specs.Asks.{files_of}
 use Rattle.top_call.specs.Commands.{command_of}
-use Rattle.top_call.specs.Inside.{seen}
+use Rattle.top_call.specs.Inside.{seen, LacksMemory}
 use Rattle.top_call.specs.declared.answers.Status.TheVariants as s
-use Rattle.top_call.proofs.AskLaws.{asks_onward}
-use Rattle.top_call.proofs.OutcomeLaws.{call_exact, call_complete}
+use Rattle.top_call.proofs.PlanLaws.{asks_onward}
+use Rattle.top_call.proofs.OutcomeLaws.{call_exact, call_secure, call_complete}
 use Rattle.top_call.proofs.call.covern.Goals as goal
 
 pub returns-clause-exact : goal.returns-clause-exact
@@ -27,6 +27,19 @@ returns-clause-complete g c quiet written =
     let sunk = g.K.Sink.sunk in
     call_complete (shelved c.args.shelf.now) (shelved c.answer.new.shelf) (command_of (map string_bytes c.args.words.now)) (seen c.match-answer.answer) (search rules)
     (sunk c.args.sink.now) (sunk c.end.new.sink) c.end.result c.end.ensures.ends c.end.ensures.write_fault quiet written
+
+pub returns-clause-secure : goal.returns-clause-secure
+returns-clause-secure g c done =
+    let shelved = g.S.Shelf.shelved in
+    let sunk = g.K.Sink.sunk in
+    call_secure (shelved c.args.shelf.now) (shelved c.answer.new.shelf) (command_of (map string_bytes c.args.words.now)) (seen c.match-answer.answer) (search rules)
+    (sunk c.args.sink.now) (sunk c.end.new.sink) c.end.result c.end.ensures.ends done
+
+pub returns-in-Err-NoMemory-clause-asks : goal.returns-in-Err-NoMemory-clause-asks
+returns-in-Err-NoMemory-clause-asks g c =
+    let shelved = g.S.Shelf.shelved in
+    asks_onward (shelved c.args.shelf.now) (shelved c.answer.new.shelf) (files_of (command_of (map string_bytes c.args.words.now)))
+    (LacksMemory (Err c.in-Err-NoMemory.field-0)) (s.NoMemory ≡ s.NoMemory) (λ _. refl) c.in-Err-NoMemory.ensures.asks
 
 pub returns-clause-asks : goal.returns-clause-asks
 returns-clause-asks g c =

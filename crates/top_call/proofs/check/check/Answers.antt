@@ -1,33 +1,28 @@
-use Rattle.std.proofs.Common.{subst, sym, Ok}
-use Rattle.cov_io.specs.declared.shelf.Fetched.TheVariants.{Whole}
-use Rattle.cov_io.specs.Shelves.{Gives}
-use Rattle.top_call.specs.Check.{Judges}
+use Rattle.std.proofs.Common.{◌≡◌, Err, sym, subst, rules}
+use Rattle.cov_ast.specs.View as view
 use Rattle.cov_expr.specs.declared.limits.TheConstants.{MOST_BYTES}
-use Rattle.top_call.specs.Asks.{program}
-use Rattle.top_call.specs.Inside.{LacksMemory}
-use Rattle.top_call.proofs.AskLaws.{asks_missed, asks_got}
-use Rattle.top_call.proofs.CheckLaws.{gets_judged_fit}
-use Rattle.top_call.proofs.FileLaws.{bytes_read}
+use Rattle.top_call.specs.Check.{Judges, IsAcceptedText}
+use Rattle.top_call.specs.Commands.{check}
+use Rattle.top_call.specs.Inside.{CarriesOut}
+use Rattle.top_call.specs.Outcome.{plan_of}
+use Rattle.top_call.specs.Plans.{replies}
+use Rattle.top_call.specs.Programs.{SpellsProgram, IsShownFault}
+use Rattle.top_call.proofs.PlanLaws.{carried_end, carried_on, carried_not}
+use Rattle.top_call.proofs.TextLaws.{program_reading}
 use Rattle.top_call.proofs.check.check.Goals as goal
 
-pub returns-clause-does : goal.returns-clause-does
-returns-clause-does g c =
+pub returns-in_err-parsed : goal.returns-in_err-parsed
+returns-in_err-parsed g c =
     let shelved = g.S.Shelf.shelved in
-    bytes_read (shelved c.args.shelf.now) (shelved c.fetch.new.shelf) c.args.name.now MOST_BYTES (Judges c.args.name.now)
-    c.in_ok-bytes.bytes c.as_slice.result.now c.check_text.result c.in_ok-bytes.ensures.answer c.as_slice.ensures c.check_text.ensures
+    let same : c.from_residual.result ≡ Err c.in_err-parsed.field-0.0 = search rules in
+    subst (CarriesOut (shelved c.args.shelf.now) (shelved c.read_program.new.shelf) (plan_of (check c.args.name.now))) (sym same)
+    (carried_not SpellsProgram IsShownFault c.args.name.now MOST_BYTES (λ p. replies (IsAcceptedText p) (Judges p)) (shelved c.args.shelf.now)
+    (shelved c.read_program.new.shelf) c.in_err-parsed.field-0.0 program_reading c.in_err-parsed.ensures.read)
 
-pub returns-in_err-bytes-clause-asks : goal.returns-in_err-bytes-clause-asks
-returns-in_err-bytes-clause-asks g c =
+pub returns : goal.returns
+returns g c =
     let shelved = g.S.Shelf.shelved in
-    asks_missed (shelved c.args.shelf.now) (shelved c.fetch.new.shelf) (program c.args.name.now) (LacksMemory c.from_residual.result) c.fetch.ensures.counted
-    c.in_err-bytes.field-0.0 c.in_err-bytes.ensures.answer
-
-pub returns-clause-asks : goal.returns-clause-asks
-returns-clause-asks g c =
-    let shelved = g.S.Shelf.shelved in
-    let before = shelved c.args.shelf.now in
-    let after = shelved c.fetch.new.shelf in
-    let read = c.as_slice.result.now in
-    asks_got before after (program c.args.name.now) (LacksMemory c.check_text.result) c.fetch.ensures.counted read
-    (subst (λ bytes. Gives before after c.args.name.now MOST_BYTES (Ok (Whole bytes))) (sym c.as_slice.ensures) c.in_ok-bytes.ensures.answer)
-    (gets_judged_fit c.args.name.now read c.check_text.result c.check_text.ensures)
+    let after = shelved c.read_program.new.shelf in
+    let p = view.parsed c.in_ok-parsed.parsed in
+    carried_on SpellsProgram IsShownFault c.args.name.now MOST_BYTES (λ p. replies (IsAcceptedText p) (Judges p)) (shelved c.args.shelf.now)
+    after after p c.judge.result c.in_ok-parsed.ensures.read (carried_end after (IsAcceptedText p) (Judges p) c.judge.result c.judge.ensures)

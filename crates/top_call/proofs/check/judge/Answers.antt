@@ -1,7 +1,8 @@
 use Rattle.std.proofs.Common.{None, Err, sym, subst}
 use Rattle.cov_ast.specs.Obligations.{Decides}
 use Rattle.policy_class.specs.Resolved.{name_obligations}
-use Rattle.top_call.specs.Check.{Refuses}
+use Rattle.top_call.specs.Check.{Judges}
+use Rattle.top_call.specs.Replies.{refused}
 use Rattle.cov_ast.specs.View as view
 use Rattle.top_call.proofs.CheckLaws.{names_refused, program_judged}
 use Rattle.top_call.proofs.check.judge.Goals as goal
@@ -14,6 +15,6 @@ returns-in-Ok c =
 pub returns-in-Err-Refused : goal.returns-in-Err-Refused
 returns-in-Err-Refused c =
     let p = view.parsed c.args.parsed in
-    subst (λ refusal. Refuses p refusal None) (sym c.in-Err-Refused.refusal-is)
+    subst (λ refusal. Judges p (refused refusal None)) (sym c.in-Err-Refused.refusal-is)
     (names_refused p c.in-Err-Refused.refusal
     (subst (λ fault. Decides (name_obligations p) (Err fault)) c.in-Err-Refused.field-0-is c.in-Err-Refused.ensures.names))
