@@ -28,10 +28,22 @@ fn faults_of_listings(rt: HostRuntime) -> Result<(), Fail> {
     faulty(alloc, b"code 1", CodeFault::Line(1))?;
     faulty(alloc, b"code 3\n", CodeFault::Line(1))?;
     faulty(alloc, b"code 1\n\n", CodeFault::Line(2))?;
-    faulty(alloc, b"code 1\nvar a\nvar a\n", CodeFault::Bad(CodeBad::SameName(a)))?;
+    faulty(
+        alloc,
+        b"code 1\nvar a\nvar a\n",
+        CodeFault::Bad(CodeBad::SameName(a)),
+    )?;
     faulty(alloc, b"code 1\nlock a\nvar b\n", CodeFault::Line(3))?;
-    faulty(alloc, b"code 1\nthread t 1\n1 load r8 a\n", CodeFault::Line(3))?;
-    faulty(alloc, b"code 1\nthread t 1\n1 jump 5\n", CodeFault::Bad(CodeBad::BadTarget(0, 0)))?;
+    faulty(
+        alloc,
+        b"code 1\nthread t 1\n1 load r8 a\n",
+        CodeFault::Line(3),
+    )?;
+    faulty(
+        alloc,
+        b"code 1\nthread t 1\n1 jump 5\n",
+        CodeFault::Bad(CodeBad::BadTarget(0, 0)),
+    )?;
     faulty(alloc, b"code 1\nthread t 2\n1 nop\n", CodeFault::Line(4))?;
     faulty(alloc, b"code 1\nthread t 1\n1 out r0\n", CodeFault::Line(3))?;
     faulty(alloc, b"code 1\nthread t 1\n01 nop\n", CodeFault::Line(3))?;

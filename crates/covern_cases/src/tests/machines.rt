@@ -117,7 +117,10 @@ fn three_steps(alloc: Global, code: &Code) -> Result<(), Fail> {
     runs(&mut risc, Stepped::Moved)?;
     demand(risc.pc(0) == 2 && risc.done(0), "the end")?;
     runs(&mut risc, Stepped::Idle)?;
-    demand(risc.said().is_empty() && risc.memory().is_empty(), "nothing else")
+    demand(
+        risc.said().is_empty() && risc.memory().is_empty(),
+        "nothing else",
+    )
 }
 
 /// A step of the one thread is to say this.
