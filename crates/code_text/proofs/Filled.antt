@@ -9,7 +9,7 @@ use Rattle.risc_machine.specs.declared.parts.Parts.{Parts}
 use Rattle.risc_machine.specs.declared.parts.ThreadCode.{ThreadCode}
 use Rattle.code_text.specs.Inside.Reading.{with_line, with_row, begun}
 use Rattle.code_text.specs.Listing.{line, thread_head, thread_rows, rows, head, IsListed, IsListedLine, IsListedThread}
-use Rattle.code_text.specs.declared.draft.Draft.{Draft}
+use Rattle.code_text.specs.Inside.Reading.{Draft}
 use Rattle.code_text.specs.declared.row.Row.{Row}
 use Rattle.code_text.specs.declared.row.Row.TheVariants as row
 use Rattle.code_text.proofs.ChainLaws.{Chain}
@@ -93,7 +93,7 @@ module _ (version vars locks : ℕ) where
           let before : length (t.lines ++ replicate left nop) ≡ length t.lines + left = length-append t.lines (replicate left nop) ∙ ap (λ k. length t.lines + k) (length-replicate left nop) in
           let one : length (t.lines ++ l ∷ []) ≡ length t.lines + 1 = length-append t.lines (l ∷ []) in
           let after : length ((t.lines ++ l ∷ []) ++ replicate (left - 1) nop) ≡ length (t.lines ++ l ∷ []) + (left - 1) =
-              length-append (t.lines ++ l ∷ []) (replicate (left - 1) nop) ∙ ap (λ k. length (t.lines ++ l ∷ []) + k) (length-replicate (left - 1) nop) in
+          length-append (t.lines ++ l ∷ []) (replicate (left - 1) nop) ∙ ap (λ k. length (t.lines ++ l ∷ []) + k) (length-replicate (left - 1) nop) in
           let e : length (t.lines ++ replicate left nop) ≡ length ((t.lines ++ l ∷ []) ++ replicate (left - 1) nop) = omega (arith, before, one, after, some) in e) h.0.count;
       lines = every_append (IsListedLine version vars locks) (t.lines ++ l ∷ []) (replicate (left - 1) nop)
           (every_append (IsListedLine version vars locks) t.lines (l ∷ []) (every_front (IsListedLine version vars locks) t.lines (replicate left nop) h.0.lines) (g, tt))
@@ -132,12 +132,14 @@ keeps d fs (row.Thread n count) g h =
       locks = h.locks;
       threads = subst (Every (IsThread d.parts.version (length d.parts.vars) (length d.parts.locks))) (sym (fill_new d.parts.threads n count))
           (every_append (IsThread d.parts.version (length d.parts.vars) (length d.parts.locks)) d.parts.threads (record { name = n; lines = replicate count nop } ∷ [])
-          (subst (Every (IsThread d.parts.version (length d.parts.vars) (length d.parts.locks))) (ap (λ k. fill k d.parts.threads) g.1 ∙ fill_none d.parts.threads) h.threads)
-          (record {
-            name = g.2;
-            count = subst IsWord (sym (length-replicate count nop)) g.3;
-            lines = every_copy (IsListedLine d.parts.version (length d.parts.vars) (length d.parts.locks)) count nop (nop_listed d.parts.version (length d.parts.vars) (length d.parts.locks));
-          }, tt));
+          (subst (Every (IsThread d.parts.version (length d.parts.vars) (length d.parts.locks))) (ap (λ k. fill k d.parts.threads) g.1 ∙ fill_none d.parts.threads) h.threads) (
+            record {
+              name = g.2;
+              count = subst IsWord (sym (length-replicate count nop)) g.3;
+              lines = every_copy (IsListedLine d.parts.version (length d.parts.vars) (length d.parts.locks)) count nop (nop_listed d.parts.version (length d.parts.vars) (length d.parts.locks));
+            },
+            tt,
+          ));
     }
 keeps d fs (row.Line l) g h = record {
   version = h.version;

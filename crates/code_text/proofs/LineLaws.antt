@@ -7,7 +7,7 @@ use Rattle.risc_machine.specs.declared.parts.Parts.{Parts}
 use Rattle.code_text.specs.Inside.Reading.{pieces, is_none, row_of, with_row, ended, go_on, read_lines, read_text, begin_with, begun, version_of}
 use Rattle.code_text.specs.Listing.{head, rows, spelled, onto, lines_of, IsListed, IsListingOf, BeginsListing}
 use Rattle.code_text.specs.Outcome.{IsFaultyLine}
-use Rattle.code_text.specs.declared.draft.Draft.{Draft}
+use Rattle.code_text.specs.Inside.Reading.{Draft}
 use Rattle.code_text.specs.declared.row.Row.{Row}
 use Rattle.code_text.proofs.ChainLaws.{Chain, chain_takes, IsRowWithout, AreRowsWithout, split, pieces_row}
 use Rattle.code_text.proofs.Complete.{complete, rows_without_blanks, version_back}
@@ -174,9 +174,12 @@ module _ (l : List ℕ) (v m : ℕ) (ls : List (List ℕ)) (says : version_of l 
   before : BeginsListing ((l ++ codes "\n") ∷ map spelled s.taken)
   before =
       let r = reached s.taken (begun v) s.last s.chain none_left_over (begun_listing v (one_or_two l v says)) in
-      let k = filled_rows s.last in
-      (filled s.last, is_listed (filled s.last) r.listing, map spelled k.0,
-        ap (map spelled) (k.1 ∙ ap (λ x. x ++ k.0) r.grown) ∙ map-append spelled (head v ∷ s.taken) k.0 ∙ ap (λ x. x ∷ (map spelled s.taken ++ map spelled k.0)) here)
+      let k = filled_rows s.last in (
+        filled s.last,
+        is_listed (filled s.last) r.listing,
+        map spelled k.0,
+        ap (map spelled) (k.1 ∙ ap (λ x. x ++ k.0) r.grown) ∙ map-append spelled (head v ∷ s.taken) k.0 ∙ ap (λ x. x ∷ (map spelled s.taken ++ map spelled k.0)) here,
+      )
 
   -- no parts of this version continue these rows by the line
   refuted : (q : Parts) → HasListing q → v ≡ q.version → Continues (body q) s.taken s.line → ⊥
@@ -215,11 +218,11 @@ later_line l v n ls says s =
     let ys : List (List ℕ) = map spelled s.taken in
     let same : length ys ≡ length s.taken = length-map s.taken spelled in
     let front : take (n - 1) (x ∷ marked ls) ≡ x ∷ ys =
-        ap (λ zs. take (n - 1) (x ∷ zs)) s.cut ∙ ap (λ k. take k (x ∷ (ys ++ s.line ∷ s.rest))) (let e : n - 1 ≡ suc (length ys) = omega (arith, s.number, same) in e)
-        ∙ ap (λ zs. x ∷ zs) (take_front ys (s.line ∷ s.rest)) in
+    ap (λ zs. take (n - 1) (x ∷ zs)) s.cut ∙ ap (λ k. take k (x ∷ (ys ++ s.line ∷ s.rest))) (let e : n - 1 ≡ suc (length ys) = omega (arith, s.number, same) in e)
+    ∙ ap (λ zs. x ∷ zs) (take_front ys (s.line ∷ s.rest)) in
     let whole : take n (x ∷ marked ls) ≡ x ∷ (ys ++ s.line ∷ []) =
-        ap (λ zs. take n (x ∷ zs)) s.cut ∙ ap (λ k. take k (x ∷ (ys ++ s.line ∷ s.rest))) (let e : n ≡ suc (suc (length ys)) = omega (arith, s.number, same) in e)
-        ∙ ap (λ zs. x ∷ zs) (take_one ys s.rest s.line) in
+    ap (λ zs. take n (x ∷ zs)) s.cut ∙ ap (λ k. take k (x ∷ (ys ++ s.line ∷ s.rest))) (let e : n ≡ suc (suc (length ys)) = omega (arith, s.number, same) in e)
+    ∙ ap (λ zs. x ∷ zs) (take_one ys s.rest s.line) in
     (subst BeginsListing (sym front) (before l v n ls says s), λ b. faulty l v n ls says s (subst BeginsListing whole b))
 
 pub faulty_line : (bs : List ℕ) (n : ℕ) → read_text (pieces 10 bs) ≡ Err n → IsFaultyLine bs n
