@@ -1,17 +1,18 @@
 -- What reading answers is right.
 use Rattle.std.proofs.Common.{◌≡◌, ℕ, ◌+◌, List, [], ◌∷◌, refl, ap, sym, ◌∙◌, subst, arith, Some, None, Ok, Err}
-use Rattle.risc_machine.specs.Faults.{fault_of}
+use Rattle.risc_machine.specs.Faults.{fault_of, names_of, repeated}
 use Rattle.risc_machine.specs.declared.parts.CodeBad.{CodeBad}
+use Rattle.risc_machine.specs.declared.parts.CodeBad.TheVariants as bad
 use Rattle.risc_machine.specs.declared.parts.Parts.{Parts}
 use Rattle.code_text.specs.Inside.Drafts.{Agrees}
 use Rattle.code_text.specs.Inside.Reading.{pieces, row_of, with_row, read_lines, read_text, begun, version_of}
 use Rattle.code_text.specs.Listing.{IsListed, IsListingOf}
 use Rattle.code_text.specs.Outcome.{IsReading, IsAnswerTo}
-use Rattle.code_text.specs.declared.draft.Draft.{Draft}
+use Rattle.code_text.specs.Inside.Reading.{Draft}
 use Rattle.code_text.specs.declared.fault.CodeFault.{CodeFault}
 use Rattle.code_text.specs.declared.fault.CodeFault.TheVariants.{Line, Bad, NoMemory}
 use Rattle.code_text.proofs.ChainLaws.{Chain}
-use Rattle.code_text.proofs.Complete.{complete, same_fault, faultless_same}
+use Rattle.code_text.proofs.Complete.{complete, named, same_fault, faultless_same}
 use Rattle.code_text.proofs.Filled.{HasListing, has_listing, is_listed, filled_whole, reached, begun_listing}
 use Rattle.code_text.proofs.LineLaws.{faulty_line, unlisted, one_or_two}
 use Rattle.code_text.proofs.PhaseLaws.{first_parts}
@@ -65,3 +66,7 @@ module _ (bs : List ℕ) where
 
     pub bad_answers : (f : CodeBad) → fault_of r ≡ Some f → fault_of p ≡ Some f
     bad_answers f e = sym same ∙ e
+
+  -- a name that equals an earlier one is the first fault
+  pub same_name : (p : Parts) → read_text (pieces 10 bs) ≡ Ok p → (n : List ℕ) → repeated [] (names_of p) ≡ Some n → fault_of p ≡ Some (bad.SameName n)
+  same_name p h n e = let g = has_listing p (listing_read p h).listed in named p g p g.version n e

@@ -193,7 +193,7 @@ module _ (p : Parts) (h : HasListing p) where
   no_version_fault q (inl e) = ap (λ v. if v == 1 || v == 2 then None else Some (bad.BadVersion v)) e
   no_version_fault q (inr e) = ap (λ v. if v == 1 || v == 2 then None else Some (bad.BadVersion v)) e
 
-  named : (q : Parts) → (q.version ≡ 1) ⊎ (q.version ≡ 2) → (n : List ℕ) → repeated [] (names_of q) ≡ Some n → fault_of q ≡ Some (bad.SameName n)
+  pub named : (q : Parts) → (q.version ≡ 1) ⊎ (q.version ≡ 2) → (n : List ℕ) → repeated [] (names_of q) ≡ Some n → fault_of q ≡ Some (bad.SameName n)
   named q v n e =
       ap (λ o. first_of o (first_of (name_fault (repeated [] (names_of q))) (first_in (thread_fault q) 0 q.threads))) (no_version_fault q v)
       ∙ ap (λ o. first_of (name_fault o) (first_in (thread_fault q) 0 q.threads)) e

@@ -6,6 +6,7 @@ pub mod ReadLaws
 pub mod Every
 pub mod FieldLaws
 pub mod RangeLaws
+pub mod LookupLaws
 pub mod InstrLaws
 pub mod SoundLaws
 mod Examples

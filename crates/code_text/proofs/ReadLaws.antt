@@ -6,7 +6,7 @@ use Rattle.risc_machine.specs.declared.parts.ThreadCode.{ThreadCode}
 use Rattle.code_text.specs.Inside.Drafts.{AreShort, IsSmall}
 use Rattle.code_text.specs.Listing.{onto}
 use Rattle.code_text.specs.Inside.Reading.{pieces, head_of, instr_of, row_of, with_row, read_lines, go_on, read_text, begin_with, begun, version_of}
-use Rattle.code_text.specs.declared.draft.Draft.{Draft}
+use Rattle.code_text.specs.Inside.Reading.{Draft}
 use Rattle.code_text.specs.declared.row.Row.{Row}
 
 pub few_head : (p : Parts) (fs : List (List ℕ)) → length fs < 2 → head_of p fs ≡ None

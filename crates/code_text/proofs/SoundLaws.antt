@@ -11,8 +11,9 @@ use Rattle.risc_machine.specs.declared.parts.Line.{Line}
 use Rattle.risc_machine.specs.declared.parts.Parts.{Parts}
 use Rattle.risc_machine.specs.declared.parts.ThreadCode.{ThreadCode}
 use Rattle.code_text.specs.Listing.{onto, declared, head, line, thread_head, thread_rows, rows, spelled, listing, IsListedLine}
+use Rattle.code_text.specs.Inside.Drafts.{CanStand}
 use Rattle.code_text.specs.Inside.Reading.{pieces, is_none, name_of, number_of, weight_of, both, instr_of, line_of, line_with, head_of, name_row, thread_row, row_of, with_line, with_row, begun, ended, go_on, read_lines, read_text, begin_with, version_of}
-use Rattle.code_text.specs.declared.draft.Draft.{Draft}
+use Rattle.code_text.specs.Inside.Reading.{Draft}
 use Rattle.code_text.specs.declared.row.Row.{Row}
 use Rattle.code_text.specs.declared.row.Row.TheVariants as row
 use Rattle.code_text.proofs.Cuts.{glue, some_piece}
@@ -85,6 +86,16 @@ row_is d fs r h = by (nat_lt 0 d.left) refl h
     by : (b : Bool) → nat_lt 0 d.left ≡ b → (if b then line_of d.parts fs else head_of d.parts fs) ≡ Some r → IsRow d fs r
     by true e h = line_row d fs r (ltb-true 0 d.left e) h
     by false e h = head_row d fs r (left_none d.left e) h
+
+-- so a row that is read may stand there
+pub can_stand : (d : Draft) (fs : List (List ℕ)) (r : Row) → Some r ≡ row_of d fs → CanStand d r
+can_stand d fs r h = by r (row_is d fs r (sym h))
+  where
+    by : (r : Row) → IsRow d fs r → CanStand d r
+    by (row.Var n) g = (g.4, g.2, g.3)
+    by (row.Lock n) g = (g.3, g.2)
+    by (row.Thread n count) g = tt
+    by (row.Line l) g = tt
 
 -- Drafts -------------------------------------------------------------------------------------------------------
 

@@ -1,4 +1,5 @@
 -- Words of private contracts. What is promised doesn't rest on them.
 pub mod Reading
+pub mod Lookup
 pub mod Drafts
 pub mod Spelling

@@ -99,19 +99,6 @@ fn is_digit_below(n: u8, byte: u8) -> bool
     b'0' <= byte && byte < b'0' + n
 }
 
-/// The number of the first of these names that a field is.
-pub fn place_of(names: &[Name], field: &[u8]) -> Option<u32>
-    requires { length names.now < 4294967296 }
-    ensures { result ≡ spec.place_of names.now field.now }
-{
-    for (x, name) in names.iter().enumerate() {
-        if is(field, name.text()) {
-            return Some(x as u32);
-        }
-    }
-    None
-}
-
 /// The operator that a field is.
 pub fn op_of(field: &[u8]) -> Option<Op>
     ensures { result ≡ spec.op_of field.now }

@@ -4,15 +4,15 @@ ghost use Rattle.code_text.specs.Inside.Reading as spec;
 ghost use Rattle.code_text.specs.Listing.{IsListingOf};
 ghost use Rattle.code_text.specs.Outcome.{IsReading, IsAnswerTo};
 ghost use Rattle.code_text.specs.declared.limits.TheConstants.{MOST_LISTING_BYTES};
-ghost use Rattle.risc_machine.specs.Faults.{AreCounted};
+ghost use Rattle.risc_machine.specs.Faults.{AreCounted, repeated, names_of};
 ghost use Rattle.risc_machine.specs.declared.parts.Parts.{Parts};
 
-use crate::draft::Draft;
+use crate::draft::{Draft, Found};
 use crate::fault::CodeFault;
 use crate::field::is;
 use crate::row::row_of;
 use cov_expr::NoMemory;
-use risc_machine::{Code, Parts};
+use risc_machine::{Code, CodeBad};
 use std::alloc::Global;
 
 /// The code of a listing. It answers with the code exactly where the text is the listing of one, unless memory runs out.
@@ -21,17 +21,22 @@ pub fn read_code(alloc: Global, bytes: &[u8]) -> Result<Code, CodeFault>
     ensures reading { IsReading bytes.now result }
     ensures exact { (p : Parts) → IsListingOf p bytes.now → IsAnswerTo p result }
 {
-    match Code::new(read_parts(alloc, bytes)?) {
+    let found = read_parts(alloc, bytes)?;
+    if let Some(name) = found.repeated {
+        return Err(CodeFault::Bad(CodeBad::SameName(name)));
+    }
+    match Code::with_distinct_names(found.parts) {
         Ok(code) => Ok(code),
         Err(rejected) => Err(CodeFault::Bad(rejected.fault)),
     }
 }
 
 /// The parts of which a text is the listing, or the number of the first line with which no listing begins.
-fn read_parts(alloc: Global, bytes: &[u8]) -> Result<Parts, CodeFault>
+fn read_parts(alloc: Global, bytes: &[u8]) -> Result<Found, CodeFault>
     requires { length bytes.now ≤ MOST_LISTING_BYTES }
     ensures agrees { Agrees result (spec.read_text (spec.pieces 10 bytes.now)) }
-    ensures counted { IfOk result AreCounted }
+    ensures counted { IfOk result (λ found. AreCounted found.parts) }
+    ensures repeated { IfOk result (λ found. found.repeated ≡ repeated [] (names_of found.parts)) }
 {
     let Some(end) = find(b'\n', bytes) else {
         return Err(CodeFault::Line(1));
@@ -43,11 +48,12 @@ fn read_parts(alloc: Global, bytes: &[u8]) -> Result<Parts, CodeFault>
 }
 
 /// The parts behind the first line, whose draft stands at line 2.
-fn read_lines(alloc: Global, first: Draft, text: &[u8]) -> Result<Parts, CodeFault>
+fn read_lines(alloc: Global, first: Draft, text: &[u8]) -> Result<Found, CodeFault>
     requires short { length text.now ≤ MOST_LISTING_BYTES }
     requires small { IsSmall 2 first.parts }
     ensures agrees { Agrees result (spec.read_lines (spec.pieces 10 text.now) first 2) }
-    ensures counted { IfOk result AreCounted }
+    ensures counted { IfOk result (λ found. AreCounted found.parts) }
+    ensures repeated { IfOk result (λ found. found.repeated ≡ repeated [] (names_of found.parts)) }
 {
     let mut draft = first;
     let mut rest = text;
@@ -59,14 +65,15 @@ fn read_lines(alloc: Global, first: Draft, text: &[u8]) -> Result<Parts, CodeFau
         let Some(row) = row_of(&draft, fields.as_slice()) else {
             return Err(CodeFault::Line(n));
         };
-        let Ok(()) = draft.push(alloc, row) else {
+        let Ok(next) = draft.with(alloc, row) else {
             return Err(CodeFault::NoMemory);
         };
+        draft = next;
         rest = past(rest, end);
         n += 1;
     }
-    if rest.is_empty() && draft.left == 0 {
-        Ok(draft.parts)
+    if rest.is_empty() && draft.left() == 0 {
+        Ok(draft.finish())
     } else {
         Err(CodeFault::Line(n))
     }

@@ -1,10 +1,10 @@
-ghost use Rattle.std.specs.Prelude.{◌≡◌, ◌≤◌, ◌<◌, length, map};
+ghost use Rattle.std.specs.Prelude.{◌≡◌, map};
 ghost use Rattle.code_text.specs.Inside.Reading as spec;
 
 use crate::draft::Draft;
-use crate::field::{is, name_of, number_of, op_of, place_of, register_of, weight_of};
+use crate::field::{is, name_of, number_of, op_of, register_of, weight_of};
 use cov_expr::Name;
-use risc_machine::{Instr, Line, Parts};
+use risc_machine::{Instr, Line};
 
 /// A row of a listing behind the first.
 #[derive(Clone, Copy, Debug)]
@@ -21,35 +21,33 @@ pub enum Row {
 
 /// The row that these fields are, behind what was read.
 pub fn row_of(draft: &Draft, fields: &[&[u8]]) -> Option<Row>
-    requires vars { length (draft.now).parts.vars < 4294967296 }
-    requires locks { length (draft.now).parts.locks < 4294967296 }
     ensures { result ≡ spec.row_of draft.now (map (λ f. f.now) fields.now) }
 {
-    if draft.left > 0 {
-        line_of(&draft.parts, fields)
+    if draft.left() > 0 {
+        line_of(draft, fields)
     } else {
-        head_of(&draft.parts, fields)
+        head_of(draft, fields)
     }
 }
 
-fn head_of(parts: &Parts, fields: &[&[u8]]) -> Option<Row>
-    ensures { result ≡ spec.head_of parts.now (map (λ f. f.now) fields.now) }
+fn head_of(draft: &Draft, fields: &[&[u8]]) -> Option<Row>
+    ensures { result ≡ spec.head_of (draft.now).parts (map (λ f. f.now) fields.now) }
 {
     match fields {
         [] => None,
         [_] => None,
-        [word, name] => name_row(parts, word, name),
+        [word, name] => name_row(draft, word, name),
         [word, name, count] => thread_row(word, name, count),
         _ => None,
     }
 }
 
-fn name_row(parts: &Parts, word: &[u8], name: &[u8]) -> Option<Row>
-    ensures { result ≡ spec.name_row parts.now word.now name.now }
+fn name_row(draft: &Draft, word: &[u8], name: &[u8]) -> Option<Row>
+    ensures { result ≡ spec.name_row (draft.now).parts word.now name.now }
 {
-    if is(word, b"var") && parts.locks.is_empty() && parts.threads.is_empty() {
+    if is(word, b"var") && draft.locks().is_empty() && draft.is_before_threads() {
         name_of(name).map(Row::Var)
-    } else if is(word, b"lock") && parts.threads.is_empty() {
+    } else if is(word, b"lock") && draft.is_before_threads() {
         name_of(name).map(Row::Lock)
     } else {
         None
@@ -66,30 +64,26 @@ fn thread_row(word: &[u8], name: &[u8], count: &[u8]) -> Option<Row>
     }
 }
 
-fn line_of(parts: &Parts, fields: &[&[u8]]) -> Option<Row>
-    requires vars { length (parts.now).vars < 4294967296 }
-    requires locks { length (parts.now).locks < 4294967296 }
-    ensures { result ≡ spec.line_of parts.now (map (λ f. f.now) fields.now) }
+fn line_of(draft: &Draft, fields: &[&[u8]]) -> Option<Row>
+    ensures { result ≡ spec.line_of (draft.now).parts (map (λ f. f.now) fields.now) }
 {
     match fields {
         [] => None,
         [weight, rest @ ..] => {
             let weight = weight_of(weight)?;
-            let instr = instr_of(parts, rest)?;
+            let instr = instr_of(draft, rest)?;
             Some(Row::Line(Line { weight, instr }))
         }
     }
 }
 
-fn instr_of(parts: &Parts, fields: &[&[u8]]) -> Option<Instr>
-    requires vars { length (parts.now).vars < 4294967296 }
-    requires locks { length (parts.now).locks < 4294967296 }
-    ensures { result ≡ spec.instr_of parts.now (map (λ f. f.now) fields.now) }
+fn instr_of(draft: &Draft, fields: &[&[u8]]) -> Option<Instr>
+    ensures { result ≡ spec.instr_of (draft.now).parts (map (λ f. f.now) fields.now) }
 {
     match fields {
         [word] => no_fields(word),
-        [word, a] => one_field(parts, word, a),
-        [word, a, b] => two_fields(parts, word, a, b),
+        [word, a] => one_field(draft, word, a),
+        [word, a, b] => two_fields(draft, word, a, b),
         [word, a, b, c] => three_fields(word, a, b, c),
         _ => None,
     }
@@ -105,31 +99,29 @@ fn no_fields(word: &[u8]) -> Option<Instr>
     }
 }
 
-fn one_field(parts: &Parts, word: &[u8], a: &[u8]) -> Option<Instr>
-    requires { length (parts.now).locks < 4294967296 }
-    ensures { result ≡ spec.one_field (parts.now).version (parts.now).vars (parts.now).locks word.now a.now }
+fn one_field(draft: &Draft, word: &[u8], a: &[u8]) -> Option<Instr>
+    ensures { result ≡ spec.one_field (draft.now).parts.version (draft.now).parts.vars (draft.now).parts.locks word.now a.now }
 {
     if is(word, b"jump") {
         Some(Instr::Jump(number_of(a)?))
     } else if is(word, b"acquire") {
-        Some(Instr::Acquire(place_of(parts.locks.as_slice(), a)?))
+        Some(Instr::Acquire(draft.locks().find(a)?))
     } else if is(word, b"release") {
-        Some(Instr::Release(place_of(parts.locks.as_slice(), a)?))
-    } else if is(word, b"out") && 2 <= parts.version {
+        Some(Instr::Release(draft.locks().find(a)?))
+    } else if is(word, b"out") && 2 <= draft.version() {
         Some(Instr::Out(register_of(a)?))
     } else {
         None
     }
 }
 
-fn two_fields(parts: &Parts, word: &[u8], a: &[u8], b: &[u8]) -> Option<Instr>
-    requires { length (parts.now).vars < 4294967296 }
-    ensures { result ≡ spec.two_fields (parts.now).vars word.now a.now b.now }
+fn two_fields(draft: &Draft, word: &[u8], a: &[u8], b: &[u8]) -> Option<Instr>
+    ensures { result ≡ spec.two_fields (draft.now).parts.vars word.now a.now b.now }
 {
     if is(word, b"load") {
-        Some(Instr::Load(register_of(a)?, place_of(parts.vars.as_slice(), b)?))
+        Some(Instr::Load(register_of(a)?, draft.vars().find(b)?))
     } else if is(word, b"store") {
-        Some(Instr::Store(place_of(parts.vars.as_slice(), a)?, register_of(b)?))
+        Some(Instr::Store(draft.vars().find(a)?, register_of(b)?))
     } else if is(word, b"jz") {
         Some(Instr::Jz(register_of(a)?, number_of(b)?))
     } else if is(word, b"movc") {

@@ -1,13 +1,18 @@
 -- What reading a text keeps to: it does what the definition by cases does, and no list outgrows the lines.
 use Rattle.std.specs.Prelude.{◌≡◌, ℕ, ◌≤◌, List, [], ◌∷◌, length, Result, Ok, Err}
+use Rattle.cov_expr.specs.Names.{IsName}
 use Rattle.risc_machine.specs.declared.parts.Parts.{Parts}
 use Rattle.risc_machine.specs.declared.parts.ThreadCode.{ThreadCode}
+use Rattle.code_text.specs.Inside.Reading.{Draft}
+use Rattle.code_text.specs.declared.draft.Found.{Found}
 use Rattle.code_text.specs.declared.fault.CodeFault.{CodeFault}
 use Rattle.code_text.specs.declared.fault.CodeFault.TheVariants.{Line, Bad, NoMemory}
+use Rattle.code_text.specs.declared.row.Row.{Row}
+use Rattle.code_text.specs.declared.row.Row.TheVariants as row
 
 -- The code reads what the definition reads, unless memory runs out.
-abbrev pub Agrees : Result Parts CodeFault → Result Parts ℕ → Type 0
-Agrees (Ok p) r = r ≡ Ok p
+abbrev pub Agrees : Result Found CodeFault → Result Parts ℕ → Type 0
+Agrees (Ok found) r = r ≡ Ok found.parts
 Agrees (Err (Line n)) r = r ≡ Err n
 Agrees (Err (Bad f)) r = ⊥
 Agrees (Err NoMemory) r = Unit {0}
@@ -22,3 +27,10 @@ pub record IsSmall (n : ℕ) (p : Parts) : Type 0 where
   pub locks : length p.locks ≤ n
   pub threads : length p.threads ≤ n
   pub lines : AreShort n p.threads
+
+-- A row may stand behind what was read: its name is one, variables stand before locks, and both before threads.
+abbrev pub CanStand : Draft → Row → Type 0
+CanStand d (row.Var n) = IsName n × (d.parts.locks ≡ []) × (d.parts.threads ≡ [])
+CanStand d (row.Lock n) = IsName n × (d.parts.threads ≡ [])
+CanStand d (row.Thread n count) = Unit {0}
+CanStand d (row.Line l) = Unit {0}

@@ -14,7 +14,6 @@ use Rattle.risc_machine.specs.declared.parts.Line.{Line}
 use Rattle.risc_machine.specs.declared.parts.Parts.{Parts}
 use Rattle.risc_machine.specs.declared.parts.ThreadCode.{ThreadCode}
 use Rattle.code_text.specs.Listing.{onto}
-use Rattle.code_text.specs.declared.draft.Draft.{Draft}
 use Rattle.code_text.specs.declared.row.Row.{Row}
 use Rattle.code_text.specs.declared.row.Row.TheVariants as row
 
@@ -137,6 +136,11 @@ abbrev pub head_of : Parts → List (List ℕ) → Option Row
 head_of p (w ∷ n ∷ []) = name_row p w n
 head_of p (w ∷ n ∷ count ∷ []) = thread_row w n count
 head_of p _ = None
+
+-- what was read, and how many lines of the last thread are left
+pub record Draft : Type 0 where
+  pub parts : Parts
+  pub left : ℕ
 
 -- the row that fields are, where so many lines of the last thread are left
 abbrev pub row_of : Draft → List (List ℕ) → Option Row

@@ -1,0 +1,148 @@
+-- Names that are looked up.
+use Rattle.std.proofs.Common.{◌≡◌, ℕ, ◌+◌, List, [], ◌∷◌, ◌++◌, length, All, refl, ap, sym, ◌∙◌, subst, arith, Bool, true, false, not, ◌||◌, if◌then◌else◌, Option, Some, None, cond, append_assoc}
+use Rattle.std.proofs.lemmas.Bool.{ltb-true}
+use Rattle.std.proofs.lemmas.List.Elements.{All-nil, All-append}
+use Rattle.std.proofs.lemmas.List.Folds.{list_any-append}
+use Rattle.std.proofs.lemmas.List.{append-nil, map-append}
+use Rattle.std.proofs.lemmas.Slice.Eq.{bytes_eq-Decides}
+use Rattle.std.specs.List.{list_any}
+use Rattle.std.specs.Map.{lookup}
+use Rattle.std.specs.Str.{bytes_eq}
+use Rattle.cov_expr.specs.Names.{IsName}
+use Rattle.indexmap.specs.IndexMap.{IndexMap, get, Updates, IsEmpty}
+use Rattle.indexmap.specs.IndexSet.{contains, Updates as SetUpdates, IsEmpty as SetIsEmpty}
+use Rattle.risc_machine.specs.Faults.{first_of, repeated, names_of, thread_names}
+use Rattle.risc_machine.specs.declared.parts.Line.{Line}
+use Rattle.risc_machine.specs.declared.parts.Parts.{Parts}
+use Rattle.risc_machine.specs.declared.parts.ThreadCode.{ThreadCode}
+use Rattle.risc_machine.proofs.FaultLaws.{repeated-append}
+use Rattle.code_text.specs.Inside.Lookup.{IsIndexOf, IsRegisterOf}
+use Rattle.code_text.specs.declared.names.Register.{Register}
+use Rattle.code_text.specs.Inside.Reading.{place_from, place_of, with_line}
+use Rattle.code_text.proofs.Every.{all_from}
+use Rattle.code_text.proofs.FieldLaws.{place_is}
+use Rattle.code_text.proofs.RangeLaws.{place_ranges}
+
+place_append : (i : ℕ) (names : List (List ℕ)) (n f : List ℕ) → place_from i (names ++ n ∷ []) f ≡ first_of (place_from i names f) (if bytes_eq f n then Some (i + length names) else None)
+place_append i [] n f = ap (λ k. if bytes_eq f n then Some k else None) (let e : i ≡ i + 0 = omega arith in e)
+place_append i (m ∷ ns) n f = by (bytes_eq f m) (place_append (i + 1) ns n f ∙ ap (λ k. first_of (place_from (i + 1) ns f) (if bytes_eq f n then Some k else None)) (let e : (i + 1) + length ns ≡ i + length (m ∷ ns) = omega arith in e))
+  where
+    by : (b : Bool) → place_from (i + 1) (ns ++ n ∷ []) f ≡ first_of (place_from (i + 1) ns f) (if bytes_eq f n then Some (i + length (m ∷ ns)) else None)
+        → (if b then Some i else place_from (i + 1) (ns ++ n ∷ []) f) ≡ first_of (if b then Some i else place_from (i + 1) ns f) (if bytes_eq f n then Some (i + length (m ∷ ns)) else None)
+    by true rest = refl
+    by false rest = rest
+
+pub place_more : (names : List (List ℕ)) (n f : List ℕ) → place_of (names ++ n ∷ []) f ≡ first_of (place_of names f) (if bytes_eq f n then Some (length names) else None)
+place_more names n f = place_append 0 names n f ∙ ap (λ k. first_of (place_of names f) (if bytes_eq f n then Some k else None)) (let e : 0 + length names ≡ length names = omega arith in e)
+
+same_test : (f n : List ℕ) → bytes_eq f n ≡ bytes_eq n f
+same_test f n = by (bytes_eq f n) (bytes_eq n f) refl refl
+  where
+    by : (b c : Bool) → bytes_eq f n ≡ b → bytes_eq n f ≡ c → b ≡ c
+    by true true g h = refl
+    by false false g h = refl
+    by true false g h = let e : true ≡ false = sym ((bytes_eq-Decides n f).1 (sym ((bytes_eq-Decides f n).0 g))) ∙ h in cc e
+    by false true g h = let e : true ≡ false = sym ((bytes_eq-Decides f n).1 (sym ((bytes_eq-Decides n f).0 h))) ∙ g in cc e
+
+first_none : {A : Type 0} (x : Option A) → first_of x None ≡ x
+first_none None = refl
+first_none (Some a) = refl
+
+-- Places ----------------------------------------------------------------------------------------------------------
+
+module _ {S : Type 0} where
+  pub none_indexed : (index : IndexMap (List ℕ) ℕ S) → IsEmpty index → IsIndexOf index []
+  none_indexed index e = record { named = All-nil IsName; places = λ f. ap (lookup (bytes_eq f)) e }
+
+  module _ (index : IndexMap (List ℕ) ℕ S) (names : List (List ℕ)) (n : List ℕ) (is : IsIndexOf index names) (named : IsName n) where
+    all_named : All IsName (names ++ n ∷ [])
+    all_named = All-append IsName names (n ∷ []) is.named (all_from IsName (n ∷ []) (named, tt))
+
+    -- a name that isn't there yet
+    pub indexed_new : (next : IndexMap (List ℕ) ℕ S) → None ≡ get bytes_eq index n → Updates bytes_eq index next n (Some (length names)) → IsIndexOf next (names ++ n ∷ [])
+    indexed_new next none u = record { named = all_named; places = λ f. u.0 f ∙ by f (bytes_eq n f) refl ∙ sym (place_more names n f) }
+      where
+        by : (f : List ℕ) (b : Bool) → bytes_eq n f ≡ b → cond b (Some (length names)) (get bytes_eq index f) ≡ first_of (place_of names f) (if bytes_eq f n then Some (length names) else None)
+        by f true e =
+            let same : n ≡ f = (bytes_eq-Decides n f).0 e in
+            let absent : place_of names f ≡ None = sym (is.places f) ∙ ap (get bytes_eq index) (sym same) ∙ sym none in
+            sym (ap (λ o. first_of o (if bytes_eq f n then Some (length names) else None)) absent ∙ ap (λ c. if c then Some (length names) else None) (same_test f n ∙ e))
+        by f false e =
+            is.places f ∙ sym (ap (λ c. first_of (place_of names f) (if c then Some (length names) else None)) (same_test f n ∙ e) ∙ first_none (place_of names f))
+
+    -- a name that is there keeps its place
+    pub indexed_old : (k : ℕ) → Some k ≡ get bytes_eq index n → IsIndexOf index (names ++ n ∷ [])
+    indexed_old there some = record { named = all_named; places = λ f. is.places f ∙ by f (bytes_eq f n) refl (place_of names f) refl ∙ sym (place_more names n f) }
+      where
+        by : (f : List ℕ) (b : Bool) → bytes_eq f n ≡ b → (o : Option ℕ) → place_of names f ≡ o → o ≡ first_of o (if b then Some (length names) else None)
+        by f b e (Some k) is_k = refl
+        by f false e None is_k = refl
+        by f true e None is_k = let g : Some there ≡ None = some ∙ is.places n ∙ ap (place_of names) (sym ((bytes_eq-Decides f n).0 e)) ∙ is_k in absurd cc
+
+-- a field that is no name has no place
+pub unnamed : (names : List (List ℕ)) (f : List ℕ) → All IsName names → (IsName f → ⊥) → place_of names f ≡ None
+unnamed names f all other = by (place_of names f) refl
+  where
+    by : (o : Option ℕ) → place_of names f ≡ o → o ≡ None
+    by None e = refl
+    by (Some x) e = absurd (other (subst IsName (sym (place_is names f x e)) (all x [] (ltb-true x (length names) (place_ranges names f x e)))))
+
+-- Repeated names --------------------------------------------------------------------------------------------------
+
+or_true : (b : Bool) → (b || (true || false)) ≡ true
+or_true true = refl
+or_true false = refl
+
+or_false : (b : Bool) → (b || (false || false)) ≡ b
+or_false true = refl
+or_false false = refl
+
+pub none_registered : (r : Register) → SetIsEmpty r.known → r.repeated ≡ None → IsRegisterOf r []
+none_registered r e none = record { known = λ f. ap (list_any (bytes_eq f)) e; first = none }
+
+new_or_not : (b is_new : Bool) (n : List ℕ) → is_new ≡ not b → (if is_new then None else Some n) ≡ (if b then Some n else None)
+new_or_not true is_new n e = ap (λ c. if c then None else Some n) e
+new_or_not false is_new n e = ap (λ c. if c then None else Some n) e
+
+-- a name more
+pub registered : (r next : Register) (names : List (List ℕ)) (n : List ℕ) (is_new : Bool) → IsRegisterOf r names → is_new ≡ not (contains bytes_eq r.known n) → SetUpdates bytes_eq r.known next.known n true
+    → next.repeated ≡ first_of r.repeated (if is_new then None else Some n) → IsRegisterOf next (names ++ n ∷ [])
+registered r next names n is_new is new u e = record {
+  known = λ f. u.0 f ∙ by f (bytes_eq n f) refl ∙ sym (list_any-append (bytes_eq f) names (n ∷ []));
+  first = e ∙ ap (first_of r.repeated) (new_or_not (contains bytes_eq r.known n) is_new n new)
+      ∙ ap (λ o. first_of o (if contains bytes_eq r.known n then Some n else None)) is.first ∙ ap (λ b. first_of (repeated [] names) (if b then Some n else None)) (is.known n)
+      ∙ sym (repeated-append [] names (n ∷ []));
+}
+  where
+    by : (f : List ℕ) (b : Bool) → bytes_eq n f ≡ b → cond b true (contains bytes_eq r.known f) ≡ (list_any (bytes_eq f) names || (bytes_eq f n || false))
+    by f true e = sym (ap (λ c. list_any (bytes_eq f) names || (c || false)) (same_test f n ∙ e) ∙ or_true (list_any (bytes_eq f) names))
+    by f false e = is.known f ∙ sym (ap (λ c. list_any (bytes_eq f) names || (c || false)) (same_test f n ∙ e) ∙ or_false (list_any (bytes_eq f) names))
+
+-- The names of all kinds ------------------------------------------------------------------------------------------
+
+module _ (p : Parts) (n : List ℕ) where
+  pub names_var : p.locks ≡ [] → p.threads ≡ [] → names_of (record p { vars = p.vars ++ n ∷ [] }) ≡ names_of p ++ n ∷ []
+  names_var e f = alone (p.vars ++ n ∷ []) ∙ ap (λ ns. ns ++ n ∷ []) (sym (alone p.vars))
+    where
+      alone : (vars : List (List ℕ)) → (vars ++ p.locks) ++ thread_names p.threads ≡ vars
+      alone vars = ap (λ ls. (vars ++ ls) ++ thread_names p.threads) e ∙ ap (λ ts. (vars ++ []) ++ thread_names ts) f ∙ append-nil (vars ++ []) ∙ append-nil vars
+
+  pub names_lock : p.threads ≡ [] → names_of (record p { locks = p.locks ++ n ∷ [] }) ≡ names_of p ++ n ∷ []
+  names_lock f =
+      alone (p.locks ++ n ∷ []) ∙ sym (append_assoc p.vars p.locks (n ∷ [])) ∙ ap (λ ns. ns ++ n ∷ []) (sym (alone p.locks))
+    where
+      alone : (locks : List (List ℕ)) → (p.vars ++ locks) ++ thread_names p.threads ≡ p.vars ++ locks
+      alone locks = ap (λ ts. (p.vars ++ locks) ++ thread_names ts) f ∙ append-nil (p.vars ++ locks)
+
+  pub names_thread : names_of (record p { threads = p.threads ++ record { name = n; lines = [] } ∷ [] }) ≡ names_of p ++ n ∷ []
+  names_thread =
+      ap (λ ns. (p.vars ++ p.locks) ++ ns) (map-append (λ t. t.name) p.threads (record { name = n; lines = [] } ∷ []))
+      ∙ sym (append_assoc (p.vars ++ p.locks) (thread_names p.threads) (n ∷ []))
+
+same_threads : (ts : List ThreadCode) (l : Line) → thread_names (with_line ts l) ≡ thread_names ts
+same_threads [] l = refl
+same_threads (t ∷ []) l = refl
+same_threads (t ∷ u ∷ ts) l = ap (λ ns. t.name ∷ ns) (same_threads (u ∷ ts) l)
+
+pub names_line : (p : Parts) (l : Line) → names_of (record p { threads = with_line p.threads l }) ≡ names_of p
+names_line p l = ap (λ ns. (p.vars ++ p.locks) ++ ns) (same_threads p.threads l)

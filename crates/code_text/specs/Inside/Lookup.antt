@@ -1,0 +1,20 @@
+-- How names are looked up while a text is read.
+use Rattle.std.specs.Prelude.{◌≡◌, ℕ, List, [], All}
+use Rattle.std.specs.List.{list_any}
+use Rattle.std.specs.Str.{bytes_eq}
+use Rattle.cov_expr.specs.Names.{IsName}
+use Rattle.indexmap.specs.IndexMap.{IndexMap, get}
+use Rattle.indexmap.specs.IndexSet.{contains}
+use Rattle.risc_machine.specs.Faults as faults
+use Rattle.code_text.specs.Inside.Reading.{place_of}
+use Rattle.code_text.specs.declared.names.Register.{Register}
+
+-- The index has the place of each name: that of its first declaration.
+pub record IsIndexOf {S : Type 0} (index : IndexMap (List ℕ) ℕ S) (names : List (List ℕ)) : Type 0 where
+  pub named : All IsName names
+  pub places : (f : List ℕ) → get bytes_eq index f ≡ place_of names f
+
+-- The register has each of the names, and the first that equals an earlier one.
+pub record IsRegisterOf (r : Register) (names : List (List ℕ)) : Type 0 where
+  pub known : (f : List ℕ) → contains bytes_eq r.known f ≡ list_any (bytes_eq f) names
+  pub first : r.repeated ≡ faults.repeated [] names
