@@ -18,7 +18,7 @@
 //! - `> NAME` begins the text of another file.
 //! - `$ WORDS` calls the product with these words, on these files in memory. The lines behind it are what the call has to report,
 //!   and `[N]` the status, where it isn't 0. A word with blanks stands between apostrophes.
-//! - `% PART` calls a part of the product by itself on the text of `p`: `tokens`, `parsed`, `declared` or `certificates`
+//! - `% PART` calls a part of the product by itself on the text of `p`: `tokens`, `parsed`, `declared`, `certificates` or `listing`
 //!   ([`parts`] says what each shows).
 //! - An empty line behind a call ends what it has to show. What stands between there and the next case is a comment.
 //! - `@N TEXT`, in a file or in what a call has to show, stands for TEXT N times, without a line feed at the end. In TEXT `#` is the

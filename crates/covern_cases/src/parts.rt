@@ -3,9 +3,11 @@ ghost use Rattle.std.specs.Prelude.{◌≤◌, length};
 ghost use Rattle.cov_expr.specs.declared.limits.TheConstants.{MOST_BYTES};
 ghost use Rattle.cov_ast.specs.View as view;
 ghost use Rattle.cov_ast.specs.Ready.{IsReady};
+ghost use Rattle.code_text.specs.declared.limits.TheConstants.{MOST_LISTING_BYTES};
 
 use crate::certificates::add_claims;
 use crate::failure::Failure;
+use code_text::{CodeFault, MOST_LISTING_BYTES, list, read_code};
 use cov_ast::{CheckFault, Parsed};
 use cov_expr::{Blob, MOST_BYTES};
 use cov_lex::{LexFault, lex};
@@ -14,6 +16,7 @@ use cov_text::ParseFault;
 use lock_spec::check_locks;
 use mode_compat::check_modes;
 use policy_class::{check_policy, resolve};
+use risc_machine::CodeBad;
 use std::alloc::{AllocError, Global};
 
 /// Adds what a part of the product shows of a text. What is measured is done so many times, and at least once.
@@ -23,6 +26,7 @@ use std::alloc::{AllocError, Global};
 /// - `declared`: whether the rules of declarations hold. Those of modes are measured.
 /// - `certificates`: of each note with a proof whether the certificate is valid, or the path of the first node that fails, `top` for
 ///   the root. The check of a certificate is measured.
+/// - `listing`: the listing of the code that the text lists, or the fault. Reading is measured.
 pub fn add_part(
     alloc: Global,
     part: &str,
@@ -30,6 +34,9 @@ pub fn add_part(
     text: &[u8],
     out: &mut Blob,
 ) -> Result<(), Failure> {
+    if part == "listing" {
+        return add_listing(alloc, times, text, out);
+    }
     if text.len() > MOST_BYTES {
         return Err(Failure::TooLong);
     }
@@ -54,6 +61,26 @@ fn add_tokens(alloc: Global, text: &[u8], out: &mut Blob) -> Result<(), Failure>
             Ok(())
         }
         Err(LexFault::NoMemory) => Err(Failure::NoMemory),
+        Err(fault) => add_text(format!(in alloc; "{fault:?}\n"), out),
+    }
+}
+
+fn add_listing(alloc: Global, times: u32, text: &[u8], out: &mut Blob) -> Result<(), Failure> {
+    if text.len() > MOST_LISTING_BYTES {
+        return Err(Failure::TooLong);
+    }
+    let mut last = read_code(alloc, text);
+    for _ in 1..times {
+        last = read_code(alloc, text);
+    }
+    match last {
+        Ok(code) => Ok(out.extend_from_slice(list(alloc, &code)?.as_slice())?),
+        Err(CodeFault::NoMemory) => Err(Failure::NoMemory),
+        Err(CodeFault::Bad(CodeBad::SameName(name))) => {
+            out.extend_from_slice(b"SameName ")?;
+            out.extend_from_slice(name.text())?;
+            Ok(out.extend_from_slice(b"\n")?)
+        }
         Err(fault) => add_text(format!(in alloc; "{fault:?}\n"), out),
     }
 }
