@@ -7,6 +7,7 @@ pub data Command : Type 0 where
   check : (name : List ℕ) → Command
   fmt : (name : List ℕ) → Command
   migrate : (name : List ℕ) → Command
+  run : (program start schedule : List ℕ) → Command
   nothing : Command
 
 -- the command of the words behind the program's name, and nothing where they have none of the forms
@@ -15,4 +16,5 @@ command_of (word ∷ name ∷ []) =
     if bytes_eq word (codes "check") then check name
     else (if bytes_eq word (codes "fmt") then fmt name
     else (if bytes_eq word (codes "migrate") then migrate name else nothing))
+command_of (word ∷ program ∷ start ∷ schedule ∷ []) = if bytes_eq word (codes "run") then run program start schedule else nothing
 command_of words = nothing

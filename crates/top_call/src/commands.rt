@@ -9,6 +9,7 @@ use crate::answers::{Answer, Stop};
 use crate::check::check;
 use crate::fmt::format;
 use crate::migrate::migrate;
+use crate::run::run;
 use cov_io::Shelf;
 use std::alloc::Global;
 
@@ -26,6 +27,9 @@ pub fn answer<'w, S: Shelf>(
         [command, name] if command.as_str() == "check" => check(alloc, name.as_str(), shelf),
         [command, name] if command.as_str() == "fmt" => format(alloc, name.as_str(), shelf),
         [command, name] if command.as_str() == "migrate" => migrate(alloc, name.as_str(), shelf),
+        [command, program, start, schedule] if command.as_str() == "run" => {
+            run(alloc, program.as_str(), start.as_str(), schedule.as_str(), shelf)
+        }
         _ => Ok(Answer::Usage),
     }
 }

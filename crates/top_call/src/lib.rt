@@ -30,12 +30,17 @@ mod call;
 mod check;
 mod commands;
 mod end;
+mod faults;
 mod files;
 mod fmt;
+mod inputs;
 mod laws;
+mod lines;
 mod migrate;
 mod refusals;
 mod reports;
+mod run;
+mod run_reports;
 
 pub use answers::Status;
 pub use call::covern;
