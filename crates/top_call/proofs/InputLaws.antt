@@ -1,7 +1,6 @@
 -- Laws of starts and schedules: how they are read, and what they are made of.
-use Rattle.std.proofs.Common.{◌≡◌, ℕ, suc, ◌<◌, ◌≤◌, nat_lt, List, [], ◌∷◌, Bool, true, false, ◌&&◌, ◌||◌, cond, length, map, Option, Some, None, Result, Ok, Err, refl, sym, ap, ◌∙◌, subst, inl, inr, arith}
-use Rattle.std.specs.Prelude.{option_and_then}
-use Rattle.std.specs.List.{list_any}
+use Rattle.std.proofs.Common.{◌≡◌, ℕ, suc, ◌<◌, ◌≤◌, nat_lt, List, [], ◌∷◌, Bool, true, false, ◌&&◌, ◌||◌, cond, length, map, Option, Some, None, Result, Ok, Err, refl, sym, ap, ◌∙◌, subst, inl, arith}
+use Rattle.std.specs.Prelude.{option_and_then, is_some}
 use Rattle.std.specs.Str.{bytes_eq}
 use Rattle.std.proofs.lemmas.Bool.Decides.{nat_tests}
 use Rattle.cov_ast.specs.Syntax.{Parsed}
@@ -50,7 +49,7 @@ module _ {A E : Type 0} (given : List ℕ → Result A E) (shown : E → Option 
   given_or_fault bytes x f h (found, h', is) = let wrong : Ok x ≡ Err found = sym h ∙ h' in cc
 
   pub given_reading : IsReading IsGiven IsGivenFault
-  given_reading = record { one_value = given_one; one_fault = given_fault; not_both = given_or_fault; }
+  given_reading = record { one_value = given_one; one_fault = given_fault; not_both = given_or_fault }
 
   pub given_unread : (before after : Shelved) (name : List ℕ) (most : ℕ) (bytes : List ℕ) (found : E) (stop : Stop)
       → Gives before after name most (Ok (Whole bytes)) → ((fault : Fault) → shown found ≡ Some fault → given bytes ≡ Err found)
@@ -71,7 +70,7 @@ renamed vs = map named (map view.var vs)
 
 same_missing : (ms : Members) (vs : List VarDecl) → m.first_missing ms (renamed vs) ≡ m.first_missing ms vs
 same_missing ms [] = refl
-same_missing ms (v ∷ vs) = ap (m.missing_or (get_member v.name ms) v.name) (same_missing ms vs)
+same_missing ms (v ∷ vs) = ap (λ r. cond (is_some (get_member v.name ms)) r (Some v.name)) (same_missing ms vs)
 
 same_declared : (vs : List VarDecl) (key : List ℕ) → m.is_declared (renamed vs) key ≡ m.is_declared vs key
 same_declared [] key = refl
@@ -149,7 +148,7 @@ pub record IsScheduleOf (threads : ℕ) (ds : Items) (entries : List ℕ) : Type
 
 entries_fine : (threads i : ℕ) (ds : Items) (entries : List ℕ) → k.entries_from threads i ds ≡ Ok entries → IsScheduleOf threads ds entries
 entries_fine threads i no_items entries h =
-    let same : [] ≡ entries = cc in subst (IsScheduleOf threads no_items) same (record { threads_below = tt; sized = refl; })
+    let same : [] ≡ entries = cc in subst (IsScheduleOf threads no_items) same (record { threads_below = tt; sized = refl })
 entries_fine threads i (item d ds) entries h = go (number_below threads d) refl (k.entries_from threads (suc i) ds) (entries_fine threads (suc i) ds) h
   where
     go : (o : Option ℕ) → number_below threads d ≡ o → (r : Result (List ℕ) ScheduleFault)
@@ -177,7 +176,7 @@ schedule_fine threads (Some d) entries h = by (as_array d) h
     go ds true is h = cc
     go ds false is h =
         let fine = entries_fine threads 0 ds entries h in
-        record { threads_below = fine.threads_below; few = subst (λ n. n ≤ k.most_entries) (sym fine.sized) (grind (arith, nat_tests)); }
+        record { threads_below = fine.threads_below; few = subst (λ n. n ≤ k.most_entries) (sym fine.sized) (grind (arith, nat_tests)) }
 
     by : (o : Option Items) → k.schedule_at threads o ≡ Ok entries → IsFineSchedule threads entries
     by None h = cc

@@ -8,6 +8,7 @@ pub mod InputLaws
 pub mod CheckLaws
 pub mod FormatLaws
 pub mod RunLaws
+pub mod ReportLaws
 -- Every command: what a call promises, and that it has one reply.
 pub mod OutcomeLaws
 pub mod OneReply

@@ -1,15 +1,18 @@
 -- Laws of runs: the obligations of declarations, and what is replied.
-use Rattle.std.proofs.Common.{◌≡◌, ℕ, List, [], ◌∷◌, ◌++◌, Option, Some, None, Result, Err, IsTrue, cond, refl, sym, ap, ◌∙◌, subst}
-use Rattle.cov_ast.specs.Obligations.{Obligation, all_hold, first_false, Decides}
+use Rattle.std.proofs.Common.{◌≡◌, ℕ, List, [], ◌++◌, Option, Some, None, Result, cond, length, sym, ap, ◌∙◌, subst}
+use Rattle.cov_ast.specs.Obligations.{first_false, Decides}
+use Rattle.cov_ast.specs.Plain.{plain}
 use Rattle.cov_ast.specs.Syntax.{Parsed, Program}
 use Rattle.cov_ast.specs.declared.refusal.CheckFault.{CheckFault}
 use Rattle.cov_ast.specs.declared.refusal.Refusal.{Refusal}
 use Rattle.cov_ast.proofs.ObligationLaws.{append_decided, none_refused}
+use Rattle.flow_model.specs.Source.{after, stayed}
 use Rattle.mode_compat.specs.Declared.{declaration_obligations}
 use Rattle.policy_class.specs.Resolved.{name_obligations, resolved}
-use Rattle.top_call.specs.Inside.{Stops, IsRefusal}
-use Rattle.top_call.specs.Replies.{Reply, refused, ran, status_of}
-use Rattle.top_call.specs.Runs.{declared_obligations, IsDeclaredText, unless_refused, run_reply, Runs}
+use Rattle.top_call.specs.Inside.{Stops, IsDeclared, IsRefusal}
+use Rattle.top_call.specs.Replies.{Reply, ran, status_of}
+use Rattle.top_call.specs.RunReports.{run_report}
+use Rattle.top_call.specs.Runs.{report_on_run, declared_obligations, IsDeclaredText, unless_refused, run_reply, Runs}
 use Rattle.top_call.specs.declared.answers.Status.TheVariants as s
 use Rattle.top_call.specs.declared.answers.Stop.{Stop}
 use Rattle.top_call.proofs.CheckLaws.{none_false}
@@ -46,6 +49,15 @@ ran_no_fault report e = let wrong : s.Done ≡ s.ReadFault = e in cc
 pub run_sound : (p : Parsed) (memory schedule : List ℕ) → IsSoundReply (λ status. status ≡ s.Done) (IsDeclaredText p) (Runs p memory schedule)
 run_sound p memory schedule = record {
   one = λ reply other h k. h ∙ sym k;
-  no_fault = λ reply h e. unless_no_fault (first_false (declared_obligations p)) _ (ran_no_fault _) (sym (ap status_of h) ∙ e);
-  success = λ reply met h. ap status_of h ∙ ap (λ o. status_of (unless_refused o (ran _))) (none_false (declared_obligations p) met);
+  no_fault = λ reply h e. unless_no_fault (first_false (declared_obligations p)) (ran (report_on_run p memory schedule)) (ran_no_fault (report_on_run p memory schedule)) (sym (ap status_of h) ∙ e);
+  success = λ reply met h. ap status_of h ∙ ap (λ o. status_of (unless_refused o (ran (report_on_run p memory schedule)))) (none_false (declared_obligations p) met);
 }
+
+-- the report on a run is the reply
+pub ran_replied : (p : Parsed) (program : Program) (memory schedule text : List ℕ) → IsDeclared p program
+    → text ≡ run_report program (length schedule) (stayed (plain program) memory schedule) (after (plain program) memory schedule)
+    → ran text ≡ run_reply p memory schedule
+ran_replied p program memory schedule text declared is =
+    ap ran is
+    ∙ ap (λ q. ran (run_report q (length schedule) (stayed (plain q) memory schedule) (after (plain q) memory schedule))) declared.is
+    ∙ ap (λ o. unless_refused o (ran (report_on_run p memory schedule))) (sym declared.held)

@@ -13,6 +13,7 @@ use Rattle.policy_class.specs.Resolved.{resolved}
 use Rattle.verify.specs.Accepted.{IsAccepted, program_obligations}
 use Rattle.verify.specs.Verdicts.{counts}
 use Rattle.top_call.specs.Asks.{Asks}
+use Rattle.top_call.specs.Commands.{Command, check, fmt, migrate, run, nothing}
 use Rattle.top_call.specs.Files.{Reads}
 use Rattle.top_call.specs.Plans.{Plan, MayReply}
 use Rattle.top_call.specs.Replies.{Reply, usage, read_fault, too_long, malformed, refused, accepted, spelled, ran}
@@ -21,6 +22,8 @@ use Rattle.top_call.specs.Runs.{declared_obligations}
 use Rattle.top_call.specs.declared.answers.Fault.{Fault}
 use Rattle.top_call.specs.declared.answers.Answer.{Answer}
 use Rattle.top_call.specs.declared.answers.Answer.TheVariants as a
+use Rattle.top_call.specs.declared.commands.Asked.{Asked}
+use Rattle.top_call.specs.declared.commands.Asked.TheVariants as asked
 use Rattle.top_call.specs.declared.answers.Stop.{Stop}
 use Rattle.top_call.specs.declared.answers.Stop.TheVariants as stops
 
@@ -34,6 +37,14 @@ seen (a.Refused refusal thread) = refused refusal thread
 seen (a.Accepted counts) = accepted counts.threads counts.statements counts.entailments
 seen (a.Spelled text) = spelled text
 seen (a.Ran report) = ran report
+
+-- what is asked, without where its words lie in memory
+abbrev pub command_seen : Asked → Command
+command_seen (asked.Check name) = check name.now
+command_seen (asked.Fmt name) = fmt name.now
+command_seen (asked.Migrate name) = migrate name.now
+command_seen (asked.Run program start schedule) = run program.now start.now schedule.now
+command_seen asked.Nothing = nothing
 
 -- A step gives what the command gives, unless memory ran out.
 abbrev pub Stops : (Reply → Type 0) → Stop → Type 0

@@ -23,11 +23,14 @@ abbrev pub unless_refused : Option Refusal → Reply → Reply
 unless_refused (Some refusal) reply = refused refusal None
 unless_refused None reply = reply
 
+-- the report on a run from a memory under a schedule
+abbrev pub report_on_run : Parsed → (memory schedule : List ℕ) → List ℕ
+report_on_run p memory schedule =
+    run_report (resolved p) (length schedule) (stayed (meaning p) memory schedule) (after (meaning p) memory schedule)
+
 -- the reply to a run from a memory under a schedule
 abbrev pub run_reply : Parsed → (memory schedule : List ℕ) → Reply
-run_reply p memory schedule =
-    unless_refused (first_false (declared_obligations p))
-    (ran (run_report (resolved p) (length schedule) (stayed (meaning p) memory schedule) (after (meaning p) memory schedule)))
+run_reply p memory schedule = unless_refused (first_false (declared_obligations p)) (ran (report_on_run p memory schedule))
 
 abbrev pub Runs : Parsed → (memory schedule : List ℕ) → Reply → Type 0
 Runs p memory schedule reply = reply ≡ run_reply p memory schedule

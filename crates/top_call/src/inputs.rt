@@ -1,7 +1,8 @@
 ghost use Rattle.std.specs.Prelude.{◌≡◌, ◌≤◌, IfOk, MatchResult, length};
 ghost use Rattle.cov_ast.specs.View as view;
+ghost use Rattle.cov_expr.specs.declared.limits.TheConstants.{MOST_THREADS};
 ghost use Rattle.cov_expr.specs.Words.{IsSchedule};
-ghost use Rattle.schedule_replay.specs.Replays.{most_entries};
+ghost use Rattle.schedule_replay.specs.Schedules.{most_entries};
 ghost use Rattle.top_call.specs.Inputs as spec;
 ghost use Rattle.top_call.specs.Inside.{Fails, Takes};
 
@@ -42,6 +43,7 @@ pub fn read_entries<'w, S: Shelf>(
     parsed: &Parsed,
     shelf: &mut S,
 ) -> Result<List<u32>, Stop<'w>>
+    requires { length parsed.now.threads ≤ MOST_THREADS }
     ensures read { MatchResult result
         (λ entries. Takes (spec.IsScheduleText (view.parsed parsed.now)) (S.shelved shelf.old) (S.shelved shelf.new) name.now MOST_INPUT_BYTES entries)
         (λ stop. Fails (spec.IsScheduleFault (view.parsed parsed.now)) (S.shelved shelf.old) (S.shelved shelf.new) name.now MOST_INPUT_BYTES stop) }

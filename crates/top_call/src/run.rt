@@ -1,20 +1,22 @@
 ghost use Rattle.std.specs.Prelude.{◌≡◌, ◌≤◌, IfOk, MatchResult, length};
+ghost use Rattle.cov_ast.specs.Obligations.{Decides};
 ghost use Rattle.cov_ast.specs.Plain.{plain};
 ghost use Rattle.cov_ast.specs.Ready.{IsReady};
 ghost use Rattle.cov_ast.specs.View as view;
 ghost use Rattle.cov_ast.specs.WellFormed.{IsWellFormed};
 ghost use Rattle.cov_expr.specs.Words.{IsSchedule};
 ghost use Rattle.flow_model.specs.Source.{after, stayed};
-ghost use Rattle.schedule_replay.specs.Replays.{most_entries};
+ghost use Rattle.policy_class.specs.Resolved.{resolved, without_value};
+ghost use Rattle.schedule_replay.specs.Schedules.{most_entries};
 ghost use Rattle.top_call.specs.Commands as asked;
 ghost use Rattle.top_call.specs.Inside.{CarriesOut, Gets, IsDeclared, IsRefusal, Stops};
 ghost use Rattle.top_call.specs.Outcome.{plan_of};
 ghost use Rattle.top_call.specs.RunReports as reports;
-ghost use Rattle.top_call.specs.Runs.{Runs};
+ghost use Rattle.top_call.specs.Runs.{Runs, declared_obligations};
 
 use crate::answers::{Answer, Stop};
 use crate::files::read_program;
-use crate::inputs::{read_memory, read_entries};
+use crate::inputs::{read_entries, read_memory};
 use crate::run_reports::run_report;
 use cov_ast::{CheckFault, Parsed, Program};
 use cov_expr::{Blob, List, NoMemory};
@@ -82,7 +84,12 @@ fn declared_program(alloc: Global, parsed: Parsed) -> Result<Program, CheckFault
 }
 
 /// The report on a run.
-fn ran(alloc: Global, program: &Program, memory: List<u32>, schedule: &[u32]) -> Result<Blob, NoMemory>
+fn ran(
+    alloc: Global,
+    program: &Program,
+    memory: List<u32>,
+    schedule: &[u32],
+) -> Result<Blob, NoMemory>
     requires formed { IsWellFormed (view.program program.now) }
     requires memory { length memory ≡ length program.now.vars }
     requires threads { IsSchedule (length program.now.threads) schedule.now }

@@ -1,5 +1,6 @@
-ghost use Rattle.std.specs.Prelude.{◌≡◌, ◌++◌, IfOk, OnOk, codes, decimal, flat_map, length, map};
+ghost use Rattle.std.specs.Prelude.{◌≡◌, ◌++◌, ◌≤◌, IfOk, OnOk, codes, decimal, flat_map, length, map};
 ghost use Rattle.cov_ast.specs.View as view;
+ghost use Rattle.cov_expr.specs.declared.limits.TheConstants.{MOST_THREADS};
 ghost use Rattle.flow_model.specs.FirstDifference.{held_by, holders_of};
 ghost use Rattle.source_machine.specs.Machine.{run_of};
 ghost use Rattle.top_call.specs.RunReports as spec;
@@ -19,7 +20,8 @@ pub fn run_report<'p>(
     steps: u32,
     stayed: u32,
 ) -> Result<Blob, NoMemory>
-    requires { (source.now).program ≡ p.now }
+    requires program { (source.now).program ≡ p.now }
+    requires few { length p.now.threads ≤ MOST_THREADS }
     ensures { IfOk result (λ text. text ≡ spec.run_report (view.program p.now) steps stayed (run_of source.now)) }
 {
     let mut text = List::new(alloc);
@@ -32,10 +34,16 @@ pub fn run_report<'p>(
 
 /// Adds the locks, the threads and the outputs of a machine.
 pub fn add_state<'p>(p: &'p Program, source: &Source<'p>, text: &mut Blob) -> Result<(), NoMemory>
-    requires { (source.now).program ≡ p.now }
+    requires program { (source.now).program ≡ p.now }
+    requires few { length p.now.threads ≤ MOST_THREADS }
     ensures { OnOk result (text.new ≡ text.old ++ spec.state_lines (view.program p.now) (run_of source.now)) }
 {
-    add_locks(p.threads.as_slice(), p.locks.as_slice(), source.holders(), text)?;
+    add_locks(
+        p.threads.as_slice(),
+        p.locks.as_slice(),
+        source.holders(),
+        text,
+    )?;
     add_threads(p.threads.as_slice(), source, text)?;
     add_outputs(source.said(), text)
 }
@@ -107,12 +115,9 @@ pub fn add_thread_name(threads: &[ThreadDecl], t: u32, text: &mut Blob) -> Resul
     }
 }
 
-fn add_threads(
-    threads: &[ThreadDecl],
-    source: &Source<'_>,
-    text: &mut Blob,
-) -> Result<(), NoMemory>
-    requires { length (source.now).program.threads ≡ length threads.now }
+fn add_threads(threads: &[ThreadDecl], source: &Source<'_>, text: &mut Blob) -> Result<(), NoMemory>
+    requires threads { length (source.now).program.threads ≡ length threads.now }
+    requires few { length threads.now ≤ MOST_THREADS }
     ensures { OnOk result (text.new ≡ text.old ++ spec.lines_from (spec.thread_line (run_of source.now)) 0 (map view.thread threads.now)) }
 {
     for (t, thread) in threads.iter().enumerate() {
