@@ -68,7 +68,7 @@ same_name p (Some t) = ap (λ names. slice_get names t) (over p.threads)
 -- Verdicts -----------------------------------------------------------------------------------------------------
 
 -- Where all obligations hold, none is the first that doesn't.
-none_false : (es : List Obligation) → IsTrue (all_hold es) → first_false es ≡ None
+pub none_false : (es : List Obligation) → IsTrue (all_hold es) → first_false es ≡ None
 none_false [] h = refl
 none_false (e ∷ es) h = go (none_false es) e.holds h
   where

@@ -3,9 +3,12 @@ pub mod TextLaws
 pub mod FileLaws
 pub mod PlanLaws
 pub mod EndLaws
+pub mod InputLaws
 -- One for each kind of command.
 pub mod CheckLaws
 pub mod FormatLaws
+pub mod RunLaws
+pub mod ReportLaws
 -- Every command: what a call promises, and that it has one reply.
 pub mod OutcomeLaws
 pub mod OneReply

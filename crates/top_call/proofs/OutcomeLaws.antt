@@ -10,7 +10,7 @@ use Rattle.cov_print.specs.Spelling.{spelling}
 use Rattle.cov_text.specs.Text.{program_of}
 use Rattle.flow_model.specs.Secure.{IsSecure}
 use Rattle.top_call.specs.Check.{Judges, IsAcceptedText, AreNamesInOrder, meaning}
-use Rattle.top_call.specs.Commands.{Command, check, fmt, migrate, nothing}
+use Rattle.top_call.specs.Commands.{Command, check, fmt, migrate, run, nothing}
 use Rattle.top_call.specs.Ends.{Ends}
 use Rattle.top_call.specs.Headline.{HoldsSecure}
 use Rattle.top_call.specs.Outcome.{Does, Outcome, IsMet, IsSuccess, plan_of}
@@ -23,7 +23,9 @@ use Rattle.top_call.proofs.CheckLaws.{check_sound, judged_accepted, names_hold}
 use Rattle.top_call.proofs.EndLaws.{ends_onward, status_is}
 use Rattle.top_call.proofs.FileLaws.{Reliable, done_read}
 use Rattle.top_call.proofs.FormatLaws.{spelled_sound}
+use Rattle.top_call.proofs.InputLaws.{start_reading, schedule_reading}
 use Rattle.top_call.proofs.PlanLaws.{IsSound, IsSoundReply, reply_exact, reply_fault, reply_success}
+use Rattle.top_call.proofs.RunLaws.{run_sound}
 use Rattle.top_call.proofs.TextLaws.{program_reading}
 
 -- The commands -------------------------------------------------------------------------------------------------
@@ -40,6 +42,7 @@ pub sound : (command : Command) → IsSound (IsSuccess command) (plan_of command
 sound (check name) = (program_reading, check_sound)
 sound (fmt name) = (program_reading, λ p. spelled_sound (spelling p))
 sound (migrate name) = (program_reading, λ p. spelled_sound (spelling (in_second p)))
+sound (run name start schedule) = (program_reading, λ p. (start_reading p, λ m. (schedule_reading p, λ k. run_sound p m k)))
 sound nothing = nothing_sound
 
 does_exact : (before after : Shelved) (files : List File) (command : Command) (reply : Reply) → before.told ≡ Some files → Reliable before after
@@ -74,6 +77,7 @@ does_secure before after (check name) reply h done files told =
     (read.0, at, text.1.0, text.1.1, subst AreNamesInOrder is text.2, subst (λ p. IsSecure (meaning p)) is text.3)
 does_secure before after (fmt name) reply h done files told = tt
 does_secure before after (migrate name) reply h done files told = tt
+does_secure before after (run name start schedule) reply h done files told = tt
 does_secure before after nothing reply h done files told = let wrong : s.Usage ≡ s.Done = sym (ap status_of h) ∙ done in cc
 
 -- A call -------------------------------------------------------------------------------------------------------

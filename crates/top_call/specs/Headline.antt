@@ -5,7 +5,7 @@ use Rattle.cov_io.specs.Shelves.{File, held}
 use Rattle.cov_text.specs.Text.{program_of}
 use Rattle.flow_model.specs.Secure.{IsSecure}
 use Rattle.top_call.specs.Check.{AreNamesInOrder, meaning}
-use Rattle.top_call.specs.Commands.{Command, check, fmt, migrate, nothing}
+use Rattle.top_call.specs.Commands.{Command, check, fmt, migrate, run, nothing}
 use Rattle.top_call.specs.Programs.{SpellsTree}
 
 -- A file that is checked holds a program that is secure: from any two fit starts, under every schedule, its two runs agree
@@ -16,4 +16,5 @@ HoldsSecure files (check name) =
     × AreNamesInOrder (program_of bytes tree) × IsSecure (meaning (program_of bytes tree))
 HoldsSecure files (fmt name) = Unit {0}
 HoldsSecure files (migrate name) = Unit {0}
+HoldsSecure files (run name start schedule) = Unit {0}
 HoldsSecure files nothing = ⊥

@@ -2,13 +2,16 @@ pub mod Commands
 pub mod Outcome
 pub mod Headline
 pub mod Plans
+pub mod Inputs
 pub mod Check
 pub mod Format
+pub mod Runs
 pub mod Programs
 pub mod Files
 pub mod Asks
 pub mod Replies
 pub mod Reports
+pub mod RunReports
 pub mod Ends
 pub mod Laws
 pub mod Inside

@@ -4,23 +4,36 @@ use Rattle.cov_ast.specs.Syntax.{Parsed}
 use Rattle.cov_io.specs.Shelves.{File, Shelved}
 use Rattle.cov_expr.specs.declared.limits.TheConstants.{MOST_BYTES}
 use Rattle.top_call.specs.Check.{Judges, IsAcceptedText}
-use Rattle.top_call.specs.Commands.{Command, check, fmt, migrate, nothing}
+use Rattle.top_call.specs.Commands.{Command, check, fmt, migrate, run, nothing}
 use Rattle.top_call.specs.Format.{Formats, Migrates}
+use Rattle.top_call.specs.Inputs.{IsStart, IsStartFault, IsScheduleText, IsScheduleFault}
 use Rattle.top_call.specs.Plans.{Plan, replies, file, MayReply, RepliesOver, IsPlanMet}
 use Rattle.top_call.specs.Programs.{SpellsProgram, IsShownFault}
 use Rattle.top_call.specs.Replies.{Reply, usage}
+use Rattle.top_call.specs.Runs.{IsDeclaredText, Runs}
 use Rattle.top_call.specs.declared.answers.Status.{Status}
 use Rattle.top_call.specs.declared.answers.Status.TheVariants as s
+use Rattle.top_call.specs.declared.inputs.TheConstants.{MOST_INPUT_BYTES}
 
 -- a file that spells a program
 abbrev pub program : (name : List ℕ) → (next : Parsed → Plan) → Plan
 program name next = file name MOST_BYTES SpellsProgram IsShownFault next
+
+-- a file that is a start of a program
+abbrev pub memory : Parsed → (name : List ℕ) → (next : List ℕ → Plan) → Plan
+memory p name next = file name MOST_INPUT_BYTES (IsStart p) (IsStartFault p) next
+
+-- a file that is a schedule of a program
+abbrev pub entries : Parsed → (name : List ℕ) → (next : List ℕ → Plan) → Plan
+entries p name next = file name MOST_INPUT_BYTES (IsScheduleText p) (IsScheduleFault p) next
 
 -- what each command does
 abbrev pub plan_of : Command → Plan
 plan_of (check name) = program name (λ p. replies (IsAcceptedText p) (Judges p))
 plan_of (fmt name) = program name (λ p. replies (Unit {0}) (Formats p))
 plan_of (migrate name) = program name (λ p. replies (Unit {0}) (Migrates p))
+plan_of (run name start schedule) =
+    program name (λ p. memory p start (λ m. entries p schedule (λ k. replies (IsDeclaredText p) (Runs p m k))))
 plan_of nothing = replies ⊥ (λ reply. reply ≡ usage)
 
 -- what a command may reply, by the shelf before and after the call
@@ -40,4 +53,5 @@ abbrev pub IsSuccess : Command → Status → Type 0
 IsSuccess (check name) status = status ≡ s.Done
 IsSuccess (fmt name) status = status ≡ s.Done
 IsSuccess (migrate name) status = status ≡ s.Done
+IsSuccess (run name start schedule) status = status ≡ s.Done
 IsSuccess nothing status = ⊥

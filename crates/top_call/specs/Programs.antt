@@ -8,7 +8,7 @@ use Rattle.cov_text.specs.Text.{IsText, IsFault, program_of}
 use Rattle.cov_text.specs.declared.fault.ParseFault.{ParseFault}
 use Rattle.cov_text.specs.declared.fault.ParseFault.TheVariants as faults
 use Rattle.top_call.specs.declared.answers.Fault.{Fault}
-use Rattle.top_call.specs.declared.answers.FaultKind.{FaultKind}
+use Rattle.top_call.specs.declared.answers.Fault.TheVariants as f
 use Rattle.top_call.specs.declared.answers.FaultKind.TheVariants as k
 
 -- The bytes spell a program of the language, within its limits.
@@ -19,17 +19,14 @@ SpellsTree bytes tree = IsText grammar.program in_program bytes tree
 abbrev pub SpellsProgram : List ℕ → Parsed → Type 0
 SpellsProgram bytes p = (tree : trees.Program) × SpellsTree bytes tree × (p ≡ program_of bytes tree)
 
-abbrev pub fault_at : FaultKind → ℕ → Fault
-fault_at kind at = record { kind = kind; at = at }
-
 -- a fault of a text as reports show it; want of memory is none
 abbrev pub shown : ParseFault → Option Fault
-shown (faults.BadByte at) = Some (fault_at k.Byte at)
-shown (faults.NumberTooLarge at) = Some (fault_at k.Number at)
-shown (faults.NameTooLong at) = Some (fault_at k.Name at)
-shown (faults.Unexpected at) = Some (fault_at k.Token at)
-shown (faults.TooMany what at) = Some (fault_at k.Limit at)
-shown (faults.TooDeep at) = Some (fault_at k.Depth at)
+shown (faults.BadByte at) = Some (f.Text k.Byte at)
+shown (faults.NumberTooLarge at) = Some (f.Text k.Number at)
+shown (faults.NameTooLong at) = Some (f.Text k.Name at)
+shown (faults.Unexpected at) = Some (f.Text k.Token at)
+shown (faults.TooMany what at) = Some (f.Text k.Limit at)
+shown (faults.TooDeep at) = Some (f.Text k.Depth at)
 shown faults.NoMemory = None
 
 -- The first fault of the bytes, which spell no program, is shown so.

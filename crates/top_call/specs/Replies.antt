@@ -15,6 +15,7 @@ pub data Reply : Type 0 where
   refused : Refusal → (thread : Option (List ℕ)) → Reply
   accepted : (threads statements entailments : ℕ) → Reply
   spelled : (text : List ℕ) → Reply
+  ran : (report : List ℕ) → Reply
 
 abbrev pub status_of : Reply → Status
 status_of usage = s.Usage
@@ -24,3 +25,4 @@ status_of (malformed name fault) = s.Malformed
 status_of (refused refusal thread) = s.Refused
 status_of (accepted threads statements entailments) = s.Done
 status_of (spelled text) = s.Done
+status_of (ran report) = s.Done

@@ -5,8 +5,9 @@ use Rattle.cov_ast.specs.declared.refusal.Rule.TheVariants as r
 use Rattle.cov_ast.specs.declared.refusal.Detail.{Detail}
 use Rattle.cov_ast.specs.declared.refusal.Detail.TheVariants as d
 use Rattle.cov_ast.specs.declared.refusal.Refusal.{Refusal}
-use Rattle.top_call.specs.Replies.{Reply, usage, read_fault, too_long, malformed, refused, accepted, spelled}
+use Rattle.top_call.specs.Replies.{Reply, usage, read_fault, too_long, malformed, refused, accepted, spelled, ran}
 use Rattle.top_call.specs.declared.answers.Fault.{Fault}
+use Rattle.top_call.specs.declared.answers.Fault.TheVariants as f
 use Rattle.top_call.specs.declared.answers.FaultKind.{FaultKind}
 use Rattle.top_call.specs.declared.answers.FaultKind.TheVariants as k
 
@@ -16,7 +17,7 @@ use Rattle.top_call.specs.declared.answers.FaultKind.TheVariants as k
 abbrev pub counted : ℕ → List ℕ → List ℕ
 counted n what = decimal n ++ what
 
--- what a fault of a file is called
+-- what a fault of a text is called
 abbrev pub kind_text : FaultKind → List ℕ
 kind_text k.Byte = codes "byte"
 kind_text k.Number = codes "number"
@@ -27,7 +28,15 @@ kind_text k.Depth = codes "depth"
 
 -- what a fault of a file is, and where
 abbrev pub fault_text : Fault → List ℕ
-fault_text fault = codes ": " ++ kind_text fault.kind ++ codes " at " ++ counted fault.at (10 ∷ [])
+fault_text (f.Text kind at) = kind_text kind ++ codes " at " ++ decimal at
+fault_text f.Json = codes "json"
+fault_text f.NotObject = codes "object"
+fault_text (f.Missing name) = codes "missing " ++ name
+fault_text f.UnknownKey = codes "unknown"
+fault_text (f.NotWord name) = codes "word " ++ name
+fault_text f.NotList = codes "list"
+fault_text f.TooMany = codes "many"
+fault_text (f.BadEntry i) = codes "entry " ++ decimal i
 
 -- Refusals -----------------------------------------------------------------------------------------------------
 
@@ -83,8 +92,9 @@ abbrev pub report_of : Reply → List ℕ
 report_of usage = codes "usage: covern COMMAND WORDS\n"
 report_of (read_fault name) = codes "read fault: " ++ name ++ 10 ∷ []
 report_of (too_long name) = codes "too long: " ++ name ++ 10 ∷ []
-report_of (malformed name fault) = codes "malformed " ++ name ++ fault_text fault
+report_of (malformed name fault) = codes "malformed " ++ name ++ codes ": " ++ fault_text fault ++ codes "\n"
 report_of (refused refusal thread) = refusal_text refusal thread
 report_of (accepted threads statements entailments) =
     codes "accepted: " ++ counted threads (codes " threads, ") ++ counted statements (codes " statements, ") ++ counted entailments (codes " entailments\n")
 report_of (spelled text) = text
+report_of (ran report) = report

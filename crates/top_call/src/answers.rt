@@ -39,7 +39,7 @@ pub struct Counts {
     pub entailments: u64,
 }
 
-/// What is wrong with a file.
+/// What is wrong with a text.
 #[derive(Clone, Copy, Debug, PartialEq, Eq)]
 pub enum FaultKind {
     Byte,
@@ -52,10 +52,25 @@ pub enum FaultKind {
 
 /// A fault of a file, as reports show it.
 #[derive(Clone, Copy, Debug, PartialEq, Eq)]
-pub struct Fault {
-    pub kind: FaultKind,
-    /// The offset of a byte.
-    pub at: u32,
+pub enum Fault {
+    /// Of a text, at the offset of a byte.
+    Text(FaultKind, u32),
+    /// A start or a schedule has no reading as JSON.
+    Json,
+    /// A start is no object.
+    NotObject,
+    /// A start has no word for this variable.
+    Missing(Name),
+    /// A start has a key that is no variable.
+    UnknownKey,
+    /// A start has no word, but another value, for this variable.
+    NotWord(Name),
+    /// A schedule is no list.
+    NotList,
+    /// A schedule has too many entries.
+    TooMany,
+    /// This entry of a schedule, counted from 0, is no number of a thread.
+    BadEntry(u32),
 }
 
 /// What a call answers, the want of memory and a failed write aside. Names are words of the command line.
@@ -70,6 +85,8 @@ pub enum Answer<'w> {
     Accepted(Counts),
     /// The canonical spelling of a program.
     Spelled(Blob),
+    /// The report on a run.
+    Ran(Blob),
 }
 
 /// Why a step of a command gives no value.
@@ -99,6 +116,6 @@ pub fn status_for(answer: &Answer<'_>) -> Status
         Answer::TooLong(_) => Status::TooLong,
         Answer::Malformed(_, _) => Status::Malformed,
         Answer::Refused(_, _) => Status::Refused,
-        Answer::Accepted(_) | Answer::Spelled(_) => Status::Done,
+        Answer::Accepted(_) | Answer::Spelled(_) | Answer::Ran(_) => Status::Done,
     }
 }

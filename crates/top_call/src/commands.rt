@@ -1,16 +1,28 @@
-ghost use Rattle.std.specs.Prelude.{map, string_bytes};
+ghost use Rattle.std.specs.Prelude.{◌≡◌, map, string_bytes};
 ghost use Rattle.cov_io.specs.Shelves.{Passes};
 ghost use Rattle.top_call.specs.Asks.{Asks, files_of};
 ghost use Rattle.top_call.specs.Commands.{command_of};
-ghost use Rattle.top_call.specs.Inside.{Gets, LacksMemory};
+ghost use Rattle.top_call.specs.Commands as spec;
+ghost use Rattle.top_call.specs.Inside.{Gets, LacksMemory, command_seen};
 ghost use Rattle.top_call.specs.Outcome.{Does};
 
 use crate::answers::{Answer, Stop};
 use crate::check::check;
 use crate::fmt::format;
 use crate::migrate::migrate;
+use crate::run::run;
 use cov_io::Shelf;
 use std::alloc::Global;
+
+/// What the words ask for, with the names of files.
+#[derive(Clone, Copy)]
+pub enum Asked<'w> {
+    Check(&'w str),
+    Fmt(&'w str),
+    Migrate(&'w str),
+    Run(&'w str, &'w str, &'w str),
+    Nothing,
+}
 
 /// Finds the command that the words ask for, and does it.
 pub fn answer<'w, S: Shelf>(
@@ -22,10 +34,64 @@ pub fn answer<'w, S: Shelf>(
     ensures asks { Asks (S.shelved shelf.old) (S.shelved shelf.new) (files_of (command_of (map string_bytes words.now))) (LacksMemory result) }
     ensures passes { Passes (S.shelved shelf.old) (S.shelved shelf.new) }
 {
+    carry_out(alloc, find(words), shelf)
+}
+
+/// Does what is asked.
+fn carry_out<'w, S: Shelf>(
+    alloc: Global,
+    asked: Asked<'w>,
+    shelf: &mut S,
+) -> Result<Answer<'w>, Stop<'w>>
+    ensures does { Gets (Does (S.shelved shelf.old) (S.shelved shelf.new) (command_seen asked.entry)) result }
+    ensures asks { Asks (S.shelved shelf.old) (S.shelved shelf.new) (files_of (command_seen asked.entry)) (LacksMemory result) }
+    ensures passes { Passes (S.shelved shelf.old) (S.shelved shelf.new) }
+{
+    match asked {
+        Asked::Check(name) => check(alloc, name, shelf),
+        Asked::Fmt(name) => format(alloc, name, shelf),
+        Asked::Migrate(name) => migrate(alloc, name, shelf),
+        Asked::Run(program, start, schedule) => run(alloc, program, start, schedule, shelf),
+        Asked::Nothing => Ok(Answer::Usage),
+    }
+}
+
+/// The command that the words ask for.
+fn find<'w>(words: &'w [String]) -> Asked<'w>
+    ensures { command_seen result ≡ command_of (map string_bytes words.now) }
+{
     match words {
-        [command, name] if command.as_str() == "check" => check(alloc, name.as_str(), shelf),
-        [command, name] if command.as_str() == "fmt" => format(alloc, name.as_str(), shelf),
-        [command, name] if command.as_str() == "migrate" => migrate(alloc, name.as_str(), shelf),
-        _ => Ok(Answer::Usage),
+        [command, name] => of_one(command.as_str(), name.as_str()),
+        [command, program, start, schedule] => of_three(
+            command.as_str(),
+            program.as_str(),
+            start.as_str(),
+            schedule.as_str(),
+        ),
+        _ => Asked::Nothing,
+    }
+}
+
+fn of_one<'w>(command: &str, name: &'w str) -> Asked<'w>
+    ensures { command_seen result ≡ spec.of_one command.now name.now }
+{
+    if command == "check" {
+        Asked::Check(name)
+    } else if command == "fmt" {
+        Asked::Fmt(name)
+    } else if command == "migrate" {
+        Asked::Migrate(name)
+    } else {
+        Asked::Nothing
+    }
+}
+
+fn of_three<'w>(command: &str, program: &'w str, start: &'w str, schedule: &'w str) -> Asked<'w>
+    ensures { command_seen result ≡ spec.of_three command.now program.now start.now schedule.now }
+{
+    if command == "run" {
+        Asked::Run(program, start, schedule)
+    } else {
+        Asked::Nothing
     }
 }

@@ -32,12 +32,12 @@ pub fn read_program<'w, S: Shelf>(
     let bytes = fetch(alloc, name, MOST_BYTES, shelf)?;
     match parse(alloc, bytes.as_slice()) {
         Ok(parsed) => Ok(parsed),
-        Err(fault) => Err(unread(name, fault)),
+        Err(fault) => Err(unread(name, text_fault(fault))),
     }
 }
 
 /// The bytes of a file.
-fn fetch<'w, S: Shelf>(
+pub fn fetch<'w, S: Shelf>(
     alloc: Global,
     name: &'w str,
     most: usize,
@@ -57,18 +57,27 @@ fn fetch<'w, S: Shelf>(
     }
 }
 
-/// What is answered where the text of a file isn't read.
-fn unread<'w>(name: &'w str, fault: ParseFault) -> Stop<'w>
-    ensures { Stops (λ reply. (fault_shown : Fault) × (shown fault ≡ Some fault_shown) × (reply ≡ malformed name.now fault_shown)) result }
+/// What is answered where a file has a fault; where it has none, memory ran out.
+pub fn unread<'w>(name: &'w str, fault: Option<Fault>) -> Stop<'w>
+    ensures { Stops (λ reply. (found : Fault) × (fault ≡ Some found) × (reply ≡ malformed name.now found)) result }
 {
-    let (kind, at) = match fault {
-        ParseFault::BadByte(at) => (FaultKind::Byte, at),
-        ParseFault::NumberTooLarge(at) => (FaultKind::Number, at),
-        ParseFault::NameTooLong(at) => (FaultKind::Name, at),
-        ParseFault::Unexpected(at) => (FaultKind::Token, at),
-        ParseFault::TooMany(_, at) => (FaultKind::Limit, at),
-        ParseFault::TooDeep(at) => (FaultKind::Depth, at),
-        ParseFault::NoMemory => return Stop::NoMemory,
-    };
-    Stop::Answer(Answer::Malformed(name, Fault { kind, at }))
+    match fault {
+        Some(fault) => Stop::Answer(Answer::Malformed(name, fault)),
+        None => Stop::NoMemory,
+    }
+}
+
+/// A fault of a text, as reports show it; want of memory is none.
+fn text_fault(fault: ParseFault) -> Option<Fault>
+    ensures { result ≡ shown fault }
+{
+    match fault {
+        ParseFault::BadByte(at) => Some(Fault::Text(FaultKind::Byte, at)),
+        ParseFault::NumberTooLarge(at) => Some(Fault::Text(FaultKind::Number, at)),
+        ParseFault::NameTooLong(at) => Some(Fault::Text(FaultKind::Name, at)),
+        ParseFault::Unexpected(at) => Some(Fault::Text(FaultKind::Token, at)),
+        ParseFault::TooMany(_, at) => Some(Fault::Text(FaultKind::Limit, at)),
+        ParseFault::TooDeep(at) => Some(Fault::Text(FaultKind::Depth, at)),
+        ParseFault::NoMemory => None,
+    }
 }

@@ -12,10 +12,10 @@
 //! | `call` | | `covern`, with all its promises |
 //! | `commands` | `Commands`, `Outcome` | which command the words ask for; the plan of each, in one row |
 //! | | `Plans`, `Asks` | plans: which files are read one behind the other, and what is replied then; which calls they make |
-//! | `check`, `fmt`, `migrate` | `Check`, `Format` | a module for each command: what it replies to what its files spell |
-//! | `files` | `Files`, `Programs` | how a file is fetched and read, and what is replied where it isn't |
+//! | `check`, `fmt`, `migrate`, `run` | `Check`, `Format`, `Runs` | a module for each command: what it replies to what its files spell |
+//! | `files`, `inputs` | `Files`, `Programs`, `Inputs` | how a file is fetched and read, as a program, a start or a schedule, and what is replied where it isn't |
 //! | `answers` | `Replies` | what a call can answer, and the status of each answer |
-//! | `reports`, `refusals` | `Reports` | the text of each answer |
+//! | `reports`, `refusals`, `faults`, `run_reports`, `lines` | `Reports`, `RunReports` | the text of each answer |
 //! | `end` | `Ends` | the report is made and written |
 //! | `laws` | `Laws`, `Headline` | one reply; a program in version 2; what it says of a file that it is accepted |
 //!
@@ -30,12 +30,17 @@ mod call;
 mod check;
 mod commands;
 mod end;
+mod faults;
 mod files;
 mod fmt;
+mod inputs;
 mod laws;
+mod lines;
 mod migrate;
 mod refusals;
 mod reports;
+mod run;
+mod run_reports;
 
 pub use answers::Status;
 pub use call::covern;

@@ -1,9 +1,9 @@
-ghost use Rattle.std.specs.Prelude.{◌≡◌, ◌++◌, IfOk, OnOk, decimal};
+ghost use Rattle.std.specs.Prelude.{◌≡◌, ◌++◌, IfOk, OnOk};
 ghost use Rattle.top_call.specs.Reports as spec;
 
+use crate::lines::{add_name, add_number};
 use cov_ast::{Detail, Refusal, Rule};
 use cov_expr::{Blob, List, Name, NoMemory};
-use itoa::Buffer;
 use std::alloc::Global;
 
 /// The line that says what is refused: the rule, the thread for a rule of statements, the place, and what the rule shows.
@@ -90,19 +90,4 @@ fn add_detail(detail: &Detail, line: &mut Blob) -> Result<(), NoMemory>
             add_number(*n, line)
         }
     }
-}
-
-/// Adds a name behind what stands before it.
-fn add_name(before: &[u8], name: &Name, line: &mut Blob) -> Result<(), NoMemory>
-    ensures { OnOk result (line.new ≡ line.old ++ before.now ++ name.now) }
-{
-    line.extend_from_slice(before)?;
-    line.extend_from_slice(name.text())
-}
-
-fn add_number(n: u32, line: &mut Blob) -> Result<(), NoMemory>
-    ensures { OnOk result (line.new ≡ line.old ++ decimal n) }
-{
-    let mut buffer = Buffer::new();
-    line.extend_from_slice(buffer.format(n).as_bytes())
 }

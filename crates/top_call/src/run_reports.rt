@@ -1,0 +1,146 @@
+ghost use Rattle.std.specs.Prelude.{◌≡◌, ◌++◌, ◌≤◌, IfOk, OnOk, codes, decimal, flat_map, length, map};
+ghost use Rattle.cov_ast.specs.View as view;
+ghost use Rattle.cov_expr.specs.declared.limits.TheConstants.{MOST_THREADS};
+ghost use Rattle.flow_model.specs.FirstDifference.{held_by, holders_of};
+ghost use Rattle.source_machine.specs.Machine.{run_of};
+ghost use Rattle.top_call.specs.RunReports as spec;
+
+use crate::lines::{add_name, add_numbered};
+use cov_ast::{LockDecl, Program, ThreadDecl, VarDecl};
+use cov_expr::{Blob, List, NoMemory};
+use flow_model::Holder;
+use source_machine::Source;
+use std::alloc::Global;
+
+/// The report on a run of so many steps, of which so many stayed, and on the machine after it.
+pub fn run_report<'p>(
+    alloc: Global,
+    p: &'p Program,
+    source: &Source<'p>,
+    steps: u32,
+    stayed: u32,
+) -> Result<Blob, NoMemory>
+    requires program { (source.now).program ≡ p.now }
+    requires few { length p.now.threads ≤ MOST_THREADS }
+    ensures { IfOk result (λ text. text ≡ spec.run_report (view.program p.now) steps stayed (run_of source.now)) }
+{
+    let mut text = List::new(alloc);
+    add_numbered(b"steps ", steps, &mut text)?;
+    add_numbered(b"stayed ", stayed, &mut text)?;
+    add_vars(p.vars.as_slice(), source.memory(), &mut text)?;
+    add_state(p, source, &mut text)?;
+    Ok(text)
+}
+
+/// Adds the locks, the threads and the outputs of a machine.
+pub fn add_state<'p>(p: &'p Program, source: &Source<'p>, text: &mut Blob) -> Result<(), NoMemory>
+    requires program { (source.now).program ≡ p.now }
+    requires few { length p.now.threads ≤ MOST_THREADS }
+    ensures { OnOk result (text.new ≡ text.old ++ spec.state_lines (view.program p.now) (run_of source.now)) }
+{
+    add_locks(
+        p.threads.as_slice(),
+        p.locks.as_slice(),
+        source.holders(),
+        text,
+    )?;
+    add_threads(p.threads.as_slice(), source, text)?;
+    add_outputs(source.said(), text)
+}
+
+fn add_vars(vars: &[VarDecl], memory: &[u32], text: &mut Blob) -> Result<(), NoMemory>
+    requires { length memory.now ≡ length vars.now }
+    ensures { OnOk result (text.new ≡ text.old ++ spec.lines_from (spec.var_line memory.now) 0 (map view.var vars.now)) }
+{
+    for (x, var) in vars.iter().enumerate() {
+        add_var(memory[x], var, text)?;
+    }
+    Ok(())
+}
+
+fn add_var(word: u32, var: &VarDecl, text: &mut Blob) -> Result<(), NoMemory>
+    ensures { OnOk result (text.new ≡ text.old ++ spec.told (codes "var ") (view.var var.now).name (decimal word)) }
+{
+    add_name(b"var ", &var.name, text)?;
+    add_numbered(b" ", word, text)
+}
+
+fn add_locks(
+    threads: &[ThreadDecl],
+    locks: &[LockDecl],
+    holders: &[Holder],
+    text: &mut Blob,
+) -> Result<(), NoMemory>
+    requires { length holders.now ≡ length locks.now }
+    ensures { OnOk result (text.new ≡ text.old
+        ++ spec.lines_from (spec.lock_line (map view.thread threads.now) (holders_of holders.now)) 0 (map view.lock locks.now)) }
+{
+    for (l, lock) in locks.iter().enumerate() {
+        add_lock(threads, holders[l], lock, text)?;
+    }
+    Ok(())
+}
+
+fn add_lock(
+    threads: &[ThreadDecl],
+    holder: Holder,
+    lock: &LockDecl,
+    text: &mut Blob,
+) -> Result<(), NoMemory>
+    ensures { OnOk result (text.new ≡ text.old
+        ++ spec.told (codes "lock ") (view.lock lock.now).name (spec.holder_text (map view.thread threads.now) (held_by holder))) }
+{
+    add_name(b"lock ", &lock.name, text)?;
+    text.extend_from_slice(b" ")?;
+    add_holder(threads, holder, text)?;
+    text.extend_from_slice(b"\n")
+}
+
+fn add_holder(threads: &[ThreadDecl], holder: Holder, text: &mut Blob) -> Result<(), NoMemory>
+    ensures { OnOk result (text.new ≡ text.old ++ spec.holder_text (map view.thread threads.now) (held_by holder)) }
+{
+    match holder.0 {
+        Some(t) => add_thread_name(threads, t, text),
+        None => text.extend_from_slice(b"free"),
+    }
+}
+
+/// Adds the name of a thread, by its number.
+pub fn add_thread_name(threads: &[ThreadDecl], t: u32, text: &mut Blob) -> Result<(), NoMemory>
+    ensures { OnOk result (text.new ≡ text.old ++ spec.name_at (map view.thread threads.now) t) }
+{
+    match threads.get(t as usize) {
+        Some(thread) => text.extend_from_slice(thread.name.text()),
+        None => Ok(()),
+    }
+}
+
+fn add_threads(threads: &[ThreadDecl], source: &Source<'_>, text: &mut Blob) -> Result<(), NoMemory>
+    requires threads { length (source.now).program.threads ≡ length threads.now }
+    requires few { length threads.now ≤ MOST_THREADS }
+    ensures { OnOk result (text.new ≡ text.old ++ spec.lines_from (spec.thread_line (run_of source.now)) 0 (map view.thread threads.now)) }
+{
+    for (t, thread) in threads.iter().enumerate() {
+        add_thread(source.place(t as u32), thread, text)?;
+    }
+    Ok(())
+}
+
+fn add_thread(place: Option<u32>, thread: &ThreadDecl, text: &mut Blob) -> Result<(), NoMemory>
+    ensures { OnOk result (text.new ≡ text.old ++ spec.told (codes "thread ") (view.thread thread.now).name (spec.place_text place)) }
+{
+    add_name(b"thread ", &thread.name, text)?;
+    match place {
+        Some(at) => add_numbered(b" at ", at, text),
+        None => text.extend_from_slice(b" done\n"),
+    }
+}
+
+fn add_outputs(said: &[u32], text: &mut Blob) -> Result<(), NoMemory>
+    ensures { OnOk result (text.new ≡ text.old ++ flat_map spec.output_line said.now) }
+{
+    for word in said {
+        add_numbered(b"output ", *word, text)?;
+    }
+    Ok(())
+}
