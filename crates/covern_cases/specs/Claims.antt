@@ -49,6 +49,7 @@ claimed (s.lock l) proofs = None
 claimed (s.unlock l) proofs = None
 claimed (s.branch e first second state) proofs = None
 claimed (s.loop e state turn) proofs = None
+claimed (s.output e) proofs = None
 
 -- Lines --------------------------------------------------------------------------------------------------------
 

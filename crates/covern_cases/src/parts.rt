@@ -69,12 +69,11 @@ fn add_listing(alloc: Global, times: u32, text: &[u8], out: &mut Blob) -> Result
     if text.len() > MOST_LISTING_BYTES {
         return Err(Failure::TooLong);
     }
-    let mut last = read_code(alloc, text);
     for _ in 1..times {
-        last = read_code(alloc, text);
+        let _ = read_code(alloc, text);
     }
-    match last {
-        Ok(code) => Ok(out.extend_from_slice(list(alloc, &code)?.as_slice())?),
+    match &read_code(alloc, text) {
+        Ok(code) => Ok(out.extend_from_slice(list(alloc, code)?.as_slice())?),
         Err(CodeFault::NoMemory) => Err(Failure::NoMemory),
         Err(CodeFault::Bad(CodeBad::SameName(name))) => {
             out.extend_from_slice(b"SameName ")?;
