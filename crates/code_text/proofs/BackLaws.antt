@@ -1,6 +1,6 @@
 -- What is spelled is read back: fields and instructions.
 use Rattle.std.proofs.Common.{◌≡◌, ℕ, ◌+◌, ◌-◌, ◌<◌, ◌≤◌, ◌^◌, ◌==◌, ◌&&◌, ◌||◌, not, nat_le, nat_lt, zero, suc, List, [], ◌∷◌, length, get_or, refl, ap, ◌∙◌, arith, decimal, Bool, true, if◌then◌else◌, Option, Some, None}
-use Rattle.std.proofs.lemmas.Bool.{and_parts, leb-true}
+use Rattle.std.proofs.lemmas.Bool.{and_parts, leb-true, lt-ltb}
 use Rattle.std.proofs.lemmas.Fmt.{digits_value-decimal, digits_decimal, decimal_digit, decimal_nonempty, first_decimal}
 use Rattle.std.proofs.lemmas.Str.Parse.{numerals_by_value, IsDigitsTest}
 use Rattle.std.specs.List.{list_all}
@@ -14,9 +14,6 @@ use Rattle.code_text.specs.Inside.Reading.{name_of, is_number, number_of, digit_
 
 le_true : (a b : ℕ) → a ≤ b → nat_le a b ≡ true
 le_true a b h = grind arith
-
-pub lt_true : (a b : ℕ) → a < b → nat_lt a b ≡ true
-lt_true a b h = grind arith
 
 pub both_true : (x y : Bool) → x ≡ true → y ≡ true → (x && y) ≡ true
 both_true x y g h = ap (λ a. a && y) g ∙ h
@@ -46,13 +43,13 @@ number_back n h =
     taken (is_number (decimal n) && nat_le (digits_value 10 (decimal n)) 4294967295) (Some (digits_value 10 (decimal n))) None
     (both_true (is_number (decimal n)) (nat_le (digits_value 10 (decimal n)) 4294967295)
     (both_true (list_all is_digit (decimal n) && nat_lt 0 (length (decimal n))) (not (get_or (decimal n) 0 0 == 48) || length (decimal n) == 1)
-    (both_true (list_all is_digit (decimal n)) (nat_lt 0 (length (decimal n))) (digits_decimal own n big) (lt_true 0 (length (decimal n)) (decimal_nonempty n big)))
+    (both_true (list_all is_digit (decimal n)) (nat_lt 0 (length (decimal n))) (digits_decimal own n big) (lt-ltb 0 (length (decimal n)) (decimal_nonempty n big)))
     (no_leading n big))
     (le_true (digits_value 10 (decimal n)) 4294967295 (omega (arith, v, h))))
     ∙ ap Some v
 
 digit_back : (n d : ℕ) → d < n → digit_below n (48 + d) ≡ true
-digit_back n d h = both_true (nat_le 48 (48 + d)) (nat_lt (48 + d) (48 + n)) (le_true 48 (48 + d) (omega arith)) (lt_true (48 + d) (48 + n) (omega (arith, h)))
+digit_back n d h = both_true (nat_le 48 (48 + d)) (nat_lt (48 + d) (48 + n)) (le_true 48 (48 + d) (omega arith)) (lt-ltb (48 + d) (48 + n) (omega (arith, h)))
 
 minus : (d : ℕ) → (48 + d) - 48 ≡ d
 minus d = omega arith
@@ -81,4 +78,4 @@ op_back Either = refl
 
 pub name_back : (n : List ℕ) → IsName n → name_of n ≡ Some n
 name_back n h = ap (λ c. if c then Some n else None) (
-    both_true _ _ (both_true _ _ (both_true (nat_lt 0 (length n)) (nat_le (length n) 32) (lt_true 0 (length n) h.some) (le_true (length n) 32 h.short)) h.word) h.free)
+    both_true _ _ (both_true _ _ (both_true (nat_lt 0 (length n)) (nat_le (length n) 32) (lt-ltb 0 (length n) h.some) (le_true (length n) 32 h.short)) h.word) h.free)

@@ -6,12 +6,12 @@ use Rattle.std.proofs.lemmas.Slice.Eq.{bytes_eq-Decides}
 use Rattle.std.proofs.lemmas.Str.Parse.{numerals_by_value, tells_digits}
 use Rattle.std.specs.List.{list_all}
 use Rattle.std.specs.Str.{bytes_eq}
+use Rattle.std.specs.Char.{digit_value}
 use Rattle.std.specs.Str.Parse.{AllDigits, digits_value}
 use Rattle.cov_expr.specs.Bytes.{is_digit}
 use Rattle.cov_expr.specs.declared.expr.Op.{Op}
 use Rattle.code_text.specs.Listing.{register, name, sign}
 use Rattle.code_text.specs.Inside.Reading.{is_name, name_of, is_number, number_of, digit_below, register_of, weight_of, place_from, op_of}
-use Rattle.code_text.proofs.Digits.{value_of_digit}
 
 -- a test that was passed, and what it gave
 pub given : {A : Type 0} (b : Bool) (x v : A) → (if b then Some x else None) ≡ Some v → (b ≡ true) × (x ≡ v)
@@ -34,7 +34,10 @@ all_digits [] h = tt
 all_digits (c ∷ cs) h =
     let p = and_parts (is_digit c) (list_all is_digit cs) h in
     let range = and_parts (nat_le 48 c) (nat_le c 57) p.0 in
-    (omega (arith, value_of_digit c p.0, leb-true 48 c range.0, leb-true c 57 range.1), all_digits cs p.1)
+    let low = leb-true 48 c range.0 in
+    let high = leb-true c 57 range.1 in
+    let value : digit_value c ≡ c - 48 = grind (arith, low, high) in
+    (omega (arith, value, low, high), all_digits cs p.1)
 
 no_zero : (f : List ℕ) → (not (get_or f 0 0 == 48) || length f == 1) ≡ true → get_or f 0 0 ≡ 48 → length f ≡ 1
 no_zero f h z = elim (or_cases (not (get_or f 0 0 == 48)) (length f == 1) h) [

@@ -1,5 +1,4 @@
 pub mod ListLaws
-pub mod Digits
 pub mod Cuts
 pub mod DraftLaws
 pub mod ReadLaws

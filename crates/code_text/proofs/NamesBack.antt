@@ -1,5 +1,6 @@
 -- Where no name is repeated, each name is read as its number.
 use Rattle.std.proofs.Common.{◌≡◌, ℕ, ◌+◌, ◌<◌, ◌||◌, zero, suc, List, [], ◌∷◌, ◌++◌, length, get_or, refl, ap, sym, ◌∙◌, arith, Bool, true, false, if◌then◌else◌, Some, None}
+use Rattle.std.proofs.Math.Bool.{or-false}
 use Rattle.std.proofs.lemmas.List.Folds.{list_any-append}
 use Rattle.std.proofs.lemmas.Slice.Eq.{bytes_eq-Decides}
 use Rattle.std.specs.List.{list_any}
@@ -19,9 +20,13 @@ fresh before n ns h = by (list_any (bytes_eq n) before) refl h
     by true e h = absurd cc
     by false e h = (e, h)
 
-neither : (a b : Bool) → (a || b) ≡ false → (a ≡ false) × (b ≡ false)
-neither true b h = absurd cc
-neither false b h = (refl, h)
+-- a name that is none of two lists is none of each
+unlisted : (n : List ℕ) (ms ns : List (List ℕ)) → list_any (bytes_eq n) (ms ++ ns) ≡ false → (list_any (bytes_eq n) ms ≡ false) × (list_any (bytes_eq n) ns ≡ false)
+unlisted n ms ns h = by (list_any (bytes_eq n) ms) (sym (list_any-append (bytes_eq n) ms ns) ∙ h)
+  where
+    by : (b : Bool) → (b || list_any (bytes_eq n) ns) ≡ false → (b ≡ false) × (list_any (bytes_eq n) ns ≡ false)
+    by true e = absurd cc
+    by false e = (refl, e)
 
 -- a name behind others is none of them
 apart : (before ns : List (List ℕ)) (k : ℕ) → repeated before ns ≡ None → k < length ns → list_any (bytes_eq (get_or ns k [])) before ≡ false
@@ -29,13 +34,13 @@ apart before [] k h inside = absurd (omega (arith, inside))
 apart before (n ∷ ns) zero h inside = (fresh before n ns h).0
 apart before (n ∷ ns) (suc k) h inside =
     let later = apart (before ++ n ∷ []) ns k (fresh before n ns h).1 (omega (arith, inside)) in
-    (neither (list_any (bytes_eq (get_or ns k [])) before) (list_any (bytes_eq (get_or ns k [])) (n ∷ [])) (sym (list_any-append (bytes_eq (get_or ns k [])) before (n ∷ [])) ∙ later)).0
+    (unlisted (get_or ns k []) before (n ∷ []) later).0
 
 last_apart : (before : List (List ℕ)) (n : List ℕ) (ns : List (List ℕ)) (k : ℕ) → repeated (before ++ n ∷ []) ns ≡ None → k < length ns → bytes_eq (get_or ns k []) n ≡ false
 last_apart before n ns k h inside =
     let all = apart (before ++ n ∷ []) ns k h inside in
-    let last = (neither (list_any (bytes_eq (get_or ns k [])) before) (list_any (bytes_eq (get_or ns k [])) (n ∷ [])) (sym (list_any-append (bytes_eq (get_or ns k [])) before (n ∷ [])) ∙ all)).1 in
-    (neither (bytes_eq (get_or ns k []) n) false last).0
+    let last = (unlisted (get_or ns k []) before (n ∷ []) all).1 in
+    sym (or-false (bytes_eq (get_or ns k []) n)) ∙ last
 
 exact_from : (i : ℕ) (before ns : List (List ℕ)) (x : ℕ) → repeated before ns ≡ None → x < length ns → place_from i ns (get_or ns x []) ≡ Some (i + x)
 exact_from i before [] x h inside = absurd (omega (arith, inside))

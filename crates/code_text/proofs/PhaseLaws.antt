@@ -1,5 +1,6 @@
 -- The rows of parts with a listing are taken one after another: names, and the lines of each thread.
 use Rattle.std.proofs.Common.{◌≡◌, ℕ, ◌-◌, nat_lt, List, [], ◌∷◌, ◌++◌, length, map, flat_map, decimal, ap, sym, ◌∙◌, subst, arith, codes, append_assoc, Some, option_map}
+use Rattle.std.proofs.lemmas.Bool.{lt-ltb}
 use Rattle.std.proofs.lemmas.List.{append-nil}
 use Rattle.cov_expr.specs.Names.{IsName}
 use Rattle.risc_machine.specs.declared.parts.Line.{Line}
@@ -9,7 +10,7 @@ use Rattle.code_text.specs.Inside.Reading.{both, number_of, line_of, head_of, be
 use Rattle.code_text.specs.Listing.{declared, line, thread_rows, IsListedLine}
 use Rattle.code_text.specs.Inside.Reading.{Draft}
 use Rattle.code_text.specs.declared.row.Row.TheVariants as row
-use Rattle.code_text.proofs.BackLaws.{taken, lt_true, name_back, number_back}
+use Rattle.code_text.proofs.BackLaws.{taken, name_back, number_back}
 use Rattle.code_text.proofs.ChainLaws.{Chain, chain_append}
 use Rattle.code_text.proofs.DraftLaws.{with_line_last}
 use Rattle.code_text.proofs.Every.{Every}
@@ -60,7 +61,7 @@ module _ (version : ℕ) (vars locks : List (List ℕ)) where
       let last : List Line = done ++ First l ∷ map First rest in
       let k : length rest ≡ length (l ∷ rest) - 1 = omega arith in (
         row.Line (First l),
-        taken (nat_lt 0 (length (l ∷ rest))) (line_of p (line vars locks l)) (head_of p (line vars locks l)) (lt_true 0 (length (l ∷ rest)) (omega arith)) ∙ line_back p l a.0,
+        taken (nat_lt 0 (length (l ∷ rest))) (line_of p (line vars locks l)) (head_of p (line vars locks l)) (lt-ltb 0 (length (l ∷ rest)) (omega arith)) ∙ line_back p l a.0,
         subst (λ us. Chain (standing us (length (l ∷ rest) - 1)) (map (line vars locks) rest) (standing (ts ++ record { name = n; lines = last } ∷ []) 0)) (sym (with_line_last ts t (First l)))
             (subst (λ j. Chain (standing (ts ++ record { name = n; lines = done ++ First l ∷ [] } ∷ []) j) (map (line vars locks) rest) (standing (ts ++ record { name = n; lines = last } ∷ []) 0)) k
             (subst (λ ys. Chain (standing (ts ++ record { name = n; lines = done ++ First l ∷ [] } ∷ []) (length rest)) (map (line vars locks) rest) (standing (ts ++ record { name = n; lines = ys } ∷ []) 0)) (append_assoc done (First l ∷ []) (map First rest))

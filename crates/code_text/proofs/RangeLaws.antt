@@ -1,13 +1,12 @@
 -- What is read of a field is in its range.
 use Rattle.std.proofs.Common.{◌≡◌, ℕ, ◌+◌, ◌-◌, ◌<◌, ◌≤◌, ◌==◌, ◌&&◌, not, nat_le, nat_lt, List, [], ◌∷◌, length, subst, arith, true, Some, inl, inr}
-use Rattle.std.proofs.lemmas.Bool.{and_parts, leb-true, ltb-true}
+use Rattle.std.proofs.lemmas.Bool.{and_parts, leb-true, lt-ltb, ltb-true}
 use Rattle.std.specs.Str.{bytes_eq}
 use Rattle.std.specs.Str.Parse.{digits_value}
 use Rattle.cov_expr.specs.Names.{IsName, is_word_text}
 use Rattle.cov_expr.specs.Spellings.{is_keyword}
 use Rattle.cov_expr.specs.Words.{IsWord}
 use Rattle.code_text.specs.Inside.Reading.{is_name, name_of, is_number, number_of, digit_below, register_of, weight_of, place_from}
-use Rattle.code_text.proofs.BackLaws.{lt_true}
 use Rattle.code_text.proofs.FieldLaws.{given, chosen}
 
 pub name_ranges : (f n : List ℕ) → name_of f ≡ Some n → IsName n
@@ -33,7 +32,7 @@ register_ranges [] r h = absurd cc
 register_ranges (a ∷ []) r h = absurd cc
 register_ranges (a ∷ b ∷ []) r h =
     let g = given (a == 114 && digit_below 8 b) (b - 48) r h in
-    lt_true r 8 (digit_ranges 8 b r (and_parts (a == 114) (digit_below 8 b) g.0).1 g.1)
+    lt-ltb r 8 (digit_ranges 8 b r (and_parts (a == 114) (digit_below 8 b) g.0).1 g.1)
 register_ranges (a ∷ b ∷ c ∷ f) r h = absurd cc
 
 pub weight_ranges : (f : List ℕ) (w : ℕ) → weight_of f ≡ Some w → w ≤ 2
@@ -49,4 +48,4 @@ place_below i (n ∷ ns) f x h = elim (chosen (bytes_eq f n) (Some i) (place_fro
 ]
 
 pub place_ranges : (names : List (List ℕ)) (f : List ℕ) (x : ℕ) → place_from 0 names f ≡ Some x → nat_lt x (length names) ≡ true
-place_ranges names f x h = let k = place_below 0 names f x h in lt_true x (length names) (omega (arith, k))
+place_ranges names f x h = let k = place_below 0 names f x h in lt-ltb x (length names) (omega (arith, k))
