@@ -1,0 +1,2 @@
+//! Which register keeps which variable, while code is made.
+#![tactic(auto)]
