@@ -1,0 +1,15 @@
+mod Tests
+mod Cores
+mod Plans
+mod Shape
+mod Steps
+mod Coupling
+mod Ends
+mod SecureRuns
+mod Gen
+mod LaidOut
+mod Forward
+mod Progress
+mod Whole
+mod Loads
+mod Few

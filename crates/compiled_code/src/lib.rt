@@ -1,0 +1,2 @@
+//! The code of programs.
+#![tactic(auto)]
