@@ -7,7 +7,7 @@ use Rattle.std.proofs.lemmas.List.{drop_more, drop_all, take_all, append-nil, ge
 use Rattle.std.proofs.lemmas.List.Edits.{map_over_more}
 use Rattle.std.proofs.lemmas.List.FromFn.{get_or-range_with_len}
 use Rattle.std.proofs.lemmas.List.Sums.{length-filter}
-use Rattle.regalloc.specs.Plan.{Plan, is_for, held_from, stored, only, restrict, both, meet, add_free, free_among, below_seven, frees, room_below, room}
+use Rattle.regalloc.specs.Plan.{Plan, is_for, stored, only, restrict, both, meet, add_free, free_among, below_seven, frees, room_below, room}
 
 -- A walk that gives up some records -----------------------------------------------------------------------------
 

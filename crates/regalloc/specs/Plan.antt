@@ -1,12 +1,12 @@
--- Which register keeps which variable: the record that Sison and Murray's compiler makes of its registers.
+-- Which register is kept for which variable. (After the register record of Sison and Murray.)
 --
--- A plan has eight places, one for each register, from r0. The variable at a place is the one whose word the register has.
+-- A plan has eight places, one for each register, from r0: the variable whose word the register has, if there is one.
 use Rattle.std.specs.Prelude.{ℕ, zero, suc, ◌==◌, List, [], ◌∷◌, length, get_or, set, map, Bool, false, slice_get, Option, Some, None, nat_le, if◌then◌else◌}
 
 abbrev pub Plan : Type 0
 Plan = List (Option ℕ)
 
--- no register keeps anything
+-- no register is kept for anything
 abbrev pub start : Plan
 start = None ∷ None ∷ None ∷ None ∷ None ∷ None ∷ None ∷ None ∷ []
 
@@ -62,7 +62,7 @@ abbrev pub add_free : Option ℕ → (r : ℕ) → List ℕ → List ℕ
 add_free None r rs = r ∷ rs
 add_free (Some x) r rs = rs
 
--- those of these registers that keep nothing
+-- those of some registers that are kept for nothing
 abbrev pub free_among : Plan → List ℕ → List ℕ
 free_among plan [] = []
 free_among plan (r ∷ rs) = add_free (get_or plan r None) r (free_among plan rs)
@@ -70,19 +70,19 @@ free_among plan (r ∷ rs) = add_free (get_or plan r None) r (free_among plan rs
 abbrev pub below_seven : List ℕ
 below_seven = 0 ∷ 1 ∷ 2 ∷ 3 ∷ 4 ∷ 5 ∷ 6 ∷ []
 
--- the registers of r0 to r6 that keep nothing, the lowest first
+-- those of r0 to r6 that are kept for nothing, the lowest first
 unfoldable pub frees : Plan → List ℕ
 frees plan = free_among plan below_seven
 
--- the register for a part of an expression at a depth: its place among those that keep nothing
+-- the register for a part of an expression at a depth: the one of that place, from 0
 abbrev pub part : Plan → (depth : ℕ) → Option ℕ
 part plan depth = slice_get (frees plan) depth
 
--- the registers below one are given up, the highest first, until n of r0 to r6 keep nothing
+-- the registers below one are given up, the highest first, until n of r0 to r6 are kept for nothing
 abbrev pub room_below : (r : ℕ) → Plan → (n : ℕ) → Plan
 room_below zero plan n = plan
 room_below (suc r) plan n = if nat_le n (length (frees plan)) then plan else room_below r (spoil plan r) n
 
--- r6, then r5 and so on are given up, until n of r0 to r6 keep nothing
+-- r6, then r5 and so on are given up, until n of r0 to r6 are kept for nothing
 unfoldable pub room : Plan → (n : ℕ) → Plan
 room plan n = room_below 7 plan n

@@ -4,8 +4,8 @@ ghost use Rattle.cov_expr.specs.View.{term};
 
 use cov_expr::Expr;
 
-/// How many registers the evaluation of an expression takes where each operand is kept while the next is evaluated. It takes
-/// the time of a walk over the expression, and no memory.
+/// How many registers the evaluation of an expression takes where each operand is kept while the next is evaluated: so many
+/// parts have to have registers. A leaf has width 1. It walks over the whole expression, and takes no memory.
 pub fn width(e: &Expr) -> u32
     requires { tree.width (term e.now) < 2 ^ 32 }
     ensures { result ≡ tree.width (term e.now) }

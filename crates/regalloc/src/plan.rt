@@ -1,13 +1,14 @@
-ghost use Rattle.std.specs.Prelude.{◌≡◌, ◌<◌, length};
+ghost use Rattle.std.specs.Prelude.{◌≡◌, ℕ, ◌<◌, ◌≤◌, length, IfSome, IsSome};
+ghost use Rattle.regalloc.specs.Parts.{IsForPart};
 ghost use Rattle.regalloc.specs.Plan as spec;
 ghost use Rattle.regalloc.specs.Stable.{KeepsStable};
 
 use mode_state::ModeState;
 use std::marker::Model;
 
-/// The variable that each of the eight registers keeps, by its id, or none (after the register record of Sison and Murray).
-///
-/// No call takes memory.
+/// Which variable each of the eight registers is kept for, by its id, or none: after the record of registers by Sison and
+/// Murray. A register is kept for one variable at most, and a variable may have several registers. The calls only keep the
+/// record: that a register has the word of its variable is up to the code beside which it is kept. No call takes memory.
 #[derive(Drop)]
 pub struct Plan {
     kept: [Option<u32>; 8],
@@ -24,7 +25,7 @@ impl Model for Plan {
 }
 
 impl Plan {
-    /// No register keeps a variable.
+    /// The plan in which no register is kept for a variable: nothing is known of the registers.
     pub fn start() -> Self
         ensures { result ≡ spec.start }
     {
@@ -38,7 +39,7 @@ impl Plan {
         Plan { kept: self.kept }
     }
 
-    /// The lowest register that is kept for a variable.
+    /// The lowest register that is kept for a variable, from 0 to 7; None where there is none.
     pub fn held(&self, x: u32) -> Option<u8>
         ensures { result ≡ spec.held self.now x }
     {
@@ -50,7 +51,8 @@ impl Plan {
         None
     }
 
-    /// The register is kept for the variable and for nothing else.
+    /// A register is kept for a variable, and for nothing else, from now on: as after a load of the variable into it. Other
+    /// registers that are kept for the variable stay so; after a store, `stored` comes first.
     pub fn keep(&mut self, x: u32, r: u8)
         requires { r < 8 }
         ensures { self.new ≡ spec.keep self.old x r }
@@ -58,7 +60,7 @@ impl Plan {
         self.kept[r as usize] = Some(x);
     }
 
-    /// The register is kept for nothing.
+    /// A register is kept for nothing from now on: as after another word came into it.
     pub fn spoil(&mut self, r: u8)
         requires { r < 8 }
         ensures { self.new ≡ spec.spoil self.old r }
@@ -66,7 +68,7 @@ impl Plan {
         self.kept[r as usize] = None;
     }
 
-    /// No register is kept for the variable.
+    /// No register is kept for a variable any longer: as after a store to it.
     pub fn stored(&mut self, x: u32)
         ensures { self.new ≡ spec.stored self.old x }
     {
@@ -77,7 +79,8 @@ impl Plan {
         }
     }
 
-    /// Gives up what is kept for variables that aren't stable.
+    /// Gives up what is kept for variables that aren't stable, as others may write them: as after a lock is given back. What is
+    /// kept has to be for variables of the program of the modes, since of others they don't tell.
     pub fn restrict(&mut self, m: &ModeState)
         ensures { KeepsStable m.now self.old self.new }
     {
@@ -90,7 +93,7 @@ impl Plan {
         }
     }
 
-    /// Keeps what both plans keep.
+    /// Keeps what both plans keep, register by register: as where two branches meet.
     pub fn meet(&mut self, other: &Plan)
         ensures { self.new ≡ spec.meet self.old other.now }
     {
@@ -101,9 +104,11 @@ impl Plan {
         }
     }
 
-    /// The register of a place, from 0, among those of `r0` to `r6` that keep nothing, the lowest first.
+    /// The register for a part of an expression at a depth, from 0 for the whole: the one of that place among those of `r0` to
+    /// `r6` that are kept for nothing, the lowest first. None where they are too few. (`r7` is for what isn't stable.)
     pub fn part(&self, depth: u32) -> Option<u8>
-        ensures { result ≡ spec.part self.now depth }
+        ensures part { result ≡ spec.part self.now depth }
+        ensures own { IfSome result (IsForPart self.now depth) }
     {
         let mut left = depth;
         for r in 0..7 {
@@ -117,19 +122,21 @@ impl Plan {
         None
     }
 
-    /// Gives up what `r6` keeps, then `r5` and so on, until so many of `r0` to `r6` keep nothing.
+    /// Gives up what `r6` is kept for, then `r5` and so on, until `n` of `r0` to `r6` are kept for nothing, so that so many parts
+    /// have registers. With `n` past 7 it gives up all that these are kept for.
     pub fn room(&mut self, n: u32)
-        ensures { self.new ≡ spec.room self.old n }
+        ensures room { self.new ≡ spec.room self.old n }
+        ensures parts { n ≤ 7 → (depth : ℕ) → depth < n → IsSome (spec.part self.new depth) }
     {
         let mut r = 7;
-        while r > 0 && self.free() < n {
+        while r > 0 && self.free_count() < n {
             r -= 1;
-            self.kept[r] = None;
+            self.spoil(r);
         }
     }
 
-    /// How many of `r0` to `r6` keep nothing.
-    fn free(&self) -> u32
+    /// How many of `r0` to `r6` are kept for nothing.
+    fn free_count(&self) -> u32
         ensures { result ≡ length (spec.frees self.now) }
     {
         self.kept[..7].iter().filter(|kept| kept.is_none()).count() as u32

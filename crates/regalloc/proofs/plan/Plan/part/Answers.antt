@@ -1,5 +1,6 @@
 use Rattle.std.proofs.Common.{slice_get, drop, ◌+◌, sym, ◌∙◌, ap, ap₂, not, true, false}
 use Rattle.regalloc.specs.Plan.{part, free_among, below_seven}
+use Rattle.regalloc.proofs.PartLaws.{is_for_part}
 use Rattle.regalloc.proofs.PlanLaws.{frees_is, free_more, place_more}
 use Rattle.regalloc.proofs.plan.Plan.part.Goals as goal
 use Rattle.regalloc.proofs.plan.Plan.part.Goals.{then-is_none+else-left-eq0, else-is_none}
@@ -7,10 +8,13 @@ use Rattle.regalloc.proofs.plan.Plan.part.Goals.{then-is_none+else-left-eq0, els
 pub loop-r-init : goal.loop-r-init
 loop-r-init c = ap (λ rs. slice_get rs c.args.depth) (sym (frees_is c.self.inside.kept))
 
-pub returns-then-left-eq0 : goal.returns-then-left-eq0
-returns-then-left-eq0 c =
+pub returns-then-left-eq0-clause-part : goal.returns-then-left-eq0-clause-part
+returns-then-left-eq0-clause-part c =
     let e = free_more c.self.inside.kept c.loop-r.r false c.loop-r-test.true (c.is_none.ensures ∙ ap not c.if-is_none.true) in
     sym (ap (λ plan. part plan c.args.depth) (sym c.self.view_is) ∙ c.loop-r.invariant ∙ ap₂ slice_get e c.if-left-eq0.true)
+
+pub returns-then-left-eq0-clause-own : goal.returns-then-left-eq0-clause-own
+returns-then-left-eq0-clause-own c = is_for_part c.args.self.now c.args.depth c.loop-r.r (sym (returns-then-left-eq0-clause-part c))
 
 pub loop-r-preserved : goal.loop-r-preserved
 loop-r-preserved c = elim c.if-is_none.branch [

@@ -1,7 +1,7 @@
 use Rattle.std.proofs.Common.{◌≡◌, ◌∙◌, ap, arith, rules, count_by, is_none, length, take}
 use Rattle.regalloc.specs.Plan.{frees}
 use Rattle.regalloc.proofs.PlanLaws.{frees_count}
-use Rattle.regalloc.proofs.plan.Plan.free.Goals as goal
+use Rattle.regalloc.proofs.plan.Plan.free_count.Goals as goal
 
 pub returns : goal.returns
 returns c =
