@@ -1,9 +1,9 @@
 -- What one thread sees of the code machine, its steps on that, and straight code.
-use Rattle.std.proofs.Common.{◌≡◌, ℕ, suc, ◌+◌, List, [], ◌∷◌, ◌++◌, length, get_or, set, replicate, Bool, true, false, if◌then◌else◌, Option, Some, None, refl, sym, ◌∙◌, ap, ap₂, subst, arith, slice_get, is_some, not, length-set}
+use Rattle.std.proofs.Common.{◌≡◌, ℕ, suc, ◌+◌, List, [], ◌∷◌, ◌++◌, length, get_or, set, replicate, Bool, true, false, if◌then◌else◌, Option, Some, None, refl, sym, ◌∙◌, ap, ap₂, arith, is_some, not, length-set}
 use Rattle.std.proofs.lemmas.List.{set-get_or}
 use Rattle.cov_expr.specs.Term.{apply, is_set}
 use Rattle.flow_model.specs.Source.{Holders, Outputs, holder, is_held_by}
-use Rattle.risc_machine.specs.Machine.{CodeState, row_of, register, position, with_register, effect, next_position, at_position, code_stays, after_instr, after_line, line_of, code_step, code_from, weight_of, lifted_from}
+use Rattle.risc_machine.specs.Machine.{CodeState, row_of, register, position, effect, next_position, at_position, after_instr, after_line, line_of, code_from, weight_of, lifted_from}
 use Rattle.risc_machine.specs.declared.parts.Instr.{Instr}
 use Rattle.risc_machine.specs.declared.parts.Instr.TheVariants.{Load, Store, Jump, Jz, Nop, MovC, MovR, Bin, Acquire, Release, Out}
 use Rattle.risc_machine.specs.declared.parts.Line.{Line}

@@ -1,25 +1,24 @@
 -- Whole runs of code against runs of the source under the lifted schedule.
-use Rattle.std.proofs.Common.{◌≡◌, ◌≢◌, ◌⊎◌, ℕ, zero, suc, ◌<◌, List, [], ◌∷◌, ◌++◌, length, get_or, set, replicate, Bool, Some, None, refl, sym, ◌∙◌, ap, ap₂, subst, length-set, get_or-set_same, get_or-set_other}
+use Rattle.std.proofs.Common.{◌≡◌, ◌≢◌, ℕ, zero, suc, ◌<◌, List, [], ◌∷◌, ◌++◌, length, get_or, set, replicate, Bool, refl, sym, ◌∙◌, ap, ap₂, subst, length-set, get_or-set_same, get_or-set_other}
 use Rattle.std.proofs.lemmas.List.{set-get_or, set-set}
 use Rattle.std.proofs.Math.Decide.{ℕ_discrete}
 use Rattle.cov_expr.specs.Words.{IsSchedule}
 use Rattle.cov_ast.specs.Plain.{Plain}
 use Rattle.flow_model.specs.Agreement.{SameAt}
 use Rattle.flow_model.specs.Composable.{HasCompatibleModes}
-use Rattle.flow_model.specs.Game.{turn_of}
 use Rattle.flow_model.specs.Holdings.{IsStableNow}
 use Rattle.flow_model.specs.Source.{Item, Holders, holder, Outputs, is_held_by, Local, local, turn, Run, run_from, step}
 use Rattle.mode_compat.specs.HeldSets.{AreHeldBy}
 use Rattle.regalloc.specs.Plan.{Plan}
 use Rattle.compiled_code.proofs.Cores.{Core, core, core_line, core_of, core_step, core_from, core_lifted, exec, exec_same}
 use Rattle.compiled_code.proofs.Shape.{IsStable, Record, Yields}
-use Rattle.compiled_code.proofs.Steps.{turned, AreSets, Leaves, Evaluating, StoreAt, BranchAt, OutAt, Stands, ready, storing, testing, emitting, Matched, matched}
+use Rattle.compiled_code.proofs.Steps.{turned, AreSets, Evaluating, StoreAt, BranchAt, OutAt, Stands, ready, storing, testing, emitting, Matched, matched}
 use Rattle.risc_machine.specs.Machine.{CodeState, line_of, lines_of, weight_of}
 use Rattle.risc_machine.specs.declared.parts.Line.{Line}
 use Rattle.risc_machine.specs.declared.parts.Parts.{Parts}
 
 module _ (p : Plain) (t : ℕ) (sets : AreSets p t) (lines : List Line) where
-  -- §what others may do
+  -- What others may do --------------------------------------------------------------------------------------------
 
   module _ (c : Core) (m : List ℕ) (h : Holders) (o : Outputs) (long : length h ≡ length p.locks) (same_held : (l : ℕ) → is_held_by (holder h l) t ≡ is_held_by (holder c.holders l) t)
       (kept : (x : ℕ) → IsStableNow p c.holders t x → SameAt m c.memory x) where
@@ -62,7 +61,7 @@ module _ (p : Plain) (t : ℕ) (sets : AreSets p t) (lines : List Line) where
     stands_left is (testing {v = v} {a = a} {b = b} {is = js} H g) = testing H (evaluating_left H v (BranchAt p t lines H a b js 1) g)
     stands_left is (emitting {v = v} {is = js} H g) = emitting H (evaluating_left H v (OutAt p t lines H js) g)
 
--- §some turns of one thread
+-- Some turns of one thread ----------------------------------------------------------------------------------------
 
 abbrev pub src : CodeState → List (List Item) → Run
 src s js = record { memory = s.memory; holders = s.holders; outputs = s.outputs; items = js }
@@ -88,7 +87,7 @@ run_turns (suc w) u m h o js n =
     ∙ ap (λ is. with_local (set js u c.items) u (turned u w (local c.memory c.holders c.outputs is))) (get_or-set_same js u c.items [] n)
     ∙ same_items _ _ _ _ _ (set-set js u c.items (turned u w c).items)
 
--- §whole runs
+-- Whole runs ------------------------------------------------------------------------------------------------------
 
 module _ (p : Plain) (sets : (t : ℕ) → AreSets p t) (apart : HasCompatibleModes p) (c : Parts) where
   pub record Coupled (s : CodeState) (js : List (List Item)) : Type 0 where

@@ -1,5 +1,5 @@
 -- What a line tells of the items.
-use Rattle.std.proofs.Common.{◌≡◌, ◌⊎◌, ℕ, suc, pred, List, [], ◌∷◌, length, get_or, map, Bool, true, false, Option, Some, None, refl, sym, ◌∙◌, ap, subst, inl, inr, ⊎_elim, slice_get, le_refl}
+use Rattle.std.proofs.Common.{◌≡◌, ◌⊎◌, ℕ, suc, pred, List, [], ◌∷◌, length, get_or, Bool, true, false, Option, Some, None, refl, sym, ◌∙◌, ap, subst, inl, inr, ⊎_elim, slice_get, le_refl}
 use Rattle.std.proofs.lemmas.Option.{slice_get_past}
 use Rattle.cov_expr.specs.Term.{Term, value}
 use Rattle.cov_ast.specs.Plain.{Cmd, skip, assign, lock, unlock, branch, loop, output, Cmds, Plain}
@@ -105,7 +105,7 @@ module _ (p : Plain) (t : ℕ) (lines : List Line) where
   nothing_left c is (emitting {is = js} H g) e =
       absurd (no_line lines c.position (rest_line g.cs c.position (OutAt p t lines H js g.after g.result) (λ n. (_, n.0)) g.at_rest) e)
 
-  -- §what a jump reads: the word of the test that is pending, or will be after the first of its two steps
+  -- What a jump reads: the word of the test that is pending, or will be after the first of its two steps ----------
 
   abbrev pub Reads : Core → List Item → ℕ → ℕ → Type 0
   Reads c is w r = get_or c.registers r 0 ≡ word_of (turned t (pred w) (local c.memory c.holders c.outputs is)).items

@@ -1,29 +1,27 @@
 -- The load bound of whole bodies.
-use Rattle.std.proofs.Common.{◌≡◌, ◌⊎◌, ℕ, zero, suc, ◌+◌, ◌<◌, ◌≤◌, ◌==◌, ◌&&◌, ◌||◌, not, List, [], ◌∷◌, ◌++◌, length, map, set, get_or, filter, Bool, true, false, cond, if◌then◌else◌, Option, Some, None, refl, sym, ◌∙◌, ap, subst, subst₂, arith, IsTrue, inl, inr, ⊎_elim, eq-eqb, eqb-true, get_or-set_other}
+use Rattle.std.proofs.Common.{◌≡◌, ◌⊎◌, ℕ, zero, suc, ◌+◌, ◌<◌, ◌≤◌, ◌==◌, ◌&&◌, not, List, [], ◌∷◌, ◌++◌, length, set, filter, Bool, true, false, cond, if◌then◌else◌, Option, Some, None, refl, sym, ◌∙◌, ap, subst, subst₂, arith, IsTrue, inl, inr, ⊎_elim, eq-eqb, eqb-true, get_or-set_other}
 use Rattle.std.specs.List.{list_any}
-use Rattle.std.proofs.lemmas.Bool.{or_left, or_right, or_cases, and_parts, and_from, false_from_ne_true, cases_lt}
-use Rattle.std.proofs.lemmas.List.{length-map, get_or_past}
+use Rattle.std.proofs.lemmas.Bool.{or_left, or_right, or_cases, and_parts, and_from, false_from_ne_true, cases_lt, both_ways}
+use Rattle.std.proofs.lemmas.List.{length-map, get_or_past, get_or-replicate}
 use Rattle.cov_expr.specs.Term.{Term}
 use Rattle.cov_expr.specs.Trees.{add_new, has_number, mentions, occurrences, width}
 use Rattle.cov_expr.proofs.Tests.{passing}
 use Rattle.cov_expr.proofs.Trees.{has_number-append}
-use Rattle.cov_ast.specs.Declarations.{assumes, lists, no_lock, thread_at, under}
+use Rattle.cov_ast.specs.Declarations.{assumes, lists, no_lock, under}
 use Rattle.cov_ast.specs.Plain.{skip, assign, lock, unlock, branch, loop, output, Cmds, none, next, Plain}
 use Rattle.cov_ast.specs.Tables.{has}
 use Rattle.mode_compat.specs.Declared.{IsDeclared}
 use Rattle.mode_state.specs.Sets.{is_stable, locks_of}
 use Rattle.mode_state.proofs.HeldLaws.{any_from}
 use Rattle.regalloc.specs.Plan.{Plan, start, restrict, frees}
-use Rattle.compiled_code.specs.Compiled.{line, weigh, expr_plan, expr_register, expr_instrs, expr_lines, direct, store_from, eval_lines, eval_plan, eval_register, use_weight, store_plan, cmd_plan, cmd_lines, block_lines, cmd_locks, no_locks}
+use Rattle.compiled_code.specs.Compiled.{line, weigh, expr_plan, expr_register, expr_instrs, direct, store_from, eval_lines, eval_plan, eval_register, use_weight, store_plan, cmd_plan, cmd_lines, block_lines, cmd_locks, no_locks}
 use Rattle.compiled_code.specs.LoadBound.{IsStraight, IsNarrow, locks_in, reads_without, stable_uses, IsSmall, HasFewLoads}
 use Rattle.compiled_code.proofs.Loads.{IsIn, Has, Fit, three_free, fit_start, fit_below, stored_has, credit, credit_small, credit_less, loads, loads_are, loads_append, loads_weigh, expr_few, store_fit, store_more}
 use Rattle.compiled_code.proofs.Plans.{reg_low, reg_free, restricted_is, restrict_keeps}
-use Rattle.compiled_code.proofs.Tests.{clash}
-use Rattle.compiled_code.proofs.Whole.{nothing_taken}
 use Rattle.risc_machine.specs.declared.parts.Instr.TheVariants.{Store}
 use Rattle.risc_machine.specs.declared.parts.Line.{Line}
 
--- §lists
+-- Lists -----------------------------------------------------------------------------------------------------------
 
 module _ (z : ℕ) where
   filtered_in : (st : ℕ → Bool) (xs : List ℕ) → IsIn xs z → IsTrue (st z) → IsIn (filter st xs) z
@@ -33,7 +31,7 @@ module _ (z : ℕ) where
       go : (b : Bool) → st x ≡ b → (IsIn xs z → IsTrue (st z) → IsIn (filter st xs) z) → IsTrue (x == z) ⊎ IsIn xs z → IsIn (cond b (x ∷ filter st xs) (filter st xs)) z
       go true e f (inl k) = or_left (x == z) _ k
       go true e f (inr k) = or_right (x == z) _ (f k s)
-      go false e f (inl k) = absurd (clash (st x) (subst (λ z. IsTrue (st z)) (sym (eqb-true x z k)) s) e)
+      go false e f (inl k) = absurd (both_ways (st x) e (subst (λ z. IsTrue (st z)) (sym (eqb-true x z k)) s))
       go false e f (inr k) = f k s
 
   in_left : (a b : List ℕ) → IsIn a z → IsIn (a ++ b) z
@@ -56,7 +54,7 @@ module _ (z : ℕ) where
       ⊎_elim (λ k. still_added ys (if has_number xs y then xs else xs ++ y ∷ []) (inl (one_more xs y (inr k) (has_number xs y) refl)))
       (λ k. still_added ys (if has_number xs y then xs else xs ++ y ∷ []) (inr k)) (or_cases (y == z) (has_number ys z) h)
 
--- §stable variables
+-- Stable variables ------------------------------------------------------------------------------------------------
 
 cleared : (H : List Bool) (l j : ℕ) → has (set H l false) j ≡ true → has H j ≡ true
 cleared [] l j h = h
@@ -87,14 +85,14 @@ module _ (p : Plain) (t : ℕ) where
   stable_before : (H : List Bool) (l x : ℕ) → under p l x ≡ false → is_stable p t (set H l true) x ≡ true → is_stable p t H x ≡ true
   stable_before H l x n h =
       ⊎_elim (λ a. or_left (assumes p t x) _ a)
-      (λ k. stable_by H k.0 x (sym (get_or-set_other H l k.0 true false (λ e. clash (under p l x) (subst (λ j. under p j x ≡ true) e k.2) n)) ∙ k.1) k.2)
+      (λ k. stable_by H k.0 x (sym (get_or-set_other H l k.0 true false (λ e. absurd (both_ways (under p l x) n (subst (λ j. under p j x ≡ true) e k.2)))) ∙ k.1) k.2)
       (stable_some (set H l true) x h)
 
   stable_cleared : (H : List Bool) (l x : ℕ) → is_stable p t (set H l false) x ≡ true → is_stable p t H x ≡ true
   stable_cleared H l x h =
       ⊎_elim (λ a. or_left (assumes p t x) _ a) (λ k. stable_by H k.0 x (cleared H l k.0 k.1) k.2) (stable_some (set H l false) x h)
 
-  -- §statements
+  -- Statements ----------------------------------------------------------------------------------------------------
 
   -- the statements `lock` of a lock with x under it
   takes : ℕ → Cmds → ℕ
@@ -150,7 +148,7 @@ module _ (p : Plain) (t : ℕ) where
               fit = subst (λ b. Fit S (store_plan b P y s)) (sym u) (store_fit S few (is_stable p t H) P y 0 f (omega arith) false (λ c. absurd (let d : false ≡ true = c in cc)));
               counts = λ x.
                   let d = credit_less (is_stable p t H) (is_stable p t H) P (store_plan (is_stable p t H y) P y s) x (λ s. s)
-                  (λ st m. subst (λ b. Has (store_plan b P y s) x) (sym u) (stored_has P y x (λ e. clash (is_stable p t H y) (ap (is_stable p t H) (sym e) ∙ st) u) m)) in
+                  (λ st m. subst (λ b. Has (store_plan b P y s) x) (sym u) (stored_has P y x (λ e. absurd (both_ways (is_stable p t H y) u (ap (is_stable p t H) (sym e) ∙ st))) m)) in
                   omega arith;
             }
 
@@ -204,7 +202,7 @@ module _ (p : Plain) (t : ℕ) where
     few_block (next at (loop e a) cs) H P i s n g f x = absurd s
     few_block (next at (output e) cs) H P i s n g f x = absurd s
 
-  -- §the two counts of the bound
+  -- The two counts of the bound -----------------------------------------------------------------------------------
 
   module _ (d : IsDeclared p) where
     takes_none : (x : ℕ) (c : Cmds) → IsTrue (assumes p t x) → takes x c ≡ 0
@@ -213,7 +211,7 @@ module _ (p : Plain) (t : ℕ) where
     takes_none x (next at skip cs) a = takes_none x cs a
     takes_none x (next at (assign y e) cs) a = takes_none x cs a
     takes_none x (next at (lock l) cs) a =
-        ap (λ b. cond b (suc (takes x cs)) (takes x cs)) (false_from_ne_true (under p l x) (λ u. clash (assumes p t x) a (d.not_assumed l x t u))) ∙ takes_none x cs a
+        ap (λ b. cond b (suc (takes x cs)) (takes x cs)) (false_from_ne_true (under p l x) (λ u. absurd (both_ways (assumes p t x) (d.not_assumed l x t u) a))) ∙ takes_none x cs a
     takes_none x (next at (unlock l) cs) a = takes_none x cs a
     takes_none x (next at (branch e b c) cs) a = takes_none x cs a
     takes_none x (next at (loop e b) cs) a = takes_none x cs a
@@ -241,7 +239,7 @@ module _ (p : Plain) (t : ℕ) where
         where
           go : (b : Bool) → (j == l) ≡ b → under p j x ≡ b
           go true e = subst (λ j. under p j x ≡ true) (sym (eqb-true j l e)) u
-          go false e = false_from_ne_true (under p j x) (λ k. clash (j == l) (eq-eqb j l (d.one_lock x j l k u)) e)
+          go false e = false_from_ne_true (under p j x) (λ k. absurd (both_ways (j == l) e (eq-eqb j l (d.one_lock x j l k u))))
 
       stable_is : (H : List Bool) → is_stable p t H x ≡ has H l
       stable_is H = go (has H l) refl
@@ -250,7 +248,7 @@ module _ (p : Plain) (t : ℕ) where
           go true e = stable_by H l x e u
           go false e =
               false_from_ne_true (is_stable p t H x)
-              (λ s. ⊎_elim (λ a. clash (assumes p t x) a (d.not_assumed l x t u)) (λ r. clash (has H l) (subst (λ j. has H j ≡ true) (d.one_lock x r.0 l r.2 u) r.1) e) (stable_some H x s))
+              (λ s. ⊎_elim (λ a. absurd (both_ways (assumes p t x) (d.not_assumed l x t u) a)) (λ r. absurd (both_ways (has H l) e (subst (λ j. has H j ≡ true) (d.one_lock x r.0 l r.2 u) r.1))) (stable_some H x s))
 
       takes_are : (c : Cmds) → takes x c ≡ locks_in l c
       unfolding takes
@@ -294,7 +292,7 @@ module _ (p : Plain) (t : ℕ) where
           let b = few_loads c k x in
           let n = takes_are l x u c in
           let m = strays_are l x u c (no_locks p) in
-          let s : credit (is_stable p t (no_locks p)) start x ≡ 0 = ap (λ b. cond b 1 0) (stable_is l x u (no_locks p) ∙ nothing_taken (length p.locks) l) in
+          let s : credit (is_stable p t (no_locks p)) start x ≡ 0 = ap (λ b. cond b 1 0) (stable_is l x u (no_locks p) ∙ get_or-replicate (length p.locks) l false false (declared_lock l x u)) in
           let e = loads_are x (block_lines p t c (no_locks p) start 0) in
           omega arith;
     }

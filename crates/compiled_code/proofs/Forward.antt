@@ -1,5 +1,5 @@
 -- Lines of weight 0 lead forward, or to a line of weight 1.
-use Rattle.std.proofs.Common.{◌≡◌, ◌⊎◌, ℕ, zero, suc, ◌+◌, ◌<◌, ◌≤◌, List, [], ◌∷◌, ◌++◌, length, map, set, Bool, Option, Some, None, refl, le_refl, sym, subst, subst₂, arith, IsTrue, inl, inr, slice_get, add-zero, zero-add}
+use Rattle.std.proofs.Common.{◌≡◌, ◌⊎◌, ℕ, zero, suc, ◌+◌, ◌<◌, ◌≤◌, List, [], ◌∷◌, ◌++◌, length, map, Bool, Option, Some, None, refl, le_refl, sym, subst, subst₂, arith, IsTrue, inl, inr, slice_get, add-zero, zero-add}
 use Rattle.cov_expr.specs.Term.{Term}
 use Rattle.cov_ast.specs.Plain.{Cmd, skip, assign, lock, unlock, branch, loop, output, Cmds, none, next, Plain}
 use Rattle.mode_state.specs.Sets.{is_stable}

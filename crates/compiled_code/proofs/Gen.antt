@@ -1,7 +1,7 @@
 -- The code of an expression gives its value, and the plan after it is true.
 use Rattle.std.proofs.Common.{◌≡◌, ◌≢◌, ℕ, zero, suc, ◌+◌, ◌<◌, ◌≤◌, ◌==◌, List, [], ◌∷◌, ◌++◌, length, get_or, set, Bool, true, false, if◌then◌else◌, not, Option, Some, None, refl, sym, ◌∙◌, ap, ap₂, subst, arith, IsTrue, inl, inr, ⊎_elim, length-set, get_or-set_same, get_or-set_other, le_refl, eq-eqb, eqb-true}
 use Rattle.std.proofs.Math.Dec.{eqb-suc-zero}
-use Rattle.std.proofs.lemmas.Bool.{or_left, or_right, or_cases}
+use Rattle.std.proofs.lemmas.Bool.{or_left, or_right, or_cases, both_ways}
 use Rattle.cov_expr.specs.declared.expr.Op.{Op}
 use Rattle.cov_expr.specs.declared.expr.Op.TheVariants.{Eq}
 use Rattle.cov_expr.specs.Term.{Term, const, var, neg, bin, value, apply, flag, is_set}
@@ -13,12 +13,11 @@ use Rattle.compiled_code.specs.Compiled.{expr_room, part_register, var_instr, un
 use Rattle.compiled_code.proofs.Cores.{exec_one, exec, exec_append, IsStraight, Straight, straight_append}
 use Rattle.compiled_code.proofs.Plans.{spoil_below, spoil_there, frees_spoil, held_is, kept_is, stored_is, reg_low, reg_apart, reg_free, frees_keep, part_in, room_gives, room_has}
 use Rattle.compiled_code.proofs.Shape.{Record, AfterStore, Yields}
-use Rattle.compiled_code.proofs.Tests.{clash}
 use Rattle.risc_machine.specs.Faults.{first_of}
 use Rattle.risc_machine.specs.declared.parts.Instr.{Instr}
-use Rattle.risc_machine.specs.declared.parts.Instr.TheVariants.{Load, MovC, MovR, Bin}
+use Rattle.risc_machine.specs.declared.parts.Instr.TheVariants.{Load, MovC, Bin}
 
--- §values of parts
+-- Values of parts -------------------------------------------------------------------------------------------------
 
 flag_not : (a : ℕ) → flag (a == 0) ≡ flag (not (is_set a))
 flag_not zero = refl
@@ -140,7 +139,7 @@ module _ (p : Plain) (t : ℕ) (H : List Bool) (m : List ℕ) where
       ∙ exec_append q m (term_instrs (is_stable p t H) P b (suc d)) (Bin o (part_register P d) (part_register P (suc d)) ∷ [])))
       (op_gives P m o r q (exec q m (term_instrs (is_stable p t H) P b (suc d))) d (value a m) (value b m) g k (omega (arith, one_wide b)))
 
--- §loads in front
+-- Loads in front --------------------------------------------------------------------------------------------------
 
 pub fetch_some : (st : ℕ → Bool) (w : ℕ) (P : Plan) (x s : ℕ) → fetch_at st w P x ≡ Some s → IsTrue (st x) × (held P x ≡ None) × (part P w ≡ Some s)
 fetch_some st w P x s e = go (st x) refl (held P x) refl e
@@ -212,7 +211,7 @@ module _ (p : Plain) (t : ℕ) (H : List Bool) (m : List ℕ) (w : ℕ) where
       subst (λ z. Yields p t H Q (part_register Q 0) (value e m) z m) (sym (exec_append r m (fetch_instrs (is_stable p t H) w xs P) (term_instrs (is_stable p t H) Q e 0)))
       (record { result = g.result; keeps = record_gives p t H m Q q (exec q m (term_instrs (is_stable p t H) Q e 0)) 0 (value e m) f.keeps g })
 
--- §what is loaded
+-- What is loaded --------------------------------------------------------------------------------------------------
 
 fetch_straight : (st : ℕ → Bool) (w : ℕ) (xs : List ℕ) (P : Plan) → Straight (λ x. IsTrue (st x)) (fetch_instrs st w xs P)
 fetch_straight st w [] P = tt
@@ -292,7 +291,7 @@ expr_parts p t H P e narrow one = go (unstable_of (is_stable p t H) e) (found (i
           rest_straight = s.2;
           right = λ r m l i.
               subst (λ cs. Yields p t H (expr_plan (is_stable p t H) P e) (expr_register (is_stable p t H) P e) (value e m) (exec r m cs) m) k.2
-              (all_gives p t H m (width e) (expr_room P e) e r l refl (roomy P e narrow) (roomed r m i) (λ x h n. clash (is_stable p t H x) (f x h) n) (occurrences e));
+              (all_gives p t H m (width e) (expr_room P e) e r l refl (roomy P e narrow) (roomed r m i) (λ x h n. absurd (both_ways (is_stable p t H x) n (f x h))) (occurrences e));
         }
     go (Some u) f = record {
       first = Load 7 u;
@@ -306,7 +305,7 @@ expr_parts p t H P e narrow one = go (unstable_of (is_stable p t H) e) (found (i
           (λ x h n. get_or-set_same r 7 (get_or m u 0) 0 (rw l (omega arith)) ∙ ap (λ z. get_or m z 0) (one u x f.0 h f.1 n)) (occurrences e);
     }
 
--- §a value that is in a register already
+-- A value that is in a register already ---------------------------------------------------------------------------
 
 pub direct_right : (p : Plain) (t : ℕ) (H : List Bool) (P : Plan) (e : Term) (s : ℕ) → direct (is_stable p t H) P e ≡ Some s → (r m : List ℕ) → Record p t P H r m
     → get_or r s 0 ≡ value e m

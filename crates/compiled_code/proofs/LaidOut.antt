@@ -1,5 +1,5 @@
 -- The lines of a body stand for it.
-use Rattle.std.proofs.Common.{◌≡◌, ℕ, suc, ◌+◌, ◌<◌, ◌≤◌, List, [], ◌∷◌, ◌++◌, length, map, set, Bool, true, false, Option, Some, None, refl, sym, ◌∙◌, subst, arith, IsTrue, slice_get, length-append, append_assoc, add-zero, inl, inr, subst₂}
+use Rattle.std.proofs.Common.{◌≡◌, ℕ, suc, ◌+◌, ◌<◌, ◌≤◌, List, [], ◌∷◌, ◌++◌, length, map, set, Bool, true, false, Option, Some, None, refl, subst, arith, IsTrue, slice_get, length-append, append_assoc, add-zero, inl, inr, subst₂}
 use Rattle.cov_expr.specs.Term.{Term}
 use Rattle.cov_expr.specs.Trees.{mentions, width}
 use Rattle.cov_ast.specs.Plain.{Cmd, skip, assign, lock, unlock, branch, loop, output, Cmds, none, next, Plain}
@@ -15,7 +15,7 @@ use Rattle.risc_machine.specs.declared.parts.Instr.{Instr}
 use Rattle.risc_machine.specs.declared.parts.Instr.TheVariants.{Store, Jump, Jz, Out}
 use Rattle.risc_machine.specs.declared.parts.Line.{Line}
 
--- §what the rules give of a body
+-- What the rules give of a body -----------------------------------------------------------------------------------
 
 module _ (p : Plain) (t : ℕ) where
   -- an expression is narrow, and reads at most one variable that isn't stable
@@ -38,7 +38,7 @@ module _ (p : Plain) (t : ℕ) where
     IsTidy none H = Unit {0}
     IsTidy (next at c cs) H = IsTidyCmd c H × IsTidy cs (cmd_locks c H)
 
--- §lines in code
+-- Lines in code ---------------------------------------------------------------------------------------------------
 
 -- these lines stand in the code from i on
 abbrev pub At : List Line → ℕ → List Line → Type 0
@@ -71,7 +71,7 @@ at_all before (l ∷ ls) = (here_is before l ls, subst₂ (λ all n. At all n ls
     here_is [] l ls = refl
     here_is (b ∷ bs) l ls = here_is bs l ls
 
--- §code that stands for statements
+-- Code that stands for statements ---------------------------------------------------------------------------------
 
 module _ (p : Plain) (t : ℕ) (lines : List Line) where
   -- the code of an expression, and N behind it

@@ -1,4 +1,3 @@
-mod Tests
 mod Cores
 mod Plans
 mod Shape
@@ -13,3 +12,9 @@ mod Progress
 mod Whole
 mod Loads
 mod Few
+mod Tidied
+mod Assembled
+mod Faultless
+mod Sizes
+mod CodeOf
+mod Examples

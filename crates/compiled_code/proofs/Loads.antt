@@ -1,12 +1,11 @@
 -- Bodies with few variables and narrow expressions: no record of a stable variable is given up, so each is loaded once.
-use Rattle.std.proofs.Common.{◌≡◌, ◌≢◌, ◌⊎◌, ℕ, suc, ◌+◌, ◌<◌, ◌≤◌, ◌==◌, ◌&&◌, not, List, [], ◌∷◌, ◌++◌, length, get_or, map, Bool, true, false, cond, if◌then◌else◌, Option, Some, None, refl, sym, ◌∙◌, ap, subst, arith, IsTrue, inl, inr, ⊎_elim, length-set, get_or-set_same, get_or-set_other, eq-eqb, eqb-true, le_refl}
+use Rattle.std.proofs.Common.{◌≡◌, ◌≢◌, ◌⊎◌, ℕ, suc, ◌+◌, ◌<◌, ◌≤◌, ◌==◌, ◌&&◌, not, List, [], ◌∷◌, ◌++◌, length, get_or, map, Bool, true, false, cond, if◌then◌else◌, Option, Some, None, refl, sym, ◌∙◌, ap, subst, arith, IsTrue, inl, inr, ⊎_elim, length-set, get_or-set_same, get_or-set_other, eq-eqb, eqb-true}
 use Rattle.std.proofs.Math.Decide.{ℕ_discrete}
 use Rattle.std.proofs.Math.ListN.{get_or-map}
-use Rattle.std.proofs.lemmas.Bool.{or_left, or_right, or_cases, false_from_ne_true}
+use Rattle.std.proofs.lemmas.Bool.{or_left, or_right, or_cases, false_from_ne_true, both_ways}
 use Rattle.std.proofs.lemmas.List.{length-map}
 use Rattle.std.proofs.lemmas.List.Recursion.{is_count_by}
 use Rattle.std.proofs.lemmas.Option.{slice_get-get_or}
-use Rattle.cov_expr.specs.declared.expr.Op.TheVariants.{Eq}
 use Rattle.cov_expr.specs.Term.{Term, const, var, neg, bin}
 use Rattle.cov_expr.specs.Trees.{has_number, mentions, occurrences, width}
 use Rattle.cov_expr.proofs.Trees.{occurs}
@@ -15,15 +14,14 @@ use Rattle.compiled_code.specs.Compiled.{line, weigh, part_register, var_instr, 
 use Rattle.compiled_code.specs.LoadBound.{is_load_of, loads_of}
 use Rattle.compiled_code.proofs.Gen.{FoundIn, found, fetch_some}
 use Rattle.compiled_code.proofs.Plans.{Below, start_below, spoil_below, kept_is, stored_is, held_is, held_not, Between, seven, reg_low, reg_free, part_in, room_same}
-use Rattle.compiled_code.proofs.Tests.{clash}
 use Rattle.risc_machine.specs.declared.parts.Instr.{Instr}
-use Rattle.risc_machine.specs.declared.parts.Instr.TheVariants.{MovC, Bin}
+use Rattle.risc_machine.specs.declared.parts.Instr.TheVariants.{Bin}
 use Rattle.risc_machine.specs.declared.parts.Line.{Line}
 
 abbrev pub IsIn : List ℕ → ℕ → Type 0
 IsIn S x = IsTrue (has_number S x)
 
--- §distinct lists
+-- Distinct lists --------------------------------------------------------------------------------------------------
 
 abbrev without : ℕ → List ℕ → List ℕ
 without x [] = []
@@ -58,7 +56,7 @@ without_shorter x (y ∷ ys) h = go (y == x) refl (without_shorter x ys) (withou
     go : (b : Bool) → (y == x) ≡ b → (IsIn ys x → suc (length (without x ys)) ≤ length ys) → length (without x ys) ≤ length ys
         → IsTrue (y == x) ⊎ IsIn ys x → suc (length ((if b then without x ys else y ∷ without x ys))) ≤ suc (length ys)
     go true e f k h = omega arith
-    go false e f k (inl h) = clash (y == x) h e
+    go false e f k (inl h) = absurd (both_ways (y == x) e h)
     go false e f k (inr h) = let n = f h in omega arith
 
 pigeon : (xs ys : List ℕ) → Distinct xs → ((z : ℕ) → IsIn xs z → IsIn ys z) → length xs ≤ length ys
@@ -68,7 +66,7 @@ pigeon (x ∷ xs) ys d f =
     let b = pigeon xs (without x ys) d.1 (λ z h. still_in x ys z (λ e. d.0 (subst (λ z. IsIn xs z) e h)) (f z (or_right (x == z) _ h))) in
     omega arith
 
--- §what a plan keeps
+-- What a plan keeps -----------------------------------------------------------------------------------------------
 
 abbrev add_kept : Option ℕ → List ℕ → List ℕ
 add_kept None xs = xs
@@ -135,7 +133,7 @@ four_free S P x f h s e =
     (or_cases (x == z) (has_number (kept_among P below_seven) z) i)) in
     omega arith
 
--- §what the calls leave of Fit and of Has
+-- What the calls leave of Fit and of Has --------------------------------------------------------------------------
 
 pub fit_start : (S : List ℕ) → Fit S start
 fit_start S = record {
@@ -187,7 +185,7 @@ stored_has P x y n h =
 stored_free : (P : Plan) (x r : ℕ) → get_or P r None ≡ None → get_or (stored P x) r None ≡ None
 stored_free P x r e = get_or-map (λ o. cond (is_for x o) None o) P r None ∙ ap (λ o. cond (is_for x o) None o) e
 
--- §the loads that a plan still owes
+-- The loads that a plan still owes --------------------------------------------------------------------------------
 
 abbrev owed : Option ℕ → ℕ
 owed None = 1
@@ -225,7 +223,7 @@ credit_less st st' P Q x f g = go (st' x) refl (held Q x) refl (held P x) refl
     go true e None i None j = subst (λ n. 1 ≤ n) (sym (credit_one st P x (f e) j)) (omega arith)
     go true e None i (Some r) j = absurd (has_held Q x i (g e (r, held_is P x r j)))
 
--- §counting
+-- Counting --------------------------------------------------------------------------------------------------------
 
 -- how many lines load x, by recursion
 abbrev pub loads : ℕ → List Line → ℕ
@@ -269,7 +267,7 @@ unfolding loads_in
 loads_weigh x [] = refl
 loads_weigh x (c ∷ cs) = ap (λ n. cond (is_load_of x c) (suc n) n) (loads_rest x cs)
 
--- §expressions
+-- Expressions -----------------------------------------------------------------------------------------------------
 
 module _ (S : List ℕ) (few : length S ≤ 4) (st : ℕ → Bool) where
   record FetchedAll (xs : List ℕ) (P Q : Plan) (cs : List Instr) : Type 0 where
@@ -388,7 +386,7 @@ module _ (S : List ℕ) (few : length S ≤ 4) (st : ℕ → Bool) where
             omega arith;
       }
 
-  -- §assignments
+  -- Assignments ---------------------------------------------------------------------------------------------------
 
   pub store_fit : (Q : Plan) (y r : ℕ) → Fit S Q → r < 7 → (b : Bool) → (IsTrue b → IsIn S y) → Fit S (store_plan b Q y r)
   store_fit Q y r f h b g = go b g
@@ -406,4 +404,4 @@ module _ (S : List ℕ) (few : length S ≤ 4) (st : ℕ → Bool) where
       go : Dec (x ≡ y) → Has (keep (stored Q y) y r) x
       go (yes i) = subst (λ x. Has (keep (stored Q y) y r) x) (sym i) (keep_has_it (stored Q y) y r (length-map Q _ ∙ f.long) h)
       go (no n) = keep_has (stored Q y) y r x (stored_free Q y r free) (stored_has Q y x n k)
-  store_more Q y r x f h free false e s k = stored_has Q y x (λ i. clash (st y) (sym (ap st i) ∙ s) e) k
+  store_more Q y r x f h free false e s k = stored_has Q y x (λ i. absurd (both_ways (st y) e (sym (ap st i) ∙ s))) k

@@ -1,12 +1,11 @@
 -- What the calls of a plan leave.
 use Rattle.std.proofs.Common.{◌≡◌, ◌≢◌, ◌⊎◌, ℕ, zero, suc, ◌+◌, ◌<◌, ◌≤◌, ◌==◌, List, [], ◌∷◌, length, get_or, set, Bool, true, false, cond, Option, Some, None, refl, sym, ◌∙◌, ap, subst, arith, IsTrue, inl, inr, ⊎_elim, slice_get, length-set, get_or-set_other, zero-add, le_refl, nat_le}
-use Rattle.std.proofs.lemmas.Bool.{leb-true, le-leb, eqb-true, eq-eqb, true≢false}
+use Rattle.std.proofs.lemmas.Bool.{leb-true, le-leb, eqb-true, eq-eqb, both_ways}
 use Rattle.std.proofs.lemmas.Option.{get_or_from_slice_get}
 use Rattle.std.proofs.Math.Decide.{ℕ_discrete}
 use Rattle.std.proofs.Math.ListN.{get_or-map}
 use Rattle.regalloc.specs.Plan.{Plan, start, is_for, held_from, held, keep, spoil, stored, only, restrict, both, meet, add_free, free_among, below_seven, frees, part, room_below, room}
 use Rattle.compiled_code.specs.Compiled.{part_register}
-use Rattle.compiled_code.proofs.Tests.{clash}
 
 -- each record of Q is one of P
 abbrev pub Below : Plan → Plan → Type 0
@@ -26,7 +25,7 @@ start_below P (suc (suc (suc (suc (suc (suc zero)))))) x e = absurd cc
 start_below P (suc (suc (suc (suc (suc (suc (suc zero))))))) x e = absurd cc
 start_below P (suc (suc (suc (suc (suc (suc (suc (suc j)))))))) x e = absurd cc
 
--- §single calls
+-- Single calls ----------------------------------------------------------------------------------------------------
 
 pub spoil_below : (P : Plan) (j : ℕ) → Below (spoil P j) P
 spoil_below [] j i x e = e
@@ -59,7 +58,7 @@ stored_is P x j y e = go (get_or P j None) refl (sym (get_or-map (λ o. cond (is
   where
     by : (z : ℕ) (b : Bool) → (z == x) ≡ b → ◌≡◌ {A = Option ℕ} (cond b None (Some z)) (Some y) → (y ≢ x) × (z ≡ y)
     by z true h e = absurd cc
-    by z false h e = let s : z ≡ y = cc in ((λ k. clash (x == x) (eq-eqb x x refl) (subst (λ z. (z == x) ≡ false) (s ∙ k) h)), s)
+    by z false h e = let s : z ≡ y = cc in ((λ k. absurd (both_ways (x == x) (subst (λ z. (z == x) ≡ false) (s ∙ k) h) (eq-eqb x x refl))), s)
 
     go : (o : Option ℕ) → get_or P j None ≡ o → cond (is_for x o) None o ≡ Some y → (y ≢ x) × (get_or P j None ≡ Some y)
     go None h e = absurd cc
@@ -100,7 +99,7 @@ meet_long [] Q n a b = a
 meet_long (o ∷ os) [] n a b = absurd (let c : suc (length os) ≡ 0 = a ∙ sym b in cc)
 meet_long (o ∷ os) (q ∷ qs) n a b = ap suc (meet_long os qs (length os) refl (let c : suc (length qs) ≡ suc (length os) = b ∙ sym a in cc)) ∙ a
 
--- §held
+-- Held ------------------------------------------------------------------------------------------------------------
 
 held_from_is : (os : Plan) (j x s : ℕ) → held_from j os x ≡ Some s → (i : ℕ) × (s ≡ j + i) × (get_or os i None ≡ Some x)
 held_from_is [] j x s e = absurd cc
@@ -125,13 +124,13 @@ held_from_not (o ∷ os) j x i e h = go (is_for x o) refl e (λ i e h. held_from
     go : (b : Bool) → is_for x o ≡ b → cond b (Some j) (held_from (suc j) os x) ≡ None
         → ((i : ℕ) → held_from (suc j) os x ≡ None → get_or os i None ≡ Some x → ⊥) → (i : ℕ) → get_or (o ∷ os) i None ≡ Some x → ⊥
     go true n e ih i h = cc
-    go false n e ih zero h = clash (x == x) (eq-eqb x x refl) (sym (ap (is_for x) h) ∙ n)
+    go false n e ih zero h = absurd (both_ways (x == x) (sym (ap (is_for x) h) ∙ n) (eq-eqb x x refl))
     go false n e ih (suc i) h = ih i e h
 
 pub held_not : (P : Plan) (x i : ℕ) → held P x ≡ None → get_or P i None ≡ Some x → ⊥
 held_not P x i e h = held_from_not P 0 x i e h
 
--- §rising lists of registers
+-- Rising lists of registers ---------------------------------------------------------------------------------------
 
 abbrev pub Between : ℕ → ℕ → List ℕ → Type 0
 Between k n [] = Unit {0}
@@ -187,7 +186,7 @@ pub reg_free : (P : Plan) (d : ℕ) → d < length (frees P) → get_or P (part_
 unfolding frees
 reg_free P d h = free_nothing P below_seven d h
 
--- §counting free registers
+-- Counting free registers -----------------------------------------------------------------------------------------
 
 free_other : (P : Plan) (r : ℕ) (o : Option ℕ) (k n : ℕ) (js : List ℕ) → Between k n js → r < k → free_among (set P r o) js ≡ free_among P js
 free_other P r o k n [] b h = refl
@@ -243,7 +242,7 @@ part_in P w r e = (go (frees P) w e, sym (get_or_from_slice_get (frees P) w r 0 
     go (x ∷ xs) zero e = omega arith
     go (x ∷ xs) (suc w) e = let k = go xs w e in omega arith
 
--- §room
+-- Room ------------------------------------------------------------------------------------------------------------
 
 room_below_below : (j : ℕ) (P : Plan) (n : ℕ) → Below (room_below j P n) P
 room_below_below zero P n i x e = e

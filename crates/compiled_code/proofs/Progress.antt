@@ -20,7 +20,7 @@ use Rattle.risc_machine.specs.declared.parts.Instr.TheVariants.{Load, Store, Jum
 use Rattle.risc_machine.specs.declared.parts.Line.{Line}
 use Rattle.risc_machine.specs.declared.parts.Parts.{Parts}
 
--- §counts
+-- Counts ----------------------------------------------------------------------------------------------------------
 
 -- how many entries are of t, by recursion
 abbrev pub count_of : ℕ → List ℕ → ℕ
@@ -183,7 +183,7 @@ module _ (c : Parts) (t : ℕ) (forward : Forward (lines_of c t)) where
       go (yes e) = e
       go (no e) = let a = ahead us s h k e in omega arith
 
--- §a thread with no item left
+-- A thread with no item left --------------------------------------------------------------------------------------
 
 end_weight : (lines : List Line) {i : ℕ} → Reach lines (λ j. j ≡ length lines) i → weight_of (slice_get lines i) ≡ 0
 end_weight lines (here e) = ap weight_of (ap (slice_get lines) e ∙ slice_get_past lines (length lines) (le_refl _))

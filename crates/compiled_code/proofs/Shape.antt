@@ -1,5 +1,5 @@
 -- Which lines stand for which items, from a position on, with the locks that are held and the plan.
-use Rattle.std.proofs.Common.{◌≡◌, ◌≢◌, ◌⊎◌, ℕ, suc, ◌<◌, List, [], ◌∷◌, length, get_or, set, Bool, true, false, Some, None, refl, sym, ◌∙◌, ap, subst, IsTrue, inl, inr, ⊎_elim, slice_get}
+use Rattle.std.proofs.Common.{◌≡◌, ◌≢◌, ◌⊎◌, ℕ, suc, ◌<◌, List, [], ◌∷◌, length, get_or, set, Bool, true, false, Some, None, IsTrue, inl, inr, ⊎_elim, slice_get}
 use Rattle.cov_expr.specs.Term.{Term, value}
 use Rattle.cov_ast.specs.Plain.{Cmd, skip, assign, lock, unlock, branch, loop, output, Cmds, none, next, ◌then_all◌, Plain}
 use Rattle.cov_ast.specs.Tables.{has}
@@ -12,7 +12,7 @@ use Rattle.risc_machine.specs.declared.parts.Instr.{Instr}
 use Rattle.risc_machine.specs.declared.parts.Instr.TheVariants.{Store, Jump, Jz, Nop, Acquire, Release, Out}
 use Rattle.risc_machine.specs.declared.parts.Line.{Line}
 
--- §lines
+-- Lines -----------------------------------------------------------------------------------------------------------
 
 module _ (lines : List Line) where
   abbrev pub LineIs : ℕ → ℕ → Instr → Type 0
@@ -40,7 +40,7 @@ module _ (lines : List Line) where
   lines_map [] i N M f n = f i n
   lines_map (c ∷ cs) i N M f n = (n.0, lines_map cs (suc i) N M f n.1)
 
--- §plans that are true
+-- Plans that are true ---------------------------------------------------------------------------------------------
 
 module _ (p : Plain) (t : ℕ) where
   abbrev pub IsStable : List Bool → ℕ → Type 0
@@ -74,7 +74,7 @@ module _ (p : Plain) (t : ℕ) where
   pub left_below : (H : List Bool) (P Q R : Plan) → Below P Q → Left H P R → Left H Q R
   left_below H P Q R b a j y e = let k = a j y e in (b j y k.0, k.1)
 
--- §code of expressions and statements
+-- Code of expressions and statements ------------------------------------------------------------------------------
 
 module _ (p : Plain) (t : ℕ) (lines : List Line) where
   pub record ExprCode (H : List Bool) (P : Plan) (i : ℕ) (e : Term) (N : Plan → ℕ → ℕ → Type 0) : Type 0 where
@@ -124,7 +124,7 @@ module _ (p : Plain) (t : ℕ) (lines : List Line) where
   ItemsCode (test at w a b ∷ is) H P i = ⊥
   ItemsCode (emit at w ∷ is) H P i = ⊥
 
-  -- §the same with more behind it and a plan with more
+  -- The same with more behind it and a plan with more -------------------------------------------------------------
 
   pub expr_map : (H : List Bool) (P Q : Plan) (i : ℕ) (e : Term) (N M : Plan → ℕ → ℕ → Type 0) → Below P Q → ((R : Plan) (d j : ℕ) → N R d j → M R d j)
       → ExprCode H P i e N → ExprCode H Q i e M

@@ -1,5 +1,5 @@
 -- One instruction against the source steps that it stands for.
-use Rattle.std.proofs.Common.{◌≡◌, ◌≢◌, ◌⊎◌, ◌↔◌, ℕ, zero, suc, ◌<◌, List, [], ◌∷◌, ◌++◌, length, get_or, set, Bool, true, false, if◌then◌else◌, not, Option, Some, None, refl, sym, ◌∙◌, ap, subst, IsTrue, inl, inr, ⊎_elim, slice_get, is_some, length-set, get_or-set_same, get_or-set_other, eq-eqb, eqb-true, le_refl}
+use Rattle.std.proofs.Common.{◌≡◌, ◌≢◌, ℕ, zero, suc, ◌<◌, List, [], ◌∷◌, ◌++◌, length, get_or, set, Bool, true, false, if◌then◌else◌, not, Option, Some, None, refl, sym, ◌∙◌, ap, subst, IsTrue, inl, inr, ⊎_elim, slice_get, is_some, length-set, get_or-set_same, get_or-set_other, eq-eqb, le_refl}
 use Rattle.std.proofs.Math.Decide.{ℕ_discrete}
 use Rattle.std.proofs.lemmas.Bool.{ne_eqb}
 use Rattle.std.proofs.lemmas.Option.{slice_get_past}
@@ -10,6 +10,7 @@ use Rattle.flow_model.specs.Agreement.{SameAt}
 use Rattle.flow_model.specs.Game.{turn_of}
 use Rattle.flow_model.specs.Holdings.{IsStableNow, IsWritableNow}
 use Rattle.flow_model.specs.Source.{Item, run, put, test, emit, Holders, holder, Outputs, Local, local, items_then, turn, is_held_by, after_lock, after_unlock}
+use Rattle.flow_model.proofs.Holders.{held_is}
 use Rattle.mode_compat.specs.HeldSets.{AreHeldBy, AreSetsOf}
 use Rattle.mode_state.specs.Sets.{is_stable, may_write}
 use Rattle.regalloc.specs.Plan.{Plan, start}
@@ -18,7 +19,7 @@ use Rattle.compiled_code.proofs.Plans.{start_below}
 use Rattle.compiled_code.proofs.Shape.{LineIs, Reach, here, hop, LinesFrom, reach_map, IsStable, Record, AfterStore, Yields, ExprCode, EvalCode, CmdCode, BlockCode, ItemsCode, items_map, expr_map, eval_map, cmd_map, block_map, block_then, block_append}
 use Rattle.risc_machine.specs.Machine.{weight_of}
 use Rattle.risc_machine.specs.declared.parts.Instr.{Instr}
-use Rattle.risc_machine.specs.declared.parts.Instr.TheVariants.{Store, Jump, Jz, Nop, Acquire, Release, Out}
+use Rattle.risc_machine.specs.declared.parts.Instr.TheVariants.{Store, Jump, Jz, Acquire, Release, Out}
 use Rattle.risc_machine.specs.declared.parts.Line.{Line}
 
 -- some turns of t
@@ -56,10 +57,6 @@ switched p t m h said l o is inside before after = record {
         ∙ after u d ∙ sym (before u d) ∙ ap (λ k. is_held_by (holder h k) u) (sym i)
     go u d j (no n) = ap (λ (q : Option ℕ). is_held_by q u) (get_or-set_other h l j o None n)
 
-not_other : (o : Option ℕ) (t u : ℕ) → u ≢ t → is_held_by o t ≡ true → is_held_by o u ≡ false
-not_other None t u n h = refl
-not_other (Some v) t u n h = ne_eqb v u (λ e. n (sym e ∙ eqb-true v t h))
-
 module _ (p : Plain) (t : ℕ) where
   -- a lock that is taken or given back, with what is told of it
   held_switched : (h : Holders) (l : ℕ) (o : Option ℕ) (H : List Bool) (b : Bool) → length h ≡ length p.locks → length H ≡ length p.locks → l < length p.locks
@@ -82,7 +79,7 @@ module _ (p : Plain) (t : ℕ) where
       go (yes i) = ap (holder (set h l (Some t))) i ∙ get_or-set_same h l (Some t) None inside
       go (no n) = get_or-set_other h l k.0 (Some t) None n ∙ k.1
 
-  -- §one instruction
+  -- One instruction -----------------------------------------------------------------------------------------------
 
   module _ (lines : List Line) where
     pub record Ready (c : Core) (is : List Item) : Type 0 where
@@ -319,7 +316,7 @@ module _ (p : Plain) (t : ℕ) (sets : AreSets p t) (lines : List Line) where
           (record {
             next = local m (set h l None) o is;
             turns = sym (ap (after_unlock m h o at l is) mine);
-            leaves = switched p t m h o l None is (rw locks k.0) (λ u d. not_other (holder h l) t u d mine) (λ u d. refl);
+            leaves = switched p t m h o l None is (rw locks k.0) (λ u d. ap (λ (q : Option ℕ). is_held_by q u) (held_is (holder h l) t mine) ∙ ne_eqb t u (λ i. d (sym i))) (λ u d. refl);
             memory = ap (λ (c : Core). c.memory) now;
             holders = ap (λ (c : Core). c.holders) now;
             outputs = ap (λ (c : Core). c.outputs) now;
@@ -418,7 +415,7 @@ module _ (p : Plain) (t : ℕ) (sets : AreSets p t) (lines : List Line) where
       ready_matched (test at v a b ∷ is) i k = absurd k
       ready_matched (emit at v ∷ is) i k = absurd k
 
-    -- §inside an expression
+    -- Inside an expression ----------------------------------------------------------------------------------------
 
     straight_matched : (g : Item) (is : List Item) (i : ℕ) (c : Instr) → LineIs lines i 0 c → IsStraight c
         → Stands p t lines (core m h o (exec_one r m c) (suc i)) (g ∷ is) → Matched p t lines (core m h o r i) (g ∷ is) (slice_get lines i)

@@ -1,19 +1,18 @@
 -- Code whose lines stand for the bodies matches the program and is secure.
-use Rattle.std.proofs.Common.{◌≡◌, ℕ, zero, suc, ◌+◌, ◌<◌, ◌≤◌, List, [], ◌∷◌, ◌++◌, length, get_or, map, replicate, Bool, false, Some, None, refl, sym, ◌∙◌, ap, subst, subst₂, arith, length-set, slice_get}
+use Rattle.std.proofs.Common.{◌≡◌, ℕ, zero, suc, ◌<◌, ◌≤◌, List, [], ◌∷◌, ◌++◌, length, get_or, map, replicate, false, Some, None, refl, sym, ◌∙◌, ap, subst, subst₂, arith}
 use Rattle.std.proofs.Math.Decide.{dec_lt}
 use Rattle.std.proofs.Math.ListN.{get_or-map}
 use Rattle.std.proofs.lemmas.List.{get_or_past, get_or-replicate, length-map, length-replicate}
 use Rattle.std.proofs.lemmas.List.Elements.{All-get_or}
 use Rattle.std.proofs.lemmas.Option.{slice_get_past}
-use Rattle.cov_expr.specs.Words.{AreWords, IsMemory, IsSchedule}
+use Rattle.cov_expr.specs.Words.{AreWords, IsSchedule}
 use Rattle.cov_ast.specs.Declarations.{thread_at, no_thread}
-use Rattle.cov_ast.specs.Plain.{Plain, PlainThread}
+use Rattle.cov_ast.specs.Plain.{Plain}
 use Rattle.cov_ast.specs.Tables.{has}
 use Rattle.flow_model.specs.Agreement.{StatesAgree}
 use Rattle.flow_model.specs.Composable.{HasCompatibleModes}
 use Rattle.flow_model.specs.Secure.{IsSecure}
-use Rattle.flow_model.specs.Source.{Item, Run, Holders, holder, is_held_by, run_from, items_of, begin, after, items_then}
-use Rattle.mode_compat.specs.HeldSets.{AreHeldBy}
+use Rattle.flow_model.specs.Source.{Item, Run, holder, is_held_by, run_from, items_of, begin, after, items_then}
 use Rattle.regalloc.specs.Plan.{start}
 use Rattle.compiled_code.specs.Compiled.{no_locks}
 use Rattle.compiled_code.specs.Matches.{AreRegisters, IsFinished, MatchesAfter, entries_of}
@@ -30,17 +29,16 @@ use Rattle.compiled_code.proofs.Steps.{AreSets, ready}
 use Rattle.risc_machine.specs.Machine.{CodeState, code_begin, code_from, code_after, line_of, lines_of, position}
 use Rattle.risc_machine.specs.Machine as machine
 use Rattle.risc_machine.specs.declared.parts.Parts.{Parts}
-use Rattle.risc_machine.specs.declared.parts.ThreadCode.{ThreadCode}
 
-none_held : (n l : ℕ) → holder (replicate n None) l ≡ None
-none_held zero l = refl
-none_held (suc n) zero = refl
-none_held (suc n) (suc l) = none_held n l
-
-pub nothing_taken : (n l : ℕ) → has (replicate n false) l ≡ false
-nothing_taken zero l = refl
-nothing_taken (suc n) zero = refl
-nothing_taken (suc n) (suc l) = nothing_taken n l
+-- at the start no lock is held, and none is told of
+nobody_holds : (t n m l : ℕ) → has (replicate m false) l ≡ is_held_by (holder (replicate n None) l) t
+nobody_holds t zero zero l = refl
+nobody_holds t (suc n) zero zero = refl
+nobody_holds t (suc n) zero (suc l) = nobody_holds t n zero l
+nobody_holds t zero (suc m) zero = refl
+nobody_holds t zero (suc m) (suc l) = nobody_holds t zero m l
+nobody_holds t (suc n) (suc m) zero = refl
+nobody_holds t (suc n) (suc m) (suc l) = nobody_holds t n m l
 
 -- each thread's lines stand for its body
 pub record IsLaidOut (p : Plain) (c : Parts) : Type 0 where
@@ -67,7 +65,7 @@ module _ (p : Plain) (sets : (t : ℕ) → AreSets p t) (apart : HasCompatibleMo
             plan = start;
             keeps = λ j x e. absurd (let n : None ≡ Some x = start_below [] j x e in cc);
             sized = length-replicate (length p.locks) false;
-            held = λ l. nothing_taken (length p.locks) l ∙ sym (ap (λ q. is_held_by q t) (none_held (length c.locks) l));
+            held = λ l. nobody_holds t (length c.locks) (length p.locks) l;
             locks = length-replicate (length c.locks) None ∙ k.locks;
             eight = (All-get_or (λ row. (length row ≡ 8) × AreWords row) R t [] (rw regs.complete t_in) regs.eight).0;
             code = subst₂ (λ is i. ItemsCode p t (lines_of c t) is (no_locks p) start i) (sym (get_or-map (λ t. items_then t.body []) p.threads t no_thread))
@@ -92,7 +90,7 @@ module _ (p : Plain) (sets : (t : ℕ) → AreSets p t) (apart : HasCompatibleMo
           ∙ nothing_left p t (lines_of c t) (core_of (core_from c (code_begin c m R) s) t) (get_or at_end.items t []) (at_end.coupled.stands t t_in)
           (slice_get_past (lines_of c t) (position (core_from c (code_begin c m R) s) t) f)
 
-  -- §the parts of matching
+  -- The parts of matching -----------------------------------------------------------------------------------------
 
   module _ (forward : (t : ℕ) → t < length p.threads → Forward (lines_of c t)) where
     append_from : (a b : List ℕ) (s : CodeState) → core_from c s (a ++ b) ≡ core_from c (core_from c s a) b
@@ -141,7 +139,7 @@ module _ (p : Plain) (sets : (t : ℕ) → AreSets p t) (apart : HasCompatibleMo
       end s' t h e n (yes i) = ends_at t i s' h e n
       end s' t h e n (no i) = past_finished t (omega arith) (core_from c (code_begin c m R) (s ++ s'))
 
-      -- §the same of the machine's own runs
+      -- The same of the machine's own runs ------------------------------------------------------------------------
 
       run_is : (us : List ℕ) → code_after c m R us ≡ core_from c (code_begin c m R) us
       run_is us = same_from c us (code_begin c m R)
