@@ -181,14 +181,14 @@ module _ (p : Plain) (sets : (t : ℕ) → AreSets p t) (apart : HasCompatibleMo
       }
 
   pub secure_code : IsSecure p → IsSecureCode p c
-  secure_code secure m1 m2 i1 i2 st R1 R2 r1 r2 s s_in =
-      let e = twins_run p sets apart c s (code_begin c m1 R1) (code_begin c m2 R2) first_items first_items s_in
+  secure_code secure m1 m2 i1 i2 st rows1 rows2 r1 r2 s s_in =
+      let e = twins_run p sets apart c s (code_begin c m1 rows1) (code_begin c m2 rows2) first_items first_items s_in
       (record {
-        left = coupled_start m1 R1 r1 i1.complete;
-        right = coupled_start m2 R2 r2 i2.complete;
+        left = coupled_start m1 rows1 r1 i1.complete;
+        right = coupled_start m2 rows2 r2 i2.complete;
         positions = refl;
         future = λ us h.
-            subst₂ (λ a b. StatesAgree p (run_from a us) (run_from b us)) (sym (begins m1 R1 r1 i1.complete)) (sym (begins m2 R2 r2 i2.complete)) (secure m1 m2 i1 i2 st us h);
+            subst₂ (λ a b. StatesAgree p (run_from a us) (run_from b us)) (sym (begins m1 rows1 r1 i1.complete)) (sym (begins m2 rows2 r2 i2.complete)) (secure m1 m2 i1 i2 st us h);
       }) in
-      subst₂ (CodesAgree p) (sym (same_from c s (code_begin c m1 R1))) (sym (same_from c s (code_begin c m2 R2)))
+      subst₂ (CodesAgree p) (sym (same_from c s (code_begin c m1 rows1))) (sym (same_from c s (code_begin c m2 rows2)))
       (record { memories = (e.twins.future [] tt).memories; outputs = (e.twins.future [] tt).outputs; positions = e.twins.positions })
