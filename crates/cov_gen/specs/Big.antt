@@ -41,7 +41,7 @@ reader_round =
 abbrev pub thread : (head round : List ℕ) → (rounds : ℕ) → List ℕ
 thread head round rounds = head ++ repeat rounds round ++ codes "}\n"
 
-abbrev pub big : (rounds : ℕ) → List ℕ
+unfoldable pub big : (rounds : ℕ) → List ℕ
 big rounds =
     declarations
     ++ thread (codes "thread w guarantee hide x {\n") writer_round rounds

@@ -46,6 +46,7 @@ const END: &[u8] = b"}\n";
 
 /// The text of the program of so many rounds, 1 to [`MOST_ROUNDS`]: two threads, with 14 statements a round. It takes memory once, of just
 /// as many bytes as the text has, and time in proportion.
+#[tactic(auto, unfolding(crate::specs::Big::big))]
 pub fn big(alloc: Global, rounds: u32) -> Result<List<u8>, NoMemory>
     requires least { 1 ≤ rounds }
     requires most { rounds ≤ MOST_ROUNDS }
