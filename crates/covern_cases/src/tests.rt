@@ -10,6 +10,7 @@ mod certificates;
 mod edges;
 mod faults;
 mod forms;
+mod generated;
 mod listings;
 mod machines;
 mod points;
