@@ -14,6 +14,7 @@ mod generated;
 mod listings;
 mod machines;
 mod points;
+mod replays;
 
 use cov_ast::{Parsed, Program};
 use cov_expr::{List, NoMemory};
