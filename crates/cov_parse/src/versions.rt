@@ -22,21 +22,16 @@ fn fit_outputs(tokens: &mut [Token])
     ensures { tokens.new ≡ map of_first tokens.old }
 {
     for token in tokens.iter_mut() {
-        *token = of_version_one(*token);
+        fit_output(token);
     }
 }
 
-/// A token of a text of version 1, which has no outputs.
-fn of_version_one(token: Token) -> Token
-    ensures { result ≡ of_first token }
+/// Makes a token foreign, if it is an output. Hardly any is, and no other is written.
+fn fit_output(token: &mut Token)
+    ensures { token.new ≡ of_first token.old }
 {
     if is(Kind::Output, token.kind) {
-        Token {
-            kind: Kind::Foreign,
-            ..token
-        }
-    } else {
-        token
+        token.kind = Kind::Foreign;
     }
 }
 

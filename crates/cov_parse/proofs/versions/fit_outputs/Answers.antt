@@ -13,7 +13,7 @@ blank = record { kind = k.Name; at = 0; end = 0; value = 0 }
 pub loop-token-preserved : goal.loop-token-preserved
 loop-token-preserved c =
     let here : c.loop-token.token-index < length c.loop-token.tokens = omega (arith, c.loop-token.auto.tokens, c.loop-token-test.true) in
-    ap (set c.loop-token.tokens c.loop-token.token-index) c.of_version_one.ensures
+    ap (set c.loop-token.tokens c.loop-token.token-index) c.fit_output.ensures
     ∙ map_over_more of_first c.args.tokens.now c.loop-token.tokens c.loop-token.token-index
     (get_or c.loop-token.tokens c.loop-token.token-index blank) (omega (arith, c.loop-token.auto.tokens, c.loop-token-test.true)) c.loop-token.invariant
     (get_or_default c.loop-token.tokens c.loop-token.token-index blank _ here)
