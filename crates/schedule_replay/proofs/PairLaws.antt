@@ -3,9 +3,7 @@ use Rattle.std.proofs.Common.{◌≡◌, ℕ, ◌+◌, ◌-◌, ◌<◌, ◌≤�
 use Rattle.std.proofs.lemmas.List.{take-append-drop, take-append-le, take_all, length-drop}
 use Rattle.cov_expr.specs.Entailment.{Holds}
 use Rattle.cov_expr.specs.Term.{Term}
-use Rattle.cov_ast.specs.Plain.{Plain, plain}
-use Rattle.cov_ast.specs.View as view
-use Rattle.cov_ast.specs.declared.decl.Program.{Program}
+use Rattle.cov_ast.specs.Plain.{Plain}
 use Rattle.flow_model.specs.Agreement.{StatesAgree}
 use Rattle.flow_model.specs.Source.{Run, stayed_from}
 use Rattle.flow_model.specs.declared.agreement.Differ.{Differ}
@@ -51,17 +49,17 @@ agree_more p r s schedule i now other before a b x =
     below_more (λ k. 0 < k → StatesAgree p (after_steps r schedule k) (after_steps s schedule k)) (i + 1) before
     (λ z. subst (λ y. StatesAgree p (after_steps r schedule (i + 1)) y) b (subst (λ y. StatesAgree p y other) a x))
 
-pub first_apart : (p : Program) (r s : Run) (schedule : List ℕ) (i : ℕ) (now other : Run) (d : Differ) → i < length schedule
-    → AgreeBefore (plain (view.program p)) r s schedule (i + 1)
+pub first_apart : (p : Plain) (r s : Run) (schedule : List ℕ) (i : ℕ) (now other : Run) (d : Differ) → i < length schedule
+    → AgreeBefore p r s schedule (i + 1)
     → now ≡ after_steps r schedule (i + 1) → other ≡ after_steps s schedule (i + 1)
-    → DiffersIn p now other d × ¬ StatesAgree (plain (view.program p)) now other
+    → DiffersIn p now other d × ¬ StatesAgree p now other
     → IsFirstStepApart p r s schedule (record { step = i + 1; differ = d })
 first_apart p r s schedule i now other d l before a b x = record {
   some = omega arith;
   within = omega arith;
   before = before;
-  apart = λ y. x.1 (subst (λ z. StatesAgree (plain (view.program p)) now z) (sym b)
-      (subst (λ z. StatesAgree (plain (view.program p)) z (after_steps s schedule (i + 1))) (sym a) y));
+  apart = λ y. x.1 (subst (λ z. StatesAgree p now z) (sym b)
+      (subst (λ z. StatesAgree p z (after_steps s schedule (i + 1))) (sym a) y));
   differ = subst (λ z. DiffersIn p (after_steps r schedule (i + 1)) z d) b (subst (λ z. DiffersIn p z other d) a x.0);
 }
 

@@ -2,10 +2,8 @@
 use Rattle.std.specs.Prelude.{◌≡◌, ◌≢◌, ◌↔◌, ℕ, ◌<◌, ◌≤◌, List, length, take, IsTrue, Option, Some, None}
 use Rattle.cov_expr.specs.Entailment.{Holds}
 use Rattle.cov_expr.specs.Term.{Term}
-use Rattle.cov_ast.specs.Plain.{Plain, plain}
-use Rattle.cov_ast.specs.View as view
-use Rattle.cov_ast.specs.declared.decl.Program.{Program}
-use Rattle.flow_model.specs.Agreement.{MemoriesAgree, StatesAgree}
+use Rattle.cov_ast.specs.Plain.{Plain}
+use Rattle.flow_model.specs.Agreement.{StatesAgree}
 use Rattle.flow_model.specs.FirstDifference.{first_difference}
 use Rattle.flow_model.specs.Source.{Run, run_from, stayed_from}
 use Rattle.flow_model.specs.declared.agreement.Differ.{Differ}
@@ -47,19 +45,19 @@ abbrev pub AgreeThroughout : Plain → (r s : Run) → List ℕ → Type 0
 AgreeThroughout p r s schedule = (k : ℕ) → k ≤ length schedule → 0 < k → StatesAgree p (after_steps r schedule k) (after_steps s schedule k)
 
 -- On what two states differ: the first lock, else the first variable, else the outputs, else the first thread.
-abbrev pub DiffersIn : Program → (r s : Run) → Differ → Type 0
-DiffersIn p r s (differ.Lock l) = first_difference (plain (view.program p)) r.memory r.holders s.memory s.holders ≡ Some (differ.Lock l)
-DiffersIn p r s (differ.Var x) = first_difference (plain (view.program p)) r.memory r.holders s.memory s.holders ≡ Some (differ.Var x)
-DiffersIn p r s differ.Output = MemoriesAgree (plain (view.program p)) r.memory r.holders s.memory s.holders × (r.outputs ≢ s.outputs)
+abbrev pub DiffersIn : Plain → (r s : Run) → Differ → Type 0
+DiffersIn p r s (differ.Lock l) = first_difference p r.memory r.holders s.memory s.holders ≡ Some (differ.Lock l)
+DiffersIn p r s (differ.Var x) = first_difference p r.memory r.holders s.memory s.holders ≡ Some (differ.Var x)
+DiffersIn p r s differ.Output = (first_difference p r.memory r.holders s.memory s.holders ≡ None) × (r.outputs ≢ s.outputs)
 DiffersIn p r s (differ.Thread t) =
-    MemoriesAgree (plain (view.program p)) r.memory r.holders s.memory s.holders × (r.outputs ≡ s.outputs) × IsFirstApart r s (length p.threads) t
+    (first_difference p r.memory r.holders s.memory s.holders ≡ None) × (r.outputs ≡ s.outputs) × IsFirstApart r s (length p.threads) t
 
 -- It is the first step after which they don't agree, and what they differ in there.
-pub record IsFirstStepApart (p : Program) (r s : Run) (schedule : List ℕ) (f : Found) : Type 0 where
+pub record IsFirstStepApart (p : Plain) (r s : Run) (schedule : List ℕ) (f : Found) : Type 0 where
   pub some : 0 < f.step
   pub within : f.step ≤ length schedule
-  pub before : AgreeBefore (plain (view.program p)) r s schedule f.step
-  pub apart : ¬ StatesAgree (plain (view.program p)) (after_steps r schedule f.step) (after_steps s schedule f.step)
+  pub before : AgreeBefore p r s schedule f.step
+  pub apart : ¬ StatesAgree p (after_steps r schedule f.step) (after_steps s schedule f.step)
   pub differ : DiffersIn p (after_steps r schedule f.step) (after_steps s schedule f.step) f.differ
 
 -- what both have run of the schedule

@@ -103,7 +103,7 @@ pub fn pair<'p>(
     requires first_room { length (run_of a.old).outputs + length schedule.now ≤ (a.old).room }
     requires second_room { length (run_of b.old).outputs + length schedule.now ≤ (b.old).room }
     ensures found { MatchOption result (AgreeThroughout (plain (view.program p.now)) (run_of a.old) (run_of b.old) schedule.now)
-        (λ found. IsFirstStepApart p.now (run_of a.old) (run_of b.old) schedule.now found) }
+        (λ found. IsFirstStepApart (plain (view.program p.now)) (run_of a.old) (run_of b.old) schedule.now found) }
     ensures first_program { (a.new).program ≡ p.now }
     ensures second_program { (b.new).program ≡ p.now }
     ensures first_room { (a.new).room ≡ (a.old).room }
@@ -155,7 +155,7 @@ fn difference<'p>(p: &'p Program, a: &Source<'p>, b: &Source<'p>, seen: usize) -
     requires second { (b.now).program ≡ p.now }
     requires seen { HasSameFront seen (run_of a.now).outputs (run_of b.now).outputs }
     ensures { MatchOption result (StatesAgree (plain (view.program p.now)) (run_of a.now) (run_of b.now))
-        (λ d. DiffersIn p.now (run_of a.now) (run_of b.now) d × ¬ StatesAgree (plain (view.program p.now)) (run_of a.now) (run_of b.now)) }
+        (λ d. DiffersIn (plain (view.program p.now)) (run_of a.now) (run_of b.now) d × ¬ StatesAgree (plain (view.program p.now)) (run_of a.now) (run_of b.now)) }
 {
     if let Some(differ) = memories_apart(p, a, b) {
         return Some(differ);

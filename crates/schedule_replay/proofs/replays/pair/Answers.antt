@@ -25,7 +25,7 @@ pub returns-in-Some-clause-found : goal.returns-in-Some-clause-found
 returns-in-Some-clause-found c =
     let first = has_run_more _ _ _ _ c.loop-i.invariant.first c.advance.new.s (omega arith) c.advance.ensures.stepped in
     let second = has_run_more _ _ _ _ c.loop-i.invariant.second c.advance-in-loop-i.new.s (omega arith) c.advance-in-loop-i.ensures.stepped in
-    first_apart c.args.p.now (run_of c.args.a.now) (run_of c.args.b.now) c.args.schedule.now c.loop-i.i
+    first_apart (plain (view.program c.args.p.now)) (run_of c.args.a.now) (run_of c.args.b.now) c.args.schedule.now c.loop-i.i
     (run_of c.advance.new.s) (run_of c.advance-in-loop-i.new.s) c.in-Some.differ (omega arith) c.loop-i.invariant.before first.run second.run c.in-Some.ensures
 
 pub returns-in-Some-clause-first_run : goal.returns-in-Some-clause-first_run
