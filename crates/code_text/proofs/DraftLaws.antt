@@ -1,5 +1,5 @@
 -- A draft and the rows that are added.
-use Rattle.std.proofs.Common.{◌≡◌, ℕ, suc, ◌+◌, List, [], ◌∷◌, ◌++◌, length, refl, ap, arith, length-append}
+use Rattle.std.proofs.Common.{◌≡◌, ℕ, zero, suc, ◌+◌, List, [], ◌∷◌, ◌++◌, length, get_or, set, refl, ap, arith, length-append}
 use Rattle.risc_machine.specs.declared.parts.Line.{Line}
 use Rattle.risc_machine.specs.declared.parts.ThreadCode.{ThreadCode}
 use Rattle.code_text.specs.Inside.Drafts.{AreShort, IsSmall}
@@ -12,6 +12,15 @@ pub with_line_last : (ts : List ThreadCode) (t : ThreadCode) (l : Line) → with
 with_line_last [] t l = refl
 with_line_last (x ∷ []) t l = refl
 with_line_last (x ∷ y ∷ ts) t l = ap (λ us. x ∷ us) (with_line_last (y ∷ ts) t l)
+
+-- the same by the index of the last thread
+pub with_line_at : (ts : List ThreadCode) (l : Line) (d : ThreadCode) (lines : List Line) (i : ℕ) → i + 1 ≡ length ts → lines ≡ (get_or ts i d).lines ++ l ∷ []
+    → set ts i (record { name = (get_or ts i d).name; lines = lines }) ≡ with_line ts l
+with_line_at [] l d lines i last more = absurd (omega (arith, last))
+with_line_at (x ∷ []) l d lines zero last more = ap (λ ls. record { name = x.name; lines = ls } ∷ []) more
+with_line_at (x ∷ []) l d lines (suc i) last more = absurd (omega (arith, last))
+with_line_at (x ∷ y ∷ ts) l d lines zero last more = absurd (omega (arith, last))
+with_line_at (x ∷ y ∷ ts) l d lines (suc i) last more = ap (λ us. x ∷ us) (with_line_at (y ∷ ts) l d lines i (omega (arith, last)) more)
 
 short_more : (n : ℕ) (ts : List ThreadCode) → AreShort n ts → AreShort (n + 1) ts
 short_more n [] h = h

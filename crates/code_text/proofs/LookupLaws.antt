@@ -1,25 +1,26 @@
 -- Names that are looked up.
-use Rattle.std.proofs.Common.{◌≡◌, ℕ, ◌+◌, List, [], ◌∷◌, ◌++◌, length, All, refl, ap, sym, ◌∙◌, subst, arith, Bool, true, false, not, ◌||◌, if◌then◌else◌, Option, Some, None, cond, append_assoc}
-use Rattle.std.proofs.lemmas.Bool.{ltb-true}
-use Rattle.std.proofs.lemmas.List.Elements.{All-nil, All-append}
+use Rattle.std.proofs.Common.{◌≡◌, ℕ, ◌+◌, ◌<◌, List, [], ◌∷◌, ◌++◌, length, get_or, set, replicate, All, refl, ap, sym, ◌∙◌, subst, arith, Bool, true, false, not, ◌||◌, if◌then◌else◌, Option, Some, None, inl, inr, MatchOption, Result, Ok, Err, OnErr, cond, append_assoc}
+use Rattle.std.proofs.lemmas.Bool.{cases_lt, ltb-true}
+use Rattle.std.proofs.Math.ListN.{get_or-append}
+use Rattle.std.proofs.lemmas.List.Elements.{All-nil, All-append, All-set}
 use Rattle.std.proofs.lemmas.List.Folds.{list_any-append}
-use Rattle.std.proofs.lemmas.List.{append-nil, map-append}
+use Rattle.std.proofs.lemmas.List.{append-nil, get_or_default, get_or_past, map-append, same_from_push}
 use Rattle.std.proofs.lemmas.Slice.Eq.{bytes_eq-Decides}
 use Rattle.std.specs.List.{list_any}
 use Rattle.std.specs.Map.{lookup}
 use Rattle.std.specs.Str.{bytes_eq}
 use Rattle.cov_expr.specs.Names.{IsName}
-use Rattle.indexmap.specs.IndexMap.{IndexMap, get, Updates, IsEmpty}
+use Rattle.indexmap.specs.IndexMap.{IndexMap, get, Updates, IsEmpty, IsUnchanged}
 use Rattle.indexmap.specs.IndexSet.{contains, Updates as SetUpdates, IsEmpty as SetIsEmpty}
 use Rattle.risc_machine.specs.Faults.{first_of, repeated, names_of, thread_names}
 use Rattle.risc_machine.specs.declared.parts.Line.{Line}
 use Rattle.risc_machine.specs.declared.parts.Parts.{Parts}
 use Rattle.risc_machine.specs.declared.parts.ThreadCode.{ThreadCode}
 use Rattle.risc_machine.proofs.FaultLaws.{repeated-append}
-use Rattle.code_text.specs.Inside.Lookup.{IsIndexOf, IsRegisterOf}
+use Rattle.code_text.specs.Inside.Lookup.{IsIndexOf, IsGuess, AreGuesses, IsRegisterOf}
 use Rattle.code_text.specs.declared.names.Register.{Register}
 use Rattle.code_text.specs.Inside.Reading.{place_from, place_of, with_line}
-use Rattle.code_text.proofs.Every.{all_from}
+use Rattle.code_text.proofs.Every.{all_from, every_copy}
 use Rattle.code_text.proofs.FieldLaws.{place_is}
 use Rattle.code_text.proofs.RangeLaws.{place_ranges}
 
@@ -48,9 +49,18 @@ first_none : {A : Type 0} (x : Option A) → first_of x None ≡ x
 first_none None = refl
 first_none (Some a) = refl
 
+-- what holds in any case
+pub on_err : {T E P : Type 0} (r : Result T E) → P → OnErr r P
+on_err (Ok x) h = tt
+on_err (Err e) h = h
+
 -- Places ----------------------------------------------------------------------------------------------------------
 
 module _ {S : Type 0} where
+  -- what doesn't change the entries
+  pub still_indexed : (index next : IndexMap (List ℕ) ℕ S) (names : List (List ℕ)) → IsUnchanged index next → IsIndexOf index names → IsIndexOf next names
+  still_indexed index next names e is = record { named = is.named; places = λ f. ap (lookup (bytes_eq f)) e ∙ is.places f }
+
   pub none_indexed : (index : IndexMap (List ℕ) ℕ S) → IsEmpty index → IsIndexOf index []
   none_indexed index e = record { named = All-nil IsName; places = λ f. ap (lookup (bytes_eq f)) e }
 
@@ -79,6 +89,49 @@ module _ {S : Type 0} where
         by f false e None is_k = refl
         by f true e None is_k = let g : Some there ≡ None = some ∙ is.places n ∙ ap (place_of names) (sym ((bytes_eq-Decides f n).0 e)) ∙ is_k in absurd cc
 
+-- the place of a name that was declared before, and of one that wasn't
+pub place_old : (names : List (List ℕ)) (n : List ℕ) (k : ℕ) → place_of names n ≡ Some k → place_of (names ++ n ∷ []) n ≡ Some k
+place_old names n k e = place_more names n n ∙ ap (λ o. first_of o (if bytes_eq n n then Some (length names) else None)) e
+
+pub place_new : (names : List (List ℕ)) (n : List ℕ) → place_of names n ≡ None → place_of (names ++ n ∷ []) n ≡ Some (length names)
+place_new names n e = place_more names n n ∙ ap (λ o. first_of o (if bytes_eq n n then Some (length names) else None)) e ∙ ap (λ b. if b then Some (length names) else None) ((bytes_eq-Decides n n).1 refl)
+
+-- Guesses ----------------------------------------------------------------------------------------------------------
+
+pub none_guessed : (count : ℕ) → AreGuesses (replicate count None) []
+none_guessed count = all_from (IsGuess []) (replicate count None) (every_copy (IsGuess []) count None (λ place e. absurd cc))
+
+-- a guess stays one behind a name more
+still_guess : (names : List (List ℕ)) (n : List ℕ) (g : Option ℕ) → IsGuess names g → IsGuess (names ++ n ∷ []) g
+still_guess names n g is place e =
+    let first = is place e in
+    let inside = ltb-true place (length names) (place_ranges names (get_or names place []) place first) in
+    ap (place_of (names ++ n ∷ [])) (get_or-append names (n ∷ []) [] place inside)
+    ∙ place_more names n (get_or names place [])
+    ∙ ap (λ o. first_of o (if bytes_eq (get_or names place []) n then Some (length names) else None)) first
+
+module _ (names : List (List ℕ)) (guesses : List (Option ℕ)) (all : AreGuesses guesses names) where
+  guess_first : (i place : ℕ) → get_or guesses i None ≡ Some place → place_of names (get_or names place []) ≡ Some place
+  guess_first i place e = elim (cases_lt i (length guesses)) [
+    | inl inside ↦ all i None inside place e
+    | inr past ↦ (let none : None ≡ Some place = sym (get_or_past guesses i None past) ∙ e in absurd cc)
+  ]
+
+  pub guess_within : (i place : ℕ) → get_or guesses i None ≡ Some place → place < length names
+  guess_within i place e = ltb-true place (length names) (place_ranges names (get_or names place []) place (guess_first i place e))
+
+  -- the guess for a name that stands there is right
+  pub guess_right : (i place : ℕ) (f : List ℕ) → get_or guesses i None ≡ Some place → f ≡ get_or names place f → Some place ≡ place_of names f
+  guess_right i place f e is = sym (ap (place_of names) (is ∙ get_or_default names place f [] (guess_within i place e)) ∙ guess_first i place e)
+
+  pub guesses_more : (n : List ℕ) (i place : ℕ) → Some place ≡ place_of (names ++ n ∷ []) n → AreGuesses (set guesses i (Some place)) (names ++ n ∷ [])
+  guesses_more n i place first = All-set (IsGuess (names ++ n ∷ [])) guesses i (Some place) here (λ k d inside. still_guess names n (get_or guesses k d) (all k d inside))
+    where
+      here : IsGuess (names ++ n ∷ []) (Some place)
+      here other e =
+          let same : place ≡ other = cc in
+          ap (place_of (names ++ n ∷ [])) (sym (place_is (names ++ n ∷ []) n other (sym first ∙ e))) ∙ sym first ∙ e
+
 -- a field that is no name has no place
 pub unnamed : (names : List (List ℕ)) (f : List ℕ) → All IsName names → (IsName f → ⊥) → place_of names f ≡ None
 unnamed names f all other = by (place_of names f) refl
@@ -86,6 +139,15 @@ unnamed names f all other = by (place_of names f) refl
     by : (o : Option ℕ) → place_of names f ≡ o → o ≡ None
     by None e = refl
     by (Some x) e = absurd (other (subst IsName (sym (place_is names f x e)) (all x [] (ltb-true x (length names) (place_ranges names f x e)))))
+
+-- the names without one that was just added
+pub popped : (last : Option (List ℕ)) (longer names rest : List (List ℕ)) (n : List ℕ) → longer ≡ names ++ n ∷ [] → MatchOption last ((longer ≡ []) × (rest ≡ [])) (λ l. longer ≡ rest ++ l ∷ []) → names ≡ rest
+popped None longer names rest n e h = none names (sym e ∙ h.0)
+  where
+    none : (ns : List (List ℕ)) → ns ++ n ∷ [] ≡ [] → names ≡ rest
+    none [] g = absurd cc
+    none (m ∷ ns) g = absurd cc
+popped (Some l) longer names rest n e h = (same_from_push names rest n l (sym e ∙ h)).0
 
 -- Repeated names --------------------------------------------------------------------------------------------------
 

@@ -1,13 +1,15 @@
 -- The definition's reading, line by line.
-use Rattle.std.proofs.Common.{◌≡◌, ℕ, ◌+◌, ◌<◌, ◌≤◌, zero, suc, ◌==◌, List, [], ◌∷◌, length, get_or, refl, ap, sym, ◌∙◌, arith, Bool, true, false, if◌then◌else◌, Some, None, Err}
+use Rattle.std.proofs.Common.{◌≡◌, ℕ, ◌+◌, ◌<◌, ◌≤◌, zero, suc, nat_lt, ◌==◌, List, [], ◌∷◌, ◌++◌, length, get_or, refl, ap, sym, ◌∙◌, subst, arith, Bool, true, false, if◌then◌else◌, Option, Some, None, Err}
+use Rattle.std.proofs.lemmas.List.{append-nil}
 use Rattle.risc_machine.specs.Faults.{AreCounted}
 use Rattle.risc_machine.specs.declared.parts.Parts.{Parts}
 use Rattle.risc_machine.specs.declared.parts.ThreadCode.{ThreadCode}
 use Rattle.code_text.specs.Inside.Drafts.{AreShort, IsSmall}
 use Rattle.code_text.specs.Listing.{onto}
-use Rattle.code_text.specs.Inside.Reading.{pieces, head_of, instr_of, row_of, with_row, read_lines, go_on, read_text, begin_with, begun, version_of}
+use Rattle.code_text.specs.Inside.Reading.{pieces, both, weight_of, line_with, line_of, ended, head_of, instr_of, row_of, with_row, read_lines, go_on, read_text, begin_with, begun, version_of}
 use Rattle.code_text.specs.Inside.Reading.{Draft}
 use Rattle.code_text.specs.declared.row.Row.{Row}
+use Rattle.code_text.proofs.Cuts.{glue}
 
 pub few_head : (p : Parts) (fs : List (List ℕ)) → length fs < 2 → head_of p fs ≡ None
 few_head p [] h = refl
@@ -28,6 +30,39 @@ many_instr p (a ∷ b ∷ []) h = absurd (omega (arith, h))
 many_instr p (a ∷ b ∷ c ∷ []) h = absurd (omega (arith, h))
 many_instr p (a ∷ b ∷ c ∷ d ∷ []) h = absurd (omega (arith, h))
 many_instr p (a ∷ b ∷ c ∷ d ∷ e ∷ fs) h = refl
+
+none_both : (w : Option ℕ) → both line_with w None ≡ None
+none_both None = refl
+none_both (Some w) = refl
+
+many_line : (p : Parts) (fs : List (List ℕ)) → 6 ≤ length fs → line_of p fs ≡ None
+many_line p [] h = refl
+many_line p (w ∷ fs) h = ap (both line_with (weight_of w)) (many_instr p fs (omega (arith, h))) ∙ none_both (weight_of w)
+
+many_row : (d : Draft) (fs : List (List ℕ)) → 6 ≤ length fs → row_of d fs ≡ None
+many_row d fs h = by (nat_lt 0 d.left)
+  where
+    by : (b : Bool) → (if b then line_of d.parts fs else head_of d.parts fs) ≡ None
+    by true = many_line d.parts fs h
+    by false = many_head d.parts fs (omega (arith, h))
+
+ended_some : (d : Draft) (n : ℕ) (l : List ℕ) → 0 < length l → ended d n l ≡ Err n
+ended_some d n [] h = absurd (omega (arith, h))
+ended_some d n (b ∷ l) h = refl
+
+-- A first line with too many fields isn't read, whether it ends or not.
+pub crowded : (text xs ys : List ℕ) (d : Draft) (n : ℕ) → 0 < length text → glue xs (pieces 10 ys) ≡ pieces 10 text → ((zs : List ℕ) → 6 ≤ length (pieces 32 (xs ++ zs)))
+    → read_lines (pieces 10 text) d n ≡ ended d n text
+crowded text xs ys d n some cut many = ap (λ ls. read_lines ls d n) (sym cut) ∙ by (pieces 10 ys) ∙ sym (ended_some d n text some)
+  where
+    some_in : (l : List ℕ) → 6 ≤ length (pieces 32 l) → 0 < length l
+    some_in [] h = absurd (omega (arith, h))
+    some_in (b ∷ l) h = omega arith
+
+    by : (ls : List (List ℕ)) → read_lines (glue xs ls) d n ≡ Err n
+    by [] = ended_some d n xs (some_in xs (subst (λ l. 6 ≤ length (pieces 32 l)) (append-nil xs) (many [])))
+    by (l ∷ []) = ended_some d n (xs ++ l) (some_in (xs ++ l) (many l))
+    by (l ∷ m ∷ ls) = ap (go_on n (λ r. read_lines (m ∷ ls) (with_row d r) (n + 1))) (many_row d (pieces 32 (xs ++ l)) (many l))
 
 -- A line and what is behind its line feed.
 pub read_on : (l : List ℕ) (bs : List ℕ) (d : Draft) (n : ℕ) → read_lines (l ∷ pieces 10 bs) d n ≡ go_on n (λ r. read_lines (pieces 10 bs) (with_row d r) (n + 1)) (row_of d (pieces 32 l))

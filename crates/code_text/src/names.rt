@@ -1,31 +1,41 @@
-ghost use Rattle.std.specs.Prelude.{◌≡◌, ◌↔◌, ℕ, ◌++◌, ◌∷◌, [], List, length, IfOk, OnOk, IsTrue, None, Some, if◌then◌else◌};
+ghost use Rattle.std.specs.Prelude.{◌≡◌, ◌↔◌, ℕ, ◌++◌, ◌∷◌, [], List, ◌<◌, length, IfOk, IfSome, OnOk, OnErr, IsTrue, None, Some, if◌then◌else◌, replicate};
 ghost use Rattle.cov_expr.specs.Words.{IsWord};
 ghost use Rattle.cov_expr.specs.Names.{IsName};
 ghost use Rattle.code_text.specs.Inside.Lookup.{IsIndexOf, IsRegisterOf};
-ghost use Rattle.code_text.specs.Inside.Reading.{place_of};
+ghost use Rattle.code_text.specs.Inside.Drafts.{CanStand};
+ghost use Rattle.code_text.specs.Inside.Reading.{Draft, place_of, with_row};
 ghost use Rattle.risc_machine.specs.Faults as faults;
+ghost use Rattle.risc_machine.specs.Faults.{names_of};
 
+use crate::row::Row;
 use cov_expr::{List, Name, NoMemory};
 use indexmap::{IndexMap, IndexSet};
 use std::alloc::Global;
 use std::marker::Model;
 
+/// How many guesses at places of names are kept.
+const GUESSES: usize = 1024;
+
 /// Names of declarations in order, which may be repeated, and their places by hashing. Contracts see the list of the names.
+///
+/// A guess is the place of the name that was last added among those that share it. A field is compared with that name before the
+/// index is asked, which hashes with more care and so takes longer.
 #[derive(Drop)]
 pub struct Names {
     list: List<Name>,
     places: IndexMap<Name, u32>,
+    guesses: [Option<u32>; GUESSES],
 }
 
 impl Model for Names {
     ghost use Rattle.std.specs.Prelude.{List, ℕ};
-    ghost use Rattle.code_text.specs.Inside.Lookup.{IsIndexOf};
+    ghost use Rattle.code_text.specs.Inside.Lookup.{IsIndexOf, AreGuesses};
 
     ghost Value = { List (List ℕ) };
 
     ghost view = { λ n. n.list };
 
-    ghost invariant = { λ n. IsIndexOf n.places n.list };
+    ghost invariant = { λ n. IsIndexOf n.places n.list × AreGuesses n.guesses n.list };
 }
 
 impl Names {
@@ -37,25 +47,59 @@ impl Names {
         Names {
             list: List::new(alloc),
             places: IndexMap::new(alloc),
+            guesses: no_guesses(),
         }
     }
 
-    /// With a name more.
-    pub fn with(self, name: Name) -> Result<Names, NoMemory>
+    /// Adds a name. Where memory runs out the names stay as they were.
+    pub fn add(&mut self, name: Name) -> Result<(), NoMemory>
         requires named { IsName name }
-        requires count { IsWord (length self) }
-        ensures { IfOk result (λ names. names ≡ self ++ name ∷ []) }
+        requires count { IsWord (length self.old) }
+        ensures { OnOk result (self.new ≡ self.old ++ name ∷ []) }
     {
-        let mut list = self.list;
-        let mut places = self.places;
-        add_place(&mut places, name, list.len() as u32)?;
-        list.push(name)?;
-        Ok(Names { list, places })
+        let next = self.list.len() as u32;
+        self.list.push(name)?;
+        match add_place(&mut self.places, name, next) {
+            Ok(place) => {
+                self.guesses[guess_of(name.text())] = Some(place);
+                Ok(())
+            }
+            Err(fault) => {
+                self.list.pop();
+                Err(fault)
+            }
+        }
     }
 
     /// The place of the name that a field is: that of its first declaration.
-    #[tactic(auto, using(crate::proofs::LookupLaws::unnamed))]
     pub fn find(&self, field: &[u8]) -> Option<u32>
+        ensures { result ≡ place_of self.now field.now }
+    {
+        match self.guessed(field) {
+            Some(place) => Some(place),
+            None => self.looked_up(field),
+        }
+    }
+
+    /// The guess for a field, where the field is its name.
+    fn guessed(&self, field: &[u8]) -> Option<u32>
+        ensures { IfSome result (λ place. Some place ≡ place_of self.now field.now) }
+    {
+        let guess = self.guesses[guess_of(field)];
+        match guess {
+            Some(place) => {
+                if self.list.as_slice()[place as usize].text() == field {
+                    Some(place)
+                } else {
+                    None
+                }
+            }
+            None => None,
+        }
+    }
+
+    #[tactic(auto, using(crate::proofs::LookupLaws::unnamed))]
+    fn looked_up(&self, field: &[u8]) -> Option<u32>
         ensures { result ≡ place_of self.now field.now }
     {
         let places = &self.places;
@@ -80,17 +124,36 @@ impl Names {
     }
 }
 
-/// Adds the place of a name that is declared next, unless it was declared before.
-fn add_place(places: &mut IndexMap<Name, u32>, name: Name, place: u32) -> Result<(), NoMemory>
-    ensures { OnOk result ((names : List (List ℕ)) → IsName name → length names ≡ place → IsIndexOf places.old names → IsIndexOf places.new (names ++ name ∷ [])) }
+/// The place of a name, which is added with the next one where the name wasn't declared before.
+fn add_place(places: &mut IndexMap<Name, u32>, name: Name, next: u32) -> Result<u32, NoMemory>
+    ensures ok { IfOk result (λ place. (names : List (List ℕ)) → IsName name → length names ≡ next → IsIndexOf places.old names
+        → IsIndexOf places.new (names ++ name ∷ []) × (Some place ≡ place_of (names ++ name ∷ []) name)) }
+    ensures err { OnErr result ((names : List (List ℕ)) → IsIndexOf places.old names → IsIndexOf places.new names) }
 {
     match places.get(&name) {
-        Some(_) => Ok(()),
+        Some(place) => Ok(*place),
         None => {
-            places.insert(name, place)?;
-            Ok(())
+            places.insert(name, next)?;
+            Ok(next)
         }
     }
+}
+
+fn no_guesses() -> [Option<u32>; GUESSES]
+    ensures { result ≡ replicate 1024 None }
+{
+    [None; GUESSES]
+}
+
+/// Which guess is for a text.
+fn guess_of(text: &[u8]) -> usize
+    ensures { result < 1024 }
+{
+    let mut sum: u32 = 0;
+    for byte in text {
+        sum = sum.wrapping_mul(31).wrapping_add(*byte as u32);
+    }
+    sum as usize % GUESSES
 }
 
 /// Which names there are, by hashing, and the first that equals an earlier one.
@@ -112,8 +175,19 @@ impl Register {
         }
     }
 
-    /// Adds a name.
-    pub fn add(&mut self, name: Name) -> Result<(), NoMemory>
+    /// Adds the name that a row declares, if it declares one.
+    pub fn add_row(&mut self, row: &Row) -> Result<(), NoMemory>
+        ensures { OnOk result ((d : Draft) → CanStand d row.now → IsRegisterOf self.old (names_of d.parts) → IsRegisterOf self.new (names_of (with_row d row.now).parts)) }
+    {
+        match row {
+            Row::Var(name) => self.add(*name),
+            Row::Lock(name) => self.add(*name),
+            Row::Thread(name, _) => self.add(*name),
+            Row::Line(_) => Ok(()),
+        }
+    }
+
+    fn add(&mut self, name: Name) -> Result<(), NoMemory>
         ensures { OnOk result ((names : List (List ℕ)) → IsRegisterOf self.old names → IsRegisterOf self.new (names ++ name ∷ [])) }
     {
         let is_new = self.known.insert(name)?;

@@ -1,19 +1,30 @@
-ghost use Rattle.std.specs.Prelude.{◌≡◌, ◌≤◌, ◌<◌, ◌∷◌, ◌+◌, [], length, map, take, drop, IfOk, MatchOption};
-ghost use Rattle.code_text.specs.Inside.Drafts.{Agrees, IsSmall};
+ghost use Rattle.std.specs.Prelude.{◌≡◌, ℕ, ◌≤◌, ◌<◌, ◌∷◌, ◌+◌, [], length, map, take, drop, IfOk, MatchOption};
+ghost use Rattle.code_text.specs.Inside.Drafts.{Agrees};
 ghost use Rattle.code_text.specs.Inside.Reading as spec;
+ghost use Rattle.code_text.specs.Inside.Reading.{Draft};
+ghost use Rattle.code_text.specs.Inside.Cuts.{IsCut};
 ghost use Rattle.code_text.specs.Listing.{IsListingOf};
 ghost use Rattle.code_text.specs.Outcome.{IsReading, IsAnswerTo};
 ghost use Rattle.code_text.specs.declared.limits.TheConstants.{MOST_LISTING_BYTES};
 ghost use Rattle.risc_machine.specs.Faults.{AreCounted, repeated, names_of};
 ghost use Rattle.risc_machine.specs.declared.parts.Parts.{Parts};
 
-use crate::draft::{Draft, Found};
+use crate::draft::Draft;
 use crate::fault::CodeFault;
 use crate::field::is;
+use crate::names::Register;
 use crate::row::row_of;
-use cov_expr::NoMemory;
-use risc_machine::{Code, CodeBad};
+use arrayvec::ArrayVec;
+use cov_expr::Name;
+use risc_machine::{Code, CodeBad, Parts};
 use std::alloc::Global;
+
+/// Parts, and the first of their names that equals an earlier one.
+#[derive(Drop)]
+struct Found {
+    parts: Parts,
+    repeated: Option<Name>,
+}
 
 /// The code of a listing. It answers with the code exactly where the text is the listing of one, unless memory runs out.
 pub fn read_code(alloc: Global, bytes: &[u8]) -> Result<Code, CodeFault>
@@ -43,37 +54,39 @@ fn read_parts(alloc: Global, bytes: &[u8]) -> Result<Found, CodeFault>
     };
     match version_of(&bytes[..end]) {
         None => Err(CodeFault::Line(1)),
-        Some(version) => read_lines(alloc, Draft::begin(alloc, version), past(bytes, end)),
+        Some(version) => read_lines(alloc, version, past(bytes, end)),
     }
 }
 
-/// The parts behind the first line, whose draft stands at line 2.
-fn read_lines(alloc: Global, first: Draft, text: &[u8]) -> Result<Found, CodeFault>
-    requires short { length text.now ≤ MOST_LISTING_BYTES }
-    requires small { IsSmall 2 first.parts }
-    ensures agrees { Agrees result (spec.read_lines (spec.pieces 10 text.now) first 2) }
+/// The parts of a listing of a version, from its second line on.
+fn read_lines(alloc: Global, version: u8, text: &[u8]) -> Result<Found, CodeFault>
+    requires { length text.now ≤ MOST_LISTING_BYTES }
+    ensures agrees { Agrees result (spec.read_lines (spec.pieces 10 text.now) (spec.begun version) 2) }
     ensures counted { IfOk result (λ found. AreCounted found.parts) }
     ensures repeated { IfOk result (λ found. found.repeated ≡ repeated [] (names_of found.parts)) }
 {
-    let mut draft = first;
+    let mut draft = Draft::begin(alloc, version);
+    let mut register = Register::new(alloc);
     let mut rest = text;
     let mut n: u32 = 2;
-    while let Some(end) = find(b'\n', rest) {
-        let Ok(fields) = split(alloc, &rest[..end]) else {
-            return Err(CodeFault::NoMemory);
-        };
-        let Some(row) = row_of(&draft, fields.as_slice()) else {
+    while let Some(cut) = cut_line(rest) {
+        let Some(row) = row_of(&draft, cut.fields.as_slice()) else {
             return Err(CodeFault::Line(n));
         };
-        let Ok(next) = draft.with(alloc, row) else {
+        let Ok(()) = register.add_row(&row) else {
             return Err(CodeFault::NoMemory);
         };
-        draft = next;
-        rest = past(rest, end);
+        let Ok(()) = draft.add(alloc, row) else {
+            return Err(CodeFault::NoMemory);
+        };
+        rest = cut.rest;
         n += 1;
     }
     if rest.is_empty() && draft.left() == 0 {
-        Ok(draft.finish())
+        Ok(Found {
+            parts: draft.into_parts(),
+            repeated: register.repeated(),
+        })
     } else {
         Err(CodeFault::Line(n))
     }
@@ -112,17 +125,35 @@ fn past(text: &[u8], i: usize) -> &[u8]
     &text[i + 1..]
 }
 
-/// What stands between the blanks of a line.
-fn split<'a>(alloc: Global, line: &'a [u8]) -> Result<Vec<&'a [u8]>, NoMemory>
-    requires { length line.now ≤ MOST_LISTING_BYTES }
-    ensures { IfOk result (λ fields. map (λ f. f.now) fields.items ≡ spec.pieces 32 line.now) }
+/// A line that was cut off a text: what stands between its blanks, and what stands behind its line feed.
+#[derive(Drop)]
+struct Cut<'t> {
+    fields: ArrayVec<&'t [u8], 5>,
+    rest: &'t [u8],
+}
+
+/// Cuts the first line off a text. `None` comes where the text has no line feed, or too many fields before it.
+fn cut_line(text: &[u8]) -> Option<Cut<'_>>
+    requires { length text.now ≤ MOST_LISTING_BYTES }
+    ensures { MatchOption result ((d : Draft) → (n : ℕ) → spec.read_lines (spec.pieces 10 text.now) d n ≡ spec.ended d n text.now)
+        (λ cut. IsCut text.now (map (λ f. f.now) cut.fields.items) cut.rest.now) }
 {
-    let mut fields = Vec::new(alloc);
-    let mut rest = line;
-    while let Some(i) = find(b' ', rest) {
-        fields.push(&rest[..i])?;
-        rest = past(rest, i);
+    let mut fields = ArrayVec::new();
+    let mut start = 0;
+    for (i, byte) in text.iter().enumerate() {
+        if *byte != b' ' && *byte != b'\n' {
+            continue;
+        }
+        if fields.is_full() {
+            return None;
+        }
+        let field = &text[start..i];
+        fields.push(field);
+        if *byte == b'\n' {
+            let rest = past(text, i);
+            return Some(Cut { fields, rest });
+        }
+        start = i + 1;
     }
-    fields.push(rest)?;
-    Ok(fields)
+    None
 }

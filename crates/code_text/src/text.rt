@@ -120,51 +120,59 @@ fn add_instr(
             add_name(vars, x, out)
         }
         Instr::Store(x, r) => {
-            out.extend_from_slice(b" store")?;
-            add_name(vars, x, out)?;
+            add_with_name(b" store", vars, x, out)?;
             add_register(r, out)
         }
         Instr::Jump(i) => {
             out.extend_from_slice(b" jump ")?;
             add_number(i as u64, out)
         }
-        Instr::Jz(r, i) => {
-            out.extend_from_slice(b" jz")?;
-            add_register(r, out)?;
-            out.extend_from_slice(b" ")?;
-            add_number(i as u64, out)
-        }
+        Instr::Jz(r, i) => add_with_number(b" jz", r, i, out),
         Instr::Nop => out.extend_from_slice(b" nop"),
-        Instr::MovC(r, k) => {
-            out.extend_from_slice(b" movc")?;
-            add_register(r, out)?;
-            out.extend_from_slice(b" ")?;
-            add_number(k as u64, out)
-        }
-        Instr::MovR(r, s) => {
-            out.extend_from_slice(b" movr")?;
-            add_register(r, out)?;
-            add_register(s, out)
-        }
+        Instr::MovC(r, k) => add_with_number(b" movc", r, k, out),
+        Instr::MovR(r, s) => add_with_registers(b" movr", r, s, out),
         Instr::Bin(op, r, s) => {
             out.extend_from_slice(b" op ")?;
-            out.extend_from_slice(sign(op))?;
-            add_register(r, out)?;
-            add_register(s, out)
+            add_with_registers(sign(op), r, s, out)
         }
-        Instr::Acquire(l) => {
-            out.extend_from_slice(b" acquire")?;
-            add_name(locks, l, out)
-        }
-        Instr::Release(l) => {
-            out.extend_from_slice(b" release")?;
-            add_name(locks, l, out)
-        }
+        Instr::Acquire(l) => add_with_name(b" acquire", locks, l, out),
+        Instr::Release(l) => add_with_name(b" release", locks, l, out),
         Instr::Out(r) => {
             out.extend_from_slice(b" out")?;
             add_register(r, out)
         }
     }
+}
+
+/// Adds a word, and a register and a number behind it.
+fn add_with_number(word: &[u8], r: u8, n: u32, out: &mut List<u8>) -> Result<(), NoMemory>
+    requires { r < 8 }
+    ensures { OnOk result (out.new ≡ out.old ++ ((word.now ++ 32 ∷ spec.register r) ++ 32 ∷ decimal n)) }
+{
+    out.extend_from_slice(word)?;
+    add_register(r, out)?;
+    out.extend_from_slice(b" ")?;
+    add_number(n as u64, out)
+}
+
+/// Adds a word, and two registers behind it.
+fn add_with_registers(word: &[u8], r: u8, s: u8, out: &mut List<u8>) -> Result<(), NoMemory>
+    requires first { r < 8 }
+    requires second { s < 8 }
+    ensures { OnOk result (out.new ≡ out.old ++ ((word.now ++ 32 ∷ spec.register r) ++ 32 ∷ spec.register s)) }
+{
+    out.extend_from_slice(word)?;
+    add_register(r, out)?;
+    add_register(s, out)
+}
+
+/// Adds a word, and the name of a number behind it.
+fn add_with_name(word: &[u8], names: &[Name], x: u32, out: &mut List<u8>) -> Result<(), NoMemory>
+    requires { x < length names.now }
+    ensures { OnOk result (out.new ≡ out.old ++ (word.now ++ 32 ∷ spec.name names.now x)) }
+{
+    out.extend_from_slice(word)?;
+    add_name(names, x, out)
 }
 
 fn add_number(n: u64, out: &mut List<u8>) -> Result<(), NoMemory>

@@ -1,5 +1,5 @@
 -- How names are looked up while a text is read.
-use Rattle.std.specs.Prelude.{◌≡◌, ℕ, List, [], All}
+use Rattle.std.specs.Prelude.{◌≡◌, ℕ, List, [], get_or, Option, Some, All}
 use Rattle.std.specs.List.{list_any}
 use Rattle.std.specs.Str.{bytes_eq}
 use Rattle.cov_expr.specs.Names.{IsName}
@@ -13,6 +13,13 @@ use Rattle.code_text.specs.declared.names.Register.{Register}
 pub record IsIndexOf {S : Type 0} (index : IndexMap (List ℕ) ℕ S) (names : List (List ℕ)) : Type 0 where
   pub named : All IsName names
   pub places : (f : List ℕ) → get bytes_eq index f ≡ place_of names f
+
+-- A guess, where there is one, is the place of the first declaration of the name that stands there.
+abbrev pub IsGuess : List (List ℕ) → Option ℕ → Type 0
+IsGuess names guess = (place : ℕ) → guess ≡ Some place → place_of names (get_or names place []) ≡ Some place
+
+abbrev pub AreGuesses : List (Option ℕ) → List (List ℕ) → Type 0
+AreGuesses guesses names = All (IsGuess names) guesses
 
 -- The register has each of the names, and the first that equals an earlier one.
 pub record IsRegisterOf (r : Register) (names : List (List ℕ)) : Type 0 where
