@@ -1,0 +1,5 @@
+pub mod Compiled
+pub mod Matches
+pub mod SecureCode
+pub mod LoadBound
+pub mod GoodCode

@@ -1,0 +1,3 @@
+pub mod Examples
+pub mod PartLaws
+pub mod PlanLaws
