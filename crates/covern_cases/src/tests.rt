@@ -13,6 +13,7 @@ mod forms;
 mod listings;
 mod machines;
 mod points;
+mod replays;
 
 use cov_ast::{Parsed, Program};
 use cov_expr::{List, NoMemory};

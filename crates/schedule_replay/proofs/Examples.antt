@@ -1,9 +1,14 @@
--- Worked starts and schedules, by computation.
+-- Worked starts, schedules and replays, by computation.
 use Rattle.std.proofs.Common.{◌≡◌, ℕ, List, [], ◌∷◌, Some, None, refl}
 use Rattle.std.specs.Prelude.{codes, Ok, Err}
 use Rattle.cov_ast.specs.declared.decl.Class.TheVariants as classes
 use Rattle.cov_ast.specs.declared.decl.VarDecl.{VarDecl}
+use Rattle.risc_machine.specs.Machine.{code_begin}
+use Rattle.risc_machine.specs.declared.parts.Instr.TheVariants.{MovC, Store, Acquire, Release}
+use Rattle.risc_machine.specs.declared.parts.Line.{Line}
+use Rattle.risc_machine.specs.declared.parts.Parts.{Parts}
 use Rattle.serde_json.specs.Data.{Data, null, number, string, array, object, unsigned, no_items, item, no_members, member}
+use Rattle.schedule_replay.specs.CodeReplays.{code_stayed_from}
 use Rattle.schedule_replay.specs.Schedules.{schedule_of}
 use Rattle.schedule_replay.specs.Starts.{start_of}
 use Rattle.schedule_replay.specs.declared.fault.ScheduleFault.TheVariants as schedule
@@ -53,3 +58,25 @@ schedule_of_object = refl
 
 entry_of_no_thread : schedule_of 2 (Some (array (item (whole 0) (item (whole 2) (item (string []) no_items))))) ≡ Err (schedule.BadEntry 1)
 entry_of_no_thread = refl
+
+-- code that stores a word under a lock
+abbrev writing : ℕ → List Line
+writing word =
+    record { weight = 1; instr = Acquire 0 } ∷ record { weight = 1; instr = MovC 0 word }
+    ∷ record { weight = 1; instr = Store 0 0 } ∷ record { weight = 1; instr = Release 0 } ∷ []
+
+abbrev writers : Parts
+writers = record {
+  version = 1;
+  vars = codes "n" ∷ [];
+  locks = codes "l" ∷ [];
+  threads = record { name = codes "a"; lines = writing 1 } ∷ record { name = codes "b"; lines = writing 2 } ∷ [];
+}
+
+-- the first thread takes the lock, and the second waits for it
+second_waits : code_stayed_from writers (code_begin writers (0 ∷ []) []) (0 ∷ 1 ∷ 1 ∷ 0 ∷ 1 ∷ []) ≡ 3
+second_waits = refl
+
+-- steps of a finished thread don't stay
+first_ends : code_stayed_from writers (code_begin writers (0 ∷ []) []) (0 ∷ 0 ∷ 0 ∷ 0 ∷ 0 ∷ 0 ∷ []) ≡ 0
+first_ends = refl

@@ -1,4 +1,5 @@
 mod Examples
 pub mod StepLaws
 pub mod PairLaws
+pub mod CodeLaws
 pub mod ReadLaws

@@ -26,7 +26,7 @@ stayed_from_more r (u ∷ ts) t = let e = stayed_from_more (step r u) ts t in rw
 
 -- Outputs ------------------------------------------------------------------------------------------------------
 
-same_outputs : (o : Outputs) → GrowsByOne o o
+pub same_outputs : (o : Outputs) → GrowsByOne o o
 same_outputs o = record { more = []; few = omega arith; grown = sym (append-nil o) }
 
 lock_grows : (t : ℕ) (m : List ℕ) (h : Holders) (o : Outputs) (at l : ℕ) (rest : List Item) (k : Option ℕ) → GrowsByOne o (after_lock t m h o at l rest k).outputs

@@ -1,8 +1,8 @@
 -- Words of private contracts. What is promised doesn't rest on them.
 use Rattle.std.specs.Prelude.{◌≡◌, ℕ, ◌+◌, ◌≤◌, List, ◌++◌, length, take, if◌then◌else◌, Some, None, Result, Ok, Err}
 use Rattle.flow_model.specs.Source.{Run, step, run_from, items_of, stays_at}
-use Rattle.flow_model.specs.declared.machine.Stepped.{Stepped}
-use Rattle.flow_model.specs.declared.machine.Stepped.TheVariants as stepped
+use Rattle.risc_machine.specs.Machine.{code_step, code_from}
+use Rattle.risc_machine.specs.Running.{Running}
 use Rattle.serde_json.specs.View.{view}
 use Rattle.serde_json.specs.declared.value.Value.{Value}
 use Rattle.source_machine.specs.Machine.{Machine, run_of}
@@ -11,12 +11,6 @@ use Rattle.schedule_replay.specs.declared.fault.ScheduleFault.{ScheduleFault}
 use Rattle.schedule_replay.specs.declared.fault.StartFault.{StartFault}
 use Rattle.schedule_replay.specs.declared.json.Unread.{Unread}
 use Rattle.schedule_replay.specs.declared.json.Unread.TheVariants as unread
-
--- 1 for a step that stayed, else 0
-abbrev pub count_of : Stepped → ℕ
-count_of stepped.Moved = 0
-count_of stepped.Stayed = 1
-count_of stepped.Idle = 0
 
 -- 1 where the next step of the thread stays, else 0
 abbrev pub next_stays : Run → ℕ → ℕ
@@ -46,6 +40,19 @@ pub record HasRun (before now : Machine) (schedule : List ℕ) (k : ℕ) : Type 
   pub room : now.room ≡ before.room
   pub run : run_of now ≡ run_from (run_of before) (take k schedule)
   pub outputs : length (run_of now).outputs ≤ length (run_of before).outputs + k
+
+-- Code after one step of a thread.
+pub record HasSteppedCode (before now : Running) (t : ℕ) : Type 0 where
+  pub parts : now.parts ≡ before.parts
+  pub room : now.room ≡ before.room
+  pub state : now.state ≡ code_step before.parts before.state t
+
+-- Code after so many steps of a schedule, with room for an output of each.
+pub record HasRunCode (before now : Running) (schedule : List ℕ) (k : ℕ) : Type 0 where
+  pub parts : now.parts ≡ before.parts
+  pub room : now.room ≡ before.room
+  pub state : now.state ≡ code_from before.parts before.state (take k schedule)
+  pub outputs : length now.state.outputs ≤ length before.state.outputs + k
 
 -- What was read is the value of the bytes, or they have none; else memory ran out.
 abbrev pub IsRead : List ℕ → Result Value Unread → Type 0

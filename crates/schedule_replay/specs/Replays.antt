@@ -8,9 +8,17 @@ use Rattle.flow_model.specs.FirstDifference.{first_difference}
 use Rattle.flow_model.specs.Source.{Run, run_from, stayed_from}
 use Rattle.flow_model.specs.declared.agreement.Differ.{Differ}
 use Rattle.flow_model.specs.declared.agreement.Differ.TheVariants as differ
+use Rattle.flow_model.specs.declared.machine.Stepped.{Stepped}
+use Rattle.flow_model.specs.declared.machine.Stepped.TheVariants as stepped
 use Rattle.source_machine.specs.Machine.{IsFirstApart}
 use Rattle.schedule_replay.specs.declared.replays.Found.{Found}
 use Rattle.schedule_replay.specs.declared.replays.Until.{Until}
+
+-- 1 for a step that stayed, else 0
+abbrev pub count_of : Stepped → ℕ
+count_of stepped.Moved = 0
+count_of stepped.Stayed = 1
+count_of stepped.Idle = 0
 
 -- the state after the first steps of a schedule
 abbrev pub after_steps : Run → List ℕ → ℕ → Run

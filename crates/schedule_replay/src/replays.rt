@@ -7,9 +7,9 @@ ghost use Rattle.cov_ast.specs.WellFormed.{IsWellFormed};
 ghost use Rattle.flow_model.specs.Agreement.{MemoriesAgree, StatesAgree};
 ghost use Rattle.flow_model.specs.FirstDifference.{first_difference};
 ghost use Rattle.flow_model.specs.Source as spec;
-ghost use Rattle.schedule_replay.specs.Inside.{HasSameFront, HasStepped, count_of, next_stays};
+ghost use Rattle.schedule_replay.specs.Inside.{HasSameFront, HasStepped, next_stays};
 ghost use Rattle.schedule_replay.specs.Schedules.{most_entries};
-ghost use Rattle.schedule_replay.specs.Replays.{AgreeThroughout, DiffersIn, IsFirstStepApart, StopsAt, part_run};
+ghost use Rattle.schedule_replay.specs.Replays.{AgreeThroughout, DiffersIn, IsFirstStepApart, StopsAt, count_of, part_run};
 ghost use Rattle.source_machine.specs.Machine.{run_of};
 
 use cov_ast::Program;
@@ -137,7 +137,8 @@ fn advance(s: &mut Source<'_>, t: u32) -> u32
     count(s.step(t))
 }
 
-fn count(stepped: Stepped) -> u32
+/// 1 for a step that stayed, else 0.
+pub fn count(stepped: Stepped) -> u32
     ensures count { result ≡ count_of stepped }
     ensures small { result ≤ 1 }
 {
@@ -179,7 +180,7 @@ fn memories_apart<'p>(p: &'p Program, a: &Source<'p>, b: &Source<'p>) -> Option<
 }
 
 /// Whether two lists are the same that begin with so many words of which that is known.
-fn same_words(left: &[u32], right: &[u32], seen: usize) -> bool
+pub fn same_words(left: &[u32], right: &[u32], seen: usize) -> bool
     requires { HasSameFront seen left.now right.now }
     ensures { IsTrue result ↔ (left.now ≡ right.now) }
 {
