@@ -18,7 +18,7 @@ pub fn add_shown(
     out: &mut Blob,
 ) -> Result<(), Failure> {
     let words = words_of(alloc, words)?;
-    let mut shelf = shelf_of(alloc, files)?;
+    let mut shelf = shelf_of(alloc, files, List::new(alloc))?;
     let mut sink = MemSink::new(alloc, ROOM, ROOM, List::new(alloc))?;
     let status = covern(alloc, words.as_slice(), &mut shelf, &mut sink) as u8;
     out.extend_from_slice(sink.bytes())?;
@@ -44,8 +44,12 @@ fn words_of(alloc: Global, line: &str) -> Result<Vec<String>, Failure> {
     Ok(words)
 }
 
-/// A shelf of files, no two of which have one name.
-fn shelf_of(alloc: Global, files: &[(Name, Blob)]) -> Result<MemShelf, Failure> {
+/// A shelf of files, no two of which have one name, and of which the calls of these numbers fail.
+pub fn shelf_of(
+    alloc: Global,
+    files: &[(Name, Blob)],
+    fails: List<u64>,
+) -> Result<MemShelf, Failure> {
     let mut copies = List::new(alloc);
     for (name, text) in files {
         let mut copy = List::new(alloc);
@@ -55,7 +59,7 @@ fn shelf_of(alloc: Global, files: &[(Name, Blob)]) -> Result<MemShelf, Failure> 
     if !are_distinct(copies.as_slice()) {
         return Err(Failure::Usage);
     }
-    Ok(MemShelf::new(copies, List::new(alloc)))
+    Ok(MemShelf::new(copies, fails))
 }
 
 /// Whether no two files have one name.

@@ -117,7 +117,7 @@ module _ (p : Parsed) (program : Program) (is : program ≡ resolved p) (named :
   same_first : first_false (program_obligations program) ≡ first_false (obligations p)
   same_first = sym (append_held (name_obligations p) (program_obligations program) named) ∙ ap first_false whole
 
-  accepted_program : IsAcceptedText p → IsAccepted program
+  pub accepted_program : IsAcceptedText p → IsAccepted program
   accepted_program h = (both_hold (name_obligations p) (program_obligations program) (subst (λ es. IsTrue (all_hold es)) (sym whole) h)).1
 
   same_verdict : (o : Option Refusal) → program_verdict (resolved p) o ≡ verdict_by p o

@@ -1,12 +1,12 @@
 -- Laws of starts and schedules: how they are read, and what they are made of.
-use Rattle.std.proofs.Common.{◌≡◌, ℕ, suc, ◌<◌, ◌≤◌, nat_lt, List, [], ◌∷◌, Bool, true, false, ◌&&◌, ◌||◌, cond, length, map, Option, Some, None, Result, Ok, Err, refl, sym, ap, ◌∙◌, subst, inl, arith}
+use Rattle.std.proofs.Common.{◌≡◌, ℕ, suc, ◌^◌, ◌<◌, ◌≤◌, nat_lt, List, [], ◌∷◌, Bool, true, false, ◌&&◌, ◌||◌, cond, length, map, Option, Some, None, Result, Ok, Err, refl, sym, ap, ◌∙◌, subst, inl, arith}
 use Rattle.std.specs.Prelude.{option_and_then, is_some}
 use Rattle.std.specs.Str.{bytes_eq}
 use Rattle.std.proofs.lemmas.Bool.Decides.{nat_tests}
 use Rattle.cov_ast.specs.Syntax.{Parsed}
 use Rattle.cov_ast.specs.View as view
 use Rattle.cov_ast.specs.declared.decl.VarDecl.{VarDecl}
-use Rattle.cov_expr.specs.Words.{IsSchedule}
+use Rattle.cov_expr.specs.Words.{IsMemory, IsSchedule}
 use Rattle.cov_io.specs.Shelves.{Shelved, Gives}
 use Rattle.cov_io.specs.declared.shelf.Fetched.TheVariants.{Whole}
 use Rattle.serde_json.specs.Data.{Data, Members, no_members, member, Items, no_items, item}
@@ -99,32 +99,48 @@ same_start vs (Some d) = by (as_object d)
     by None = refl
     by (Some ms) = same_in vs ms
 
--- a start has a word for each variable
-words_sized : (ms : Members) (vs : List VarDecl) (words : List ℕ) → m.words_of ms vs ≡ Ok words → length words ≡ length vs
-words_sized ms [] words h = let same : [] ≡ words = cc in sym (ap length same)
-words_sized ms (v ∷ vs) words h = go (m.word_of ms v.name) (m.words_of ms vs) (words_sized ms vs) h
+number_fits : (bound : ℕ) (o : Option ℕ) (n : ℕ) → below bound o ≡ Some n → n < bound
+number_fits bound None n h = cc
+number_fits bound (Some m) n h = go (nat_lt m bound) refl h
   where
-    go : (o : Option ℕ) (r : Result (List ℕ) StartFault) → ((ws : List ℕ) → r ≡ Ok ws → length ws ≡ length vs) → m.with_word v.name o r ≡ Ok words
-        → length words ≡ suc (length vs)
-    go None r rest h = cc
-    go (Some w) (Err e) rest h = cc
-    go (Some w) (Ok ws) rest h = let same : w ∷ ws ≡ words = cc in sym (ap length same) ∙ ap suc (rest ws refl)
+    go : (b : Bool) → nat_lt m bound ≡ b → cond b (Some m) None ≡ Some n → n < bound
+    go false is h = cc
+    go true is h = let same : m ≡ n = cc in subst (λ k. k < bound) same (grind (arith, nat_tests))
 
-in_sized : (vs : List VarDecl) (ms : Members) (words : List ℕ) → m.start_in vs ms ≡ Ok words → length words ≡ length vs
-in_sized vs ms words h = go (m.first_missing ms vs) (m.are_declared vs ms) h
+word_fits : (o : Option Data) (w : ℕ) → option_and_then (number_below (2 ^ 32)) o ≡ Some w → w < 2 ^ 32
+word_fits None w h = cc
+word_fits (Some d) w h = number_fits (2 ^ 32) (option_and_then as_u64 (as_number d)) w h
+
+-- a start has a word for each variable
+words_are_memory : (ms : Members) (vs : List VarDecl) (words : List ℕ) → m.words_of ms vs ≡ Ok words → IsMemory (length vs) words
+words_are_memory ms [] words h = let same : [] ≡ words = cc in subst (IsMemory 0) same (record { complete = refl; words = tt })
+words_are_memory ms (v ∷ vs) words h = go (m.word_of ms v.name) refl (m.words_of ms vs) (words_are_memory ms vs) h
   where
-    go : (o : Option (List ℕ)) (b : Bool) → m.unless_missing o (cond b (m.words_of ms vs) (Err starts.Unknown)) ≡ Ok words → length words ≡ length vs
+    go : (o : Option ℕ) → m.word_of ms v.name ≡ o → (r : Result (List ℕ) StartFault) → ((ws : List ℕ) → r ≡ Ok ws → IsMemory (length vs) ws)
+        → m.with_word v.name o r ≡ Ok words → IsMemory (suc (length vs)) words
+    go None is r rest h = cc
+    go (Some w) is (Err e) rest h = cc
+    go (Some w) is (Ok ws) rest h =
+        let same : w ∷ ws ≡ words = cc in
+        let later = rest ws refl in
+        subst (IsMemory (suc (length vs))) same
+        (record { complete = ap suc later.complete; words = (word_fits (get_member v.name ms) w is, later.words) })
+
+in_is_memory : (vs : List VarDecl) (ms : Members) (words : List ℕ) → m.start_in vs ms ≡ Ok words → IsMemory (length vs) words
+in_is_memory vs ms words h = go (m.first_missing ms vs) (m.are_declared vs ms) h
+  where
+    go : (o : Option (List ℕ)) (b : Bool) → m.unless_missing o (cond b (m.words_of ms vs) (Err starts.Unknown)) ≡ Ok words → IsMemory (length vs) words
     go (Some name) b h = cc
     go None false h = cc
-    go None true h = words_sized ms vs words h
+    go None true h = words_are_memory ms vs words h
 
-pub start_sized : (vs : List VarDecl) (d : Option Data) (words : List ℕ) → m.start_of vs d ≡ Ok words → length words ≡ length vs
-start_sized vs None words h = cc
-start_sized vs (Some d) words h = by (as_object d) h
+pub start_is_memory : (vs : List VarDecl) (d : Option Data) (words : List ℕ) → m.start_of vs d ≡ Ok words → IsMemory (length vs) words
+start_is_memory vs None words h = cc
+start_is_memory vs (Some d) words h = by (as_object d) h
   where
-    by : (o : Option Members) → m.start_at vs o ≡ Ok words → length words ≡ length vs
+    by : (o : Option Members) → m.start_at vs o ≡ Ok words → IsMemory (length vs) words
     by None h = cc
-    by (Some ms) h = in_sized vs ms words h
+    by (Some ms) h = in_is_memory vs ms words h
 
 -- Schedules ----------------------------------------------------------------------------------------------------
 
@@ -132,14 +148,6 @@ pub schedule_fault_said : (found : ScheduleFault) (said : Result (List ℕ) Sche
     → schedule_shown found ≡ Some fault → said ≡ Err found
 schedule_fault_said schedules.NoMemory said h fault e = let wrong : None ≡ Some fault = e in cc
 schedule_fault_said found said h fault e = h
-
-entry_below : (threads : ℕ) (o : Option ℕ) (entry : ℕ) → below threads o ≡ Some entry → entry < threads
-entry_below threads None entry h = cc
-entry_below threads (Some n) entry h = go (nat_lt n threads) refl h
-  where
-    go : (b : Bool) → nat_lt n threads ≡ b → cond b (Some n) None ≡ Some entry → entry < threads
-    go false is h = cc
-    go true is h = let same : n ≡ entry = cc in subst (λ e. e < threads) same (grind (arith, nat_tests))
 
 -- what a list says is a schedule, with as many entries as the list has items
 pub record IsScheduleOf (threads : ℕ) (ds : Items) (entries : List ℕ) : Type 0 where
@@ -159,7 +167,7 @@ entries_fine threads i (item d ds) entries h = go (number_below threads d) refl 
         let same : e ∷ es ≡ entries = cc in
         let later = rest es refl in
         subst (IsScheduleOf threads (item d ds)) same (record {
-          threads_below = (entry_below threads (option_and_then as_u64 (as_number d)) e is, later.threads_below);
+          threads_below = (number_fits threads (option_and_then as_u64 (as_number d)) e is, later.threads_below);
           sized = ap suc later.sized;
         })
 

@@ -7,7 +7,10 @@ pub mod InputLaws
 -- One for each kind of command.
 pub mod CheckLaws
 pub mod FormatLaws
+pub mod ExpressionLaws
 pub mod RunLaws
+pub mod PairLaws
+pub mod AgreeLaws
 pub mod ReportLaws
 -- Every command: what a call promises, and that it has one reply.
 pub mod OutcomeLaws

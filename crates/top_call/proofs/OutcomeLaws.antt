@@ -10,22 +10,25 @@ use Rattle.cov_print.specs.Spelling.{spelling}
 use Rattle.cov_text.specs.Text.{program_of}
 use Rattle.flow_model.specs.Secure.{IsSecure}
 use Rattle.top_call.specs.Check.{Judges, IsAcceptedText, AreNamesInOrder, meaning}
-use Rattle.top_call.specs.Commands.{Command, check, fmt, migrate, run, nothing}
+use Rattle.top_call.specs.Commands.{Command, check, fmt, migrate, run, run_until, pair, nothing}
 use Rattle.top_call.specs.Ends.{Ends}
-use Rattle.top_call.specs.Headline.{HoldsSecure}
+use Rattle.top_call.specs.Headline.{HoldsSecure, RunsAccepted}
 use Rattle.top_call.specs.Outcome.{Does, Outcome, IsMet, IsSuccess, plan_of}
 use Rattle.top_call.specs.Plans.{MayReply, RepliesTo, replies}
 use Rattle.top_call.specs.Programs.{SpellsProgram, IsShownFault}
 use Rattle.top_call.specs.Replies.{Reply, usage, status_of}
 use Rattle.top_call.specs.declared.answers.Status.{Status}
 use Rattle.top_call.specs.declared.answers.Status.TheVariants as s
+use Rattle.top_call.proofs.AgreeLaws.{never_differs}
 use Rattle.top_call.proofs.CheckLaws.{check_sound, judged_accepted, names_hold}
 use Rattle.top_call.proofs.EndLaws.{ends_onward, status_is}
+use Rattle.top_call.proofs.ExpressionLaws.{expression_reading}
 use Rattle.top_call.proofs.FileLaws.{Reliable, done_read}
 use Rattle.top_call.proofs.FormatLaws.{spelled_sound}
 use Rattle.top_call.proofs.InputLaws.{start_reading, schedule_reading}
+use Rattle.top_call.proofs.PairLaws.{pair_sound}
 use Rattle.top_call.proofs.PlanLaws.{IsSound, IsSoundReply, reply_exact, reply_fault, reply_success}
-use Rattle.top_call.proofs.RunLaws.{run_sound}
+use Rattle.top_call.proofs.RunLaws.{run_sound, until_sound}
 use Rattle.top_call.proofs.TextLaws.{program_reading}
 
 -- The commands -------------------------------------------------------------------------------------------------
@@ -43,6 +46,10 @@ sound (check name) = (program_reading, check_sound)
 sound (fmt name) = (program_reading, λ p. spelled_sound (spelling p))
 sound (migrate name) = (program_reading, λ p. spelled_sound (spelling (in_second p)))
 sound (run name start schedule) = (program_reading, λ p. (start_reading p, λ m. (schedule_reading p, λ k. run_sound p m k)))
+sound (run_until name start schedule word) =
+    (program_reading, λ p. (start_reading p, λ m. (schedule_reading p, λ k. (expression_reading p, λ e. until_sound p m k e))))
+sound (pair name first second schedule) =
+    (program_reading, λ p. (start_reading p, λ l. (start_reading p, λ r. (schedule_reading p, λ k. pair_sound p l r k))))
 sound nothing = nothing_sound
 
 does_exact : (before after : Shelved) (files : List File) (command : Command) (reply : Reply) → before.told ≡ Some files → Reliable before after
@@ -78,6 +85,8 @@ does_secure before after (check name) reply h done files told =
 does_secure before after (fmt name) reply h done files told = tt
 does_secure before after (migrate name) reply h done files told = tt
 does_secure before after (run name start schedule) reply h done files told = tt
+does_secure before after (run_until name start schedule word) reply h done files told = tt
+does_secure before after (pair name first second schedule) reply h done files told = tt
 does_secure before after nothing reply h done files told = let wrong : s.Usage ≡ s.Done = sym (ap status_of h) ∙ done in cc
 
 -- A call -------------------------------------------------------------------------------------------------------
@@ -105,6 +114,15 @@ module _ (before after : Shelved) (command : Command) (reply : Reply) (does : Do
       by (inl e) files told = let wrong : s.NoMemory ≡ s.Done = sym e ∙ done in cc
       by (inr (inl e)) files told = let wrong : s.WriteFault ≡ s.Done = sym e ∙ done in cc
       by (inr (inr e)) files told = does_secure before after command reply does (sym e ∙ done) files told
+
+  pub call_agree : IfSome before.told (λ files. RunsAccepted files command → status ≡ s.Differ → ⊥)
+  call_agree = if_told before.told (λ files. RunsAccepted files command → status ≡ s.Differ → ⊥) (by (status_is reply old new status ended))
+    where
+      by : (status ≡ s.NoMemory) ⊎ (status ≡ s.WriteFault) ⊎ (status ≡ status_of reply) → (files : List File) → before.told ≡ Some files
+          → RunsAccepted files command → status ≡ s.Differ → ⊥
+      by (inl e) files told accepted differ = let wrong : s.NoMemory ≡ s.Differ = sym e ∙ differ in cc
+      by (inr (inl e)) files told accepted differ = let wrong : s.WriteFault ≡ s.Differ = sym e ∙ differ in cc
+      by (inr (inr e)) files told accepted differ = never_differs before after files command reply told accepted does (sym e ∙ differ)
 
   pub call_fault : status ≡ s.ReadFault → Rose before.faults after.faults
   call_fault fault = by (status_is reply old new status ended)

@@ -8,9 +8,9 @@ use Rattle.cov_io.specs.declared.shelf.Fetched.TheVariants.{Whole, TooLong}
 use Rattle.cov_io.specs.declared.shelf.ShelfFault.{ShelfFault}
 use Rattle.cov_io.specs.declared.shelf.ShelfFault.TheVariants as faults
 use Rattle.cov_io.proofs.ShelfLaws.{passes_none, passes_both, gives_within}
-use Rattle.top_call.specs.Asks.{Asks, Follows}
+use Rattle.top_call.specs.Asks.{Asks, Follows, Continues}
 use Rattle.top_call.specs.Inside.{Stops, Gets, LacksMemory, CarriesOut, Takes, Fails, IsUnread}
-use Rattle.top_call.specs.Plans.{Plan, replies, file, RepliesTo, MayReply, RepliesOver, IsPlanMet}
+use Rattle.top_call.specs.Plans.{Plan, replies, file, argument, RepliesTo, MayReply, RepliesOver, IsPlanMet}
 use Rattle.top_call.specs.Replies.{Reply, malformed, status_of}
 use Rattle.top_call.specs.declared.answers.Answer.{Answer}
 use Rattle.top_call.specs.declared.answers.Fault.{Fault}
@@ -37,6 +37,7 @@ pub record IsSoundReply (IsSuccess : Status → Type 0) (IsAsked : Type 0) (may_
 abbrev pub IsSound : (IsSuccess : Status → Type 0) → Plan → Type 0
 IsSound IsSuccess (replies IsAsked may_reply) = IsSoundReply IsSuccess IsAsked may_reply
 IsSound IsSuccess (file name most IsRead IsFault next) = IsReading IsRead IsFault × ((x : _) → IsSound IsSuccess (next x))
+IsSound IsSuccess (argument title bytes IsRead IsFault next) = IsReading IsRead IsFault × ((x : _) → IsSound IsSuccess (next x))
 
 -- Replies to the bytes of a file -------------------------------------------------------------------------------
 
@@ -78,6 +79,9 @@ reply_exact before after files told reliable (file name most IsRead IsFault next
     (RepliesTo IsRead IsFault name (λ x. RepliesOver files (next x))) reply
     (λ bytes. to_onward IsRead IsFault name (λ x. MayReply before after (next x)) (λ x. RepliesOver files (next x)) bytes reply
     (λ x. reply_exact before after files told reliable (next x) reply)) h)
+reply_exact before after files told reliable (argument title bytes IsRead IsFault next) reply h =
+    to_onward IsRead IsFault title (λ x. MayReply before after (next x)) (λ x. RepliesOver files (next x)) bytes reply
+    (λ x. reply_exact before after files told reliable (next x) reply) h
 
 -- calls that came before and after change nothing
 pub reply_within : (a b c : Shelved) → Passes a b → Passes b c → (plan : Plan) (reply : Reply) → MayReply b c plan reply → MayReply a c plan reply
@@ -88,6 +92,9 @@ reply_within a b c earlier later (file name most IsRead IsFault next) reply h =
     (λ bytes. to_onward IsRead IsFault name (λ x. MayReply b c (next x)) (λ x. MayReply a c (next x)) bytes reply
     (λ x. reply_within a b c earlier later (next x) reply))
     (reads_within a b c c name most (RepliesTo IsRead IsFault name (λ x. MayReply b c (next x))) reply earlier (passes_none c) h)
+reply_within a b c earlier later (argument title bytes IsRead IsFault next) reply h =
+    to_onward IsRead IsFault title (λ x. MayReply b c (next x)) (λ x. MayReply a c (next x)) bytes reply
+    (λ x. reply_within a b c earlier later (next x) reply) h
 
 -- a read fault comes only where the shelf's faults rose
 pub reply_fault : (IsSuccess : Status → Type 0) (before after : Shelved) (plan : Plan) (reply : Reply) → IsSound IsSuccess plan → MayReply before after plan reply
@@ -97,6 +104,9 @@ reply_fault IsSuccess before after (file name most IsRead IsFault next) reply so
     fault_rose before after name most (RepliesTo IsRead IsFault name (λ x. MayReply before after (next x))) reply
     (λ bytes. to_fault IsRead IsFault name sound.0 (λ x. MayReply before after (next x)) bytes (Rose before.faults after.faults) reply
     (λ x. reply_fault IsSuccess before after (next x) reply (sound.1 x))) h e
+reply_fault IsSuccess before after (argument title bytes IsRead IsFault next) reply sound h e =
+    to_fault IsRead IsFault title sound.0 (λ x. MayReply before after (next x)) bytes (Rose before.faults after.faults) reply
+    (λ x. reply_fault IsSuccess before after (next x) reply (sound.1 x)) h e
 
 pub reply_one : (IsSuccess : Status → Type 0) (files : List File) (plan : Plan) (reply other : Reply) → IsSound IsSuccess plan → RepliesOver files plan reply
     → RepliesOver files plan other → reply ≡ other
@@ -105,15 +115,21 @@ reply_one IsSuccess files (file name most IsRead IsFault next) reply other sound
     given_one name most (RepliesTo IsRead IsFault name (λ x. RepliesOver files (next x))) (held files name) reply other
     (λ bytes. to_one IsRead IsFault name sound.0 (λ x. RepliesOver files (next x)) bytes reply other
     (λ x. reply_one IsSuccess files (next x) reply other (sound.1 x))) h k
+reply_one IsSuccess files (argument title bytes IsRead IsFault next) reply other sound h k =
+    to_one IsRead IsFault title sound.0 (λ x. RepliesOver files (next x)) bytes reply other
+    (λ x. reply_one IsSuccess files (next x) reply other (sound.1 x)) h k
 
 -- where all that is asked holds, there is success
 pub reply_success : (IsSuccess : Status → Type 0) (files : List File) (plan : Plan) (reply : Reply) → IsSound IsSuccess plan → IsPlanMet files plan
     → RepliesOver files plan reply → IsSuccess (status_of reply)
 reply_success IsSuccess files (replies IsAsked may_reply) reply sound met h = sound.success reply met h
 reply_success IsSuccess files (file name most IsRead IsFault next) reply sound met h =
-    reply_success IsSuccess files (next met.3) reply (sound.1 met.3) met.5
-    (to_read IsRead IsFault name sound.0 (λ x. RepliesOver files (next x)) met.0 reply met.3 met.4
+    reply_success IsSuccess files (next met.3.0) reply (sound.1 met.3.0) met.3.2
+    (to_read IsRead IsFault name sound.0 (λ x. RepliesOver files (next x)) met.0 reply met.3.0 met.3.1
     (held_given name most (RepliesTo IsRead IsFault name (λ x. RepliesOver files (next x))) files reply met.0 met.1 met.2 h))
+reply_success IsSuccess files (argument title bytes IsRead IsFault next) reply sound met h =
+    reply_success IsSuccess files (next met.0) reply (sound.1 met.0) met.2
+    (to_read IsRead IsFault title sound.0 (λ x. RepliesOver files (next x)) bytes reply met.0 met.1 h)
 
 -- Steps of a plan ----------------------------------------------------------------------------------------------
 
@@ -156,14 +172,46 @@ module _ {A : Type 0} (IsRead : List ℕ → A → Type 0) (IsFault : List ℕ �
     passes = failed.passes;
   }
 
+module _ {A : Type 0} (IsRead : List ℕ → A → Type 0) (IsFault : List ℕ → Fault → Type 0) (title bytes : List ℕ) (next : A → Plan) where
+  -- a word is read, and what follows is carried out
+  pub carried_word : (before after : Shelved) (x : A) (r : Result Answer Stop) → IsRead bytes x → CarriesOut before after (next x) r
+      → CarriesOut before after (argument title bytes IsRead IsFault next) r
+  carried_word before after x r is_read h = record {
+    does = gets_onward (MayReply before after (next x)) (MayReply before after (argument title bytes IsRead IsFault next)) r
+        (λ reply given. inl (x, is_read, given)) h.does;
+    asks = inl (x, is_read, h.asks);
+    passes = h.passes;
+  }
+
+  asks_unread : (reading : IsReading IsRead IsFault) (shelf : Shelved) (stop : Stop)
+      → Stops (λ reply. (fault : Fault) × IsFault bytes fault × (reply ≡ malformed title fault)) stop
+      → Asks shelf shelf (argument title bytes IsRead IsFault next) (LacksMemory (Err stop))
+  asks_unread reading shelf (stops.Answer answer) (fault, is, same) = inr (refl, inl (λ x h. reading.not_both bytes x fault h is))
+  asks_unread reading shelf stops.NoMemory h = inr (refl, inr tt)
+
+  -- a word isn't read, and nothing follows
+  pub carried_no_word : (shelf : Shelved) (stop : Stop) → IsReading IsRead IsFault
+      → Stops (λ reply. (fault : Fault) × IsFault bytes fault × (reply ≡ malformed title fault)) stop
+      → CarriesOut shelf shelf (argument title bytes IsRead IsFault next) (Err stop)
+  carried_no_word shelf stop reading unread = record {
+    does = stops_onward (λ reply. (fault : Fault) × IsFault bytes fault × (reply ≡ malformed title fault))
+        (MayReply shelf shelf (argument title bytes IsRead IsFault next)) stop (λ reply h. inr h) unread;
+    asks = asks_unread reading shelf stop unread;
+    passes = passes_none shelf;
+  }
+
 -- Another way to say that memory ran out -----------------------------------------------------------------------
 
 module _ {A : Type 0} (IsRead : List ℕ → A → Type 0) (GoesOn GoesOn' : A → Type 0) (Halts Lacks Lacks' : Type 0) where
+  continues_onward : (bytes : List ℕ) → ((x : A) → GoesOn x → GoesOn' x) → (Lacks → Lacks')
+      → Continues IsRead bytes GoesOn Halts Lacks → Continues IsRead bytes GoesOn' Halts Lacks'
+  continues_onward bytes on lack (inl (x, is_read, goes)) = inl (x, is_read, on x goes)
+  continues_onward bytes on lack (inr (halts, inl unread)) = inr (halts, inl unread)
+  continues_onward bytes on lack (inr (halts, inr lacks)) = inr (halts, inr (lack lacks))
+
   follows_onward : (answer : Result Fetched ShelfFault) → ((x : A) → GoesOn x → GoesOn' x) → (Lacks → Lacks')
       → Follows IsRead answer GoesOn Halts Lacks → Follows IsRead answer GoesOn' Halts Lacks'
-  follows_onward (Ok (Whole bytes)) on lack (inl (x, is_read, goes)) = inl (x, is_read, on x goes)
-  follows_onward (Ok (Whole bytes)) on lack (inr (halts, inl unread)) = inr (halts, inl unread)
-  follows_onward (Ok (Whole bytes)) on lack (inr (halts, inr lacks)) = inr (halts, inr (lack lacks))
+  follows_onward (Ok (Whole bytes)) on lack h = continues_onward bytes on lack h
   follows_onward (Ok TooLong) on lack halts = halts
   follows_onward (Err faults.Failed) on lack halts = halts
   follows_onward (Err faults.NoMemory) on lack halts = halts
@@ -177,3 +225,6 @@ asks_onward before after (file name most IsRead IsFault next) Lacks Lacks' lack 
   follows_onward IsRead (λ x. Asks between after (next x) Lacks) (λ x. Asks between after (next x) Lacks') (after ≡ between) Lacks Lacks' answer
       (λ x. asks_onward between after (next x) Lacks Lacks' lack) lack follows,
 )
+asks_onward before after (argument title bytes IsRead IsFault next) Lacks Lacks' lack h =
+    continues_onward IsRead (λ x. Asks before after (next x) Lacks) (λ x. Asks before after (next x) Lacks') (after ≡ before) Lacks Lacks' bytes
+    (λ x. asks_onward before after (next x) Lacks Lacks' lack) lack h

@@ -2,10 +2,7 @@
 use Rattle.std.proofs.Common.{◌≡◌, ℕ, ◌+◌, ◌<◌, List, [], ◌++◌, length, map, get_or, drop, Some, option_map, slice_get, sym, ap, ◌∙◌, append_assoc}
 use Rattle.std.proofs.lemmas.List.{at_drop_more}
 use Rattle.std.proofs.lemmas.Option.{get_or_from_slice_get, slice_get-map}
-use Rattle.cov_ast.specs.Syntax.{Thread}
-use Rattle.cov_ast.specs.View as view
-use Rattle.cov_ast.specs.declared.decl.ThreadDecl.{ThreadDecl}
-use Rattle.top_call.specs.RunReports.{lines_from, name_at}
+use Rattle.top_call.specs.RunReports.{lines_from}
 
 -- the line of a declaration and those behind it; `seen` is what reports see of a declaration
 module _ {A B : Type 0} (line : ℕ → B → List ℕ) (seen : A → B) where
@@ -16,9 +13,9 @@ module _ {A B : Type 0} (line : ℕ → B → List ℕ) (seen : A → B) where
       ∙ ap (λ y. before ++ (line n (seen y) ++ lines_from line (n + 1) (map seen (drop (n + 1) xs)))) is
       ∙ ap (λ ys. before ++ ys) (sym (at_drop_more (λ ys. lines_from line n (map seen ys)) xs n x inside)) ∙ h
 
--- the name of a thread that is there
-pub name_found : (threads : List ThreadDecl) (t : ℕ) (found : ThreadDecl) → slice_get threads t ≡ Some found → name_at (map view.thread threads) t ≡ found.name
-name_found threads t found at =
-    let name : Thread → List ℕ = λ th. th.name in
-    get_or_from_slice_get (map name (map view.thread threads)) t found.name []
-    (slice_get-map name (map view.thread threads) t ∙ ap (option_map name) (slice_get-map view.thread threads t ∙ ap (option_map view.thread) at))
+-- the name of a declaration that is there
+pub declared_name : {A B : Type 0} (seen : A → B) (name : B → List ℕ) (xs : List A) (n : ℕ) (found : A) → slice_get xs n ≡ Some found
+    → get_or (map name (map seen xs)) n [] ≡ name (seen found)
+declared_name seen name xs n found at =
+    get_or_from_slice_get (map name (map seen xs)) n (name (seen found)) []
+    (slice_get-map name (map seen xs) n ∙ ap (option_map name) (slice_get-map seen xs n ∙ ap (option_map seen) at))

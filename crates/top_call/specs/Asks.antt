@@ -7,7 +7,7 @@ use Rattle.cov_io.specs.declared.shelf.Fetched.TheVariants.{Whole}
 use Rattle.cov_io.specs.declared.shelf.ShelfFault.{ShelfFault}
 use Rattle.top_call.specs.Commands.{Command}
 use Rattle.top_call.specs.Outcome.{plan_of}
-use Rattle.top_call.specs.Plans.{Plan, replies, file}
+use Rattle.top_call.specs.Plans.{Plan, replies, file, argument}
 
 -- The shelf is called once, for a file, and gives an answer.
 pub record Calls (before after : Shelved) (name : List ℕ) (most : ℕ) (answer : Result Fetched ShelfFault) : Type 0 where
@@ -15,10 +15,13 @@ pub record Calls (before after : Shelved) (name : List ℕ) (most : ℕ) (answer
   pub counted : after.calls ≡ raised before.calls 1
 
 module _ {A : Type 0} (IsRead : List ℕ → A → Type 0) where
-  -- What follows a call for a file: where its bytes are read, what goes on; where they aren't, or memory ran out for reading
-  -- them, what stops.
+  -- What follows bytes: where they are read, what goes on; where they aren't, or memory ran out for reading them, what stops.
+  abbrev pub Continues : List ℕ → (GoesOn : A → Type 0) → (Halts Lacks : Type 0) → Type 0
+  Continues bytes GoesOn Halts Lacks = ((x : A) × IsRead bytes x × GoesOn x) ⊎ (Halts × (((x : A) → ¬ IsRead bytes x) ⊎ Lacks))
+
+  -- What follows a call for a file: what follows its bytes, or what stops.
   abbrev pub Follows : Result Fetched ShelfFault → (GoesOn : A → Type 0) → (Halts Lacks : Type 0) → Type 0
-  Follows (Ok (Whole bytes)) GoesOn Halts Lacks = ((x : A) × IsRead bytes x × GoesOn x) ⊎ (Halts × (((x : A) → ¬ IsRead bytes x) ⊎ Lacks))
+  Follows (Ok (Whole bytes)) GoesOn Halts Lacks = Continues bytes GoesOn Halts Lacks
   Follows answer GoesOn Halts Lacks = Halts
 
 -- The shelf is called once for each file, in this order, up to the first that isn't read, and not otherwise; it is called
@@ -28,6 +31,7 @@ Asks before after (replies IsAsked may_reply) Lacks = after ≡ before
 Asks before after (file name most IsRead IsFault next) Lacks =
     (between : Shelved) × (answer : Result Fetched ShelfFault) × Calls before between name most answer
     × Follows IsRead answer (λ x. Asks between after (next x) Lacks) (after ≡ between) Lacks
+Asks before after (argument title bytes IsRead IsFault next) Lacks = Continues IsRead bytes (λ x. Asks before after (next x) Lacks) (after ≡ before) Lacks
 
 -- the files of a command are those of its plan, in the order of the words
 abbrev pub files_of : Command → Plan

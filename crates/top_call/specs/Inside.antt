@@ -1,25 +1,42 @@
 -- Words of private contracts: what steps of the code give. To believe what `covern` promises, nothing here need be read.
-use Rattle.std.specs.Prelude.{◌≡◌, ℕ, List, length, map, slice_get, Option, Some, None, Result, Ok, Err}
+use Rattle.std.specs.Prelude.{◌≡◌, ◌≢◌, ◌≤◌, ℕ, List, length, map, slice_get, codes, Option, Some, None, Result, Ok, Err}
 use Rattle.cov_ast.specs.Obligations.{first_false}
 use Rattle.cov_ast.specs.Plain.{plain}
 use Rattle.cov_ast.specs.Syntax.{Parsed, Program, Thread}
 use Rattle.cov_ast.specs.WellFormed.{IsWellFormed}
+use Rattle.cov_ast.specs.declared.decl.VarDecl.{VarDecl}
 use Rattle.cov_ast.specs.declared.refusal.Refusal.{Refusal}
+use Rattle.cov_expr.specs.Term.{Term}
+use Rattle.cov_expr.specs.View.{term}
+use Rattle.cov_expr.specs.declared.expr.Expr.{Expr}
 use Rattle.cov_io.specs.Counters.{raised}
 use Rattle.cov_io.specs.Shelves.{Shelved, Gives, Passes}
 use Rattle.cov_io.specs.declared.shelf.Fetched.TheVariants.{Whole}
+use Rattle.cov_text.specs.Text.{Expression}
+use Rattle.flow_model.specs.Agreement.{AreFitStarts}
 use Rattle.flow_model.specs.Secure.{IsSecure}
 use Rattle.policy_class.specs.Resolved.{resolved}
+use Rattle.schedule_replay.specs.Replays.{StopsAt, after_steps}
+use Rattle.schedule_replay.specs.declared.replays.Until.{Until}
+use Rattle.source_machine.specs.Machine.{Machine, run_of}
 use Rattle.verify.specs.Accepted.{IsAccepted, program_obligations}
 use Rattle.verify.specs.Verdicts.{counts}
 use Rattle.top_call.specs.Asks.{Asks}
-use Rattle.top_call.specs.Commands.{Command, check, fmt, migrate, run, nothing}
+use Rattle.top_call.specs.Check.{meaning}
+use Rattle.top_call.specs.Commands.{Command, check, fmt, migrate, run, run_until, pair, nothing}
+use Rattle.top_call.specs.Expressions.{by_place, first_unknown}
 use Rattle.top_call.specs.Files.{Reads}
-use Rattle.top_call.specs.Plans.{Plan, MayReply}
-use Rattle.top_call.specs.Replies.{Reply, usage, read_fault, too_long, malformed, refused, accepted, spelled, ran}
+use Rattle.top_call.specs.Outcome.{entries, expression, memory}
+use Rattle.top_call.specs.Pairs.{Pairs, RunsBoth, RunsFit}
+use Rattle.top_call.specs.Plans.{Plan, MayReply, replies}
+use Rattle.top_call.specs.Replies.{Reply, usage, read_fault, too_long, malformed, refused, accepted, spelled, ran, bad_starts, differ, status_of}
 use Rattle.top_call.specs.Reports.{report_of}
-use Rattle.top_call.specs.Runs.{declared_obligations}
+use Rattle.top_call.specs.Runs.{IsDeclaredText, RunsUntil, declared_obligations}
 use Rattle.top_call.specs.declared.answers.Fault.{Fault}
+use Rattle.top_call.specs.declared.answers.Fault.TheVariants as f
+use Rattle.top_call.specs.declared.answers.FaultKind.TheVariants as k
+use Rattle.top_call.specs.declared.answers.Status.TheVariants as s
+use Rattle.top_call.specs.declared.expressions.TheConstants.{MOST_EXPRESSION_BYTES}
 use Rattle.top_call.specs.declared.answers.Answer.{Answer}
 use Rattle.top_call.specs.declared.answers.Answer.TheVariants as a
 use Rattle.top_call.specs.declared.commands.Asked.{Asked}
@@ -37,6 +54,8 @@ seen (a.Refused refusal thread) = refused refusal thread
 seen (a.Accepted counts) = accepted counts.threads counts.statements counts.entailments
 seen (a.Spelled text) = spelled text
 seen (a.Ran report) = ran report
+seen (a.BadStarts name) = bad_starts name
+seen (a.Differ step what) = differ step what
 
 -- what is asked, without where its words lie in memory
 abbrev pub command_seen : Asked → Command
@@ -44,7 +63,14 @@ command_seen (asked.Check name) = check name.now
 command_seen (asked.Fmt name) = fmt name.now
 command_seen (asked.Migrate name) = migrate name.now
 command_seen (asked.Run program start schedule) = run program.now start.now schedule.now
+command_seen (asked.RunUntil program start schedule expression) = run_until program.now start.now schedule.now expression.now
+command_seen (asked.Pair program first second schedule) = pair program.now first.now second.now schedule.now
 command_seen asked.Nothing = nothing
+
+-- The expression that is asked for, if any, isn't too long.
+abbrev pub IsShortEnough : Asked → Type 0
+IsShortEnough (asked.RunUntil program start schedule expression) = length expression.now ≤ MOST_EXPRESSION_BYTES
+IsShortEnough asked = Unit {0}
 
 -- A step gives what the command gives, unless memory ran out.
 abbrev pub Stops : (Reply → Type 0) → Stop → Type 0
@@ -117,4 +143,41 @@ IsLine (malformed name fault) line = Unit {0}
 IsLine (refused refusal thread) line = Unit {0}
 IsLine (spelled text) line = Unit {0}
 IsLine (ran report) line = Unit {0}
+IsLine (bad_starts name) line = Unit {0}
+IsLine (differ step what) line = Unit {0}
 IsLine reply line = line ≡ report_of reply
+
+-- The reply to two runs of a program from fit starts. Those of what is accepted never differ.
+pub record PairsFit (program : Program) (left right schedule : List ℕ) (reply : Reply) : Type 0 where
+  pub verdict : RunsFit program left right schedule reply
+  pub agree : IsAccepted program → status_of reply ≢ s.Differ
+
+-- The reply to two runs of a program whose declarations are in order. Those of what is accepted never differ.
+pub record PairsProgram (program : Program) (left right schedule : List ℕ) (reply : Reply) : Type 0 where
+  pub verdict : RunsBoth program left right schedule reply
+  pub agree : IsAccepted program → status_of reply ≢ s.Differ
+
+-- what follows of a program, a memory and a schedule, where an expression is read
+abbrev pub until_plan : Parsed → (memory schedule word : List ℕ) → Plan
+until_plan p memory schedule word = expression p word (λ e. replies (IsDeclaredText p) (RunsUntil p memory schedule e))
+
+-- what follows of a program and a first memory, where a second one is read
+abbrev pub second_plan : Parsed → (left second schedule : List ℕ) → Plan
+second_plan p left second schedule =
+    memory p second (λ r. entries p schedule (λ k. replies (IsDeclaredText p × AreFitStarts (meaning p) left r) (Pairs p left r k)))
+
+-- the names of declared variables, in their order
+abbrev pub variables : List VarDecl → List (List ℕ)
+variables vars = map (λ v. v.name) vars
+
+-- The expression with each variable by the place of its declaration; or its first name that is no variable; or memory ran out.
+abbrev pub Places : (declared : List (List ℕ)) → Expression → Result Expr Stop → Type 0
+Places declared x (Ok e) = (first_unknown declared x.names x.uses ≡ None) × (term e ≡ by_place declared x.names x.expr)
+Places declared x (Err stop) =
+    Stops (λ reply. (at : ℕ) × (first_unknown declared x.names x.uses ≡ Some at) × (reply ≡ malformed (codes "expression") (f.Text k.Unknown at))) stop
+
+-- A machine was run until an expression held, or under the whole schedule.
+pub record IsStopped (e : Term) (before now : Machine) (schedule : List ℕ) (stop : Until) : Type 0 where
+  pub program : now.program ≡ before.program
+  pub run : run_of now ≡ after_steps (run_of before) schedule stop.steps
+  pub stops : StopsAt e (run_of before) schedule stop

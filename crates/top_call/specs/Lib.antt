@@ -3,9 +3,11 @@ pub mod Outcome
 pub mod Headline
 pub mod Plans
 pub mod Inputs
+pub mod Expressions
 pub mod Check
 pub mod Format
 pub mod Runs
+pub mod Pairs
 pub mod Programs
 pub mod Files
 pub mod Asks

@@ -1,16 +1,20 @@
 -- What each command replies: the step of each in one row.
-use Rattle.std.specs.Prelude.{◌≡◌, ℕ, List}
+use Rattle.std.specs.Prelude.{◌≡◌, ◌⊎◌, ℕ, List, codes}
 use Rattle.cov_ast.specs.Syntax.{Parsed}
 use Rattle.cov_io.specs.Shelves.{File, Shelved}
+use Rattle.cov_expr.specs.Term.{Term}
 use Rattle.cov_expr.specs.declared.limits.TheConstants.{MOST_BYTES}
-use Rattle.top_call.specs.Check.{Judges, IsAcceptedText}
-use Rattle.top_call.specs.Commands.{Command, check, fmt, migrate, run, nothing}
+use Rattle.flow_model.specs.Agreement.{AreFitStarts}
+use Rattle.top_call.specs.Check.{Judges, IsAcceptedText, meaning}
+use Rattle.top_call.specs.Commands.{Command, check, fmt, migrate, run, run_until, pair, nothing}
+use Rattle.top_call.specs.Expressions.{IsExpression, IsExpressionFault}
 use Rattle.top_call.specs.Format.{Formats, Migrates}
 use Rattle.top_call.specs.Inputs.{IsStart, IsStartFault, IsScheduleText, IsScheduleFault}
-use Rattle.top_call.specs.Plans.{Plan, replies, file, MayReply, RepliesOver, IsPlanMet}
+use Rattle.top_call.specs.Pairs.{Pairs}
+use Rattle.top_call.specs.Plans.{Plan, replies, file, argument, MayReply, RepliesOver, IsPlanMet}
 use Rattle.top_call.specs.Programs.{SpellsProgram, IsShownFault}
 use Rattle.top_call.specs.Replies.{Reply, usage}
-use Rattle.top_call.specs.Runs.{IsDeclaredText, Runs}
+use Rattle.top_call.specs.Runs.{IsDeclaredText, Runs, RunsUntil}
 use Rattle.top_call.specs.declared.answers.Status.{Status}
 use Rattle.top_call.specs.declared.answers.Status.TheVariants as s
 use Rattle.top_call.specs.declared.inputs.TheConstants.{MOST_INPUT_BYTES}
@@ -27,6 +31,10 @@ memory p name next = file name MOST_INPUT_BYTES (IsStart p) (IsStartFault p) nex
 abbrev pub entries : Parsed → (name : List ℕ) → (next : List ℕ → Plan) → Plan
 entries p name next = file name MOST_INPUT_BYTES (IsScheduleText p) (IsScheduleFault p) next
 
+-- a word that is an expression over the variables of a program
+abbrev pub expression : Parsed → (bytes : List ℕ) → (next : Term → Plan) → Plan
+expression p bytes next = argument (codes "expression") bytes (IsExpression p) (IsExpressionFault p) next
+
 -- what each command does
 abbrev pub plan_of : Command → Plan
 plan_of (check name) = program name (λ p. replies (IsAcceptedText p) (Judges p))
@@ -34,6 +42,11 @@ plan_of (fmt name) = program name (λ p. replies (Unit {0}) (Formats p))
 plan_of (migrate name) = program name (λ p. replies (Unit {0}) (Migrates p))
 plan_of (run name start schedule) =
     program name (λ p. memory p start (λ m. entries p schedule (λ k. replies (IsDeclaredText p) (Runs p m k))))
+plan_of (run_until name start schedule word) =
+    program name (λ p. memory p start (λ m. entries p schedule (λ k. expression p word (λ e. replies (IsDeclaredText p) (RunsUntil p m k e)))))
+plan_of (pair name first second schedule) =
+    program name (λ p. memory p first (λ l. memory p second (λ r. entries p schedule (λ k.
+    replies (IsDeclaredText p × AreFitStarts (meaning p) l r) (Pairs p l r k)))))
 plan_of nothing = replies ⊥ (λ reply. reply ≡ usage)
 
 -- what a command may reply, by the shelf before and after the call
@@ -48,10 +61,12 @@ Outcome files command reply = RepliesOver files (plan_of command) reply
 abbrev pub IsMet : List File → Command → Type 0
 IsMet files command = IsPlanMet files (plan_of command)
 
--- The status says that a command did all its work.
+-- The status says that a command did all its work; that of two runs, that they agree, or that they differ.
 abbrev pub IsSuccess : Command → Status → Type 0
 IsSuccess (check name) status = status ≡ s.Done
 IsSuccess (fmt name) status = status ≡ s.Done
 IsSuccess (migrate name) status = status ≡ s.Done
 IsSuccess (run name start schedule) status = status ≡ s.Done
+IsSuccess (run_until name start schedule word) status = status ≡ s.Done
+IsSuccess (pair name first second schedule) status = (status ≡ s.Done) ⊎ (status ≡ s.Differ)
 IsSuccess nothing status = ⊥

@@ -5,7 +5,7 @@ use Rattle.cov_ast.specs.declared.refusal.Rule.TheVariants as r
 use Rattle.cov_ast.specs.declared.refusal.Detail.{Detail}
 use Rattle.cov_ast.specs.declared.refusal.Detail.TheVariants as d
 use Rattle.cov_ast.specs.declared.refusal.Refusal.{Refusal}
-use Rattle.top_call.specs.Replies.{Reply, usage, read_fault, too_long, malformed, refused, accepted, spelled, ran}
+use Rattle.top_call.specs.Replies.{Reply, usage, read_fault, too_long, malformed, refused, accepted, spelled, ran, bad_starts, differ}
 use Rattle.top_call.specs.declared.answers.Fault.{Fault}
 use Rattle.top_call.specs.declared.answers.Fault.TheVariants as f
 use Rattle.top_call.specs.declared.answers.FaultKind.{FaultKind}
@@ -25,6 +25,7 @@ kind_text k.Name = codes "name"
 kind_text k.Token = codes "token"
 kind_text k.Limit = codes "limit"
 kind_text k.Depth = codes "depth"
+kind_text k.Unknown = codes "unknown"
 
 -- what a fault of a file is, and where
 abbrev pub fault_text : Fault → List ℕ
@@ -98,3 +99,5 @@ report_of (accepted threads statements entailments) =
     codes "accepted: " ++ counted threads (codes " threads, ") ++ counted statements (codes " statements, ") ++ counted entailments (codes " entailments\n")
 report_of (spelled text) = text
 report_of (ran report) = report
+report_of (bad_starts name) = codes "bad starts: " ++ name ++ codes "\n"
+report_of (differ step what) = codes "differ at step " ++ decimal step ++ codes ": " ++ what ++ codes "\n"

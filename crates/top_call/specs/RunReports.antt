@@ -1,5 +1,5 @@
 -- The texts of reports on runs.
-use Rattle.std.specs.Prelude.{ℕ, ◌+◌, List, [], ◌∷◌, ◌++◌, flat_map, get_or, map, Option, Some, None, codes, decimal}
+use Rattle.std.specs.Prelude.{ℕ, ◌+◌, List, [], ◌∷◌, ◌++◌, flat_map, get_or, map, Bool, if◌then◌else◌, Option, Some, None, codes, decimal}
 use Rattle.cov_ast.specs.Syntax.{Var, Lock, Thread, Program}
 use Rattle.flow_model.specs.Source.{Holders, holder, Run, items_of, first_place}
 
@@ -36,6 +36,9 @@ place_text (Some at) = codes "at " ++ decimal at
 abbrev pub var_line : (memory : List ℕ) → ℕ → Var → List ℕ
 var_line memory x var = told (codes "var ") var.name (decimal (get_or memory x 0))
 
+abbrev pub pair_line : (left right : List ℕ) → ℕ → Var → List ℕ
+pair_line left right x var = told (codes "var ") var.name (decimal (get_or left x 0) ++ codes " " ++ decimal (get_or right x 0))
+
 abbrev pub lock_line : List Thread → Holders → ℕ → Lock → List ℕ
 lock_line threads holders l lock = told (codes "lock ") lock.name (holder_text threads (holder holders l))
 
@@ -57,3 +60,12 @@ state_lines p state =
 abbrev pub run_report : Program → (steps stayed : ℕ) → Run → List ℕ
 run_report p steps stayed state =
     numbered (codes "steps ") steps ++ numbered (codes "stayed ") stayed ++ lines_from (var_line state.memory) 0 p.vars ++ state_lines p state
+
+-- how a run ended that was to stop where an expression holds
+abbrev pub stop_line : (hit : Bool) → (steps : ℕ) → List ℕ
+stop_line hit steps = if hit then numbered (codes "stopped after ") steps else codes "not reached\n"
+
+-- the report on two runs that agree after each of so many steps; what else they agree on is told of the first
+abbrev pub pair_report : Program → (steps : ℕ) → (left right : Run) → List ℕ
+pair_report p steps left right =
+    codes "agree: " ++ decimal steps ++ codes " steps\n" ++ lines_from (pair_line left.memory right.memory) 0 p.vars ++ state_lines p left

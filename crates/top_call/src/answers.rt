@@ -48,6 +48,8 @@ pub enum FaultKind {
     Token,
     Limit,
     Depth,
+    /// A name that is no variable.
+    Unknown,
 }
 
 /// A fault of a file, as reports show it.
@@ -73,7 +75,7 @@ pub enum Fault {
     BadEntry(u32),
 }
 
-/// What a call answers, the want of memory and a failed write aside. Names are words of the command line.
+/// What a call answers, the want of memory and a failed write aside. Names of files are words of the command line.
 #[derive(Drop)]
 pub enum Answer<'w> {
     Usage,
@@ -85,8 +87,12 @@ pub enum Answer<'w> {
     Accepted(Counts),
     /// The canonical spelling of a program.
     Spelled(Blob),
-    /// The report on a run.
+    /// The report on a run, or on two that agree.
     Ran(Blob),
+    /// Two memories aren't fit to start from: the name of the first variable or lock that says so.
+    BadStarts(Blob),
+    /// Two runs don't agree: the first step after which they don't, and what they differ in there.
+    Differ(u32, Blob),
 }
 
 /// Why a step of a command gives no value.
@@ -117,5 +123,7 @@ pub fn status_for(answer: &Answer<'_>) -> Status
         Answer::Malformed(_, _) => Status::Malformed,
         Answer::Refused(_, _) => Status::Refused,
         Answer::Accepted(_) | Answer::Spelled(_) | Answer::Ran(_) => Status::Done,
+        Answer::BadStarts(_) => Status::BadStarts,
+        Answer::Differ(_, _) => Status::Differ,
     }
 }

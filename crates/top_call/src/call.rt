@@ -1,10 +1,10 @@
-ghost use Rattle.std.specs.Prelude.{◌≡◌, ◌⊎◌, IfSome, IsTrue, map, string_bytes, ◌≤◌};
+ghost use Rattle.std.specs.Prelude.{◌≡◌, ◌≢◌, ◌⊎◌, IfSome, IsTrue, map, string_bytes, ◌≤◌};
 ghost use Rattle.cov_io.specs.Shelves.{Passes};
 ghost use Rattle.cov_io.specs.Counters.{Rose};
 ghost use Rattle.top_call.specs.Asks.{Asks, files_of};
 ghost use Rattle.top_call.specs.Commands.{command_of};
 ghost use Rattle.top_call.specs.Ends.{Ends};
-ghost use Rattle.top_call.specs.Headline.{HoldsSecure};
+ghost use Rattle.top_call.specs.Headline.{HoldsSecure, RunsAccepted};
 ghost use Rattle.top_call.specs.Outcome.{Does, Outcome, IsMet, IsSuccess};
 
 use crate::answers::{Status, Stop};
@@ -33,6 +33,9 @@ pub fn covern<S: Shelf, K: Sink>(
     // A program that is accepted is secure.
     ensures secure { result ≡ Status.Done → IfSome (S.shelved shelf.old).told (λ files.
         HoldsSecure files (command_of (map string_bytes words.now))) }
+    // Two runs of a program that is accepted never differ, and no other command answers so.
+    ensures agree { IfSome (S.shelved shelf.old).told (λ files.
+        RunsAccepted files (command_of (map string_bytes words.now)) → result ≢ Status.Differ) }
     // Where the shelf tells, no call of it and no put failed, and all that the command asks holds, it is done, or memory ran out.
     ensures complete { ¬ Rose (S.shelved shelf.old).faults (S.shelved shelf.new).faults → ¬ Rose (K.sunk sink.old).faults (K.sunk sink.new).faults
         → IfSome (S.shelved shelf.old).told (λ files. IsMet files (command_of (map string_bytes words.now))

@@ -3,24 +3,29 @@ ghost use Rattle.cov_io.specs.Shelves.{Passes};
 ghost use Rattle.top_call.specs.Asks.{Asks, files_of};
 ghost use Rattle.top_call.specs.Commands.{command_of};
 ghost use Rattle.top_call.specs.Commands as spec;
-ghost use Rattle.top_call.specs.Inside.{Gets, LacksMemory, command_seen};
+ghost use Rattle.top_call.specs.Inside.{Gets, IsShortEnough, LacksMemory, command_seen};
 ghost use Rattle.top_call.specs.Outcome.{Does};
 
 use crate::answers::{Answer, Stop};
 use crate::check::check;
+use crate::expressions::MOST_EXPRESSION_BYTES;
 use crate::fmt::format;
 use crate::migrate::migrate;
+use crate::pair::pair;
 use crate::run::run;
+use crate::run_until::run_until;
 use cov_io::Shelf;
 use std::alloc::Global;
 
-/// What the words ask for, with the names of files.
+/// What the words ask for, with the names of files and an expression.
 #[derive(Clone, Copy)]
 pub enum Asked<'w> {
     Check(&'w str),
     Fmt(&'w str),
     Migrate(&'w str),
     Run(&'w str, &'w str, &'w str),
+    RunUntil(&'w str, &'w str, &'w str, &'w str),
+    Pair(&'w str, &'w str, &'w str, &'w str),
     Nothing,
 }
 
@@ -43,6 +48,7 @@ fn carry_out<'w, S: Shelf>(
     asked: Asked<'w>,
     shelf: &mut S,
 ) -> Result<Answer<'w>, Stop<'w>>
+    requires { IsShortEnough asked }
     ensures does { Gets (Does (S.shelved shelf.old) (S.shelved shelf.new) (command_seen asked.entry)) result }
     ensures asks { Asks (S.shelved shelf.old) (S.shelved shelf.new) (files_of (command_seen asked.entry)) (LacksMemory result) }
     ensures passes { Passes (S.shelved shelf.old) (S.shelved shelf.new) }
@@ -52,13 +58,20 @@ fn carry_out<'w, S: Shelf>(
         Asked::Fmt(name) => format(alloc, name, shelf),
         Asked::Migrate(name) => migrate(alloc, name, shelf),
         Asked::Run(program, start, schedule) => run(alloc, program, start, schedule, shelf),
+        Asked::RunUntil(program, start, schedule, expression) => {
+            run_until(alloc, program, start, schedule, expression, shelf)
+        }
+        Asked::Pair(program, first, second, schedule) => {
+            pair(alloc, program, first, second, schedule, shelf)
+        }
         Asked::Nothing => Ok(Answer::Usage),
     }
 }
 
 /// The command that the words ask for.
 fn find<'w>(words: &'w [String]) -> Asked<'w>
-    ensures { command_seen result ≡ command_of (map string_bytes words.now) }
+    ensures is { command_seen result ≡ command_of (map string_bytes words.now) }
+    ensures short { IsShortEnough result }
 {
     match words {
         [command, name] => of_one(command.as_str(), name.as_str()),
@@ -68,12 +81,20 @@ fn find<'w>(words: &'w [String]) -> Asked<'w>
             start.as_str(),
             schedule.as_str(),
         ),
+        [command, program, start, next, last] => of_four(
+            command.as_str(),
+            program.as_str(),
+            start.as_str(),
+            next.as_str(),
+            last.as_str(),
+        ),
         _ => Asked::Nothing,
     }
 }
 
 fn of_one<'w>(command: &str, name: &'w str) -> Asked<'w>
-    ensures { command_seen result ≡ spec.of_one command.now name.now }
+    ensures is { command_seen result ≡ spec.of_one command.now name.now }
+    ensures short { IsShortEnough result }
 {
     if command == "check" {
         Asked::Check(name)
@@ -87,10 +108,34 @@ fn of_one<'w>(command: &str, name: &'w str) -> Asked<'w>
 }
 
 fn of_three<'w>(command: &str, program: &'w str, start: &'w str, schedule: &'w str) -> Asked<'w>
-    ensures { command_seen result ≡ spec.of_three command.now program.now start.now schedule.now }
+    ensures is { command_seen result ≡ spec.of_three command.now program.now start.now schedule.now }
+    ensures short { IsShortEnough result }
 {
     if command == "run" {
         Asked::Run(program, start, schedule)
+    } else {
+        Asked::Nothing
+    }
+}
+
+fn of_four<'w>(
+    command: &str,
+    program: &'w str,
+    start: &'w str,
+    next: &'w str,
+    last: &'w str,
+) -> Asked<'w>
+    ensures is { command_seen result ≡ spec.of_four command.now program.now start.now next.now last.now }
+    ensures short { IsShortEnough result }
+{
+    if command == "run-until" {
+        if last.len() <= MOST_EXPRESSION_BYTES {
+            Asked::RunUntil(program, start, next, last)
+        } else {
+            Asked::Nothing
+        }
+    } else if command == "pair" {
+        Asked::Pair(program, start, next, last)
     } else {
         Asked::Nothing
     }

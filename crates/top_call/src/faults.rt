@@ -54,5 +54,6 @@ fn kind_text(kind: FaultKind) -> &'static str
         FaultKind::Token => "token",
         FaultKind::Limit => "limit",
         FaultKind::Depth => "depth",
+        FaultKind::Unknown => "unknown",
     }
 }

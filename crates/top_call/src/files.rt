@@ -57,7 +57,7 @@ pub fn fetch<'w, S: Shelf>(
     }
 }
 
-/// What is answered where a file has a fault; where it has none, memory ran out.
+/// What is answered where a file, or a word, has a fault; where it has none, memory ran out.
 pub fn unread<'w>(name: &'w str, fault: Option<Fault>) -> Stop<'w>
     ensures { Stops (λ reply. (found : Fault) × (fault ≡ Some found) × (reply ≡ malformed name.now found)) result }
 {
@@ -68,7 +68,7 @@ pub fn unread<'w>(name: &'w str, fault: Option<Fault>) -> Stop<'w>
 }
 
 /// A fault of a text, as reports show it; want of memory is none.
-fn text_fault(fault: ParseFault) -> Option<Fault>
+pub fn text_fault(fault: ParseFault) -> Option<Fault>
     ensures { result ≡ shown fault }
 {
     match fault {

@@ -1,7 +1,7 @@
 ghost use Rattle.std.specs.Prelude.{◌≡◌, ◌≤◌, IfOk, MatchResult, length};
 ghost use Rattle.cov_ast.specs.View as view;
 ghost use Rattle.cov_expr.specs.declared.limits.TheConstants.{MOST_THREADS};
-ghost use Rattle.cov_expr.specs.Words.{IsSchedule};
+ghost use Rattle.cov_expr.specs.Words.{IsMemory, IsSchedule};
 ghost use Rattle.schedule_replay.specs.Schedules.{most_entries};
 ghost use Rattle.top_call.specs.Inputs as spec;
 ghost use Rattle.top_call.specs.Inside.{Fails, Takes};
@@ -27,7 +27,7 @@ pub fn read_memory<'w, S: Shelf>(
     ensures read { MatchResult result
         (λ memory. Takes (spec.IsStart (view.parsed parsed.now)) (S.shelved shelf.old) (S.shelved shelf.new) name.now MOST_INPUT_BYTES memory)
         (λ stop. Fails (spec.IsStartFault (view.parsed parsed.now)) (S.shelved shelf.old) (S.shelved shelf.new) name.now MOST_INPUT_BYTES stop) }
-    ensures sized { IfOk result (λ memory. length memory ≡ length parsed.now.vars) }
+    ensures memory { IfOk result (λ memory. IsMemory (length parsed.now.vars) memory) }
 {
     let bytes = fetch(alloc, name, MOST_INPUT_BYTES, shelf)?;
     match read_start(alloc, bytes.as_slice(), &parsed.vars) {

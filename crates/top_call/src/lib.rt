@@ -12,15 +12,15 @@
 //! | `call` | | `covern`, with all its promises |
 //! | `commands` | `Commands`, `Outcome` | which command the words ask for; the plan of each, in one row |
 //! | | `Plans`, `Asks` | plans: which files are read one behind the other, and what is replied then; which calls they make |
-//! | `check`, `fmt`, `migrate`, `run` | `Check`, `Format`, `Runs` | a module for each command: what it replies to what its files spell |
-//! | `files`, `inputs` | `Files`, `Programs`, `Inputs` | how a file is fetched and read, as a program, a start or a schedule, and what is replied where it isn't |
+//! | `check`, `fmt`, `migrate`, `run`, `run_until`, `pair` | `Check`, `Format`, `Runs`, `Pairs` | a module for each command: what it replies to what its files spell |
+//! | `files`, `inputs`, `expressions` | `Files`, `Programs`, `Inputs`, `Expressions` | how a file is fetched and read, as a program, a start or a schedule, and a word as an expression, and what is replied where it isn't |
 //! | `answers` | `Replies` | what a call can answer, and the status of each answer |
-//! | `reports`, `refusals`, `faults`, `run_reports`, `lines` | `Reports`, `RunReports` | the text of each answer |
+//! | `reports`, `refusals`, `faults`, `run_reports`, `differences`, `lines` | `Reports`, `RunReports` | the text of each answer |
 //! | `end` | `Ends` | the report is made and written |
 //! | `laws` | `Laws`, `Headline` | one reply; a program in version 2; what it says of a file that it is accepted |
 //!
 //! A command is a module of `src/` with its step, a module of `specs/` with its replies, and a row in each of `Command`,
-//! `command_of`, `plan_of`, `IsSuccess`, `HoldsSecure` and in the function `answer`. Definitions by command have no row for the
+//! `command_of`, `plan_of`, `IsSuccess`, `HoldsSecure`, `RunsAccepted` and in the function `answer`. Definitions by command have no row for the
 //! rest, so that none is forgotten. What a command may reply, what it replies over files, what it asks and which calls it makes
 //! are said once, by recursion on plans. `specs/Inside` has the words of private contracts, which no promise of `covern` cites.
 #![tactic(auto)]
@@ -29,7 +29,9 @@ mod answers;
 mod call;
 mod check;
 mod commands;
+mod differences;
 mod end;
+mod expressions;
 mod faults;
 mod files;
 mod fmt;
@@ -37,10 +39,12 @@ mod inputs;
 mod laws;
 mod lines;
 mod migrate;
+mod pair;
 mod refusals;
 mod reports;
 mod run;
 mod run_reports;
+mod run_until;
 
 pub use answers::Status;
 pub use call::covern;

@@ -4,6 +4,7 @@ ghost use Rattle.top_call.specs.Reports as spec;
 ghost use Rattle.top_call.specs.Reports.{report_of};
 
 use crate::answers::{Answer, Counts};
+use crate::differences::{bad_starts_line, differ_line};
 use crate::faults::malformed_line;
 use crate::refusals::refusal_line;
 use cov_expr::{Blob, List, NoMemory};
@@ -17,6 +18,8 @@ pub fn report(alloc: Global, answer: Answer<'_>) -> Result<Blob, NoMemory>
         Answer::Spelled(text) | Answer::Ran(text) => Ok(text),
         Answer::Malformed(name, fault) => malformed_line(alloc, name, &fault),
         Answer::Refused(refusal, thread) => refusal_line(alloc, &refusal, thread),
+        Answer::BadStarts(name) => bad_starts_line(alloc, &name),
+        Answer::Differ(step, what) => differ_line(alloc, step, &what),
         other => Ok(bytes_of(alloc, line(alloc, &other)?.as_str())?),
     }
 }
@@ -38,9 +41,12 @@ fn line(alloc: Global, answer: &Answer<'_>) -> Result<String, AllocError>
         Answer::ReadFault(name) => format!(in alloc; "read fault: {name}\n"),
         Answer::TooLong(name) => format!(in alloc; "too long: {name}\n"),
         Answer::Accepted(counts) => accepted_line(alloc, counts),
-        Answer::Malformed(_, _) | Answer::Refused(_, _) | Answer::Spelled(_) | Answer::Ran(_) => {
-            Ok(String::new(alloc))
-        }
+        Answer::Malformed(_, _)
+        | Answer::Refused(_, _)
+        | Answer::Spelled(_)
+        | Answer::Ran(_)
+        | Answer::BadStarts(_)
+        | Answer::Differ(_, _) => Ok(String::new(alloc)),
     }
 }
 

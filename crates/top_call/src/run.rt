@@ -4,7 +4,7 @@ ghost use Rattle.cov_ast.specs.Plain.{plain};
 ghost use Rattle.cov_ast.specs.Ready.{IsReady};
 ghost use Rattle.cov_ast.specs.View as view;
 ghost use Rattle.cov_ast.specs.WellFormed.{IsWellFormed};
-ghost use Rattle.cov_expr.specs.Words.{IsSchedule};
+ghost use Rattle.cov_expr.specs.Words.{IsMemory, IsSchedule};
 ghost use Rattle.flow_model.specs.Source.{after, stayed};
 ghost use Rattle.policy_class.specs.Resolved.{resolved, without_value};
 ghost use Rattle.schedule_replay.specs.Schedules.{most_entries};
@@ -51,7 +51,7 @@ fn run_text<'w>(
     schedule: &[u32],
 ) -> Result<Answer<'w>, Stop<'w>>
     requires ready { IsReady (view.parsed parsed) }
-    requires memory { length memory ≡ length parsed.vars }
+    requires memory { IsMemory (length parsed.vars) memory }
     requires threads { IsSchedule (length parsed.threads) schedule.now }
     requires entries { length schedule.now ≤ most_entries }
     ensures { Gets (Runs (view.parsed parsed) memory schedule.now) result }

@@ -5,10 +5,11 @@ ghost use Rattle.flow_model.specs.FirstDifference.{held_by, holders_of};
 ghost use Rattle.source_machine.specs.Machine.{run_of};
 ghost use Rattle.top_call.specs.RunReports as spec;
 
-use crate::lines::{add_name, add_numbered};
+use crate::lines::{add_name, add_number, add_numbered};
 use cov_ast::{LockDecl, Program, ThreadDecl, VarDecl};
 use cov_expr::{Blob, List, NoMemory};
 use flow_model::Holder;
+use schedule_replay::Until;
 use source_machine::Source;
 use std::alloc::Global;
 
@@ -25,15 +26,81 @@ pub fn run_report<'p>(
     ensures { IfOk result (λ text. text ≡ spec.run_report (view.program p.now) steps stayed (run_of source.now)) }
 {
     let mut text = List::new(alloc);
-    add_numbered(b"steps ", steps, &mut text)?;
-    add_numbered(b"stayed ", stayed, &mut text)?;
-    add_vars(p.vars.as_slice(), source.memory(), &mut text)?;
-    add_state(p, source, &mut text)?;
+    add_run(p, source, steps, stayed, &mut text)?;
     Ok(text)
 }
 
+/// The report on a run that was to stop where an expression holds, and on the machine after it.
+pub fn stop_report<'p>(
+    alloc: Global,
+    p: &'p Program,
+    source: &Source<'p>,
+    stop: &Until,
+) -> Result<Blob, NoMemory>
+    requires program { (source.now).program ≡ p.now }
+    requires few { length p.now.threads ≤ MOST_THREADS }
+    ensures { IfOk result (λ text. text ≡ spec.stop_line stop.now.hit stop.now.steps
+        ++ spec.run_report (view.program p.now) stop.now.steps stop.now.stayed (run_of source.now)) }
+{
+    let mut text = List::new(alloc);
+    add_stop(stop.hit, stop.steps, &mut text)?;
+    add_run(p, source, stop.steps, stop.stayed, &mut text)?;
+    Ok(text)
+}
+
+/// The report on two runs that agree after each of so many steps, and on their machines after them.
+pub fn pair_report<'p>(
+    alloc: Global,
+    p: &'p Program,
+    left: &Source<'p>,
+    right: &Source<'p>,
+    steps: u32,
+) -> Result<Blob, NoMemory>
+    requires left { (left.now).program ≡ p.now }
+    requires right { (right.now).program ≡ p.now }
+    requires few { length p.now.threads ≤ MOST_THREADS }
+    ensures { IfOk result (λ text. text ≡ spec.pair_report (view.program p.now) steps (run_of left.now) (run_of right.now)) }
+{
+    let mut text = List::new(alloc);
+    text.extend_from_slice(b"agree: ")?;
+    add_number(steps, &mut text)?;
+    text.extend_from_slice(b" steps\n")?;
+    add_pairs(p.vars.as_slice(), left.memory(), right.memory(), &mut text)?;
+    add_state(p, left, &mut text)?;
+    Ok(text)
+}
+
+/// Adds how a run ended that was to stop where an expression holds.
+fn add_stop(hit: bool, steps: u32, text: &mut Blob) -> Result<(), NoMemory>
+    ensures { OnOk result (text.new ≡ text.old ++ spec.stop_line hit steps) }
+{
+    if hit {
+        add_numbered(b"stopped after ", steps, text)
+    } else {
+        text.extend_from_slice(b"not reached\n")
+    }
+}
+
+/// Adds the report on a run.
+fn add_run<'p>(
+    p: &'p Program,
+    source: &Source<'p>,
+    steps: u32,
+    stayed: u32,
+    text: &mut Blob,
+) -> Result<(), NoMemory>
+    requires program { (source.now).program ≡ p.now }
+    requires few { length p.now.threads ≤ MOST_THREADS }
+    ensures { OnOk result (text.new ≡ text.old ++ spec.run_report (view.program p.now) steps stayed (run_of source.now)) }
+{
+    add_numbered(b"steps ", steps, text)?;
+    add_numbered(b"stayed ", stayed, text)?;
+    add_vars(p.vars.as_slice(), source.memory(), text)?;
+    add_state(p, source, text)
+}
+
 /// Adds the locks, the threads and the outputs of a machine.
-pub fn add_state<'p>(p: &'p Program, source: &Source<'p>, text: &mut Blob) -> Result<(), NoMemory>
+fn add_state<'p>(p: &'p Program, source: &Source<'p>, text: &mut Blob) -> Result<(), NoMemory>
     requires program { (source.now).program ≡ p.now }
     requires few { length p.now.threads ≤ MOST_THREADS }
     ensures { OnOk result (text.new ≡ text.old ++ spec.state_lines (view.program p.now) (run_of source.now)) }
@@ -63,6 +130,27 @@ fn add_var(word: u32, var: &VarDecl, text: &mut Blob) -> Result<(), NoMemory>
 {
     add_name(b"var ", &var.name, text)?;
     add_numbered(b" ", word, text)
+}
+
+/// Adds the two words of each variable.
+fn add_pairs(vars: &[VarDecl], left: &[u32], right: &[u32], text: &mut Blob) -> Result<(), NoMemory>
+    requires left { length left.now ≡ length vars.now }
+    requires right { length right.now ≡ length vars.now }
+    ensures { OnOk result (text.new ≡ text.old ++ spec.lines_from (spec.pair_line left.now right.now) 0 (map view.var vars.now)) }
+{
+    for (x, var) in vars.iter().enumerate() {
+        add_pair(left[x], right[x], var, text)?;
+    }
+    Ok(())
+}
+
+fn add_pair(left: u32, right: u32, var: &VarDecl, text: &mut Blob) -> Result<(), NoMemory>
+    ensures { OnOk result (text.new ≡ text.old ++ spec.told (codes "var ") (view.var var.now).name (decimal left ++ codes " " ++ decimal right)) }
+{
+    add_name(b"var ", &var.name, text)?;
+    text.extend_from_slice(b" ")?;
+    add_number(left, text)?;
+    add_numbered(b" ", right, text)
 }
 
 fn add_locks(

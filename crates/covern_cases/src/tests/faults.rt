@@ -1,5 +1,6 @@
 use super::{WRITER, list_of};
-use cov_expr::{List, Name};
+use crate::top::shelf_of;
+use cov_expr::{Blob, List, Name};
 use cov_io::{MemShelf, MemSink};
 use std::process::Abort;
 use std::test::Fail;
@@ -41,6 +42,55 @@ fn each_call_fails(rt: HostRuntime) -> Result<(), Fail> {
         checks(&rt, 0, put, Status::WriteFault, &ACCEPTED[..part])?;
     }
     checks(&rt, 2, 6, Status::Done, ACCEPTED)
+}
+
+/// Runs a program from two starts, from a shelf of which a call fails, and compares the status and what was put.
+fn runs_both(
+    rt: &(impl Abort + AllocGlobal),
+    fetch: u64,
+    status: Status,
+    due: &[u8],
+) -> Result<(), Fail> {
+    let alloc = rt.alloc();
+    let mut files: Vec<(Name, Blob)> = Vec::new(alloc);
+    let texts: [(&[u8], &[u8]); 4] = [
+        (b"p", b"var a: low; thread t { a := 1; }"),
+        (b"s", b"{\"a\":0}"),
+        (b"t", b"{\"a\":0}"),
+        (b"k", b"[]"),
+    ];
+    for (name, text) in texts {
+        files.push((Name::new(name).ok_or("a name")?, list_of(alloc, text)?))?;
+    }
+    let Ok(mut shelf) = shelf_of(alloc, files.as_slice(), list_of(alloc, &[fetch])?) else {
+        return Err("a shelf".into());
+    };
+    let mut sink = MemSink::new(alloc, 1000, 1000, List::new(alloc))?;
+    let mut words = Vec::new(alloc);
+    for word in ["pair", "p", "s", "t", "k"] {
+        words.push(String::from_str(alloc, word)?)?;
+    }
+    assert_eq!(rt;
+        covern(alloc, words.as_slice(), &mut shelf, &mut sink),
+        status
+    );
+    assert_eq!(rt; sink.bytes(), due);
+    Ok(())
+}
+
+/// Each of the four fetches fails in turn.
+#[test]
+fn each_fetch_of_two_runs_fails(rt: HostRuntime) -> Result<(), Fail> {
+    runs_both(&rt, 1, Status::ReadFault, b"read fault: p\n")?;
+    runs_both(&rt, 2, Status::ReadFault, b"read fault: s\n")?;
+    runs_both(&rt, 3, Status::ReadFault, b"read fault: t\n")?;
+    runs_both(&rt, 4, Status::ReadFault, b"read fault: k\n")?;
+    runs_both(
+        &rt,
+        5,
+        Status::Done,
+        b"agree: 0 steps\nvar a 0 0\nthread t at 23\n",
+    )
 }
 
 #[test]

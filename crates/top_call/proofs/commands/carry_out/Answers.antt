@@ -13,3 +13,23 @@ pub returns-in-Run-clause-asks : goal.returns-in-Run-clause-asks
 returns-in-Run-clause-asks g c =
     let shelved = g.S.Shelf.shelved in
     subst (λ a. Asks (shelved c.args.shelf.now) (shelved c.run.new.shelf) (files_of (command_seen a)) (LacksMemory c.run.result)) (sym c.in-Run.is) c.run.ensures.asks
+
+pub returns-in-RunUntil-clause-does : goal.returns-in-RunUntil-clause-does
+returns-in-RunUntil-clause-does g c =
+    let shelved = g.S.Shelf.shelved in
+    subst (λ a. Gets (Does (shelved c.args.shelf.now) (shelved c.run_until.new.shelf) (command_seen a)) c.run_until.result) (sym c.in-RunUntil.is) c.run_until.ensures.does
+
+pub returns-in-RunUntil-clause-asks : goal.returns-in-RunUntil-clause-asks
+returns-in-RunUntil-clause-asks g c =
+    let shelved = g.S.Shelf.shelved in
+    subst (λ a. Asks (shelved c.args.shelf.now) (shelved c.run_until.new.shelf) (files_of (command_seen a)) (LacksMemory c.run_until.result)) (sym c.in-RunUntil.is) c.run_until.ensures.asks
+
+pub returns-in-Pair-clause-does : goal.returns-in-Pair-clause-does
+returns-in-Pair-clause-does g c =
+    let shelved = g.S.Shelf.shelved in
+    subst (λ a. Gets (Does (shelved c.args.shelf.now) (shelved c.pair.new.shelf) (command_seen a)) c.pair.result) (sym c.in-Pair.is) c.pair.ensures.does
+
+pub returns-in-Pair-clause-asks : goal.returns-in-Pair-clause-asks
+returns-in-Pair-clause-asks g c =
+    let shelved = g.S.Shelf.shelved in
+    subst (λ a. Asks (shelved c.args.shelf.now) (shelved c.pair.new.shelf) (files_of (command_seen a)) (LacksMemory c.pair.result)) (sym c.in-Pair.is) c.pair.ensures.asks

@@ -10,7 +10,7 @@ use Rattle.top_call.specs.Replies.{malformed}
 use Rattle.top_call.specs.declared.answers.Fault.{Fault}
 use Rattle.top_call.specs.declared.inputs.TheConstants.{MOST_INPUT_BYTES}
 use Rattle.top_call.proofs.FileLaws.{missed}
-use Rattle.top_call.proofs.InputLaws.{given_unread, start_fault_said, same_start, start_sized}
+use Rattle.top_call.proofs.InputLaws.{given_unread, start_fault_said, same_start, start_is_memory}
 use Rattle.top_call.proofs.inputs.read_memory.Goals as goal
 
 pub returns-in_err-bytes-clause-read : goal.returns-in_err-bytes-clause-read
@@ -49,5 +49,5 @@ returns-clause-read g c =
       passes = c.fetch.ensures.passes;
     }
 
-pub returns-in-Ok-clause-sized : goal.returns-in-Ok-clause-sized
-returns-in-Ok-clause-sized g c = start_sized c.args.parsed.now.vars (value_of c.as_slice.result.now) c.in-Ok.memory c.in-Ok.ensures
+pub returns-in-Ok-clause-memory : goal.returns-in-Ok-clause-memory
+returns-in-Ok-clause-memory g c = start_is_memory c.args.parsed.now.vars (value_of c.as_slice.result.now) c.in-Ok.memory c.in-Ok.ensures

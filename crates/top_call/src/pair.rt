@@ -1,0 +1,134 @@
+ghost use Rattle.std.specs.Prelude.{◌≡◌, ◌≤◌, IfOk, length};
+ghost use Rattle.cov_ast.specs.Plain.{plain};
+ghost use Rattle.cov_ast.specs.Ready.{IsReady};
+ghost use Rattle.cov_ast.specs.View as view;
+ghost use Rattle.cov_ast.specs.WellFormed.{IsWellFormed};
+ghost use Rattle.cov_expr.specs.Words.{IsMemory, IsSchedule};
+ghost use Rattle.flow_model.specs.Agreement.{AreFitStarts};
+ghost use Rattle.schedule_replay.specs.Schedules.{most_entries};
+ghost use Rattle.top_call.specs.Commands as asked;
+ghost use Rattle.top_call.specs.Inside.{CarriesOut, Gets, PairsFit, PairsProgram, second_plan, seen};
+ghost use Rattle.top_call.specs.Outcome.{plan_of};
+ghost use Rattle.top_call.specs.Pairs.{Pairs};
+
+use crate::answers::{Answer, Stop};
+use crate::differences::{bad_name, differ_text};
+use crate::files::read_program;
+use crate::inputs::{read_entries, read_memory};
+use crate::run::declared;
+use crate::run_reports::pair_report;
+use cov_ast::{Parsed, Program};
+use cov_expr::{List, NoMemory};
+use cov_io::Shelf;
+use flow_model::starts;
+use schedule_replay::pair as replay_pair;
+use source_machine::Source;
+use std::alloc::Global;
+use verify::accepted_is_secure;
+
+/// Runs the program of a file from two starts under a schedule, side by side.
+pub fn pair<'w, S: Shelf>(
+    alloc: Global,
+    program: &'w str,
+    first: &'w str,
+    second: &'w str,
+    schedule: &'w str,
+    shelf: &mut S,
+) -> Result<Answer<'w>, Stop<'w>>
+    ensures { CarriesOut (S.shelved shelf.old) (S.shelved shelf.new)
+        (plan_of (asked.pair program.now first.now second.now schedule.now)) result }
+{
+    let parsed = read_program(alloc, program, shelf)?;
+    let left = read_memory(alloc, first, &parsed, shelf)?;
+    pair_with(alloc, parsed, left, second, schedule, shelf)
+}
+
+/// Reads the second start and the schedule, and runs what a text spells.
+fn pair_with<'w, S: Shelf>(
+    alloc: Global,
+    parsed: Parsed,
+    left: List<u32>,
+    second: &'w str,
+    schedule: &'w str,
+    shelf: &mut S,
+) -> Result<Answer<'w>, Stop<'w>>
+    requires ready { IsReady (view.parsed parsed) }
+    requires left { IsMemory (length parsed.vars) left }
+    ensures { CarriesOut (S.shelved shelf.old) (S.shelved shelf.new) (second_plan (view.parsed parsed) left second.now schedule.now) result }
+{
+    let right = read_memory(alloc, second, &parsed, shelf)?;
+    let entries = read_entries(alloc, schedule, &parsed, shelf)?;
+    pair_text(alloc, parsed, left, right, entries.as_slice())
+}
+
+/// Runs what a text spells.
+fn pair_text<'w>(
+    alloc: Global,
+    parsed: Parsed,
+    left: List<u32>,
+    right: List<u32>,
+    schedule: &[u32],
+) -> Result<Answer<'w>, Stop<'w>>
+    requires ready { IsReady (view.parsed parsed) }
+    requires left { IsMemory (length parsed.vars) left }
+    requires right { IsMemory (length parsed.vars) right }
+    requires threads { IsSchedule (length parsed.threads) schedule.now }
+    requires entries { length schedule.now ≤ most_entries }
+    ensures { Gets (Pairs (view.parsed parsed) left right schedule.now) result }
+{
+    let program = declared(alloc, parsed)?;
+    let answer = paired(alloc, &program, left, right, schedule)?;
+    Ok(answer)
+}
+
+/// What is answered to two runs of a program, if their starts are fit.
+fn paired<'w>(
+    alloc: Global,
+    program: &Program,
+    left: List<u32>,
+    right: List<u32>,
+    schedule: &[u32],
+) -> Result<Answer<'w>, NoMemory>
+    requires formed { IsWellFormed (view.program program.now) }
+    requires left { IsMemory (length program.now.vars) left }
+    requires right { IsMemory (length program.now.vars) right }
+    requires threads { IsSchedule (length program.now.threads) schedule.now }
+    requires entries { length schedule.now ≤ most_entries }
+    ensures { IfOk result (λ answer. PairsProgram (view.program program.now) left right schedule.now (seen answer)) }
+{
+    match starts(program, left.as_slice(), right.as_slice()) {
+        Some(found) => Ok(Answer::BadStarts(bad_name(alloc, program, &found)?)),
+        None => run_both(alloc, program, left, right, schedule),
+    }
+}
+
+/// What is answered to two runs from fit starts. Those of an accepted program agree, since it is secure.
+fn run_both<'w>(
+    alloc: Global,
+    program: &Program,
+    left: List<u32>,
+    right: List<u32>,
+    schedule: &[u32],
+) -> Result<Answer<'w>, NoMemory>
+    requires formed { IsWellFormed (view.program program.now) }
+    requires left { IsMemory (length program.now.vars) left }
+    requires right { IsMemory (length program.now.vars) right }
+    requires fit { AreFitStarts (plain (view.program program.now)) left right }
+    requires threads { IsSchedule (length program.now.threads) schedule.now }
+    requires entries { length schedule.now ≤ most_entries }
+    ensures { IfOk result (λ answer. PairsFit (view.program program.now) left right schedule.now (seen answer)) }
+{
+    accepted_is_secure();
+    let mut first = Source::start(alloc, program, left, schedule.len())?;
+    let mut second = Source::start(alloc, program, right, schedule.len())?;
+    match replay_pair(program, &mut first, &mut second, schedule) {
+        Some(found) => {
+            let what = differ_text(alloc, program, &found.differ)?;
+            Ok(Answer::Differ(found.step, what))
+        }
+        None => {
+            let report = pair_report(alloc, program, &first, &second, schedule.len() as u32)?;
+            Ok(Answer::Ran(report))
+        }
+    }
+}

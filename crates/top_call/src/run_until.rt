@@ -1,0 +1,137 @@
+ghost use Rattle.std.specs.Prelude.{◌≡◌, ◌↔◌, ◌+◌, ◌≤◌, IfOk, IsTrue, length};
+ghost use Rattle.cov_ast.specs.Ready.{IsReady};
+ghost use Rattle.cov_ast.specs.View as view;
+ghost use Rattle.cov_ast.specs.WellFormed.{IsWellFormed};
+ghost use Rattle.cov_expr.specs.Entailment.{Holds};
+ghost use Rattle.cov_expr.specs.View.{term};
+ghost use Rattle.cov_expr.specs.Words.{HasVarsBelow, IsMemory, IsSchedule};
+ghost use Rattle.cov_io.specs.Shelves.{Shelved};
+ghost use Rattle.schedule_replay.specs.Schedules.{most_entries};
+ghost use Rattle.source_machine.specs.Machine.{run_of};
+ghost use Rattle.top_call.specs.Commands as asked;
+ghost use Rattle.top_call.specs.Inside.{CarriesOut, Gets, IsStopped, until_plan};
+ghost use Rattle.top_call.specs.Outcome.{plan_of};
+ghost use Rattle.top_call.specs.Runs.{RunsTo, RunsUntil};
+ghost use Rattle.top_call.specs.Replies as replies;
+
+use crate::answers::{Answer, Stop};
+use crate::expressions::{MOST_EXPRESSION_BYTES, read_expression};
+use crate::files::read_program;
+use crate::inputs::{read_entries, read_memory};
+use crate::run::declared;
+use crate::run_reports::stop_report;
+use cov_ast::{Parsed, Program};
+use cov_expr::{Blob, Expr, List, NoMemory, copy, eval};
+use cov_io::Shelf;
+use schedule_replay::{Until, run_until as replay_until};
+use source_machine::Source;
+use std::alloc::Global;
+use watch::Watch;
+
+/// Runs the program of a file from a start under a schedule, until an expression holds.
+pub fn run_until<'w, S: Shelf>(
+    alloc: Global,
+    program: &'w str,
+    start: &'w str,
+    schedule: &'w str,
+    expression: &'w str,
+    shelf: &mut S,
+) -> Result<Answer<'w>, Stop<'w>>
+    requires { length expression.now ≤ MOST_EXPRESSION_BYTES }
+    ensures { CarriesOut (S.shelved shelf.old) (S.shelved shelf.new)
+        (plan_of (asked.run_until program.now start.now schedule.now expression.now)) result }
+{
+    let parsed = read_program(alloc, program, shelf)?;
+    let memory = read_memory(alloc, start, &parsed, shelf)?;
+    let entries = read_entries(alloc, schedule, &parsed, shelf)?;
+    run_spelled(alloc, parsed, memory, entries.as_slice(), expression)
+}
+
+/// Reads the expression, and runs what a text spells. All files are read before, whatever the shelf is.
+fn run_spelled<'w>(
+    alloc: Global,
+    parsed: Parsed,
+    memory: List<u32>,
+    schedule: &[u32],
+    word: &str,
+) -> Result<Answer<'w>, Stop<'w>>
+    requires ready { IsReady (view.parsed parsed) }
+    requires memory { IsMemory (length parsed.vars) memory }
+    requires threads { IsSchedule (length parsed.threads) schedule.now }
+    requires entries { length schedule.now ≤ most_entries }
+    requires short { length word.now ≤ MOST_EXPRESSION_BYTES }
+    ensures { (shelf : Shelved) → CarriesOut shelf shelf (until_plan (view.parsed parsed) memory schedule.now word.now) result }
+{
+    let expr = read_expression(alloc, word, &parsed)?;
+    run_text(alloc, parsed, memory, schedule, expr)
+}
+
+/// Runs what a text spells.
+fn run_text<'w>(
+    alloc: Global,
+    parsed: Parsed,
+    memory: List<u32>,
+    schedule: &[u32],
+    expr: Expr,
+) -> Result<Answer<'w>, Stop<'w>>
+    requires ready { IsReady (view.parsed parsed) }
+    requires memory { IsMemory (length parsed.vars) memory }
+    requires threads { IsSchedule (length parsed.threads) schedule.now }
+    requires entries { length schedule.now ≤ most_entries }
+    requires below { HasVarsBelow (term expr) (length parsed.vars) }
+    ensures { Gets (RunsUntil (view.parsed parsed) memory schedule.now (term expr)) result }
+{
+    let program = declared(alloc, parsed)?;
+    Ok(Answer::Ran(ran(alloc, &program, memory, schedule, expr)?))
+}
+
+/// The report on a run.
+fn ran(
+    alloc: Global,
+    program: &Program,
+    memory: List<u32>,
+    schedule: &[u32],
+    expr: Expr,
+) -> Result<Blob, NoMemory>
+    requires formed { IsWellFormed (view.program program.now) }
+    requires memory { length memory ≡ length program.now.vars }
+    requires threads { IsSchedule (length program.now.threads) schedule.now }
+    requires entries { length schedule.now ≤ most_entries }
+    requires below { HasVarsBelow (term expr) (length program.now.vars) }
+    ensures { IfOk result (λ text. RunsTo (view.program program.now) memory schedule.now (term expr) (replies.ran text)) }
+{
+    let mut source = Source::start(alloc, program, memory, schedule.len())?;
+    let stop = stop_run(
+        alloc,
+        &mut source,
+        schedule,
+        expr,
+        program.vars.len() as u32,
+    )?;
+    stop_report(alloc, program, &source, &stop)
+}
+
+/// Runs a machine of so many variables until an expression holds. The test that the watch asks is made here, over a copy of the
+/// expression.
+fn stop_run(
+    alloc: Global,
+    source: &mut Source<'_>,
+    schedule: &[u32],
+    expr: Expr,
+    words: u32,
+) -> Result<Until, NoMemory>
+    requires threads { IsSchedule (length (source.old).program.threads) schedule.now }
+    requires entries { length schedule.now ≤ most_entries }
+    requires room { length (run_of source.old).outputs + length schedule.now ≤ (source.old).room }
+    requires words { words ≡ length (source.old).program.vars }
+    requires below { HasVarsBelow (term expr) words }
+    ensures stops { IfOk result (λ stop. IsStopped (term expr) source.old source.new schedule.now stop) }
+{
+    let kept = copy(alloc, &expr)?;
+    let test = move |memory: &[u32]| -> bool
+        requires { HasVarsBelow (term kept) (length memory.now) }
+        ensures { IsTrue result ↔ Holds (term kept) memory.now }
+    { eval(&kept, memory) != 0 };
+    let watch = Watch::new(Box::new(alloc, test)?, expr, words);
+    Ok(replay_until(source, schedule, &watch))
+}
