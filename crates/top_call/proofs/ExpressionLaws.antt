@@ -1,6 +1,7 @@
 -- Laws of the expression among the words: how it is read, and over which variables it is.
-use Rattle.std.proofs.Common.{◌≡◌, ◌⊎◌, ℕ, ◌<◌, ◌≤◌, ◌==◌, nat_lt, List, [], ◌∷◌, ◌++◌, Bool, true, false, cond, length, map, Option, Some, None, Result, Ok, Err, refl, sym, ap, ap₂, ◌∙◌, subst, inl, inr, arith}
+use Rattle.std.proofs.Common.{◌≡◌, ◌⊎◌, ℕ, ◌+◌, ◌<◌, ◌≤◌, ◌==◌, nat_lt, List, [], ◌∷◌, ◌++◌, Bool, true, false, cond, drop, get_or, length, map, Option, Some, None, Result, Ok, Err, refl, sym, ap, ap₂, ◌∙◌, subst, inl, inr, arith}
 use Rattle.std.specs.Prelude.{codes, MatchResult}
+use Rattle.std.proofs.lemmas.List.{at_drop_more}
 use Rattle.std.proofs.lemmas.Bool.Decides.{nat_tests}
 use Rattle.cov_ast.specs.Ready.{Use, use_of, uses_in, as_variable}
 use Rattle.cov_ast.specs.Syntax.{Parsed}
@@ -84,6 +85,14 @@ placed_answered p bytes tree (Err stop) spells h =
 -- Variables ----------------------------------------------------------------------------------------------------
 
 module _ (declared names : List (List ℕ)) where
+  -- past the name of a variable the first that is none is the same
+  pub unknown_more : (us : List NameUse) (n : ℕ) (d : NameUse) (whole : Option ℕ) (known : Bool) → n < length us
+      → known ≡ nat_lt (place_of declared names (get_or us n d).name) (length declared) → known ≡ true
+      → first_unknown declared names (drop n us) ≡ whole → first_unknown declared names (drop (n + 1) us) ≡ whole
+  unknown_more us n d whole known inside is there h =
+      ap (λ b. cond b (first_unknown declared names (drop (n + 1) us)) (Some (get_or us n d).at)) (sym there ∙ is)
+      ∙ sym (at_drop_more (first_unknown declared names) us n d inside) ∙ h
+
   -- Each use is that of a variable.
   abbrev AreKnown : List Use → Type 0
   AreKnown [] = Unit {0}

@@ -70,7 +70,7 @@ command_seen asked.Nothing = nothing
 -- The expression that is asked for, if any, isn't too long.
 abbrev pub IsShortEnough : Asked → Type 0
 IsShortEnough (asked.RunUntil program start schedule expression) = length expression.now ≤ MOST_EXPRESSION_BYTES
-IsShortEnough asked = Unit {0}
+IsShortEnough other = Unit {0}
 
 -- A step gives what the command gives, unless memory ran out.
 abbrev pub Stops : (Reply → Type 0) → Stop → Type 0

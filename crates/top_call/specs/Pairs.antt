@@ -25,7 +25,7 @@ abbrev pub var_name : Program → ℕ → List ℕ
 var_name p x = get_or (map (λ v. v.name) p.vars) x []
 
 abbrev pub lock_name : Program → ℕ → List ℕ
-lock_name p l = get_or (map (λ l. l.name) p.locks) l []
+lock_name p l = get_or (map (λ lock. lock.name) p.locks) l []
 
 -- the name of what makes two memories unfit to start from
 abbrev pub bad_name : Program → BadStart → List ℕ
