@@ -1,0 +1,5 @@
+pub mod PlanLaws
+pub mod ExprLaws
+pub mod CodeLaws
+pub mod Propositions
+pub mod ThreadLaws
