@@ -8,7 +8,7 @@ use Rattle.cov_io.specs.Shelves.{File, Shelved, held}
 use Rattle.flow_model.specs.Agreement.{AreFitStarts}
 use Rattle.policy_class.specs.Resolved.{resolved}
 use Rattle.top_call.specs.Check.{IsAcceptedText, meaning, obligations, verdict_by}
-use Rattle.top_call.specs.Commands.{Command, check, fmt, migrate, run, run_until, pair, nothing}
+use Rattle.top_call.specs.Commands.{Command, check, compile, fmt, migrate, run, run_code, run_until, pair, pair_code, nothing}
 use Rattle.top_call.specs.Files.{Reads}
 use Rattle.top_call.specs.Headline.{HoldsAccepted, RunsAccepted}
 use Rattle.top_call.specs.Outcome.{Does, plan_of, memory, entries}
@@ -19,6 +19,7 @@ use Rattle.top_call.specs.Replies.{Reply, malformed, ran, status_of}
 use Rattle.top_call.specs.Runs.{IsDeclaredText, RunsTo, declared_obligations, report_on_run, unless_refused, UnlessRefused}
 use Rattle.top_call.specs.declared.answers.Fault.{Fault}
 use Rattle.top_call.specs.declared.answers.Status.TheVariants as s
+use Rattle.top_call.proofs.CodeLaws.{compile_agrees, pair_code_agrees, run_code_agrees}
 use Rattle.top_call.proofs.TextLaws.{program_reading, some_one}
 
 -- Plans --------------------------------------------------------------------------------------------------------
@@ -72,6 +73,7 @@ pub never_differs : (before after : Shelved) (files : List File) (command : Comm
     → Does before after command reply → status_of reply ≡ s.Differ → ⊥
 never_differs before after files (check name) reply told accepted h e =
     plan_agrees before after (plan_of (check name)) reply (λ p r judged differ. judged_agrees p (first_false (obligations p)) (sym (ap status_of judged.verdict) ∙ differ)) h e
+never_differs before after files (compile name) reply told accepted h e = plan_agrees before after (plan_of (compile name)) reply compile_agrees h e
 never_differs before after files (fmt name) reply told accepted h e =
     plan_agrees before after (plan_of (fmt name)) reply (λ p r is differ. let wrong : s.Done ≡ s.Differ = sym (ap status_of is) ∙ differ in cc) h e
 never_differs before after files (migrate name) reply told accepted h e =
@@ -79,6 +81,8 @@ never_differs before after files (migrate name) reply told accepted h e =
 never_differs before after files (run name start schedule) reply told accepted h e =
     plan_agrees before after (plan_of (run name start schedule)) reply
     (λ p m k r is differ. run_agrees (report_on_run p m k) (first_false (declared_obligations p)) (sym (ap status_of is) ∙ differ)) h e
+never_differs before after files (run_code name start schedule) reply told accepted h e =
+    plan_agrees before after (plan_of (run_code name start schedule)) reply run_code_agrees h e
 never_differs before after files (run_until name start schedule word) reply told accepted h e =
     plan_agrees before after (plan_of (run_until name start schedule word)) reply
     (λ p m k x r is differ. until_agrees (RunsTo (resolved p) m k x) (λ r to. ap status_of to.is) (first_false (declared_obligations p)) r is differ) h e
@@ -91,4 +95,6 @@ never_differs before after files (pair name first second schedule) reply told ac
     let bytes : accepted.bytes ≡ given.0 = some_one (held files name) accepted.bytes given.0 accepted.at at in
     let same : accepted.spelled ≡ read.0 = program_reading.one_value given.0 accepted.spelled read.0 (subst (λ b. SpellsProgram b accepted.spelled) bytes accepted.is) read.1 in
     plan_agrees before after (next read.0) reply (λ l r k reply' pairs differ. pairs.agree (subst IsAcceptedText same accepted.accepted) differ) read.2 e
+never_differs before after files (pair_code name first second schedule) reply told accepted h e =
+    plan_agrees before after (plan_of (pair_code name first second schedule)) reply pair_code_agrees h e
 never_differs before after files nothing reply told accepted h e = let wrong : s.Usage ≡ s.Differ = sym (ap status_of h) ∙ e in cc

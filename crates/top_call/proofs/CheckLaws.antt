@@ -57,7 +57,7 @@ names_without p =
     both_without (w1_from [] (declared_names p)) (map (use_obligation p) p.uses) (w1_without [] (declared_names p)) (uses_without p p.uses)
 
 -- A thread has in the program the name that it has in the text.
-same_name : (p : Parsed) (thread : Option ℕ) → name_in (resolved p).threads thread ≡ thread_name p thread
+pub same_name : (p : Parsed) (thread : Option ℕ) → name_in (resolved p).threads thread ≡ thread_name p thread
 same_name p None = refl
 same_name p (Some t) = ap (λ names. slice_get names t) (over p.threads)
   where
@@ -114,7 +114,7 @@ module _ (p : Parsed) (program : Program) (is : program ≡ resolved p) (named :
       ap (λ q. name_obligations p ++ program_obligations q) is
       ∙ ap (λ b. name_obligations p ++ cond b (program_obligations (resolved p)) []) (sym (none_refused (name_obligations p) named))
 
-  same_first : first_false (program_obligations program) ≡ first_false (obligations p)
+  pub same_first : first_false (program_obligations program) ≡ first_false (obligations p)
   same_first = sym (append_held (name_obligations p) (program_obligations program) named) ∙ ap first_false whole
 
   pub accepted_program : IsAcceptedText p → IsAccepted program

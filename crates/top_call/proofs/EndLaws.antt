@@ -1,8 +1,9 @@
 -- Laws of how a call ends.
-use Rattle.std.proofs.Common.{◌≡◌, ◌⊎◌, inl, inr, refl, ap, ◌∙◌}
-use Rattle.cov_io.specs.Sinks.{Sunk}
+use Rattle.std.proofs.Common.{◌≡◌, ◌⊎◌, inl, inr, refl, sym, ap, ◌∙◌, Ok, subst}
+use Rattle.cov_io.specs.Sinks.{Sunk, Writes}
 use Rattle.top_call.specs.Ends.{Ends}
 use Rattle.top_call.specs.Replies.{Reply, status_of}
+use Rattle.top_call.specs.Reports.{report_of}
 use Rattle.top_call.specs.declared.answers.Status.{Status}
 use Rattle.top_call.specs.declared.answers.Status.TheVariants as s
 
@@ -33,3 +34,11 @@ status_is reply old new s.ReadFault (r, e, is, w) = inr (inr (is ∙ ap status_o
 status_is reply old new s.TooLong (r, e, is, w) = inr (inr (is ∙ ap status_of e))
 status_is reply old new s.Differ (r, e, is, w) = inr (inr (is ∙ ap status_of e))
 status_is reply old new s.BadStarts (r, e, is, w) = inr (inr (is ∙ ap status_of e))
+
+-- A call that is done put the whole report of its reply.
+pub done_put : (reply : Reply) (old new : Sunk) (status : Status) → status ≡ s.Done → Ends (λ r. r ≡ reply) old new status
+    → (status_of reply ≡ s.Done) × Writes old new (report_of reply) (Ok tt)
+done_put reply old new status done ended = by (subst (Ends (λ r. r ≡ reply) old new) done ended)
+  where
+    by : Ends (λ r. r ≡ reply) old new s.Done → (status_of reply ≡ s.Done) × Writes old new (report_of reply) (Ok tt)
+    by (r, e, is, w) = (ap status_of (sym e) ∙ sym is, subst (λ q. Writes old new (report_of q) (Ok tt)) e w)

@@ -10,6 +10,7 @@ pub mod FormatLaws
 pub mod ExpressionLaws
 pub mod RunLaws
 pub mod PairLaws
+pub mod CodeLaws
 pub mod AgreeLaws
 pub mod ReportLaws
 -- Every command: what a call promises, and that it has one reply.

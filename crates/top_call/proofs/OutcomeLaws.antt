@@ -1,27 +1,33 @@
 -- What a call promises, for every command.
-use Rattle.std.proofs.Common.{◌≡◌, ◌⊎◌, ℕ, List, Option, Some, None, IfSome, refl, sym, ap, ◌∙◌, subst, inl, inr}
+use Rattle.std.proofs.Common.{◌≡◌, ◌⊎◌, ℕ, List, Option, Some, None, IfSome, refl, sym, ap, ◌∙◌, subst, inl, inr, Ok}
 use Rattle.cov_ast.specs.Syntax.{Parsed}
 use Rattle.cov_io.specs.Counters.{Rose}
 use Rattle.cov_io.specs.Shelves.{File, Shelved, held}
-use Rattle.cov_io.specs.Sinks.{Sunk}
+use Rattle.cov_io.specs.Sinks.{Sunk, Writes}
 use Rattle.cov_expr.specs.declared.limits.TheConstants.{MOST_BYTES}
 use Rattle.cov_print.specs.ReadBack.{in_second}
 use Rattle.cov_print.specs.Spelling.{spelling}
+use Rattle.code_text.specs.Listing.{listing}
+use Rattle.compiled_code.specs.GoodCode.{IsGoodCode}
 use Rattle.cov_text.specs.Text.{program_of}
 use Rattle.flow_model.specs.Secure.{IsSecure}
+use Rattle.policy_class.specs.Resolved.{resolved}
 use Rattle.top_call.specs.Check.{Judges, IsAcceptedText, AreNamesInOrder, meaning}
-use Rattle.top_call.specs.Commands.{Command, check, fmt, migrate, run, run_until, pair, nothing}
+use Rattle.top_call.specs.Codes.{Compiles, RepliesListing, code_of}
+use Rattle.top_call.specs.Commands.{Command, check, compile, fmt, migrate, run, run_code, run_until, pair, pair_code, nothing}
 use Rattle.top_call.specs.Ends.{Ends}
-use Rattle.top_call.specs.Headline.{HoldsSecure, RunsAccepted}
+use Rattle.top_call.specs.Headline.{HoldsSecure, PutsCode, RunsAccepted}
 use Rattle.top_call.specs.Outcome.{Does, Outcome, IsMet, IsSuccess, plan_of}
 use Rattle.top_call.specs.Plans.{MayReply, RepliesTo, replies}
 use Rattle.top_call.specs.Programs.{SpellsProgram, IsShownFault}
 use Rattle.top_call.specs.Replies.{Reply, usage, status_of}
+use Rattle.top_call.specs.Reports.{report_of}
 use Rattle.top_call.specs.declared.answers.Status.{Status}
 use Rattle.top_call.specs.declared.answers.Status.TheVariants as s
 use Rattle.top_call.proofs.AgreeLaws.{never_differs}
 use Rattle.top_call.proofs.CheckLaws.{check_sound, judged_accepted, names_hold}
-use Rattle.top_call.proofs.EndLaws.{ends_onward, status_is}
+use Rattle.top_call.proofs.CodeLaws.{compile_sound, done_is_listed, pair_code_sound, run_code_sound}
+use Rattle.top_call.proofs.EndLaws.{done_put, ends_onward, status_is}
 use Rattle.top_call.proofs.ExpressionLaws.{expression_reading}
 use Rattle.top_call.proofs.FileLaws.{Reliable, done_read}
 use Rattle.top_call.proofs.FormatLaws.{spelled_sound}
@@ -43,13 +49,17 @@ nothing_sound = record {
 -- the plan of each command is sound
 pub sound : (command : Command) → IsSound (IsSuccess command) (plan_of command)
 sound (check name) = (program_reading, check_sound)
+sound (compile name) = (program_reading, compile_sound)
 sound (fmt name) = (program_reading, λ p. spelled_sound (spelling p))
 sound (migrate name) = (program_reading, λ p. spelled_sound (spelling (in_second p)))
 sound (run name start schedule) = (program_reading, λ p. (start_reading p, λ m. (schedule_reading p, λ k. run_sound p m k)))
+sound (run_code name start schedule) = (program_reading, λ p. (start_reading p, λ m. (schedule_reading p, λ k. run_code_sound p m k)))
 sound (run_until name start schedule word) =
     (program_reading, λ p. (start_reading p, λ m. (schedule_reading p, λ k. (expression_reading p, λ e. until_sound p m k e))))
 sound (pair name first second schedule) =
     (program_reading, λ p. (start_reading p, λ l. (start_reading p, λ r. (schedule_reading p, λ k. pair_sound p l r k))))
+sound (pair_code name first second schedule) =
+    (program_reading, λ p. (start_reading p, λ l. (start_reading p, λ r. (schedule_reading p, λ k. pair_code_sound p l r k))))
 sound nothing = nothing_sound
 
 does_exact : (before after : Shelved) (files : List File) (command : Command) (reply : Reply) → before.told ≡ Some files → Reliable before after
@@ -82,12 +92,55 @@ does_secure before after (check name) reply h done files told =
     let text = judged_text before after name read.0 reply read.2 done in
     let is : text.0 ≡ program_of read.0 text.1.0 = text.1.2 in
     (read.0, at, text.1.0, text.1.1, subst AreNamesInOrder is text.2, subst (λ p. IsSecure (meaning p)) is text.3)
+does_secure before after (compile name) reply h done files told = tt
 does_secure before after (fmt name) reply h done files told = tt
 does_secure before after (migrate name) reply h done files told = tt
 does_secure before after (run name start schedule) reply h done files told = tt
+does_secure before after (run_code name start schedule) reply h done files told = tt
 does_secure before after (run_until name start schedule word) reply h done files told = tt
 does_secure before after (pair name first second schedule) reply h done files told = tt
+does_secure before after (pair_code name first second schedule) reply h done files told = tt
 does_secure before after nothing reply h done files told = let wrong : s.Usage ≡ s.Done = sym (ap status_of h) ∙ done in cc
+
+-- bytes of which the code is listed
+listed_text : (before after : Shelved) (name bytes : List ℕ) (reply : Reply)
+    → RepliesTo SpellsProgram IsShownFault name (λ p. MayReply before after (replies (IsAcceptedText p) (Compiles p))) bytes reply
+    → status_of reply ≡ s.Done
+    → (p : Parsed) × SpellsProgram bytes p × AreNamesInOrder p × IsGoodCode (resolved p) (code_of p) × RepliesListing (code_of p) reply
+listed_text before after name bytes reply (inl (p, spells, compiles)) done =
+    let listed = done_is_listed p reply compiles done in
+    (p, spells, names_hold p listed.0, compiles.good listed.0, listed.1)
+listed_text before after name bytes reply (inr (fault, is, same)) done =
+    let wrong : s.Malformed ≡ s.Done = sym (ap status_of same) ∙ done in cc
+
+does_code : (before after : Shelved) (command : Command) (reply : Reply) → Does before after command reply → status_of reply ≡ s.Done
+    → (old new : Sunk) → Writes old new (report_of reply) (Ok tt) → (files : List File) → before.told ≡ Some files → PutsCode files command old new
+does_code before after (compile name) reply h done old new put files told =
+    let read = done_read before after name MOST_BYTES
+    (RepliesTo SpellsProgram IsShownFault name (λ p. MayReply before after (replies (IsAcceptedText p) (Compiles p)))) reply h done in
+    let text = listed_text before after name read.0 reply read.2 done in
+    let is : text.0 ≡ program_of read.0 text.1.0 = text.1.2 in
+    record {
+      bytes = read.0;
+      at = subst (λ t. IfSome t (λ fs. held fs name ≡ Some read.0)) told read.1.1;
+      tree = text.1.0;
+      spelled = text.1.1;
+      named = subst AreNamesInOrder is text.2;
+      code = code_of text.0;
+      good = subst (λ p. IsGoodCode (resolved p) (code_of text.0)) is text.3;
+      text = listing (code_of text.0);
+      listing = record { listed = text.4.listed; spelling = refl };
+      put = subst (λ r. Writes old new (report_of r) (Ok tt)) text.4.is put;
+    }
+does_code before after (check name) reply h done old new put files told = tt
+does_code before after (fmt name) reply h done old new put files told = tt
+does_code before after (migrate name) reply h done old new put files told = tt
+does_code before after (run name start schedule) reply h done old new put files told = tt
+does_code before after (run_code name start schedule) reply h done old new put files told = tt
+does_code before after (run_until name start schedule word) reply h done old new put files told = tt
+does_code before after (pair name first second schedule) reply h done old new put files told = tt
+does_code before after (pair_code name first second schedule) reply h done old new put files told = tt
+does_code before after nothing reply h done old new put files told = let wrong : s.Usage ≡ s.Done = sym (ap status_of h) ∙ done in cc
 
 -- A call -------------------------------------------------------------------------------------------------------
 
@@ -114,6 +167,11 @@ module _ (before after : Shelved) (command : Command) (reply : Reply) (does : Do
       by (inl e) files told = let wrong : s.NoMemory ≡ s.Done = sym e ∙ done in cc
       by (inr (inl e)) files told = let wrong : s.WriteFault ≡ s.Done = sym e ∙ done in cc
       by (inr (inr e)) files told = does_secure before after command reply does (sym e ∙ done) files told
+
+  pub call_code : status ≡ s.Done → IfSome before.told (λ files. PutsCode files command old new)
+  call_code done =
+      let put = done_put reply old new status done ended in
+      if_told before.told (λ files. PutsCode files command old new) (does_code before after command reply does put.0 old new put.1)
 
   pub call_agree : IfSome before.told (λ files. RunsAccepted files command → status ≡ s.Differ → ⊥)
   call_agree = if_told before.told (λ files. RunsAccepted files command → status ≡ s.Differ → ⊥) (by (status_is reply old new status ended))

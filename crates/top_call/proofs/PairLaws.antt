@@ -110,13 +110,13 @@ module _ (p : Program) (left right schedule : List ℕ) where
   both_success (Some found) reply e h = let wrong : Some found ≡ None = e in cc
   both_success None reply e h = fit_success reply h
 
-no_bad_start : (o : Option BadStart) → IsNone o → o ≡ None
+pub no_bad_start : (o : Option BadStart) → IsNone o → o ≡ None
 no_bad_start None h = refl
 no_bad_start (Some found) h = let wrong : true ≡ false = h in cc
 
 -- Accepted programs --------------------------------------------------------------------------------------------
 
-schedule_front : (count n : ℕ) (schedule : List ℕ) → IsSchedule count schedule → IsSchedule count (take n schedule)
+pub schedule_front : (count n : ℕ) (schedule : List ℕ) → IsSchedule count schedule → IsSchedule count (take n schedule)
 schedule_front count zero schedule h = tt
 schedule_front count (suc n) [] h = tt
 schedule_front count (suc n) (t ∷ ts) h = (h.0, schedule_front count n ts h.1)

@@ -1,12 +1,17 @@
--- The headline: what it says of a file that it is accepted.
-use Rattle.std.specs.Prelude.{◌≡◌, ℕ, List, Some}
+-- The headline: what it says of a file that it is accepted, and what is put of its code.
+use Rattle.std.specs.Prelude.{◌≡◌, ℕ, List, Some, Ok}
 use Rattle.cov_ast.specs.Syntax.{Parsed}
 use Rattle.cov_grammar.specs.PlacedTrees as trees
 use Rattle.cov_io.specs.Shelves.{File, held}
+use Rattle.cov_io.specs.Sinks.{Sunk, Writes}
 use Rattle.cov_text.specs.Text.{program_of}
+use Rattle.code_text.specs.Listing.{IsListingOf}
+use Rattle.compiled_code.specs.GoodCode.{IsGoodCode}
 use Rattle.flow_model.specs.Secure.{IsSecure}
+use Rattle.policy_class.specs.Resolved.{resolved}
+use Rattle.risc_machine.specs.declared.parts.Parts.{Parts}
 use Rattle.top_call.specs.Check.{AreNamesInOrder, IsAcceptedText, meaning}
-use Rattle.top_call.specs.Commands.{Command, check, fmt, migrate, run, run_until, pair, nothing}
+use Rattle.top_call.specs.Commands.{Command, check, compile, fmt, migrate, run, run_code, run_until, pair, pair_code, nothing}
 use Rattle.top_call.specs.Programs.{SpellsTree, SpellsProgram}
 
 -- A file that is checked holds a program that is secure: from any two fit starts, under every schedule, its two runs agree
@@ -15,12 +20,43 @@ abbrev pub HoldsSecure : List File → Command → Type 0
 HoldsSecure files (check name) =
     (bytes : List ℕ) × (held files name ≡ Some bytes) × (tree : trees.Program) × SpellsTree bytes tree
     × AreNamesInOrder (program_of bytes tree) × IsSecure (meaning (program_of bytes tree))
+HoldsSecure files (compile name) = Unit {0}
 HoldsSecure files (fmt name) = Unit {0}
 HoldsSecure files (migrate name) = Unit {0}
 HoldsSecure files (run name start schedule) = Unit {0}
+HoldsSecure files (run_code name start schedule) = Unit {0}
 HoldsSecure files (run_until name start schedule word) = Unit {0}
 HoldsSecure files (pair name first second schedule) = Unit {0}
+HoldsSecure files (pair_code name first second schedule) = Unit {0}
 HoldsSecure files nothing = ⊥
+
+-- What is put is the listing of a code, and a file holds a program for which this code is good: each run of the code is a run
+-- of the program, from any two fit starts, under every schedule, two runs of the code agree after each step, and no variable is
+-- loaded more often than it has to be.
+pub record PutsGoodCode (files : List File) (name : List ℕ) (before after : Sunk) : Type 0 where
+  pub bytes : List ℕ
+  pub at : held files name ≡ Some bytes
+  pub tree : trees.Program
+  pub spelled : SpellsTree bytes tree
+  pub named : AreNamesInOrder (program_of bytes tree)
+  pub code : Parts
+  pub good : IsGoodCode (resolved (program_of bytes tree)) code
+  pub text : List ℕ
+  pub listing : IsListingOf code text
+  pub put : Writes before after text (Ok tt)
+
+-- What a command puts, if it puts code.
+abbrev pub PutsCode : List File → Command → (before after : Sunk) → Type 0
+PutsCode files (compile name) before after = PutsGoodCode files name before after
+PutsCode files (check name) before after = Unit {0}
+PutsCode files (fmt name) before after = Unit {0}
+PutsCode files (migrate name) before after = Unit {0}
+PutsCode files (run name start schedule) before after = Unit {0}
+PutsCode files (run_code name start schedule) before after = Unit {0}
+PutsCode files (run_until name start schedule word) before after = Unit {0}
+PutsCode files (pair name first second schedule) before after = Unit {0}
+PutsCode files (pair_code name first second schedule) before after = Unit {0}
+PutsCode files nothing before after = ⊥
 
 -- A file holds a program that is accepted.
 pub record HoldsAccepted (files : List File) (name : List ℕ) : Type 0 where
@@ -30,12 +66,15 @@ pub record HoldsAccepted (files : List File) (name : List ℕ) : Type 0 where
   pub is : SpellsProgram bytes spelled
   pub accepted : IsAcceptedText spelled
 
--- The program that a command runs twice, if it does, is accepted.
+-- The program that a command runs twice, if it does, is accepted. That of which the code is run twice is, or the code isn't run.
 abbrev pub RunsAccepted : List File → Command → Type 0
 RunsAccepted files (pair name first second schedule) = HoldsAccepted files name
 RunsAccepted files (check name) = Unit {0}
+RunsAccepted files (compile name) = Unit {0}
 RunsAccepted files (fmt name) = Unit {0}
 RunsAccepted files (migrate name) = Unit {0}
 RunsAccepted files (run name start schedule) = Unit {0}
+RunsAccepted files (run_code name start schedule) = Unit {0}
 RunsAccepted files (run_until name start schedule word) = Unit {0}
+RunsAccepted files (pair_code name first second schedule) = Unit {0}
 RunsAccepted files nothing = Unit {0}

@@ -15,15 +15,19 @@ use Rattle.cov_io.specs.declared.shelf.Fetched.TheVariants.{Whole}
 use Rattle.cov_text.specs.Text.{Expression}
 use Rattle.flow_model.specs.Agreement.{AreFitStarts}
 use Rattle.flow_model.specs.Secure.{IsSecure}
-use Rattle.policy_class.specs.Resolved.{resolved}
+use Rattle.compiled_code.specs.Compiled.{compiled}
+use Rattle.compiled_code.specs.GoodCode.{IsGoodCode}
+use Rattle.policy_class.specs.Resolved.{name_obligations, resolved}
+use Rattle.risc_machine.specs.declared.parts.Parts.{Parts}
 use Rattle.schedule_replay.specs.Replays.{StopsAt, after_steps}
 use Rattle.schedule_replay.specs.declared.replays.Until.{Until}
 use Rattle.source_machine.specs.Machine.{Machine, run_of}
 use Rattle.verify.specs.Accepted.{IsAccepted, program_obligations}
 use Rattle.verify.specs.Verdicts.{counts}
 use Rattle.top_call.specs.Asks.{Asks}
-use Rattle.top_call.specs.Check.{meaning}
-use Rattle.top_call.specs.Commands.{Command, check, fmt, migrate, run, run_until, pair, nothing}
+use Rattle.top_call.specs.Check.{IsAcceptedText, meaning}
+use Rattle.top_call.specs.Codes.{PairsCode}
+use Rattle.top_call.specs.Commands.{Command, check, compile, fmt, migrate, run, run_code, run_until, pair, pair_code, nothing}
 use Rattle.top_call.specs.Expressions.{by_place, first_unknown}
 use Rattle.top_call.specs.Files.{Reads}
 use Rattle.top_call.specs.Outcome.{entries, expression, memory}
@@ -60,11 +64,14 @@ seen (a.Differ step what) = differ step what
 -- what is asked, without where its words lie in memory
 abbrev pub command_seen : Asked → Command
 command_seen (asked.Check name) = check name.now
+command_seen (asked.Compile name) = compile name.now
 command_seen (asked.Fmt name) = fmt name.now
 command_seen (asked.Migrate name) = migrate name.now
 command_seen (asked.Run program start schedule) = run program.now start.now schedule.now
+command_seen (asked.RunCode program start schedule) = run_code program.now start.now schedule.now
 command_seen (asked.RunUntil program start schedule expression) = run_until program.now start.now schedule.now expression.now
 command_seen (asked.Pair program first second schedule) = pair program.now first.now second.now schedule.now
+command_seen (asked.PairCode program first second schedule) = pair_code program.now first.now second.now schedule.now
 command_seen asked.Nothing = nothing
 
 -- The expression that is asked for, if any, isn't too long.
@@ -132,6 +139,27 @@ abbrev pub program_verdict : Program → Option Refusal → Reply
 program_verdict program (Some refusal) = refused refusal (name_in program.threads refusal.thread)
 program_verdict program None = accepted (length program.threads) (counts program).statements (counts program).entailments
 
+-- The program that a text stands for, whose names are in order.
+pub record IsNamed (p : Parsed) (program : Program) : Type 0 where
+  pub is : program ≡ resolved p
+  pub formed : IsWellFormed program
+  pub held : first_false (name_obligations p) ≡ None
+
+-- the refusal of the first obligation of names that doesn't hold
+abbrev pub IsNameRefusal : Parsed → Reply → Type 0
+IsNameRefusal p reply = (refusal : Refusal) × (first_false (name_obligations p) ≡ Some refusal) × (reply ≡ refused refusal None)
+
+-- the refusal of the first obligation of a program that doesn't hold
+abbrev pub IsRejection : Program → Reply → Type 0
+IsRejection program reply =
+    (refusal : Refusal) × (first_false (program_obligations program) ≡ Some refusal) × (reply ≡ refused refusal (name_in program.threads refusal.thread))
+
+-- The code of a program that is accepted, which is good.
+pub record IsCodeOf (program : Program) (c : Parts) : Type 0 where
+  pub is : c ≡ compiled program
+  pub accepted : IsAccepted program
+  pub good : IsGoodCode program c
+
 -- The reply to a check of a program whose names are in order. What is accepted is secure.
 pub record JudgesProgram (program : Program) (reply : Reply) : Type 0 where
   pub verdict : reply ≡ program_verdict program (first_false (program_obligations program))
@@ -165,6 +193,11 @@ until_plan p memory schedule word = expression p word (λ e. replies (IsDeclared
 abbrev pub second_plan : Parsed → (left second schedule : List ℕ) → Plan
 second_plan p left second schedule =
     memory p second (λ r. entries p schedule (λ k. replies (IsDeclaredText p × AreFitStarts (meaning p) left r) (Pairs p left r k)))
+
+-- what follows of a program and a first memory, where a second one is read for two runs of its code
+abbrev pub second_code_plan : Parsed → (left second schedule : List ℕ) → Plan
+second_code_plan p left second schedule =
+    memory p second (λ r. entries p schedule (λ k. replies (IsAcceptedText p × AreFitStarts (meaning p) left r) (PairsCode p left r k)))
 
 -- the names of declared variables, in their order
 abbrev pub variables : List VarDecl → List (List ℕ)

@@ -8,12 +8,14 @@ pub mod Check
 pub mod Format
 pub mod Runs
 pub mod Pairs
+pub mod Codes
 pub mod Programs
 pub mod Files
 pub mod Asks
 pub mod Replies
 pub mod Reports
 pub mod RunReports
+pub mod CodeReports
 pub mod Ends
 pub mod Laws
 pub mod Inside

@@ -6,7 +6,8 @@ use Rattle.cov_expr.specs.Term.{Term}
 use Rattle.cov_expr.specs.declared.limits.TheConstants.{MOST_BYTES}
 use Rattle.flow_model.specs.Agreement.{AreFitStarts}
 use Rattle.top_call.specs.Check.{Judges, IsAcceptedText, meaning}
-use Rattle.top_call.specs.Commands.{Command, check, fmt, migrate, run, run_until, pair, nothing}
+use Rattle.top_call.specs.Codes.{Compiles, RunsCode, PairsCode}
+use Rattle.top_call.specs.Commands.{Command, check, compile, fmt, migrate, run, run_code, run_until, pair, pair_code, nothing}
 use Rattle.top_call.specs.Expressions.{IsExpression, IsExpressionFault}
 use Rattle.top_call.specs.Format.{Formats, Migrates}
 use Rattle.top_call.specs.Inputs.{IsStart, IsStartFault, IsScheduleText, IsScheduleFault}
@@ -38,15 +39,21 @@ expression p bytes next = argument (codes "expression") bytes (IsExpression p) (
 -- what each command does
 abbrev pub plan_of : Command → Plan
 plan_of (check name) = program name (λ p. replies (IsAcceptedText p) (Judges p))
+plan_of (compile name) = program name (λ p. replies (IsAcceptedText p) (Compiles p))
 plan_of (fmt name) = program name (λ p. replies (Unit {0}) (Formats p))
 plan_of (migrate name) = program name (λ p. replies (Unit {0}) (Migrates p))
 plan_of (run name start schedule) =
     program name (λ p. memory p start (λ m. entries p schedule (λ k. replies (IsDeclaredText p) (Runs p m k))))
+plan_of (run_code name start schedule) =
+    program name (λ p. memory p start (λ m. entries p schedule (λ k. replies (IsAcceptedText p) (RunsCode p m k))))
 plan_of (run_until name start schedule word) =
     program name (λ p. memory p start (λ m. entries p schedule (λ k. expression p word (λ e. replies (IsDeclaredText p) (RunsUntil p m k e)))))
 plan_of (pair name first second schedule) =
     program name (λ p. memory p first (λ l. memory p second (λ r. entries p schedule (λ k.
     replies (IsDeclaredText p × AreFitStarts (meaning p) l r) (Pairs p l r k)))))
+plan_of (pair_code name first second schedule) =
+    program name (λ p. memory p first (λ l. memory p second (λ r. entries p schedule (λ k.
+    replies (IsAcceptedText p × AreFitStarts (meaning p) l r) (PairsCode p l r k)))))
 plan_of nothing = replies ⊥ (λ reply. reply ≡ usage)
 
 -- what a command may reply, by the shelf before and after the call
@@ -61,12 +68,15 @@ Outcome files command reply = RepliesOver files (plan_of command) reply
 abbrev pub IsMet : List File → Command → Type 0
 IsMet files command = IsPlanMet files (plan_of command)
 
--- The status says that a command did all its work; that of two runs, that they agree, or that they differ.
+-- The status says that a command did all its work; that of two runs of a program, that they agree, or that they differ.
 abbrev pub IsSuccess : Command → Status → Type 0
 IsSuccess (check name) status = status ≡ s.Done
+IsSuccess (compile name) status = status ≡ s.Done
 IsSuccess (fmt name) status = status ≡ s.Done
 IsSuccess (migrate name) status = status ≡ s.Done
 IsSuccess (run name start schedule) status = status ≡ s.Done
+IsSuccess (run_code name start schedule) status = status ≡ s.Done
 IsSuccess (run_until name start schedule word) status = status ≡ s.Done
 IsSuccess (pair name first second schedule) status = (status ≡ s.Done) ⊎ (status ≡ s.Differ)
+IsSuccess (pair_code name first second schedule) status = status ≡ s.Done
 IsSuccess nothing status = ⊥

@@ -85,9 +85,9 @@ pub enum Answer<'w> {
     /// The first rule that is broken, and the name of the thread, for a rule of statements.
     Refused(Refusal, Option<Name>),
     Accepted(Counts),
-    /// The canonical spelling of a program.
+    /// The canonical spelling of a program, or the listing of its code.
     Spelled(Blob),
-    /// The report on a run, or on two that agree.
+    /// The report on a run, of a program or of its code, or on two that agree.
     Ran(Blob),
     /// Two memories aren't fit to start from: the name of the first variable or lock that says so.
     BadStarts(Blob),

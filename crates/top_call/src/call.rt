@@ -4,7 +4,7 @@ ghost use Rattle.cov_io.specs.Counters.{Rose};
 ghost use Rattle.top_call.specs.Asks.{Asks, files_of};
 ghost use Rattle.top_call.specs.Commands.{command_of};
 ghost use Rattle.top_call.specs.Ends.{Ends};
-ghost use Rattle.top_call.specs.Headline.{HoldsSecure, RunsAccepted};
+ghost use Rattle.top_call.specs.Headline.{HoldsSecure, PutsCode, RunsAccepted};
 ghost use Rattle.top_call.specs.Outcome.{Does, Outcome, IsMet, IsSuccess};
 
 use crate::answers::{Status, Stop};
@@ -33,7 +33,10 @@ pub fn covern<S: Shelf, K: Sink>(
     // A program that is accepted is secure.
     ensures secure { result ≡ Status.Done → IfSome (S.shelved shelf.old).told (λ files.
         HoldsSecure files (command_of (map string_bytes words.now))) }
-    // Two runs of a program that is accepted never differ, and no other command answers so.
+    // What is put of the code of a program is the listing of a code that matches it, is secure and meets the load bound.
+    ensures code { result ≡ Status.Done → IfSome (S.shelved shelf.old).told (λ files.
+        PutsCode files (command_of (map string_bytes words.now)) (K.sunk sink.old) (K.sunk sink.new)) }
+    // Two runs of a program that is accepted never differ, nor do those of code, and no other command answers so.
     ensures agree { IfSome (S.shelved shelf.old).told (λ files.
         RunsAccepted files (command_of (map string_bytes words.now)) → result ≢ Status.Differ) }
     // Where the shelf tells, no call of it and no put failed, and all that the command asks holds, it is done, or memory ran out.

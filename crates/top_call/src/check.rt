@@ -63,7 +63,7 @@ fn judge_program<'w>(alloc: Global, program: &Program) -> Result<Answer<'w>, Sto
 }
 
 /// The name of a thread, by its number.
-fn thread_name(threads: &[ThreadDecl], thread: Option<u32>) -> Option<Name>
+pub fn thread_name(threads: &[ThreadDecl], thread: Option<u32>) -> Option<Name>
     ensures { result ≡ name_in (map view.thread threads.now) thread }
 {
     let thread = threads.get(thread? as usize)?;

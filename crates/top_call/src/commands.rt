@@ -8,11 +8,14 @@ ghost use Rattle.top_call.specs.Outcome.{Does};
 
 use crate::answers::{Answer, Stop};
 use crate::check::check;
+use crate::compile::compile;
 use crate::expressions::MOST_EXPRESSION_BYTES;
 use crate::fmt::format;
 use crate::migrate::migrate;
 use crate::pair::pair;
+use crate::pair_code::pair_code;
 use crate::run::run;
+use crate::run_code::run_code;
 use crate::run_until::run_until;
 use cov_io::Shelf;
 use std::alloc::Global;
@@ -21,11 +24,14 @@ use std::alloc::Global;
 #[derive(Clone, Copy)]
 pub enum Asked<'w> {
     Check(&'w str),
+    Compile(&'w str),
     Fmt(&'w str),
     Migrate(&'w str),
     Run(&'w str, &'w str, &'w str),
+    RunCode(&'w str, &'w str, &'w str),
     RunUntil(&'w str, &'w str, &'w str, &'w str),
     Pair(&'w str, &'w str, &'w str, &'w str),
+    PairCode(&'w str, &'w str, &'w str, &'w str),
     Nothing,
 }
 
@@ -55,14 +61,21 @@ fn carry_out<'w, S: Shelf>(
 {
     match asked {
         Asked::Check(name) => check(alloc, name, shelf),
+        Asked::Compile(name) => compile(alloc, name, shelf),
         Asked::Fmt(name) => format(alloc, name, shelf),
         Asked::Migrate(name) => migrate(alloc, name, shelf),
         Asked::Run(program, start, schedule) => run(alloc, program, start, schedule, shelf),
+        Asked::RunCode(program, start, schedule) => {
+            run_code(alloc, program, start, schedule, shelf)
+        }
         Asked::RunUntil(program, start, schedule, expression) => {
             run_until(alloc, program, start, schedule, expression, shelf)
         }
         Asked::Pair(program, first, second, schedule) => {
             pair(alloc, program, first, second, schedule, shelf)
+        }
+        Asked::PairCode(program, first, second, schedule) => {
+            pair_code(alloc, program, first, second, schedule, shelf)
         }
         Asked::Nothing => Ok(Answer::Usage),
     }
@@ -98,6 +111,8 @@ fn of_one<'w>(command: &str, name: &'w str) -> Asked<'w>
 {
     if command == "check" {
         Asked::Check(name)
+    } else if command == "compile" {
+        Asked::Compile(name)
     } else if command == "fmt" {
         Asked::Fmt(name)
     } else if command == "migrate" {
@@ -113,6 +128,8 @@ fn of_three<'w>(command: &str, program: &'w str, start: &'w str, schedule: &'w s
 {
     if command == "run" {
         Asked::Run(program, start, schedule)
+    } else if command == "run-code" {
+        Asked::RunCode(program, start, schedule)
     } else {
         Asked::Nothing
     }
@@ -136,6 +153,8 @@ fn of_four<'w>(
         }
     } else if command == "pair" {
         Asked::Pair(program, start, next, last)
+    } else if command == "pair-code" {
+        Asked::PairCode(program, start, next, last)
     } else {
         Asked::Nothing
     }

@@ -12,15 +12,16 @@
 //! | `call` | | `covern`, with all its promises |
 //! | `commands` | `Commands`, `Outcome` | which command the words ask for; the plan of each, in one row |
 //! | | `Plans`, `Asks` | plans: which files are read one behind the other, and what is replied then; which calls they make |
-//! | `check`, `fmt`, `migrate`, `run`, `run_until`, `pair` | `Check`, `Format`, `Runs`, `Pairs` | a module for each command: what it replies to what its files spell |
+//! | `check`, `compile`, `fmt`, `migrate`, `run`, `run_code`, `run_until`, `pair`, `pair_code` | `Check`, `Format`, `Runs`, `Pairs`, `Codes` | a module for each command: what it replies to what its files spell |
+//! | `codes` | `Codes` | the code of an accepted program, and its machine |
 //! | `files`, `inputs`, `expressions` | `Files`, `Programs`, `Inputs`, `Expressions` | how a file is fetched and read, as a program, a start or a schedule, and a word as an expression, and what is replied where it isn't |
 //! | `answers` | `Replies` | what a call can answer, and the status of each answer |
-//! | `reports`, `refusals`, `faults`, `run_reports`, `differences`, `lines` | `Reports`, `RunReports` | the text of each answer |
+//! | `reports`, `refusals`, `faults`, `run_reports`, `code_reports`, `differences`, `lines` | `Reports`, `RunReports`, `CodeReports` | the text of each answer |
 //! | `end` | `Ends` | the report is made and written |
-//! | `laws` | `Laws`, `Headline` | one reply; a program in version 2; what it says of a file that it is accepted |
+//! | `laws` | `Laws`, `Headline` | one reply; a program in version 2; what it says of a file that it is accepted, and of what is put that it is the listing of its code |
 //!
 //! A command is a module of `src/` with its step, a module of `specs/` with its replies, and a row in each of `Command`,
-//! `command_of`, `plan_of`, `IsSuccess`, `HoldsSecure`, `RunsAccepted` and in the function `answer`. Definitions by command have no row for the
+//! `command_of`, `plan_of`, `IsSuccess`, `HoldsSecure`, `PutsCode`, `RunsAccepted` and in the function `answer`. Definitions by command have no row for the
 //! rest, so that none is forgotten. What a command may reply, what it replies over files, what it asks and which calls it makes
 //! are said once, by recursion on plans. `specs/Inside` has the words of private contracts, which no promise of `covern` cites.
 #![tactic(auto)]
@@ -28,7 +29,10 @@
 mod answers;
 mod call;
 mod check;
+mod code_reports;
+mod codes;
 mod commands;
+mod compile;
 mod differences;
 mod end;
 mod expressions;
@@ -40,9 +44,11 @@ mod laws;
 mod lines;
 mod migrate;
 mod pair;
+mod pair_code;
 mod refusals;
 mod reports;
 mod run;
+mod run_code;
 mod run_reports;
 mod run_until;
 

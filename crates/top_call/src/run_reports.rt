@@ -115,7 +115,7 @@ fn add_state<'p>(p: &'p Program, source: &Source<'p>, text: &mut Blob) -> Result
     add_outputs(source.said(), text)
 }
 
-fn add_vars(vars: &[VarDecl], memory: &[u32], text: &mut Blob) -> Result<(), NoMemory>
+pub fn add_vars(vars: &[VarDecl], memory: &[u32], text: &mut Blob) -> Result<(), NoMemory>
     requires { length memory.now ≡ length vars.now }
     ensures { OnOk result (text.new ≡ text.old ++ spec.lines_from (spec.var_line memory.now) 0 (map view.var vars.now)) }
 {
@@ -133,7 +133,12 @@ fn add_var(word: u32, var: &VarDecl, text: &mut Blob) -> Result<(), NoMemory>
 }
 
 /// Adds the two words of each variable.
-fn add_pairs(vars: &[VarDecl], left: &[u32], right: &[u32], text: &mut Blob) -> Result<(), NoMemory>
+pub fn add_pairs(
+    vars: &[VarDecl],
+    left: &[u32],
+    right: &[u32],
+    text: &mut Blob,
+) -> Result<(), NoMemory>
     requires left { length left.now ≡ length vars.now }
     requires right { length right.now ≡ length vars.now }
     ensures { OnOk result (text.new ≡ text.old ++ spec.lines_from (spec.pair_line left.now right.now) 0 (map view.var vars.now)) }
@@ -153,7 +158,7 @@ fn add_pair(left: u32, right: u32, var: &VarDecl, text: &mut Blob) -> Result<(),
     add_numbered(b" ", right, text)
 }
 
-fn add_locks(
+pub fn add_locks(
     threads: &[ThreadDecl],
     locks: &[LockDecl],
     holders: &[Holder],
@@ -224,7 +229,7 @@ fn add_thread(place: Option<u32>, thread: &ThreadDecl, text: &mut Blob) -> Resul
     }
 }
 
-fn add_outputs(said: &[u32], text: &mut Blob) -> Result<(), NoMemory>
+pub fn add_outputs(said: &[u32], text: &mut Blob) -> Result<(), NoMemory>
     ensures { OnOk result (text.new ≡ text.old ++ flat_map spec.output_line said.now) }
 {
     for word in said {

@@ -4,7 +4,7 @@ use Rattle.top_call.specs.Commands.{command_of}
 use Rattle.top_call.specs.Inside.{seen, LacksMemory}
 use Rattle.top_call.specs.declared.answers.Status.TheVariants as s
 use Rattle.top_call.proofs.PlanLaws.{asks_onward}
-use Rattle.top_call.proofs.OutcomeLaws.{call_outcome, call_exact, call_secure, call_agree, call_fault, call_complete}
+use Rattle.top_call.proofs.OutcomeLaws.{call_outcome, call_exact, call_secure, call_code, call_agree, call_fault, call_complete}
 use Rattle.top_call.proofs.call.covern.Goals as goal
 
 pub returns-clause-outcome : goal.returns-clause-outcome
@@ -40,6 +40,13 @@ returns-clause-secure g c done =
     let shelved = g.S.Shelf.shelved in
     let sunk = g.K.Sink.sunk in
     call_secure (shelved c.args.shelf.now) (shelved c.answer.new.shelf) (command_of (map string_bytes c.args.words.now)) (seen c.match-answer.answer) (search rules)
+    (sunk c.args.sink.now) (sunk c.end.new.sink) c.end.result c.end.ensures.ends done
+
+pub returns-clause-code : goal.returns-clause-code
+returns-clause-code g c done =
+    let shelved = g.S.Shelf.shelved in
+    let sunk = g.K.Sink.sunk in
+    call_code (shelved c.args.shelf.now) (shelved c.answer.new.shelf) (command_of (map string_bytes c.args.words.now)) (seen c.match-answer.answer) (search rules)
     (sunk c.args.sink.now) (sunk c.end.new.sink) c.end.result c.end.ensures.ends done
 
 pub returns-clause-agree : goal.returns-clause-agree

@@ -33,3 +33,23 @@ pub returns-in-Pair-clause-asks : goal.returns-in-Pair-clause-asks
 returns-in-Pair-clause-asks g c =
     let shelved = g.S.Shelf.shelved in
     subst (λ a. Asks (shelved c.args.shelf.now) (shelved c.pair.new.shelf) (files_of (command_seen a)) (LacksMemory c.pair.result)) (sym c.in-Pair.is) c.pair.ensures.asks
+
+pub returns-in-RunCode-clause-does : goal.returns-in-RunCode-clause-does
+returns-in-RunCode-clause-does g c =
+    let shelved = g.S.Shelf.shelved in
+    subst (λ a. Gets (Does (shelved c.args.shelf.now) (shelved c.run_code.new.shelf) (command_seen a)) c.run_code.result) (sym c.in-RunCode.is) c.run_code.ensures.does
+
+pub returns-in-RunCode-clause-asks : goal.returns-in-RunCode-clause-asks
+returns-in-RunCode-clause-asks g c =
+    let shelved = g.S.Shelf.shelved in
+    subst (λ a. Asks (shelved c.args.shelf.now) (shelved c.run_code.new.shelf) (files_of (command_seen a)) (LacksMemory c.run_code.result)) (sym c.in-RunCode.is) c.run_code.ensures.asks
+
+pub returns-in-PairCode-clause-does : goal.returns-in-PairCode-clause-does
+returns-in-PairCode-clause-does g c =
+    let shelved = g.S.Shelf.shelved in
+    subst (λ a. Gets (Does (shelved c.args.shelf.now) (shelved c.pair_code.new.shelf) (command_seen a)) c.pair_code.result) (sym c.in-PairCode.is) c.pair_code.ensures.does
+
+pub returns-in-PairCode-clause-asks : goal.returns-in-PairCode-clause-asks
+returns-in-PairCode-clause-asks g c =
+    let shelved = g.S.Shelf.shelved in
+    subst (λ a. Asks (shelved c.args.shelf.now) (shelved c.pair_code.new.shelf) (files_of (command_seen a)) (LacksMemory c.pair_code.result)) (sym c.in-PairCode.is) c.pair_code.ensures.asks

@@ -1,0 +1,36 @@
+ghost use Rattle.cov_ast.specs.Ready.{IsReady};
+ghost use Rattle.cov_ast.specs.View as view;
+ghost use Rattle.top_call.specs.Codes.{Compiles};
+ghost use Rattle.top_call.specs.Commands as asked;
+ghost use Rattle.top_call.specs.Inside.{CarriesOut, Gets};
+ghost use Rattle.top_call.specs.Outcome.{plan_of};
+
+use crate::answers::{Answer, Stop};
+use crate::codes::{code_of, named};
+use crate::files::read_program;
+use code_text::list;
+use cov_ast::Parsed;
+use cov_io::Shelf;
+use std::alloc::Global;
+
+/// Lists the code of the program of a file.
+pub fn compile<'w, S: Shelf>(
+    alloc: Global,
+    name: &'w str,
+    shelf: &mut S,
+) -> Result<Answer<'w>, Stop<'w>>
+    ensures { CarriesOut (S.shelved shelf.old) (S.shelved shelf.new) (plan_of (asked.compile name.now)) result }
+{
+    let parsed = read_program(alloc, name, shelf)?;
+    compile_text(alloc, parsed)
+}
+
+/// Lists the code of what a text spells.
+fn compile_text<'w>(alloc: Global, parsed: Parsed) -> Result<Answer<'w>, Stop<'w>>
+    requires { IsReady (view.parsed parsed) }
+    ensures { Gets (Compiles (view.parsed parsed)) result }
+{
+    let program = named(alloc, parsed)?;
+    let code = code_of(alloc, &program)?;
+    Ok(Answer::Spelled(list(alloc, &code)?))
+}

@@ -1,0 +1,138 @@
+ghost use Rattle.std.specs.Prelude.{◌≡◌, ◌≤◌, IfOk, length};
+ghost use Rattle.compiled_code.specs.SecureCode.{IsSecureCode};
+ghost use Rattle.cov_ast.specs.Plain.{plain};
+ghost use Rattle.cov_ast.specs.Ready.{IsReady};
+ghost use Rattle.cov_ast.specs.View as view;
+ghost use Rattle.cov_ast.specs.WellFormed.{IsWellFormed};
+ghost use Rattle.cov_expr.specs.Words.{IsMemory, IsSchedule};
+ghost use Rattle.flow_model.specs.Agreement.{AreFitStarts};
+ghost use Rattle.schedule_replay.specs.CodeReplays.{DeclaresAsMany};
+ghost use Rattle.schedule_replay.specs.Schedules.{most_entries};
+ghost use Rattle.top_call.specs.Codes.{CodeRunsTogether, PairsCode, RunsBothCodes};
+ghost use Rattle.top_call.specs.Commands as asked;
+ghost use Rattle.top_call.specs.Inside.{CarriesOut, Gets, second_code_plan, seen};
+ghost use Rattle.top_call.specs.Outcome.{plan_of};
+ghost use Rattle.top_call.specs.Replies as replies;
+
+use crate::answers::{Answer, Stop};
+use crate::code_reports::code_pair_report;
+use crate::codes::{code_of, named, start};
+use crate::differences::bad_name;
+use crate::files::read_program;
+use crate::inputs::{read_entries, read_memory};
+use cov_ast::{Parsed, Program};
+use cov_expr::{Blob, List, NoMemory};
+use cov_io::Shelf;
+use flow_model::starts;
+use risc_machine::Code;
+use schedule_replay::pair_code as replay_pair;
+use std::alloc::Global;
+
+/// Runs the code of the program of a file from two starts under a schedule, side by side.
+pub fn pair_code<'w, S: Shelf>(
+    alloc: Global,
+    program: &'w str,
+    first: &'w str,
+    second: &'w str,
+    schedule: &'w str,
+    shelf: &mut S,
+) -> Result<Answer<'w>, Stop<'w>>
+    ensures { CarriesOut (S.shelved shelf.old) (S.shelved shelf.new)
+        (plan_of (asked.pair_code program.now first.now second.now schedule.now)) result }
+{
+    let parsed = read_program(alloc, program, shelf)?;
+    let left = read_memory(alloc, first, &parsed, shelf)?;
+    pair_with(alloc, parsed, left, second, schedule, shelf)
+}
+
+/// Reads the second start and the schedule, and runs the code of what a text spells.
+fn pair_with<'w, S: Shelf>(
+    alloc: Global,
+    parsed: Parsed,
+    left: List<u32>,
+    second: &'w str,
+    schedule: &'w str,
+    shelf: &mut S,
+) -> Result<Answer<'w>, Stop<'w>>
+    requires ready { IsReady (view.parsed parsed) }
+    requires left { IsMemory (length parsed.vars) left }
+    ensures { CarriesOut (S.shelved shelf.old) (S.shelved shelf.new) (second_code_plan (view.parsed parsed) left second.now schedule.now) result }
+{
+    let right = read_memory(alloc, second, &parsed, shelf)?;
+    let entries = read_entries(alloc, schedule, &parsed, shelf)?;
+    pair_text(alloc, parsed, left, right, entries.as_slice())
+}
+
+/// Runs the code of what a text spells.
+fn pair_text<'w>(
+    alloc: Global,
+    parsed: Parsed,
+    left: List<u32>,
+    right: List<u32>,
+    schedule: &[u32],
+) -> Result<Answer<'w>, Stop<'w>>
+    requires ready { IsReady (view.parsed parsed) }
+    requires left { IsMemory (length parsed.vars) left }
+    requires right { IsMemory (length parsed.vars) right }
+    requires threads { IsSchedule (length parsed.threads) schedule.now }
+    requires entries { length schedule.now ≤ most_entries }
+    ensures { Gets (PairsCode (view.parsed parsed) left right schedule.now) result }
+{
+    let program = named(alloc, parsed)?;
+    let code = code_of(alloc, &program)?;
+    let answer = paired(alloc, &program, &code, left, right, schedule)?;
+    Ok(answer)
+}
+
+/// What is answered to two runs of the code of a program, if their starts are fit.
+fn paired<'w>(
+    alloc: Global,
+    program: &Program,
+    code: &Code,
+    left: List<u32>,
+    right: List<u32>,
+    schedule: &[u32],
+) -> Result<Answer<'w>, NoMemory>
+    requires formed { IsWellFormed (view.program program.now) }
+    requires declared { DeclaresAsMany code.now program.now }
+    requires secure { IsSecureCode (plain (view.program program.now)) code.now }
+    requires left { IsMemory (length program.now.vars) left }
+    requires right { IsMemory (length program.now.vars) right }
+    requires threads { IsSchedule (length program.now.threads) schedule.now }
+    requires entries { length schedule.now ≤ most_entries }
+    ensures { IfOk result (λ answer. RunsBothCodes (view.program program.now) code.now left right schedule.now (seen answer)) }
+{
+    match starts(program, left.as_slice(), right.as_slice()) {
+        Some(found) => Ok(Answer::BadStarts(bad_name(alloc, program, &found)?)),
+        None => {
+            let report = run_both(alloc, program, code, left, right, schedule)?;
+            Ok(Answer::Ran(report))
+        }
+    }
+}
+
+/// The report on two runs of secure code from fit starts, which agree.
+fn run_both(
+    alloc: Global,
+    program: &Program,
+    code: &Code,
+    left: List<u32>,
+    right: List<u32>,
+    schedule: &[u32],
+) -> Result<Blob, NoMemory>
+    requires formed { IsWellFormed (view.program program.now) }
+    requires declared { DeclaresAsMany code.now program.now }
+    requires secure { IsSecureCode (plain (view.program program.now)) code.now }
+    requires left { IsMemory (length program.now.vars) left }
+    requires right { IsMemory (length program.now.vars) right }
+    requires fit { AreFitStarts (plain (view.program program.now)) left right }
+    requires threads { IsSchedule (length program.now.threads) schedule.now }
+    requires entries { length schedule.now ≤ most_entries }
+    ensures { IfOk result (λ text. CodeRunsTogether (view.program program.now) code.now left right schedule.now (replies.ran text)) }
+{
+    let mut first = start(alloc, code, left, schedule.len())?;
+    let mut second = start(alloc, code, right, schedule.len())?;
+    let apart = replay_pair(program, &mut first, &mut second, schedule);
+    prove!(apart.is_none());
+    code_pair_report(alloc, program, &first, &second, schedule.len() as u32)
+}

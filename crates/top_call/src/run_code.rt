@@ -1,0 +1,79 @@
+ghost use Rattle.std.specs.Prelude.{◌≡◌, ◌≤◌, IfOk, length};
+ghost use Rattle.cov_ast.specs.Ready.{IsReady};
+ghost use Rattle.cov_ast.specs.View as view;
+ghost use Rattle.cov_expr.specs.Words.{IsMemory, IsSchedule};
+ghost use Rattle.cov_expr.specs.declared.limits.TheConstants.{MOST_THREADS};
+ghost use Rattle.schedule_replay.specs.CodeReplays.{DeclaresAsMany};
+ghost use Rattle.schedule_replay.specs.Schedules.{most_entries};
+ghost use Rattle.top_call.specs.Codes.{RunsCode, report_on_code};
+ghost use Rattle.top_call.specs.Commands as asked;
+ghost use Rattle.top_call.specs.Inside.{CarriesOut, Gets};
+ghost use Rattle.top_call.specs.Outcome.{plan_of};
+
+use crate::answers::{Answer, Stop};
+use crate::code_reports::code_report;
+use crate::codes::{code_of, named, start};
+use crate::files::read_program;
+use crate::inputs::{read_entries, read_memory};
+use cov_ast::{Parsed, Program};
+use cov_expr::{Blob, List, NoMemory};
+use cov_io::Shelf;
+use risc_machine::Code;
+use schedule_replay::run_code as replay;
+use std::alloc::Global;
+
+/// Runs the code of the program of a file from a start under a schedule.
+pub fn run_code<'w, S: Shelf>(
+    alloc: Global,
+    program: &'w str,
+    start: &'w str,
+    schedule: &'w str,
+    shelf: &mut S,
+) -> Result<Answer<'w>, Stop<'w>>
+    ensures { CarriesOut (S.shelved shelf.old) (S.shelved shelf.new)
+        (plan_of (asked.run_code program.now start.now schedule.now)) result }
+{
+    let parsed = read_program(alloc, program, shelf)?;
+    let memory = read_memory(alloc, start, &parsed, shelf)?;
+    let entries = read_entries(alloc, schedule, &parsed, shelf)?;
+    run_text(alloc, parsed, memory, entries.as_slice())
+}
+
+/// Runs the code of what a text spells.
+fn run_text<'w>(
+    alloc: Global,
+    parsed: Parsed,
+    memory: List<u32>,
+    schedule: &[u32],
+) -> Result<Answer<'w>, Stop<'w>>
+    requires ready { IsReady (view.parsed parsed) }
+    requires memory { IsMemory (length parsed.vars) memory }
+    requires threads { IsSchedule (length parsed.threads) schedule.now }
+    requires entries { length schedule.now ≤ most_entries }
+    ensures { Gets (RunsCode (view.parsed parsed) memory schedule.now) result }
+{
+    let program = named(alloc, parsed)?;
+    let code = code_of(alloc, &program)?;
+    let report = ran(alloc, &program, &code, memory, schedule)?;
+    Ok(Answer::Ran(report))
+}
+
+/// The report on a run of code.
+fn ran(
+    alloc: Global,
+    program: &Program,
+    code: &Code,
+    memory: List<u32>,
+    schedule: &[u32],
+) -> Result<Blob, NoMemory>
+    requires declared { DeclaresAsMany code.now program.now }
+    requires few { length program.now.threads ≤ MOST_THREADS }
+    requires memory { length memory ≡ length program.now.vars }
+    requires threads { IsSchedule (length program.now.threads) schedule.now }
+    requires entries { length schedule.now ≤ most_entries }
+    ensures { IfOk result (λ text. text ≡ report_on_code (view.program program.now) code.now memory schedule.now) }
+{
+    let mut risc = start(alloc, code, memory, schedule.len())?;
+    let stayed = replay(&mut risc, schedule);
+    code_report(alloc, program, &risc, schedule.len() as u32, stayed)
+}
