@@ -8,7 +8,6 @@ use Rattle.cov_expr.specs.declared.expr.Op.{Op}
 use Rattle.mode_state.specs.Sets.{is_stable}
 use Rattle.regalloc.specs.Plan.{Plan}
 use Rattle.compiled_code.specs.Compiled.{expr_plan, expr_register, expr_room, fetch_instrs, fetch_plan, line, load_unstable, part_register, term_instrs, unstable_of, weigh}
-use Rattle.typing_rules.proofs.LargeTypes.{some_nodes}
 use Rattle.risc_compile.specs.Inside.{WhereStable, evaluated, fetched, with_instrs, with_lines, with_room}
 use Rattle.risc_compile.specs.declared.emitter.Emitter.{Emitter}
 use Rattle.risc_compile.proofs.PlanLaws.{fetch_instrs_append, fetch_plan_append}
@@ -18,11 +17,15 @@ use Rattle.risc_machine.specs.declared.parts.Line.{Line}
 
 -- Sizes ----------------------------------------------------------------------------------------------------------
 
+-- an expression has a node, and needs no more registers than nodes
+sized : (e : Term) → (1 ≤ nodes e) × (width e ≤ nodes e)
+sized (const k) = (omega arith, omega arith)
+sized (var x) = (omega arith, omega arith)
+sized (neg e) = (omega arith, omega (arith, (sized e).0, (sized e).1))
+sized (bin op a b) = (omega arith, omega (arith, (sized a).1, (sized b).1))
+
 pub wide_nodes : (e : Term) → width e ≤ nodes e
-wide_nodes (const k) = omega arith
-wide_nodes (var x) = omega arith
-wide_nodes (neg e) = omega (arith, wide_nodes e, some_nodes e)
-wide_nodes (bin op a b) = omega (arith, wide_nodes a, wide_nodes b)
+wide_nodes e = (sized e).1
 
 -- Lines ----------------------------------------------------------------------------------------------------------
 

@@ -3,3 +3,4 @@ pub mod ExprLaws
 pub mod CodeLaws
 pub mod Propositions
 pub mod ThreadLaws
+pub mod StatementViews

@@ -11,8 +11,7 @@ use Rattle.risc_compile.specs.Inside.{AddsStm, Stands, WhereStable, after, evalu
 use Rattle.risc_compile.specs.declared.emitter.Emitter.{Emitter}
 use Rattle.risc_compile.proofs.CodeLaws.{after_more, branch_code, guarded_code, loop_code, stm_stands}
 use Rattle.risc_compile.proofs.ExprLaws.{wide_nodes}
-use Rattle.typing_rules.proofs.StatementLaws.{block_from}
-use Rattle.typing_rules.proofs.Walks.{assign_is, branch_seen, loop_seen, output_is}
+use Rattle.risc_compile.proofs.StatementViews.{item_first, kind_assigns, kind_branches, kind_loops, kind_puts_out}
 use Rattle.risc_compile.proofs.emitter.Emitter.+statements.Goals as goal
 
 pub block-loop-stmt-preserved : goal.block-loop-stmt-preserved
@@ -23,7 +22,7 @@ block-loop-stmt-preserved t c =
     let new = c.statement.new.self in
     let whole = view.block c.args.body.now in
     let rest = view.block (drop (c.loop-stmt.stmt-index + 1) c.args.body.now) in
-    let next = block_from c.args.body.now c.loop-stmt.stmt-index item c.loop-stmt-test.true c.stmt-item.is in
+    let next = sym (item_first c.args.body.now c.loop-stmt.stmt-index item c.loop-stmt-test.true c.stmt-item.is) in
     let size = ap block_size next in
     let inv = c.loop-stmt.invariant in
     let added = c.in_ok-statement.ensures.length in
@@ -69,29 +68,29 @@ guarded-returns-clause-code t c p u h range =
 
 pub statement-assign-requires : goal.statement-assign-requires
 statement-assign-requires t c =
-    let size = ap stm_size (ap view.kind c.in-Assign.is ∙ assign_is c.in-Assign.x c.in-Assign.e c.in-Assign.field-2 c.in-Assign.field-3) in
+    let size = ap stm_size (kind_assigns c.args.kind.now c.in-Assign.x c.in-Assign.e c.in-Assign.field-2 c.in-Assign.field-3 c.in-Assign.is) in
     omega (arith, wide_nodes (term c.in-Assign.e), size, c.requires)
 
 pub statement-output-requires : goal.statement-output-requires
 statement-output-requires t c =
-    let size = ap stm_size (ap view.kind c.in-Output.is ∙ output_is c.in-Output.e) in
+    let size = ap stm_size (kind_puts_out c.args.kind.now c.in-Output.e c.in-Output.is) in
     omega (arith, wide_nodes (term c.in-Output.e), size, c.requires)
 
 pub statement-returns-in-Assign-clause-code : goal.statement-returns-in-Assign-clause-code
 statement-returns-in-Assign-clause-code t c =
-    let is = ap view.kind c.in-Assign.is ∙ assign_is c.in-Assign.x c.in-Assign.e c.in-Assign.field-2 c.in-Assign.field-3 in
+    let is = kind_assigns c.args.kind.now c.in-Assign.x c.in-Assign.e c.in-Assign.field-2 c.in-Assign.field-3 c.in-Assign.is in
     subst (λ s. OnOk c.assign.result (AddsStm s c.args.self.now c.assign.new.self)) (sym is)
     (on_ok_weaker c.assign.result (λ adds. adds (option_map term c.in-Assign.field-2) (map view.retype c.in-Assign.field-3)) c.assign.ensures.code)
 
 pub statement-returns-in-If-clause-code : goal.statement-returns-in-If-clause-code
 statement-returns-in-If-clause-code t c =
-    let is = branch_seen c.args.kind.now c.in-If.e c.in-If.yes c.in-If.no c.in-If.field-3 c.in-If.is c.as_slice.result.now c.as_slice.ensures c.as_slice-in-If.result.now c.as_slice-in-If.ensures in
+    let is = kind_branches c.args.kind.now c.in-If.e c.in-If.yes c.in-If.no c.in-If.field-3 c.as_slice.result.now c.as_slice-in-If.result.now c.in-If.is c.as_slice.ensures c.as_slice-in-If.ensures in
     subst (λ s. OnOk c.branch-self.result (AddsStm s c.args.self.now c.branch-self.new.self)) (sym is)
     (on_ok_weaker c.branch-self.result (λ adds. adds (view.state c.in-If.field-3)) c.branch-self.ensures.code)
 
 pub statement-returns-in-While-clause-code : goal.statement-returns-in-While-clause-code
 statement-returns-in-While-clause-code t c =
-    let is = loop_seen c.args.kind.now c.in-While.e c.in-While.field-1 c.in-While.body c.in-While.is c.as_slice-in-While.result.now c.as_slice-in-While.ensures in
+    let is = kind_loops c.args.kind.now c.in-While.e c.in-While.field-1 c.in-While.body c.as_slice-in-While.result.now c.in-While.is c.as_slice-in-While.ensures in
     subst (λ s. OnOk c.while_loop.result (AddsStm s c.args.self.now c.while_loop.new.self)) (sym is)
     (on_ok_weaker c.while_loop.result (λ adds. adds (view.state c.in-While.field-1)) c.while_loop.ensures.code)
 
