@@ -14,7 +14,6 @@ mod generated;
 mod listings;
 mod machines;
 mod points;
-mod replays;
 
 use cov_ast::{Parsed, Program};
 use cov_expr::{List, NoMemory};

@@ -10,7 +10,7 @@ use std::alloc::Global;
 use std::test::Fail;
 
 /// Two threads that write one variable under a lock.
-pub const WRITERS: &[u8] =
+const WRITERS: &[u8] =
     b"var n: low; lock l nowrite n; thread a { lock l; n := 1; unlock l; } thread b { lock l; n := 2; unlock l; }";
 
 /// The first thread takes the lock, the second waits for it, and waits still while the first evaluates.
