@@ -3,6 +3,7 @@ ghost use Rattle.flow_model.specs.FirstDifference.{holders_of};
 ghost use Rattle.risc_machine.specs.Machine as spec;
 
 use crate::code::Code;
+use crate::parts::Line;
 use crate::state::State;
 use cov_expr::{List, NoMemory};
 use flow_model::{Holder, Stepped};
@@ -83,6 +84,20 @@ impl<'c> Risc<'c> {
         match lines.get(here as usize) {
             None => Stepped::Idle,
             Some(line) => self.state.run(line.instr, t),
+        }
+    }
+
+    /// The line that a thread runs next, if it isn't finished.
+    pub fn next_line(&self, t: u32) -> Option<Line>
+        requires { t < length (self.now).parts.threads }
+        ensures { result ≡ spec.line_of (self.now).parts (self.now).state t }
+    {
+        let parts = self.code.parts();
+        let lines = parts.threads.as_slice()[t as usize].lines.as_slice();
+        let here = self.state.positions.as_slice()[t as usize];
+        match lines.get(here as usize) {
+            None => None,
+            Some(line) => Some(*line),
         }
     }
 

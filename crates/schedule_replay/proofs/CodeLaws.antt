@@ -100,6 +100,12 @@ module _ (c : Parts) (s1 s2 : CodeState) (schedule : List ℕ) (i : ℕ) (now ot
       below_more (λ k. 0 < k → CodeStatesAgree p (code_after_steps c s1 schedule k) (code_after_steps c s2 schedule k)) (i + 1) before
       (λ z. subst (λ y. CodeStatesAgree p (code_after_steps c s1 schedule (i + 1)) y) b (subst (λ y. CodeStatesAgree p y other) a x))
 
+  -- behind the first step, the states at which the next begins agree
+  pub code_agrees_now : (p : Plain) → 0 < i → CodeAgreesBefore p c s1 s2 schedule (i + 1)
+      → now ≡ code_after_steps c s1 schedule i → other ≡ code_after_steps c s2 schedule i → CodeStatesAgree p now other
+  code_agrees_now p some before a b =
+      subst (λ x. CodeStatesAgree p x other) (sym a) (subst (λ y. CodeStatesAgree p (code_after_steps c s1 schedule i) y) (sym b) (before i (omega arith) some))
+
   pub first_code_apart : (p : Program) (d : Differ) → i < length schedule
       → CodeAgreesBefore (plain (view.program p)) c s1 s2 schedule (i + 1)
       → now ≡ code_after_steps c s1 schedule (i + 1) → other ≡ code_after_steps c s2 schedule (i + 1)

@@ -2,4 +2,6 @@ mod Examples
 pub mod StepLaws
 pub mod PairLaws
 pub mod CodeLaws
+pub mod QuietLaws
+pub mod QuietCodeLaws
 pub mod ReadLaws

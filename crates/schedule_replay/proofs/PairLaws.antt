@@ -49,6 +49,12 @@ agree_more p r s schedule i now other before a b x =
     below_more (λ k. 0 < k → StatesAgree p (after_steps r schedule k) (after_steps s schedule k)) (i + 1) before
     (λ z. subst (λ y. StatesAgree p (after_steps r schedule (i + 1)) y) b (subst (λ y. StatesAgree p y other) a x))
 
+-- behind the first step, the states at which the next begins agree
+pub agree_now : (p : Plain) (r s : Run) (schedule : List ℕ) (i : ℕ) (now other : Run) → 0 < i → AgreeBefore p r s schedule (i + 1)
+    → now ≡ after_steps r schedule i → other ≡ after_steps s schedule i → StatesAgree p now other
+agree_now p r s schedule i now other some before a b =
+    subst (λ x. StatesAgree p x other) (sym a) (subst (λ y. StatesAgree p (after_steps r schedule i) y) (sym b) (before i (omega arith) some))
+
 pub first_apart : (p : Plain) (r s : Run) (schedule : List ℕ) (i : ℕ) (now other : Run) (d : Differ) → i < length schedule
     → AgreeBefore p r s schedule (i + 1)
     → now ≡ after_steps r schedule (i + 1) → other ≡ after_steps s schedule (i + 1)

@@ -43,6 +43,20 @@ pub fn number_below(value: &Value, bound: u64) -> Option<u32>
     }
 }
 
+/// The whole number that a value is, where it is below a bound.
+pub fn whole_below(value: Value, bound: u64) -> Option<u32>
+    requires { bound ≤ 2 ^ 32 }
+    ensures { result ≡ spec.number_below bound (view value) }
+{
+    match value {
+        Value::Number(number) => match number.as_u64() {
+            Some(whole) if whole < bound => Some(whole as u32),
+            _ => None,
+        },
+        _ => None,
+    }
+}
+
 /// The value of a name.
 pub fn member<'v>(members: &'v Map<String, Value>, name: &Name) -> Option<&'v Value>
     ensures { option_map (λ d. view d.now) result ≡ get_member name.now (members_view members.now.entries) }

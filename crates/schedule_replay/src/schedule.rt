@@ -1,10 +1,10 @@
-ghost use Rattle.std.specs.Prelude.{◌≡◌, ◌≤◌, length, Some};
+ghost use Rattle.std.specs.Prelude.{◌≡◌, ◌≤◌, length, Some, vec_len};
 ghost use Rattle.serde_json.specs.View.{items_view};
 ghost use Rattle.schedule_replay.specs.Json.{value_of};
 ghost use Rattle.schedule_replay.specs.Schedules as spec;
 
 use crate::fault::ScheduleFault;
-use crate::json::{Unread, number_below, read_value};
+use crate::json::{Unread, read_value, whole_below};
 use cov_expr::List;
 use serde_json::Value;
 use std::alloc::Global;
@@ -22,15 +22,15 @@ pub fn read_schedule(alloc: Global, bytes: &[u8], threads: u32) -> Result<List<u
         Err(Unread::Json) => return Err(ScheduleFault::Json),
         Err(Unread::NoMemory) => return Err(ScheduleFault::NoMemory),
     };
-    match value.as_array() {
-        Some(items) => read_items(alloc, items.as_slice(), threads),
-        None => Err(ScheduleFault::NotList),
+    match value {
+        Value::Array(items) => read_items(alloc, items, threads),
+        _ => Err(ScheduleFault::NotList),
     }
 }
 
 /// What the items of a list say.
-fn read_items(alloc: Global, items: &[Value], threads: u32) -> Result<List<u32>, ScheduleFault>
-    ensures { spec.GivesSchedule result (spec.schedule_at threads (Some (items_view items.now))) }
+fn read_items(alloc: Global, items: Vec<Value>, threads: u32) -> Result<List<u32>, ScheduleFault>
+    ensures { spec.GivesSchedule result (spec.schedule_at threads (Some (items_view items.items))) }
 {
     if items.len() > MOST_ENTRIES {
         return Err(ScheduleFault::TooMany);
@@ -39,15 +39,15 @@ fn read_items(alloc: Global, items: &[Value], threads: u32) -> Result<List<u32>,
 }
 
 /// The entries, or the first that is no number of a thread.
-fn read_entries(alloc: Global, items: &[Value], threads: u32) -> Result<List<u32>, ScheduleFault>
-    requires { length items.now ≤ spec.most_entries }
-    ensures { spec.GivesSchedule result (spec.entries_from threads 0 (items_view items.now)) }
+fn read_entries(alloc: Global, items: Vec<Value>, threads: u32) -> Result<List<u32>, ScheduleFault>
+    requires { vec_len items ≤ spec.most_entries }
+    ensures { spec.GivesSchedule result (spec.entries_from threads 0 (items_view items.items)) }
 {
     let mut entries = List::with_capacity(alloc, items.len())?;
-    for (i, item) in items.iter().enumerate() {
-        match number_below(item, u64::from(threads)) {
+    for item in items {
+        match whole_below(item, u64::from(threads)) {
             Some(entry) => entries.push(entry)?,
-            None => return Err(ScheduleFault::BadEntry(i as u32)),
+            None => return Err(ScheduleFault::BadEntry(entries.len() as u32)),
         }
     }
     Ok(entries)

@@ -12,10 +12,10 @@ use Rattle.cov_ast.proofs.WellFormedLaws.{thread_in_range}
 use Rattle.flow_model.specs.Agreement.{AreAlike, shape}
 use Rattle.flow_model.specs.FirstDifference.{held_by, holders_of}
 use Rattle.flow_model.specs.Source.{Item, first_place, items_then, begin, step}
-use Rattle.source_machine.specs.Inside.Firsts.{first_stm, stand_alike}
+use Rattle.source_machine.specs.Inside.Firsts.{first_change, first_stm, stand_alike}
 use Rattle.source_machine.specs.Frames.{items, with_word}
 use Rattle.source_machine.specs.Inside.Entries.{AreFrames}
-use Rattle.source_machine.specs.Machine.{items_left, step_says}
+use Rattle.source_machine.specs.Machine.{change_of, items_left, step_says}
 use Rattle.source_machine.specs.Inside.Sound.{standing, IsSound, IsThread, AreThreads}
 use Rattle.source_machine.specs.Inside.Parts.{Stands}
 use Rattle.source_machine.specs.Inside.Stacks.{frames_of, rooms, turned_from, turned_to, Starts, AllStart}
@@ -23,6 +23,7 @@ use Rattle.source_machine.specs.declared.shared.Shared.{Shared}
 use Rattle.source_machine.specs.declared.thread.Thread.{Thread}
 use Rattle.flow_model.specs.declared.machine.Stepped.{Stepped}
 use Rattle.source_machine.proofs.AlikeLaws.{alike_sound, alike_complete, first_with_word, with_nothing}
+use Rattle.source_machine.proofs.ChangeLaws.{change_is}
 use Rattle.source_machine.proofs.FrameLaws.{items_entered, entered_fine}
 use Rattle.source_machine.proofs.MachineLaws.{remaining, all_left, run_with, left_at, items_seen, no_thread, each_length, each_at, each_set, Turns, turn_runs, turn_says, turn_fine, memory_stays, holders_stay, outputs_grow}
 use Rattle.source_machine.proofs.PartLaws.{part_start}
@@ -61,6 +62,11 @@ module _ (p : Program) (s : Shared) (threads : List Thread) (a : IsSound p s thr
   place_is t x inside is =
       ap first_place (left_at threads t x inside is)
       ∙ first_is (length s.memory) (length s.holders) (vec_capacity x.frames) (frames_of x) x.word (thread_fine t x inside is).frames
+
+  pub changes : (t : ℕ) (x : Thread) → t < length threads → x ≡ get_or threads t x → change_of (get_or (all_left threads) t []) ≡ first_change (first_stm (frames_of x)) x.word
+  changes t x inside is =
+      ap change_of (left_at threads t x inside is)
+      ∙ change_is (length s.memory) (length s.holders) (vec_capacity x.frames) (frames_of x) x.word (thread_fine t x inside is).frames
 
   -- thread `t` makes a turn, from `x` to `y`
   module _ (t : ℕ) (x y : Thread) (n : Shared) (answer : Stepped) (inside : t < length threads) (is : x ≡ get_or threads t x)
@@ -123,6 +129,11 @@ module _ (p : Program) (s : Shared) (threads : List Thread) (a : IsSound p s thr
         (subst (λ l. AreAlike l (remaining y)) (left_at threads t x inside is)
         (subst (AreAlike (get_or (all_left threads) t [])) (left_at others t y inside_other js) same))) ∙ h in
         cc
+
+    pub alike_where : (r : Bool) → r ≡ stand_alike (first_stm (frames_of x)) x.word (first_stm (frames_of y)) y.word
+        → IsTrue r ↔ AreAlike (get_or (all_left threads) t []) (get_or (all_left others) t [])
+    alike_where true e = (λ h. alike_at (sym e), λ h. refl)
+    alike_where false e = (λ h. absurd cc, λ h. absurd (apart_at (sym e) h))
 
   pub alike_past : (t : ℕ) → length threads ≤ t → AreAlike (get_or (all_left threads) t []) (get_or (all_left others) t [])
   alike_past t h =

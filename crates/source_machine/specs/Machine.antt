@@ -5,11 +5,14 @@ use Rattle.cov_ast.specs.declared.decl.Program.{Program}
 use Rattle.cov_ast.specs.declared.stmt.Stmt.{Stmt}
 use Rattle.flow_model.specs.Agreement.{AreAlike}
 use Rattle.flow_model.specs.FirstDifference.{holders_of}
-use Rattle.flow_model.specs.Source.{Item, Holders, Outputs, Run, items_of, stays_at}
+use Rattle.cov_ast.specs.Plain.{skip, assign, lock, unlock, branch, loop, output}
+use Rattle.flow_model.specs.Source.{Item, run, put, test, emit, Holders, Outputs, Run, items_of, stays_at}
 use Rattle.flow_model.specs.declared.machine.Holder.{Holder}
 use Rattle.flow_model.specs.declared.machine.Stepped.{Stepped}
 use Rattle.flow_model.specs.declared.machine.Stepped.TheVariants as stepped
 use Rattle.source_machine.specs.Frames.{items, with_word}
+use Rattle.source_machine.specs.declared.change.Change.{Change}
+use Rattle.source_machine.specs.declared.change.Change.TheVariants as change
 
 -- where a thread stands: what is left of each block that it is in, the innermost last, and the word that the expression of
 -- its first statement gave, where it was evaluated
@@ -40,6 +43,20 @@ run_of m = record { memory = m.memory; holders = holders_of m.holders; outputs =
 abbrev pub step_says : ℕ → Holders → List Item → Stepped
 step_says t h [] = stepped.Idle
 step_says t h (i ∷ is) = if stays_at t h (i ∷ is) then stepped.Stayed else stepped.Moved
+
+-- What the next step of a thread changes beside its items, by the items before it, where the step doesn't stay.
+abbrev pub change_of : List Item → Change
+change_of [] = change.Nothing
+change_of (run at skip ∷ rest) = change.Nothing
+change_of (run at (assign x e) ∷ rest) = change.Nothing
+change_of (run at (lock l) ∷ rest) = change.Holder l
+change_of (run at (unlock l) ∷ rest) = change.Holder l
+change_of (run at (branch e a b) ∷ rest) = change.Nothing
+change_of (run at (loop e b) ∷ rest) = change.Nothing
+change_of (run at (output e) ∷ rest) = change.Nothing
+change_of (put at x word ∷ rest) = change.Word x
+change_of (test at word a b ∷ rest) = change.Nothing
+change_of (emit at word ∷ rest) = change.Outputs
 
 -- What remains of a thread is the same in two runs, but for the words of pending stores and pending outputs.
 abbrev pub IsAlikeAt : Run → Run → ℕ → Type 0

@@ -5,8 +5,9 @@ ghost use Rattle.cov_ast.specs.WellFormed.{IsWellFormed, block_size, most_size};
 ghost use Rattle.flow_model.specs.FirstDifference.{holders_of};
 ghost use Rattle.flow_model.specs.Source as spec;
 ghost use Rattle.source_machine.specs.Inside.Stacks.{AllStart};
-ghost use Rattle.source_machine.specs.Machine.{step_says, IsAlikeAt, IsFirstApart};
+ghost use Rattle.source_machine.specs.Machine.{change_of, step_says, IsAlikeAt, IsFirstApart};
 
+use crate::change::Change;
 use crate::shared::{Shared, all_free};
 use crate::thread::Thread;
 use cov_ast::{Program, ThreadDecl};
@@ -143,6 +144,24 @@ impl<'p> Source<'p> {
             Some((stmt, _)) => Some(stmt.at),
             None => None,
         }
+    }
+
+    /// What the next step of a thread changes beside what remains of the thread, where it doesn't stay.
+    pub fn change(&self, t: u32) -> Change
+        requires { t < length (self.now).program.threads }
+        ensures { result ≡ change_of (spec.items_of (run_of self.now) t) }
+    {
+        self.threads[t as usize].change()
+    }
+
+    /// Whether what remains of a thread is the same in another machine, but for the words of pending stores and pending
+    /// outputs.
+    pub fn same_list(&self, other: &Source<'p>, t: u32) -> bool
+        requires program { (self.now).program ≡ (other.now).program }
+        requires thread { t < length (self.now).program.threads }
+        ensures { IsTrue result ↔ IsAlikeAt (run_of self.now) (run_of other.now) t }
+    {
+        self.threads[t as usize].stands_like(&other.threads[t as usize])
     }
 
     /// The first thread of which what remains differs in more than the words of pending stores and pending outputs. It takes

@@ -9,10 +9,11 @@ ghost use Rattle.flow_model.specs.Source.{holder, is_held_by};
 ghost use Rattle.flow_model.specs.declared.machine.Stepped.TheVariants as stepped;
 ghost use Rattle.source_machine.specs.Inside.Entries as spec;
 ghost use Rattle.source_machine.specs.Inside.Entries.{outer, AreFrames};
-ghost use Rattle.source_machine.specs.Inside.Firsts.{alike_words, first_stm, same_word, stand_alike};
+ghost use Rattle.source_machine.specs.Inside.Firsts.{alike_words, first_change, first_stm, same_word, stand_alike, stm_change};
 ghost use Rattle.source_machine.specs.Inside.Stacks.{frames_of, rooms, stack_of, turned_from, turned_to, Starts};
 ghost use Rattle.source_machine.specs.Inside.Turns as turns;
 
+use crate::change::Change;
 use crate::height::height;
 use crate::shared::Shared;
 use cov_ast::{Stmt, StmtKind};
@@ -64,6 +65,16 @@ impl<'p> Thread<'p> {
                 a.at == b.at && alike_words(&a.kind, self.word, other.word)
             }
             _ => false,
+        }
+    }
+
+    /// What the next step of this thread changes beside what remains of it, where it doesn't stay.
+    pub fn change(&self) -> Change
+        ensures { result ≡ first_change (first_stm (frames_of self.now)) (self.now).word }
+    {
+        match self.first() {
+            Some((stmt, _)) => change_at(&stmt.kind, self.word),
+            None => Change::Nothing,
         }
     }
 
@@ -260,6 +271,18 @@ fn is_note(kind: &StmtKind) -> bool
     match kind {
         StmtKind::Note(_) => true,
         _ => false,
+    }
+}
+
+/// What a step at a statement changes, whose expression was evaluated where there is a word.
+fn change_at(kind: &StmtKind, word: Option<u32>) -> Change
+    ensures { result ≡ stm_change (view.kind kind.now) word }
+{
+    match (kind, word) {
+        (StmtKind::Lock(l) | StmtKind::Unlock(l), _) => Change::Holder(*l),
+        (StmtKind::Assign(x, _, _, _), Some(_)) => Change::Word(*x),
+        (StmtKind::Output(_), Some(_)) => Change::Outputs,
+        _ => Change::Nothing,
     }
 }
 

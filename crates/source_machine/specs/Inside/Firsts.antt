@@ -1,10 +1,12 @@
--- Whether threads of one program stand alike, told from their first statements alone.
+-- Whether threads of one program stand alike, and what a step changes, told from their first statements alone.
 --
 -- A thread stands in its body, so the place of its first statement tells all that remains. Beside it counts whether the
 -- expression of that statement was evaluated; a word that is tested counts, and one that is stored or put out doesn't.
 use Rattle.std.specs.Prelude.{ℕ, ◌==◌, ◌&&◌, List, ◌∷◌, Bool, true, false, is_some, Option, Some, None}
 use Rattle.cov_ast.specs.Syntax.{Stm, Block, more}
 use Rattle.cov_ast.specs.Syntax as s
+use Rattle.source_machine.specs.declared.change.Change.{Change}
+use Rattle.source_machine.specs.declared.change.Change.TheVariants as change
 
 -- the first statement, with its place
 abbrev pub first_stm : List Block → Option (ℕ × Stm)
@@ -33,3 +35,15 @@ abbrev pub stand_alike : Option (ℕ × Stm) → Option ℕ → Option (ℕ × S
 stand_alike None a None b = true
 stand_alike (Some c) a (Some d) b = (c.0 == d.0) && alike_words c.1 a b
 stand_alike _ a _ b = false
+
+-- what a step at a statement changes, whose expression was evaluated where there is a word
+abbrev pub stm_change : Stm → Option ℕ → Change
+stm_change (s.lock l) w = change.Holder l
+stm_change (s.unlock l) w = change.Holder l
+stm_change (s.assign x e q retypes) (Some word) = change.Word x
+stm_change (s.output e) (Some word) = change.Outputs
+stm_change _ w = change.Nothing
+
+abbrev pub first_change : Option (ℕ × Stm) → Option ℕ → Change
+first_change None w = change.Nothing
+first_change (Some c) w = stm_change c.1 w

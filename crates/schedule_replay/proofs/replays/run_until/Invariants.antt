@@ -1,4 +1,4 @@
-use Rattle.std.proofs.Common.{◌≡◌, ℕ, ◌<◌, ◌≤◌, take}
+use Rattle.std.proofs.Common.{◌≡◌, ℕ, ◌<◌, ◌≤◌, false, take}
 use Rattle.cov_expr.specs.Entailment.{Holds}
 use Rattle.flow_model.specs.Source.{stayed_from}
 use Rattle.source_machine.specs.Machine.{run_of}
@@ -12,5 +12,6 @@ invariant-loop-i g l = record {
   run : HasRun l.fn.s l.s l.schedule l.i;
   stayed : l.stayed ≡ stayed_from (run_of l.fn.s) (take l.i l.schedule);
   few : l.stayed ≤ l.i;
+  missed : l.stored ≡ false → ¬ Holds (expr_of l.w) (run_of l.s).memory;
   earlier : (k : ℕ) → k < l.i → ¬ Holds (expr_of l.w) (after_steps (run_of l.fn.s) l.schedule k).memory;
 }

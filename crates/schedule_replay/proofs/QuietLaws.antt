@@ -1,0 +1,142 @@
+-- Steps that leave what threads share as it is.
+use Rattle.std.proofs.Common.{◌≡◌, ◌≢◌, ◌⊎◌, inl, inr, ℕ, List, [], ◌∷◌, map, Bool, true, false, not, Option, Some, None, is_some, if◌then◌else◌, refl, sym, ap, ◌∙◌, subst, arith}
+use Rattle.std.proofs.lemmas.List.{set-get_or, get_or-set_other}
+use Rattle.cov_ast.specs.Plain.{Plain, skip, assign, lock, unlock, branch, loop, output}
+use Rattle.flow_model.specs.Agreement.{AreAlike, MemoriesAgree, StatesAgree, shape}
+use Rattle.flow_model.specs.Source.{Item, run, put, test, emit, Holders, Outputs, local, Run, turn, step, put_back, items_of, holder, is_held_by, after_lock, after_unlock}
+use Rattle.flow_model.specs.declared.machine.Stepped.TheVariants as stepped
+use Rattle.source_machine.specs.Machine.{change_of, step_says, IsAlikeAt}
+use Rattle.schedule_replay.specs.Inside.{KeepsAgreement, has_moved, is_quiet, stores}
+
+pub same_or_not : (u t : ℕ) → (u ≡ t) ⊎ (u ≢ t)
+same_or_not u t = grind arith
+
+-- Steps that don't go on ---------------------------------------------------------------------------------------
+
+module _ (t : ℕ) (m : List ℕ) (h : Holders) (o : Outputs) where
+  lock_still : (at l : ℕ) (rest : List Item) (k : Option ℕ) → has_moved (if is_some k then stepped.Stayed else stepped.Moved) ≡ false
+      → after_lock t m h o at l rest k ≡ local m h o (run at (lock l) ∷ rest)
+  lock_still at l rest None e = absurd cc
+  lock_still at l rest (Some u) e = refl
+
+  unlock_still : (at l : ℕ) (rest : List Item) (b : Bool) → has_moved (if not b then stepped.Stayed else stepped.Moved) ≡ false
+      → after_unlock m h o at l rest b ≡ local m h o (run at (unlock l) ∷ rest)
+  unlock_still at l rest true e = absurd cc
+  unlock_still at l rest false e = refl
+
+  turn_still : (is : List Item) → has_moved (step_says t h is) ≡ false → turn t m h o is ≡ local m h o is
+  turn_still [] e = refl
+  turn_still (run at skip ∷ rest) e = absurd cc
+  turn_still (run at (assign x v) ∷ rest) e = absurd cc
+  turn_still (run at (lock l) ∷ rest) e = lock_still at l rest (holder h l) e
+  turn_still (run at (unlock l) ∷ rest) e = unlock_still at l rest (is_held_by (holder h l) t) e
+  turn_still (run at (branch v a b) ∷ rest) e = absurd cc
+  turn_still (run at (loop v b) ∷ rest) e = absurd cc
+  turn_still (run at (output v) ∷ rest) e = absurd cc
+  turn_still (put at x word ∷ rest) e = absurd cc
+  turn_still (test at word a b ∷ rest) e = absurd cc
+  turn_still (emit at word ∷ rest) e = absurd cc
+
+-- A step that doesn't go on changes nothing.
+step_still : (r : Run) (t : ℕ) → has_moved (step_says t r.holders (items_of r t)) ≡ false → step r t ≡ r
+step_still r t e =
+    ap (put_back r t) (turn_still t r.memory r.holders r.outputs (items_of r t) e)
+    ∙ ap (λ is. record { memory = r.memory; holders = r.holders; outputs = r.outputs; items = is }) (set-get_or r.items t [])
+
+-- so two of them keep agreement
+pub kept_still : (r s now other : Run) (t : ℕ) → now ≡ step r t → other ≡ step s t
+    → has_moved (step_says t r.holders (items_of r t)) ≡ false → has_moved (step_says t s.holders (items_of s t)) ≡ false → KeepsAgreement r s now other
+kept_still r s now other t a b e f p h =
+    subst (λ x. StatesAgree p x other) (sym (a ∙ step_still r t e)) (subst (λ y. StatesAgree p r y) (sym (b ∙ step_still s t f)) h)
+
+-- Steps that change nothing but what remains of a thread -------------------------------------------------------
+
+turn_quiet : (t : ℕ) (m : List ℕ) (h : Holders) (o : Outputs) (is : List Item) → is_quiet (change_of is) ≡ true → turn t m h o is ≡ local m h o (turn t m h o is).items
+turn_quiet t m h o [] e = refl
+turn_quiet t m h o (run at skip ∷ rest) e = refl
+turn_quiet t m h o (run at (assign x v) ∷ rest) e = refl
+turn_quiet t m h o (run at (lock l) ∷ rest) e = absurd cc
+turn_quiet t m h o (run at (unlock l) ∷ rest) e = absurd cc
+turn_quiet t m h o (run at (branch v a b) ∷ rest) e = refl
+turn_quiet t m h o (run at (loop v b) ∷ rest) e = refl
+turn_quiet t m h o (run at (output v) ∷ rest) e = refl
+turn_quiet t m h o (put at x word ∷ rest) e = absurd cc
+turn_quiet t m h o (test at word a b ∷ rest) e = refl
+turn_quiet t m h o (emit at word ∷ rest) e = absurd cc
+
+change_shape : (is : List Item) → change_of (map shape is) ≡ change_of is
+change_shape [] = refl
+change_shape (run at skip ∷ rest) = refl
+change_shape (run at (assign x v) ∷ rest) = refl
+change_shape (run at (lock l) ∷ rest) = refl
+change_shape (run at (unlock l) ∷ rest) = refl
+change_shape (run at (branch v a b) ∷ rest) = refl
+change_shape (run at (loop v b) ∷ rest) = refl
+change_shape (run at (output v) ∷ rest) = refl
+change_shape (put at x word ∷ rest) = refl
+change_shape (test at word a b ∷ rest) = refl
+change_shape (emit at word ∷ rest) = refl
+
+-- Threads that are alike change the same.
+change_alike : (is js : List Item) → AreAlike is js → change_of is ≡ change_of js
+change_alike is js e = sym (change_shape is) ∙ ap change_of e ∙ change_shape js
+
+module _ (p : Plain) (r s : Run) (t : ℕ) (h : StatesAgree p r s) (quiet : is_quiet (change_of (items_of r t)) ≡ true) (alike : IsAlikeAt (step r t) (step s t) t) where
+  first_turn : turn t r.memory r.holders r.outputs (items_of r t) ≡ local r.memory r.holders r.outputs (turn t r.memory r.holders r.outputs (items_of r t)).items
+  first_turn = turn_quiet t r.memory r.holders r.outputs (items_of r t) quiet
+
+  second_turn : turn t s.memory s.holders s.outputs (items_of s t) ≡ local s.memory s.holders s.outputs (turn t s.memory s.holders s.outputs (items_of s t)).items
+  second_turn = turn_quiet t s.memory s.holders s.outputs (items_of s t) (ap is_quiet (sym (change_alike (items_of r t) (items_of s t) (h.items t))) ∙ quiet)
+
+  quiet_memories : MemoriesAgree p (step r t).memory (step r t).holders (step s t).memory (step s t).holders
+  quiet_memories =
+      subst (λ x. MemoriesAgree p x.memory x.holders (step s t).memory (step s t).holders) (sym first_turn)
+      (subst (λ y. MemoriesAgree p r.memory r.holders y.memory y.holders) (sym second_turn) h.memories)
+
+  quiet_items : (u : ℕ) → (u ≡ t) ⊎ (u ≢ t) → AreAlike (items_of (step r t) u) (items_of (step s t) u)
+  quiet_items u (inl e) = subst (λ v. AreAlike (items_of (step r t) v) (items_of (step s t) v)) (sym e) alike
+  quiet_items u (inr e) =
+      ap (map shape) (get_or-set_other r.items t u (turn t r.memory r.holders r.outputs (items_of r t)).items [] e)
+      ∙ h.items u ∙ sym (ap (map shape) (get_or-set_other s.items t u (turn t s.memory s.holders s.outputs (items_of s t)).items [] e))
+
+  quiet_agree : StatesAgree p (step r t) (step s t)
+  quiet_agree = record {
+    memories = quiet_memories;
+    outputs = ap (λ x. x.outputs) first_turn ∙ h.outputs ∙ sym (ap (λ x. x.outputs) second_turn);
+    items = λ u. quiet_items u (same_or_not u t);
+  }
+
+-- Where such a step leaves the thread alike, agreement is kept.
+pub kept_quiet : (r s now other : Run) (t : ℕ) → now ≡ step r t → other ≡ step s t
+    → is_quiet (change_of (items_of r t)) ≡ true → IsAlikeAt now other t → KeepsAgreement r s now other
+kept_quiet r s now other t a b quiet alike p h =
+    subst (λ x. StatesAgree p x other) (sym a)
+    (subst (λ y. StatesAgree p (step r t) y) (sym b)
+    (quiet_agree p r s t h quiet (subst (λ y. IsAlikeAt (step r t) y t) b (subst (λ x. IsAlikeAt x other t) a alike))))
+
+-- Steps that don't store ---------------------------------------------------------------------------------------
+
+lock_memory : (t : ℕ) (m : List ℕ) (h : Holders) (o : Outputs) (at l : ℕ) (rest : List Item) (k : Option ℕ) → (after_lock t m h o at l rest k).memory ≡ m
+lock_memory t m h o at l rest None = refl
+lock_memory t m h o at l rest (Some u) = refl
+
+unlock_memory : (m : List ℕ) (h : Holders) (o : Outputs) (at l : ℕ) (rest : List Item) (b : Bool) → (after_unlock m h o at l rest b).memory ≡ m
+unlock_memory m h o at l rest true = refl
+unlock_memory m h o at l rest false = refl
+
+turn_memory : (t : ℕ) (m : List ℕ) (h : Holders) (o : Outputs) (is : List Item) → stores (change_of is) ≡ false → (turn t m h o is).memory ≡ m
+turn_memory t m h o [] e = refl
+turn_memory t m h o (run at skip ∷ rest) e = refl
+turn_memory t m h o (run at (assign x v) ∷ rest) e = refl
+turn_memory t m h o (run at (lock l) ∷ rest) e = lock_memory t m h o at l rest (holder h l)
+turn_memory t m h o (run at (unlock l) ∷ rest) e = unlock_memory m h o at l rest (is_held_by (holder h l) t)
+turn_memory t m h o (run at (branch v a b) ∷ rest) e = refl
+turn_memory t m h o (run at (loop v b) ∷ rest) e = refl
+turn_memory t m h o (run at (output v) ∷ rest) e = refl
+turn_memory t m h o (put at x word ∷ rest) e = absurd cc
+turn_memory t m h o (test at word a b ∷ rest) e = refl
+turn_memory t m h o (emit at word ∷ rest) e = refl
+
+-- A step that doesn't store leaves the memory.
+pub step_memory : (r : Run) (t : ℕ) → stores (change_of (items_of r t)) ≡ false → (step r t).memory ≡ r.memory
+step_memory r t e = turn_memory t r.memory r.holders r.outputs (items_of r t) e
