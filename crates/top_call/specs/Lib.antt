@@ -10,6 +10,7 @@ pub mod Runs
 pub mod Pairs
 pub mod Codes
 pub mod Programs
+pub mod Texts
 pub mod Files
 pub mod Asks
 pub mod Replies

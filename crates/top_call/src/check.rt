@@ -1,17 +1,20 @@
-ghost use Rattle.std.specs.Prelude.{◌≡◌, map};
+ghost use Rattle.std.specs.Prelude.{◌≡◌, ◌≤◌, length, map};
 ghost use Rattle.cov_ast.specs.Ready.{IsReady};
 ghost use Rattle.cov_ast.specs.View as view;
 ghost use Rattle.cov_ast.specs.WellFormed.{IsWellFormed};
+ghost use Rattle.cov_expr.specs.declared.limits.TheConstants.{MOST_BYTES};
 ghost use Rattle.top_call.specs.Check.{Judges};
 ghost use Rattle.top_call.specs.Commands as asked;
 ghost use Rattle.top_call.specs.Inside.{CarriesOut, Gets, JudgesProgram, name_in};
 ghost use Rattle.top_call.specs.Outcome.{plan_of};
+ghost use Rattle.top_call.specs.Texts.{ChecksBytes};
 
 use crate::answers::{Answer, Counts, Stop};
-use crate::files::read_program;
+use crate::files::{read_program, text_fault, unread};
 use cov_ast::{CheckFault, Parsed, Program, ThreadDecl};
 use cov_expr::Name;
 use cov_io::Shelf;
+use cov_parse::parse;
 use policy_class::resolve;
 use std::alloc::Global;
 use verify::check_program;
@@ -26,6 +29,17 @@ pub fn check<'w, S: Shelf>(
 {
     let parsed = read_program(alloc, name, shelf)?;
     judge(alloc, parsed)
+}
+
+/// Checks the bytes of a file that was fetched under a name.
+pub fn check_bytes<'w>(alloc: Global, name: &'w str, bytes: &[u8]) -> Result<Answer<'w>, Stop<'w>>
+    requires { length bytes.now ≤ MOST_BYTES }
+    ensures { Gets (ChecksBytes name.now bytes.now) result }
+{
+    match parse(alloc, bytes) {
+        Ok(parsed) => judge(alloc, parsed),
+        Err(fault) => Err(unread(name, text_fault(fault))),
+    }
 }
 
 /// Judges what a text spells. A name that is refused is that of no thread.

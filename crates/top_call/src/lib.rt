@@ -5,6 +5,9 @@
 //! over the same files a command has one reply; and [`migrated_stays`], in version 2 a program does what it did and is judged
 //! as it was.
 //!
+//! A program that tells more than `check` does has its pieces: [`fetch`] gets a file, [`check_bytes`] judges its bytes, and
+//! [`report`] and [`status_for`] say how `check` reports the answer.
+//!
 //! A call goes from top to bottom:
 //!
 //! | `src/` | `specs/` | what it has |
@@ -14,7 +17,7 @@
 //! | | `Plans`, `Asks` | plans: which files are read one behind the other, and what is replied then; which calls they make |
 //! | `check`, `compile`, `fmt`, `migrate`, `run`, `run_code`, `run_until`, `pair`, `pair_code` | `Check`, `Format`, `Runs`, `Pairs`, `Codes` | a module for each command: what it replies to what its files spell |
 //! | `codes` | `Codes` | the code of an accepted program, and its machine |
-//! | `files`, `inputs`, `expressions` | `Files`, `Programs`, `Inputs`, `Expressions` | how a file is fetched and read, as a program, a start or a schedule, and a word as an expression, and what is replied where it isn't |
+//! | `files`, `inputs`, `expressions` | `Files`, `Programs`, `Texts`, `Inputs`, `Expressions` | how a file is fetched and read, as a program, a start or a schedule, and a word as an expression, and what is replied where it isn't |
 //! | `answers` | `Replies` | what a call can answer, and the status of each answer |
 //! | `reports`, `refusals`, `faults`, `run_reports`, `code_reports`, `differences`, `lines` | `Reports`, `RunReports`, `CodeReports` | the text of each answer |
 //! | `end` | `Ends` | the report is made and written |
@@ -52,6 +55,9 @@ mod run_code;
 mod run_reports;
 mod run_until;
 
-pub use answers::Status;
+pub use answers::{Answer, Counts, Fault, FaultKind, Status, Stop, status_for};
 pub use call::covern;
+pub use check::check_bytes;
+pub use files::fetch;
 pub use laws::{migrated_stays, one_outcome};
+pub use reports::report;

@@ -1,0 +1,15 @@
+-- The faults of a text in plain words.
+use Rattle.std.specs.Prelude.{ℕ, List, codes}
+use Rattle.explain.specs.Words.{token_sentence}
+use Rattle.top_call.specs.declared.answers.FaultKind.{FaultKind}
+use Rattle.top_call.specs.declared.answers.FaultKind.TheVariants as k
+
+-- the sentence of a fault, by the text from its place on
+abbrev pub fault_sentence : FaultKind → (rest : List ℕ) → List ℕ
+fault_sentence k.Byte rest = codes "this byte begins no token, blank or comment"
+fault_sentence k.Number rest = codes "this number is above 4294967295"
+fault_sentence k.Name rest = codes "this word has more than 32 bytes"
+fault_sentence k.Token rest = token_sentence rest
+fault_sentence k.Limit rest = codes "here is one more than the limits of a program allow"
+fault_sentence k.Depth rest = codes "this lies deeper than the limits of a program allow"
+fault_sentence k.Unknown rest = codes "this name is that of no variable"

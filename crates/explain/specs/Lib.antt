@@ -1,0 +1,5 @@
+pub mod Rules
+pub mod Words
+pub mod Faults
+pub mod Explanations
+pub mod Calls

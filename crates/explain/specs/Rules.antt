@@ -1,0 +1,86 @@
+-- The rules in plain words: a sentence for each, with the names that a refusal shows, or the number of an entailment.
+use Rattle.std.specs.Prelude.{ℕ, List, [], ◌++◌, codes, decimal}
+use Rattle.cov_ast.specs.declared.refusal.Rule.{Rule}
+use Rattle.cov_ast.specs.declared.refusal.Rule.TheVariants as r
+use Rattle.cov_ast.specs.declared.refusal.Detail.{Detail}
+use Rattle.cov_ast.specs.declared.refusal.Detail.TheVariants as d
+
+-- what stands in front of the first name, or of the number; all of it where nothing is shown
+abbrev pub before : Rule → List ℕ
+before r.W1 = codes "the name "
+before r.W2 = codes "the name "
+before r.W3 = codes "the control "
+before r.W4 = codes "the variable "
+before r.W5 = codes "the invariant of this lock has the variable "
+before r.W6 = codes "this thread assumes the variable "
+before r.W7 = codes "the variable "
+before r.W8 = codes "this thread assumes the variable "
+before r.W9 = codes "the thread "
+before r.V1 = codes "the variable "
+before r.V2 = codes "the variable "
+before r.V3 = codes "the expression has two occurrences of variables that aren't stable here: another thread may write them between the two reads"
+before r.V4 = codes "a type isn't over stable controls: that of the value, of a `retype`, or of a state"
+before r.V5 = codes "a control is assigned here, and the variable "
+before r.V6 = codes "the thread holds the lock "
+before r.V7 = codes "the thread doesn't hold the lock "
+before r.V8 = codes "the two ends of `if` hold different locks, or the end of the block of `while` holds others than its start"
+before r.V9 = codes "no valid certificate shows that the goal of entailment "
+before r.V10 = codes "the expression is wider than 7"
+before r.V11 = codes "the thread holds the lock "
+before r.V12 = codes "a predicate of the state isn't over stable variables"
+before r.V13 = codes "`by` gives the number "
+before r.V14 = codes "the variable "
+before r.V15 = codes "a point of the statement has more than 64 predicates"
+before r.V16 = codes "a hypothesis, a goal or a type after the statement has more than 1,000 nodes"
+
+-- what stands between the first name and the second
+abbrev pub between : Rule → List ℕ
+between r.W7 = codes " is under this lock, but its control "
+between r.W8 = codes " but not its control "
+between r.W9 = codes " makes an assumption that the thread "
+between rule = []
+
+-- what stands between the second name and the third
+abbrev pub beyond : Rule → List ℕ
+beyond r.W9 = codes " doesn't guarantee, of the variable "
+beyond rule = []
+
+-- what stands behind the last name, or the number
+abbrev pub behind : Rule → List ℕ
+behind r.W1 = codes " is declared a second time"
+behind r.W2 = codes " isn't declared as what it is used as here, a variable or a lock"
+behind r.W3 = codes " of this variable isn't plain low"
+behind r.W4 = codes " stands a second time in the lists of locks"
+behind r.W5 = codes ", which isn't under the lock"
+behind r.W6 = codes ", which is under a lock"
+behind r.W7 = codes " is neither under it nor assumed by every thread"
+behind r.W8 = []
+behind r.W9 = []
+behind r.V1 = codes " may not be read here: the thread guarantees `hide` of it, or a lock hides it that the thread doesn't hold"
+behind r.V2 = codes " may not be written here: the thread guarantees `nowrite` or `hide` of it, or it is under a lock that the thread doesn't hold"
+behind r.V3 = []
+behind r.V4 = []
+behind r.V5 = codes " of the expression isn't stable"
+behind r.V6 = codes " already"
+behind r.V7 = []
+behind r.V8 = []
+behind r.V9 = codes " follows from its hypotheses"
+behind r.V10 = []
+behind r.V11 = codes " at its end"
+behind r.V12 = []
+behind r.V13 = codes ", which is that of no entailment of the statement, or is given before"
+behind r.V14 = codes " can have no type here: it isn't tracked, or is listed before, or no control is assigned"
+behind r.V15 = []
+behind r.V16 = []
+
+-- what a refusal shows, with the words between names
+abbrev pub shown : Rule → Detail → List ℕ
+shown rule d.Nothing = []
+shown rule (d.One x) = x
+shown rule (d.Two x y) = x ++ between rule ++ y
+shown rule (d.Three x y z) = x ++ between rule ++ y ++ beyond rule ++ z
+shown rule (d.Number n) = decimal n
+
+-- the sentence of a rule that is broken
+abbrev pub sentence : Rule → Detail → List ℕ
+sentence rule detail = before rule ++ shown rule detail ++ behind rule

@@ -1,0 +1,27 @@
+-- A token with which no program goes on, in plain words.
+use Rattle.std.specs.Prelude.{ℕ, List, [], ◌∷◌, ◌++◌, codes, if◌then◌else◌}
+use Rattle.std.specs.List.{take_while}
+use Rattle.cov_expr.specs.Bytes.{is_lower, is_word}
+use Rattle.cov_expr.specs.Spellings.{is_keyword}
+
+-- the word that a text begins with; nothing where it begins with none
+abbrev pub front_word : List ℕ → List ℕ
+front_word [] = []
+front_word (b ∷ bs) = if is_lower b then take_while is_word (b ∷ bs) else []
+
+-- what stands in front of a word in its sentence, and what stands behind it
+abbrev pub in_front : List ℕ → List ℕ
+in_front word = if is_keyword word then codes "`" else codes "no program goes on with the name `"
+
+abbrev pub behind : List ℕ → List ℕ
+behind word = if is_keyword word then codes "` is a reserved word, and no program goes on with it here" else codes "` here"
+
+-- the sentence of a word, or of a token that is none
+abbrev pub word_sentence : List ℕ → List ℕ
+word_sentence [] = codes "no program goes on with this token"
+word_sentence (b ∷ bs) = in_front (b ∷ bs) ++ (b ∷ bs) ++ behind (b ∷ bs)
+
+-- the sentence of a token, by the text from it on
+abbrev pub token_sentence : List ℕ → List ℕ
+token_sentence [] = codes "the text ends here, and no program is whole"
+token_sentence (b ∷ bs) = word_sentence (front_word (b ∷ bs))

@@ -1,0 +1,51 @@
+ghost use Rattle.std.specs.Prelude.{◌≡◌, ◌++◌, ◌≤◌, ℕ, List, IfOk, map, string_bytes};
+ghost use Rattle.cov_io.specs.Shelves.{Passes};
+ghost use Rattle.explain.specs.Calls.{Answers, Ends};
+
+use crate::files::tell_all;
+use cov_expr::{Blob, List, NoMemory};
+use cov_io::{Shelf, Sink, write_whole};
+use std::alloc::Global;
+use top_call::Status;
+
+/// Explains what `check` says of files, and writes that. `names` are the words of the command line without the program's name;
+/// files are read from `shelf` by name, and the text goes to `sink`.
+pub fn explain<S: Shelf, K: Sink>(
+    alloc: Global,
+    names: &[String],
+    shelf: &mut S,
+    sink: &mut K,
+) -> Status
+    // What is put is told of the files, in order; the status is the first of theirs that isn't Done.
+    ensures outcome { Ends (Answers (S.shelved shelf.old) (S.shelved shelf.new) (map string_bytes names.now)) (K.sunk sink.old) (K.sunk sink.new) result }
+    // What a shelf tells stays, and no count falls.
+    ensures passes { Passes (S.shelved shelf.old) (S.shelved shelf.new) }
+    ensures counts { (K.sunk sink.old).faults ≤ (K.sunk sink.new).faults }
+{
+    let mut text = List::new(alloc);
+    let Ok(status) = answer(alloc, names, shelf, &mut text) else {
+        return Status::NoMemory;
+    };
+    match write_whole(sink, text.as_slice()) {
+        Ok(()) => status,
+        Err(_) => Status::WriteFault,
+    }
+}
+
+/// Adds what is told of the words of a command line, and gives its status.
+fn answer<S: Shelf>(
+    alloc: Global,
+    names: &[String],
+    shelf: &mut S,
+    text: &mut Blob,
+) -> Result<Status, NoMemory>
+    ensures told { IfOk result (λ status. (all : List ℕ) × Answers (S.shelved shelf.old) (S.shelved shelf.new) (map string_bytes names.now) all status
+        × (text.new ≡ text.old ++ all)) }
+    ensures passes { Passes (S.shelved shelf.old) (S.shelved shelf.new) }
+{
+    if names.is_empty() {
+        text.extend_from_slice(b"usage: covern explain FILE..\n")?;
+        return Ok(Status::Usage);
+    }
+    tell_all(alloc, names, shelf, text)
+}

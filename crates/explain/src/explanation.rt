@@ -1,0 +1,102 @@
+ghost use Rattle.std.specs.Prelude.{◌≡◌, ◌++◌, OnOk, Some, decimal};
+ghost use Rattle.explain.specs.Explanations as spec;
+ghost use Rattle.top_call.specs.Inside.{seen};
+ghost use Rattle.top_call.specs.Reports.{report_of};
+
+use crate::faults::add_fault_sentence;
+use crate::rules::add_sentence;
+use cov_expr::{Blob, List, NoMemory};
+use itoa::Buffer;
+use std::alloc::Global;
+use text_lines::{add_excerpt, halves, position};
+use top_call::{Answer, Fault, report};
+
+/// Adds what is told of the bytes of a file that are answered so by `check`.
+pub fn add_explanation(
+    alloc: Global,
+    name: &str,
+    bytes: &[u8],
+    answer: Answer<'_>,
+    text: &mut Blob,
+) -> Result<(), NoMemory>
+    ensures { OnOk result (text.new ≡ text.old ++ spec.explanation name.now bytes.now (seen answer.entry)) }
+{
+    match place_of(&answer) {
+        Some(place) => add_told(alloc, name, bytes, place, answer, text),
+        None => add_report(alloc, answer, text),
+    }
+}
+
+/// Adds what is told of a place.
+fn add_told(
+    alloc: Global,
+    name: &str,
+    bytes: &[u8],
+    place: u32,
+    answer: Answer<'_>,
+    text: &mut Blob,
+) -> Result<(), NoMemory>
+    ensures { OnOk result (text.new ≡ text.old ++ spec.told name.now bytes.now (seen answer.entry) (Some place)) }
+{
+    let mut sentence = List::new(alloc);
+    add_sentence_of(bytes, &answer, &mut sentence)?;
+    add_where(name, bytes, place as usize, text)?;
+    add_report(alloc, answer, text)?;
+    add_excerpt(bytes, place as usize, text)?;
+    text.extend_from_slice(b"  ")?;
+    text.extend_from_slice(sentence.as_slice())?;
+    text.extend_from_slice(b"\n")
+}
+
+/// The place that an answer names.
+fn place_of(answer: &Answer<'_>) -> Option<u32>
+    ensures { result ≡ spec.place_of (seen answer.now) }
+{
+    match answer {
+        Answer::Malformed(_, Fault::Text(_, at)) => Some(*at),
+        Answer::Refused(refusal, _) => Some(refusal.place),
+        _ => None,
+    }
+}
+
+/// Adds what is wrong, in one sentence.
+fn add_sentence_of(bytes: &[u8], answer: &Answer<'_>, text: &mut Blob) -> Result<(), NoMemory>
+    ensures { OnOk result (text.new ≡ text.old ++ spec.sentence_of bytes.now (seen answer.now)) }
+{
+    match answer {
+        Answer::Malformed(_, Fault::Text(kind, at)) => {
+            let (_, rest) = halves(bytes, *at as usize);
+            add_fault_sentence(*kind, rest, text)
+        }
+        Answer::Refused(refusal, _) => add_sentence(refusal.rule, &refusal.detail, text),
+        _ => Ok(()),
+    }
+}
+
+/// Adds where a place is: the file, the line and the column.
+fn add_where(name: &str, bytes: &[u8], place: usize, text: &mut Blob) -> Result<(), NoMemory>
+    ensures { OnOk result (text.new ≡ text.old ++ spec.where_is name.now bytes.now place) }
+{
+    let position = position(bytes, place);
+    text.extend_from_slice(name.as_bytes())?;
+    text.extend_from_slice(b":")?;
+    add_number(position.line, text)?;
+    text.extend_from_slice(b":")?;
+    add_number(position.column, text)?;
+    text.extend_from_slice(b": ")
+}
+
+fn add_number(n: usize, text: &mut Blob) -> Result<(), NoMemory>
+    ensures { OnOk result (text.new ≡ text.old ++ decimal n) }
+{
+    let mut buffer = Buffer::new();
+    text.extend_from_slice(buffer.format(n).as_bytes())
+}
+
+/// Adds the report of `check`.
+pub fn add_report(alloc: Global, answer: Answer<'_>, text: &mut Blob) -> Result<(), NoMemory>
+    ensures { OnOk result (text.new ≡ text.old ++ report_of (seen answer.entry)) }
+{
+    let line = report(alloc, answer)?;
+    text.extend_from_slice(line.as_slice())
+}

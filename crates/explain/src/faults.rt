@@ -1,0 +1,25 @@
+ghost use Rattle.std.specs.Prelude.{◌≡◌, ◌++◌, OnOk};
+ghost use Rattle.explain.specs.Faults as spec;
+
+use crate::words::add_token_sentence;
+use cov_expr::{Blob, NoMemory};
+use top_call::FaultKind;
+
+/// Adds the sentence of a fault of a text, by the text from its place on.
+pub fn add_fault_sentence(kind: FaultKind, rest: &[u8], text: &mut Blob) -> Result<(), NoMemory>
+    ensures { OnOk result (text.new ≡ text.old ++ spec.fault_sentence kind rest.now) }
+{
+    match kind {
+        FaultKind::Token => add_token_sentence(rest, text),
+        FaultKind::Byte => text.extend_from_slice(b"this byte begins no token, blank or comment"),
+        FaultKind::Number => text.extend_from_slice(b"this number is above 4294967295"),
+        FaultKind::Name => text.extend_from_slice(b"this word has more than 32 bytes"),
+        FaultKind::Limit => {
+            text.extend_from_slice(b"here is one more than the limits of a program allow")
+        }
+        FaultKind::Depth => {
+            text.extend_from_slice(b"this lies deeper than the limits of a program allow")
+        }
+        FaultKind::Unknown => text.extend_from_slice(b"this name is that of no variable"),
+    }
+}

@@ -1,0 +1,82 @@
+ghost use Rattle.std.specs.Prelude.{◌≡◌, ◌++◌, ◌≤◌, ℕ, List, IfOk, length, map, string_bytes};
+ghost use Rattle.cov_expr.specs.declared.limits.TheConstants.{MOST_BYTES};
+ghost use Rattle.cov_io.specs.Shelves.{Passes};
+ghost use Rattle.explain.specs.Calls as spec;
+ghost use Rattle.explain.specs.Calls.{Tells, TellsAll};
+ghost use Rattle.explain.specs.Explanations.{explanation};
+ghost use Rattle.top_call.specs.Inside.{seen};
+ghost use Rattle.top_call.specs.Replies.{Reply, status_of};
+ghost use Rattle.top_call.specs.Texts.{ChecksBytes};
+
+use crate::explanation::{add_explanation, add_report};
+use cov_expr::{Blob, MOST_BYTES, NoMemory};
+use cov_io::Shelf;
+use std::alloc::Global;
+use top_call::{Status, Stop, check_bytes, fetch, status_for};
+
+/// Adds what is told of each file, and gives the first status that isn't Done.
+pub fn tell_all<S: Shelf>(
+    alloc: Global,
+    names: &[String],
+    shelf: &mut S,
+    text: &mut Blob,
+) -> Result<Status, NoMemory>
+    ensures told { IfOk result (λ status. (all : List ℕ) × TellsAll (S.shelved shelf.old) (S.shelved shelf.new) (map string_bytes names.now) all status
+        × (text.new ≡ text.old ++ all)) }
+    ensures passes { Passes (S.shelved shelf.old) (S.shelved shelf.new) }
+{
+    let mut status = Status::Done;
+    for name in names {
+        let next = tell(alloc, name.as_str(), shelf, text)?;
+        status = first_of(status, next);
+    }
+    Ok(status)
+}
+
+/// A status, or where it says that all is done, the one that comes after it.
+fn first_of(status: Status, later: Status) -> Status
+    ensures { result ≡ spec.first_of status later }
+{
+    match status {
+        Status::Done => later,
+        _ => status,
+    }
+}
+
+/// Adds what is told of a file, and gives the status that `check` has for it.
+fn tell<S: Shelf>(
+    alloc: Global,
+    name: &str,
+    shelf: &mut S,
+    text: &mut Blob,
+) -> Result<Status, NoMemory>
+    ensures told { IfOk result (λ status. (reply : Reply) × (here : List ℕ) × Tells (S.shelved shelf.old) (S.shelved shelf.new) name.now reply here
+        × (status ≡ status_of reply) × (text.new ≡ text.old ++ here)) }
+    ensures passes { Passes (S.shelved shelf.old) (S.shelved shelf.new) }
+{
+    match fetch(alloc, name, MOST_BYTES, shelf) {
+        Ok(bytes) => tell_bytes(alloc, name, bytes.as_slice(), text),
+        Err(Stop::Answer(answer)) => {
+            let status = status_for(&answer);
+            add_report(alloc, answer, text)?;
+            Ok(status)
+        }
+        Err(Stop::NoMemory) => Err(NoMemory),
+    }
+}
+
+/// Adds what is told of the bytes of a file, and gives the status that `check` has for them.
+fn tell_bytes(alloc: Global, name: &str, bytes: &[u8], text: &mut Blob) -> Result<Status, NoMemory>
+    requires { length bytes.now ≤ MOST_BYTES }
+    ensures { IfOk result (λ status. (reply : Reply) × ChecksBytes name.now bytes.now reply × (status ≡ status_of reply)
+        × (text.new ≡ text.old ++ explanation name.now bytes.now reply)) }
+{
+    match check_bytes(alloc, name, bytes) {
+        Ok(answer) | Err(Stop::Answer(answer)) => {
+            let status = status_for(&answer);
+            add_explanation(alloc, name, bytes, answer, text)?;
+            Ok(status)
+        }
+        Err(Stop::NoMemory) => Err(NoMemory),
+    }
+}

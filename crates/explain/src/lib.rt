@@ -1,0 +1,26 @@
+//! What `check` says of files, explained: a library that a program is made of.
+//!
+//! [`explain`] takes the names of files, the files (a shelf) and the output (a sink), and ends with a status of `top_call`. Of each
+//! file it tells what `check` reports; where that names a place, also the line and the column of the place, its line in
+//! the text with a caret, and what is wrong, in one sentence. [`told_as_checked`] has no body: what is told of a file has the
+//! report that `check` gives of it.
+//!
+//! | `src/` | `specs/` | what it has |
+//! |---|---|---|
+//! | `call`, `files` | `Calls` | the words of a command line; what is told of each file, and the status |
+//! | `explanation` | `Explanations` | what is told of the bytes of a file |
+//! | `rules` | `Rules` | the sentence of each rule |
+//! | `faults`, `words` | `Faults`, `Words` | the sentence of each fault of a text; reserved words |
+//! | `laws` | | the report is that of `check` |
+#![tactic(auto)]
+
+mod call;
+mod explanation;
+mod faults;
+mod files;
+mod laws;
+mod rules;
+mod words;
+
+pub use call::explain;
+pub use laws::told_as_checked;

@@ -1,0 +1,25 @@
+-- What a text looks like around a place: its line, and a caret under the place.
+use Rattle.std.specs.Prelude.{ℕ, ◌-◌, ◌==◌, ◌&&◌, ◌||◌, nat_lt, List, ◌++◌, length, map, take, drop, codes, if◌then◌else◌}
+use Rattle.text_lines.specs.Lines.{since_feed, to_feed}
+use Rattle.text_lines.specs.declared.excerpt.TheConstants.{MOST_BEFORE, MOST_SHOWN}
+
+-- the line up to the place; of a long one its end
+abbrev pub before : (bytes : List ℕ) (place : ℕ) → List ℕ
+before bytes place = let all = since_feed (take place bytes) in drop (length all - MOST_BEFORE) all
+
+-- the line from the place on; of a long one its front, as far as there is room
+abbrev pub behind : (bytes : List ℕ) (place : ℕ) → List ℕ
+behind bytes place = take (MOST_SHOWN - length (before bytes place)) (to_feed (drop place bytes))
+
+-- A byte as it is shown: a tab stays, and of the other control characters, which could change how the line looks, each is a space.
+abbrev pub shown : ℕ → ℕ
+shown b = if nat_lt b 32 && nat_lt 9 b || nat_lt b 9 || b == 127 then 32 else b
+
+-- what stands under a byte: a tab under a tab, and else a space
+abbrev pub under : ℕ → ℕ
+under b = if b == 9 then 9 else 32
+
+-- two lines: the line of the place, cut where it is long, and a caret under the place
+abbrev pub excerpt : (bytes : List ℕ) (place : ℕ) → List ℕ
+excerpt bytes place =
+    map shown (before bytes place) ++ map shown (behind bytes place) ++ codes "\n" ++ map under (before bytes place) ++ codes "^\n"
