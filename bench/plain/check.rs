@@ -1,5 +1,6 @@
 //! `check P` as a plain program would do it: the whole language read to trees, each rule tried in its order, and the line that
-//! `covern check P` prints. Of a malformed text it names no fault, and it proves nothing.
+//! `covern check P` prints. Of a malformed text it names no fault, and it proves nothing. Of several files it prints a line each, and ends
+//! with the status of the last.
 mod arithmetic;
 mod declared;
 mod syntax;
@@ -42,12 +43,8 @@ fn verdict(name: &str, text: &[u8]) -> (String, i32) {
     }
 }
 
-fn main() {
-    let words: Vec<String> = std::env::args().skip(1).collect();
-    let [command, name] = words.as_slice() else { exit(2) };
-    if command != "check" {
-        exit(2);
-    }
+/// The line of a file and its status.
+fn checked(name: &str) -> (String, i32) {
     let Ok(file) = std::fs::File::open(name) else { exit(4) };
     let mut text = Vec::new();
     if file.take(LIMIT + 1).read_to_end(&mut text).is_err() {
@@ -56,7 +53,21 @@ fn main() {
     if text.len() as u64 > LIMIT {
         exit(7);
     }
-    let (line, status) = verdict(name, &text);
+    verdict(name, &text)
+}
+
+fn main() {
+    let words: Vec<String> = std::env::args().skip(1).collect();
+    let [command, names @ .., last] = words.as_slice() else { exit(2) };
+    if command != "check" {
+        exit(2);
+    }
+    for name in names {
+        if writeln!(std::io::stdout(), "{}", checked(name).0).is_err() {
+            exit(5);
+        }
+    }
+    let (line, status) = checked(last);
     if writeln!(std::io::stdout(), "{line}").is_err() {
         exit(5);
     }
