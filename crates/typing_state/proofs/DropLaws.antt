@@ -3,10 +3,10 @@ use Rattle.std.proofs.Common.{◌≡◌, ℕ, suc, Some, map, slice_get, ◌+◌
 use Rattle.std.specs.Prelude.{filter}
 use Rattle.std.specs.List.{count_by, list_all, list_any}
 use Rattle.std.proofs.lemmas.Bool.{lt-ltb, ne_eqb}
-use Rattle.std.proofs.lemmas.List.{get_or-map, length-map, length-take-le, take-append-drop, take-append-le, take_all}
+use Rattle.std.proofs.lemmas.List.{get_or-map, length-map, map-append, length-take-le, take-append-drop, take-append-le, take_all}
 use Rattle.std.proofs.lemmas.List.Edits.{length-remove}
 use Rattle.std.proofs.lemmas.List.Elements.{filter_more}
-use Rattle.std.proofs.lemmas.List.Sums.{sum_by-cons, sum_by-remove}
+use Rattle.std.proofs.lemmas.List.Sums.{sum_by-cons, sum_by-remove, sum_by_push}
 use Rattle.std.proofs.lemmas.Option.{get_or_from_slice_get, slice_get_within}
 use Rattle.std.proofs.Math.Seq.{take-append_seam, drop-append_seam, take-length, drop-length}
 use Rattle.cov_expr.specs.Term.{Term}
@@ -75,6 +75,11 @@ module _ (f : Term → Bool) where
       (λ k. count_by f (map term (gone k)) + one k) ∙ ap (λ l. count_by f l + cond (f (term e)) 1 0) (map-remove term es i)
       ∙ ap (λ t. count_by f (remove (map term es) i) + cond (f t) 1 0) (sym (get_or-map term es i e (term e) inside ∙ ap term (get_or_from_slice_get es i e e at)))
       ∙ sum_by-remove (λ t. cond (f t) 1 0) (map term es) i (term e) (omega (arith, length-map es term))
+
+  -- and one that is added
+  pub counted_more : (es new : List Expr) (e : Expr) (n m : ℕ) → new ≡ es ++ e ∷ [] → n ≡ count_by f (map term es) → m ≡ cond (f (term e)) 1 0 → n + m ≡ count_by f (map term new)
+  counted_more es new e n m added before one =
+      (λ k. before k + one k) ∙ sym (ap (λ l. count_by f (map term l)) added ∙ ap (count_by f) (map-append term es (e ∷ [])) ∙ sum_by_push (λ t. cond (f t) 1 0) (map term es) (term e))
 
 -- Steps of a walk from the last place to the first --------------------------------------------------------------
 

@@ -1,6 +1,7 @@
 mod DropLaws
 mod ForgetLaws
 mod GroupLaws
+mod IndexLaws
 mod KeyLaws
 mod LockLaws
 mod PlaceLaws

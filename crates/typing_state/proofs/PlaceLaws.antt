@@ -70,7 +70,7 @@ of_one P [] t ts h = h.0
 of_one P (e ∷ es) t ts h = of_one P es t ts h.1
 
 -- an expression isn't among those before it, where no two keys are equal
-absent : (es : List Term) (t : Term) (ts : List Term) → IsDistinct bytes_eq (map key (es ++ t ∷ ts)) → has_term es t ≡ false
+pub absent : (es : List Term) (t : Term) (ts : List Term) → IsDistinct bytes_eq (map key (es ++ t ∷ ts)) → has_term es t ≡ false
 unfolding IsDistinct
 absent [] t ts h = refl
 absent (e ∷ es) t ts h =

@@ -10,7 +10,8 @@ ghost use Rattle.typing_state.specs.Point as point;
 ghost use Rattle.typing_state.specs.Terms.{distinct_terms, is_false, is_small, with_term, with_terms};
 
 use crate::copies::copy_preds;
-use crate::key::{Key, key_of};
+use crate::index::{add_key, copy_index, drop_key, index_of, place_in};
+use crate::key::Key;
 use crate::retain::is_kept;
 use cov_ast::Program;
 use cov_expr::{
@@ -21,12 +22,15 @@ use mode_state::ModeState;
 use std::alloc::Global;
 use std::marker::Model;
 
-/// Expressions, each once, and their keys in the same order, by which the place of one is found. Contracts see the list of the
-/// expressions.
+/// How many expressions are compared one by one.
+const FEW: usize = 8;
+
+/// Expressions, each once. Where there are more than a few, their keys are kept in the same order, by which the place of one is
+/// found. Contracts see the list of the expressions.
 #[derive(Drop)]
 pub struct Predicates {
     list: List<Expr>,
-    index: IndexSet<Key>,
+    index: Option<IndexSet<Key>>,
     /// How many of them are closed and don't hold.
     false_ones: usize,
     /// How many of them have more than 1,000 nodes.
@@ -34,8 +38,10 @@ pub struct Predicates {
 }
 
 impl Model for Predicates {
-    ghost use Rattle.std.specs.Prelude.{◌≡◌, List, count_by, map, not};
+    ghost use Rattle.std.specs.Prelude.{◌≡◌, List, count_by, map, not, IfSome};
     ghost use Rattle.std.specs.Coded.{codes};
+    ghost use Rattle.std.specs.List.{IsDistinct};
+    ghost use Rattle.std.specs.Str.{bytes_eq};
     ghost use Rattle.cov_expr.specs.contracts.expr.Expr as e;
     ghost use Rattle.cov_expr.specs.declared.expr.Expr.{Expr};
     ghost use Rattle.cov_expr.specs.View.{term};
@@ -48,7 +54,8 @@ impl Model for Predicates {
 
     ghost view = { λ s. s.list };
 
-    ghost invariant = { λ s. (s.index.keys ≡ map key (map term s.list))
+    ghost invariant = { λ s. IsDistinct bytes_eq (map key (map term s.list))
+        × IfSome s.index (λ i. i.keys ≡ map key (map term s.list))
         × (s.false_ones ≡ count_by is_false (map term s.list))
         × (s.large_ones ≡ count_by (λ e. not (is_small e)) (map term s.list)) };
 }
@@ -60,7 +67,7 @@ impl Predicates {
     {
         Predicates {
             list: List::new(alloc),
-            index: IndexSet::new(alloc),
+            index: None,
             false_ones: 0,
             large_ones: 0,
         }
@@ -92,8 +99,7 @@ impl Predicates {
         ensures place { IfOk result (λ place. place ≡ position (λ f. tree.same f (term e.now)) (map term self.now)) }
         ensures found { IfOk result (λ place. is_some place ≡ tree.has_term (map term self.now) (term e.now)) }
     {
-        let key = key_of(alloc, e)?;
-        Ok(self.index.get_index_of(&key))
+        place_in(alloc, &self.index, self.list.as_slice(), e)
     }
 
     /// The same expressions.
@@ -102,7 +108,7 @@ impl Predicates {
     {
         Ok(Predicates {
             list: copy_preds(alloc, self.list.as_slice())?,
-            index: self.index.clone()?,
+            index: copy_index(&self.index)?,
             false_ones: self.false_ones,
             large_ones: self.large_ones,
         })
@@ -112,14 +118,33 @@ impl Predicates {
     pub fn add(&mut self, alloc: Global, e: Expr) -> Result<(), NoMemory>
         ensures { OnOk result (map term self.new ≡ with_term (map term self.old) (term e)) }
     {
-        let key = key_of(alloc, &e)?;
-        if !self.index.insert(key)? {
+        if self.list.len() >= FEW {
+            self.index_all(alloc)?;
+        }
+        self.add_next(alloc, e)
+    }
+
+    /// Makes the index, if there is none.
+    fn index_all(&mut self, alloc: Global) -> Result<(), NoMemory>
+        ensures { self.new ≡ self.old }
+    {
+        if self.index.is_none() {
+            self.index = Some(index_of(alloc, self.list.as_slice())?);
+        }
+        Ok(())
+    }
+
+    /// Adds an expression at the end, and its key where there is an index, unless an equal one is there.
+    fn add_next(&mut self, alloc: Global, e: Expr) -> Result<(), NoMemory>
+        ensures { OnOk result (map term self.new ≡ with_term (map term self.old) (term e)) }
+    {
+        if !add_key(alloc, &mut self.index, self.list.as_slice(), &e)? {
             return Ok(());
         }
         let false_ones = count_false(&e);
         let large_ones = count_large(&e);
         if let Err(NoMemory) = self.list.push(e) {
-            self.index.truncate(self.list.len());
+            self.index = None;
             return Err(NoMemory);
         }
         // (there are no more of either than expressions)
@@ -156,7 +181,7 @@ impl Predicates {
     fn tell_once(&self)
         ensures { distinct_terms (map term self.now) ≡ map term self.now }
     {
-        let _count = self.index.len();
+        let _list = &self.list;
     }
 
     /// Adds copies at the end, each unless an equal one is there.
@@ -204,7 +229,7 @@ impl Predicates {
         ensures { self.new ≡ remove self.old place }
     {
         let e = self.list.remove(place);
-        self.index.shift_remove_index(place);
+        drop_key(&mut self.index, place);
         self.false_ones = false_without(self.false_ones, &e);
         self.large_ones = large_without(self.large_ones, &e);
     }

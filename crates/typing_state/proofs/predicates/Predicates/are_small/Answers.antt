@@ -7,4 +7,4 @@ use Rattle.typing_state.proofs.predicates.Predicates.are_small.Goals as goal
 
 pub returns : goal.returns
 returns c =
-    ap (λ n. nat_eq n 0) c.self.invariant.2 ∙ all_counted is_small (map term c.self.inside.list) ∙ ap (λ es. list_all is_small (map term es)) c.self.view_is
+    ap (λ n. nat_eq n 0) c.self.invariant.3 ∙ all_counted is_small (map term c.self.inside.list) ∙ ap (λ es. list_all is_small (map term es)) c.self.view_is

@@ -7,4 +7,4 @@ use Rattle.typing_state.proofs.predicates.Predicates.has_false.Goals as goal
 
 pub returns : goal.returns
 returns c =
-    ap (nat_lt 0) c.self.invariant.1 ∙ any_counted is_false (map term c.self.inside.list) ∙ ap (λ es. list_any is_false (map term es)) c.self.view_is
+    ap (nat_lt 0) c.self.invariant.2 ∙ any_counted is_false (map term c.self.inside.list) ∙ ap (λ es. list_any is_false (map term es)) c.self.view_is

@@ -1,22 +1,24 @@
-use Rattle.std.proofs.Common.{not, refl, arith, if◌then◌else◌}
+use Rattle.std.proofs.Common.{◌≡◌, map, not, refl, subst, arith, if◌then◌else◌}
+use Rattle.std.specs.Prelude.{IfSome}
 use Rattle.cov_expr.specs.View.{term}
+use Rattle.typing_state.specs.Keys.{key}
 use Rattle.typing_state.specs.Terms.{is_false, is_small}
 use Rattle.typing_state.proofs.DropLaws.{counted_less}
-use Rattle.typing_state.proofs.PlaceLaws.{keys_dropped}
+use Rattle.typing_state.proofs.IndexLaws.{distinct_dropped, keys_left}
 use Rattle.typing_state.proofs.predicates.Predicates.remove.Goals as goal
 
 pub false_without-self-inside-requires : goal.false_without-self-inside-requires
 false_without-self-inside-requires c =
     let e = c.remove-e.result in
     let less = counted_less is_false c.self.inside.list c.remove-e.new.self c.args.place e (if is_false (term e) then 1 else 0) c.remove-e.ensures.item c.remove-e.ensures.rest refl in
-    omega (arith, c.self.invariant.1, less)
+    omega (arith, c.self.invariant.2, less)
 
 pub large_without-self-inside-requires : goal.large_without-self-inside-requires
 large_without-self-inside-requires c =
     let e = c.remove-e.result in
     let less = counted_less (λ t. not (is_small t)) c.self.inside.list c.remove-e.new.self c.args.place e (if not (is_small (term e)) then 1 else 0) c.remove-e.ensures.item
     c.remove-e.ensures.rest refl in
-    omega (arith, c.self.invariant.2, less)
+    omega (arith, c.self.invariant.3, less)
 
 pub invariant_of-self : goal.invariant_of-self
 invariant_of-self c =
@@ -26,7 +28,9 @@ invariant_of-self c =
     let item = c.remove-e.ensures.item in
     let false_less = counted_less is_false list new c.args.place e (if is_false (term e) then 1 else 0) item c.remove-e.ensures.rest refl in
     let large_less = counted_less (λ t. not (is_small t)) list new c.args.place e (if not (is_small (term e)) then 1 else 0) item c.remove-e.ensures.rest refl in (
-      keys_dropped c.self.inside.index.keys list c.self.invariant.0 c.shift_remove_index.new.self.keys new c.args.place c.shift_remove_index.ensures.keys c.remove-e.ensures.rest,
-      omega (arith, c.self.invariant.1, false_less, c.false_without-self-inside.ensures),
-      omega (arith, c.self.invariant.2, large_less, c.large_without-self-inside.ensures),
+      distinct_dropped list c.self.invariant.0 new c.args.place c.remove-e.ensures.rest,
+      subst (λ ks. IfSome c.drop_key.new.index (λ i. i.keys ≡ ks)) (keys_left list new c.args.place c.remove-e.ensures.rest)
+          (c.drop_key.ensures (map key (map term list)) c.self.invariant.1),
+      omega (arith, c.self.invariant.2, false_less, c.false_without-self-inside.ensures),
+      omega (arith, c.self.invariant.3, large_less, c.large_without-self-inside.ensures),
     )
