@@ -3,9 +3,9 @@
 #![tactic(auto)]
 
 use cov_io::{FileShelf, StdSink};
+use explain::explain;
 use std::process::ExitCode;
 use std::{env, io};
-use explain::explain;
 
 /// The exit status where a word of the command line isn't text.
 const BAD_WORDS: u8 = 10;
