@@ -5,10 +5,10 @@ use Rattle.risc_machine.specs.declared.parts.CodeBad.{CodeBad}
 use Rattle.risc_machine.specs.declared.parts.CodeBad.TheVariants as bad
 use Rattle.risc_machine.specs.declared.parts.Parts.{Parts}
 use Rattle.code_text.specs.Inside.Drafts.{Agrees}
-use Rattle.code_text.specs.Inside.Reading.{pieces, row_of, with_row, read_lines, read_text, begun, version_of}
+use Rattle.code_text.specs.Inside.ListingReading.{pieces, row_of, with_row, read_lines, read_text, begun, version_of}
 use Rattle.code_text.specs.Listing.{IsListed, IsListingOf}
-use Rattle.code_text.specs.Outcome.{IsReading, IsAnswerTo}
-use Rattle.code_text.specs.Inside.Reading.{Draft}
+use Rattle.code_text.specs.ListingAnswers.{IsReading, IsAnswerTo}
+use Rattle.code_text.specs.Inside.ListingReading.{Draft}
 use Rattle.code_text.specs.declared.fault.CodeFault.{CodeFault}
 use Rattle.code_text.specs.declared.fault.CodeFault.TheVariants.{Line, Bad, NoMemory}
 use Rattle.code_text.proofs.ChainLaws.{Chain}

@@ -10,7 +10,7 @@ use Rattle.cov_expr.specs.Names.{IsName}
 use Rattle.cov_expr.specs.declared.expr.Op.{Op}
 use Rattle.cov_expr.specs.declared.expr.Op.TheVariants.{Add, Sub, Mul, And, Or, Xor, Eq, Ne, Lt, Le, Both, Either}
 use Rattle.code_text.specs.Listing.{register, sign}
-use Rattle.code_text.specs.Inside.Reading.{name_of, is_number, number_of, digit_below, register_of, weight_of, op_of}
+use Rattle.code_text.specs.Inside.ListingReading.{name_of, is_number, number_of, digit_below, register_of, weight_of, op_of}
 
 le_true : (a b : ℕ) → a ≤ b → nat_le a b ≡ true
 le_true a b h = grind arith

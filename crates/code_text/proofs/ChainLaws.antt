@@ -1,7 +1,7 @@
 -- Rows that a draft takes one after another are read.
 use Rattle.std.proofs.Common.{◌≡◌, ℕ, ◌+◌, List, [], ◌∷◌, ◌++◌, map, refl, ap, sym, ◌∙◌, subst, eq-eqb, if◌then◌else◌, Some, None, Ok, Err}
-use Rattle.code_text.specs.Inside.Reading.{pieces, row_of, with_row, ended, go_on, read_lines}
-use Rattle.code_text.specs.Inside.Reading.{Draft}
+use Rattle.code_text.specs.Inside.ListingReading.{pieces, row_of, with_row, ended, go_on, read_lines}
+use Rattle.code_text.specs.Inside.ListingReading.{Draft}
 use Rattle.code_text.specs.declared.row.Row.{Row}
 use Rattle.code_text.proofs.Every.{Every}
 use Rattle.code_text.proofs.Cuts.{glue, some_piece}

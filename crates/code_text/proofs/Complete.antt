@@ -15,13 +15,13 @@ use Rattle.risc_machine.specs.declared.parts.Parts.{Parts}
 use Rattle.risc_machine.specs.declared.parts.ThreadCode.{ThreadCode}
 use Rattle.risc_machine.proofs.FaultLaws.{repeated-append}
 use Rattle.risc_machine.proofs.StepLaws.{none_left, none_right}
-use Rattle.code_text.specs.Inside.Reading.{pieces, read_text, begin_with, begun, version_of}
+use Rattle.code_text.specs.Inside.ListingReading.{pieces, read_text, begin_with, begun, version_of}
 use Rattle.code_text.specs.Listing.{name, sign, declared, instr, line, head, thread_rows, rows, spelled, listing, IsListedInstr, IsListedLine}
 use Rattle.code_text.proofs.ChainLaws.{IsRowWithout, AreRowsWithout, read_chain}
 use Rattle.code_text.proofs.Every.{Every, every_append}
 use Rattle.code_text.proofs.Filled.{HasListing, IsThread}
 use Rattle.code_text.proofs.FreeLaws.{free_name, free_words, free_decimal, free_register}
-use Rattle.code_text.proofs.InstrBack.{first_place, first_instr, first_line, place_back}
+use Rattle.code_text.proofs.InstrBack.{first_id, first_instr, first_line, id_back}
 use Rattle.code_text.proofs.NamesBack.{AreExact, exact}
 use Rattle.code_text.proofs.PhaseLaws.{first_thread, first_parts, body, chain_body}
 use Rattle.code_text.proofs.PiecesBack.{IsFree, AreFree, free_append, piece_first}
@@ -150,20 +150,20 @@ complete p h =
 -- Distinct names --------------------------------------------------------------------------------------------------
 
 module _ (version : ℕ) (vars locks : List (List ℕ)) (v : AreExact vars) (l : AreExact locks) where
-  exact_place : (names : List (List ℕ)) → AreExact names → (x : ℕ) → nat_lt x (length names) ≡ true → first_place names x ≡ x
-  exact_place names e x h = let g : Some (first_place names x) ≡ Some x = sym (place_back names x h) ∙ e x (ltb-true x (length names) h) in cc g
+  exact_id : (names : List (List ℕ)) → AreExact names → (x : ℕ) → nat_lt x (length names) ≡ true → first_id names x ≡ x
+  exact_id names e x h = let g : Some (first_id names x) ≡ Some x = sym (id_back names x h) ∙ e x (ltb-true x (length names) h) in cc g
 
   exact_instr : (i : Instr) → IsListedInstr version (length vars) (length locks) i → first_instr vars locks i ≡ i
-  exact_instr (Load r x) h = ap (Load r) (exact_place vars v x h.variable)
-  exact_instr (Store x r) h = ap (λ y. Store y r) (exact_place vars v x h.variable)
+  exact_instr (Load r x) h = ap (Load r) (exact_id vars v x h.variable)
+  exact_instr (Store x r) h = ap (λ y. Store y r) (exact_id vars v x h.variable)
   exact_instr (Jump i) h = refl
   exact_instr (Jz r i) h = refl
   exact_instr Nop h = refl
   exact_instr (MovC r k) h = refl
   exact_instr (MovR r q) h = refl
   exact_instr (Bin o r q) h = refl
-  exact_instr (Acquire x) h = ap Acquire (exact_place locks l x h.lock)
-  exact_instr (Release x) h = ap Release (exact_place locks l x h.lock)
+  exact_instr (Acquire x) h = ap Acquire (exact_id locks l x h.lock)
+  exact_instr (Release x) h = ap Release (exact_id locks l x h.lock)
   exact_instr (Out r) h = refl
 
   exact_lines : (ls : List Line) → Every (IsListedLine version (length vars) (length locks)) ls → map (first_line vars locks) ls ≡ ls

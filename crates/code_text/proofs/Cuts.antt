@@ -3,7 +3,7 @@ use Rattle.std.proofs.Common.{◌≡◌, ℕ, ◌+◌, ◌<◌, ◌≤◌, ◌-�
 use Rattle.std.proofs.lemmas.List.{append-nil, get_or-drop, take_more}
 use Rattle.std.proofs.Math.Seq.{take-length, drop-length}
 use Rattle.code_text.specs.Listing.{onto}
-use Rattle.code_text.specs.Inside.Reading.{pieces}
+use Rattle.code_text.specs.Inside.ListingReading.{pieces}
 
 -- with bytes before the first piece
 abbrev pub glue : List ℕ → List (List ℕ) → List (List ℕ)

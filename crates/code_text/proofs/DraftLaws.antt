@@ -3,8 +3,8 @@ use Rattle.std.proofs.Common.{◌≡◌, ℕ, zero, suc, ◌+◌, List, [], ◌�
 use Rattle.risc_machine.specs.declared.parts.Line.{Line}
 use Rattle.risc_machine.specs.declared.parts.ThreadCode.{ThreadCode}
 use Rattle.code_text.specs.Inside.Drafts.{AreShort, IsSmall}
-use Rattle.code_text.specs.Inside.Reading.{with_line, with_row}
-use Rattle.code_text.specs.Inside.Reading.{Draft}
+use Rattle.code_text.specs.Inside.ListingReading.{with_line, with_row}
+use Rattle.code_text.specs.Inside.ListingReading.{Draft}
 use Rattle.code_text.specs.declared.row.Row.{Row}
 use Rattle.code_text.specs.declared.row.Row.TheVariants as row
 

@@ -6,8 +6,8 @@ use Rattle.risc_machine.specs.declared.parts.CodeBad.TheVariants as bad
 use Rattle.risc_machine.specs.declared.parts.Instr.TheVariants.{Load, Store, Jump, MovR}
 use Rattle.risc_machine.specs.declared.parts.Parts.{Parts}
 use Rattle.code_text.specs.Listing.{listing}
-use Rattle.code_text.specs.Inside.Reading.{pieces, read_text}
-use Rattle.code_text.specs.Outcome.{IsFaultyLine}
+use Rattle.code_text.specs.Inside.ListingReading.{pieces, read_text}
+use Rattle.code_text.specs.ListingAnswers.{IsFaultyLine}
 use Rattle.code_text.proofs.LineLaws.{faulty_line}
 use Rattle.code_text.proofs.SoundLaws.{text_sound}
 

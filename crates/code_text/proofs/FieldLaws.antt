@@ -11,7 +11,7 @@ use Rattle.std.specs.Str.Parse.{AllDigits, digits_value}
 use Rattle.cov_expr.specs.Bytes.{is_digit}
 use Rattle.cov_expr.specs.declared.expr.Op.{Op}
 use Rattle.code_text.specs.Listing.{register, name, sign}
-use Rattle.code_text.specs.Inside.Reading.{is_name, name_of, is_number, number_of, digit_below, register_of, weight_of, place_from, op_of}
+use Rattle.code_text.specs.Inside.ListingReading.{is_name, name_of, is_number, number_of, digit_below, register_of, weight_of, id_from, op_of}
 
 -- a test that was passed, and what it gave
 pub given : {A : Type 0} (b : Bool) (x v : A) → (if b then Some x else None) ≡ Some v → (b ≡ true) × (x ≡ v)
@@ -76,15 +76,15 @@ weight_is (b ∷ []) w h =
     ap (λ x. x ∷ []) (digit_is 3 b w g.0 g.1) ∙ sym (decimal_digit w small)
 weight_is (a ∷ b ∷ f) w h = absurd cc
 
-place_later : (i : ℕ) (names : List (List ℕ)) (f : List ℕ) (x : ℕ) → place_from i names f ≡ Some x → (k : ℕ) × (x ≡ i + k) × (f ≡ get_or names k [])
-place_later i [] f x h = absurd cc
-place_later i (n ∷ ns) f x h = elim (chosen (bytes_eq f n) (Some i) (place_from (i + 1) ns f) x h) [
+id_later : (i : ℕ) (names : List (List ℕ)) (f : List ℕ) (x : ℕ) → id_from i names f ≡ Some x → (k : ℕ) × (x ≡ i + k) × (f ≡ get_or names k [])
+id_later i [] f x h = absurd cc
+id_later i (n ∷ ns) f x h = elim (chosen (bytes_eq f n) (Some i) (id_from (i + 1) ns f) x h) [
   | inl here ↦ (0, (let e : i ≡ x = cc (here.1) in omega (arith, e)), same_word f n here.0)
-  | inr later ↦ (let rest = place_later (i + 1) ns f x later in (rest.0 + 1, omega (arith, rest.1), rest.2 ∙ ap (λ k. get_or (n ∷ ns) k []) (sym (add-one rest.0))))
+  | inr later ↦ (let rest = id_later (i + 1) ns f x later in (rest.0 + 1, omega (arith, rest.1), rest.2 ∙ ap (λ k. get_or (n ∷ ns) k []) (sym (add-one rest.0))))
 ]
 
-pub place_is : (names : List (List ℕ)) (f : List ℕ) (x : ℕ) → place_from 0 names f ≡ Some x → f ≡ name names x
-place_is names f x h = let p = place_later 0 names f x h in p.2 ∙ ap (λ k. get_or names k []) (let e : p.0 ≡ x = omega (arith, p.1) in e)
+pub id_is : (names : List (List ℕ)) (f : List ℕ) (x : ℕ) → id_from 0 names f ≡ Some x → f ≡ name names x
+id_is names f x h = let p = id_later 0 names f x h in p.2 ∙ ap (λ k. get_or names k []) (let e : p.0 ≡ x = omega (arith, p.1) in e)
 
 -- an operator behind a test of its sign
 tried : (f v : List ℕ) (o p : Op) (rest : Option Op) → (if bytes_eq f v then Some o else rest) ≡ Some p → v ≡ sign o → (rest ≡ Some p → f ≡ sign p) → f ≡ sign p

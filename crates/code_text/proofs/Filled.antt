@@ -7,9 +7,9 @@ use Rattle.risc_machine.specs.declared.parts.Instr.TheVariants.{Nop}
 use Rattle.risc_machine.specs.declared.parts.Line.{Line}
 use Rattle.risc_machine.specs.declared.parts.Parts.{Parts}
 use Rattle.risc_machine.specs.declared.parts.ThreadCode.{ThreadCode}
-use Rattle.code_text.specs.Inside.Reading.{with_line, with_row, begun}
+use Rattle.code_text.specs.Inside.ListingReading.{with_line, with_row, begun}
 use Rattle.code_text.specs.Listing.{line, thread_head, thread_rows, rows, head, IsListed, IsListedLine, IsListedThread}
-use Rattle.code_text.specs.Inside.Reading.{Draft}
+use Rattle.code_text.specs.Inside.ListingReading.{Draft}
 use Rattle.code_text.specs.declared.row.Row.{Row}
 use Rattle.code_text.specs.declared.row.Row.TheVariants as row
 use Rattle.code_text.proofs.ChainLaws.{Chain}

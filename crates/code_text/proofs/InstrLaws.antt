@@ -7,10 +7,10 @@ use Rattle.risc_machine.specs.declared.parts.Instr.TheVariants.{Load, Store, Jum
 use Rattle.risc_machine.specs.declared.parts.Parts.{Parts}
 use Rattle.cov_expr.specs.declared.expr.Op.{Op}
 use Rattle.code_text.specs.Listing.{instr, register, sign, IsListedInstr}
-use Rattle.code_text.specs.Inside.Reading.{both, number_of, register_of, place_of, op_of, with_op, no_fields, one_field, two_fields, three_fields, instr_of}
+use Rattle.code_text.specs.Inside.ListingReading.{both, number_of, register_of, id_of, op_of, with_op, no_fields, one_field, two_fields, three_fields, instr_of}
 use Rattle.code_text.proofs.BackLaws.{both_true}
-use Rattle.code_text.proofs.FieldLaws.{given, chosen, same_word, number_is, register_is, place_is, op_is}
-use Rattle.code_text.proofs.RangeLaws.{number_ranges, register_ranges, place_ranges}
+use Rattle.code_text.proofs.FieldLaws.{given, chosen, same_word, number_is, register_is, id_is, op_is}
+use Rattle.code_text.proofs.RangeLaws.{number_ranges, register_ranges, id_ranges}
 
 pub map_is : {A B : Type 0} (f : A → B) (x : Option A) (v : B) → option_map f x ≡ Some v → (a : A) × (x ≡ Some a) × (f a ≡ v)
 map_is f None v h = absurd cc
@@ -50,16 +50,16 @@ module _ (version : ℕ) (vars locks : List (List ℕ)) where
         let m = map_is Jump (number_of a) i c.1 in
         read_as (w ∷ a ∷ []) (Jump m.0) i m.2 (one w (codes "jump") a _ c.0 (number_is a m.0 m.1))
         (record { registers = refl; variable = refl; lock = refl; output = refl; words = number_ranges a m.0 m.1 }))
-    | inr h ↦ (elim (chosen (bytes_eq w (codes "acquire")) (option_map Acquire (place_of locks a)) _ i h) [
+    | inr h ↦ (elim (chosen (bytes_eq w (codes "acquire")) (option_map Acquire (id_of locks a)) _ i h) [
       | inl c ↦ (
-          let m = map_is Acquire (place_of locks a) i c.1 in
-          read_as (w ∷ a ∷ []) (Acquire m.0) i m.2 (one w (codes "acquire") a _ c.0 (place_is locks a m.0 m.1))
-          (record { registers = refl; variable = refl; lock = place_ranges locks a m.0 m.1; output = refl; words = tt }))
-      | inr h ↦ (elim (chosen (bytes_eq w (codes "release")) (option_map Release (place_of locks a)) _ i h) [
+          let m = map_is Acquire (id_of locks a) i c.1 in
+          read_as (w ∷ a ∷ []) (Acquire m.0) i m.2 (one w (codes "acquire") a _ c.0 (id_is locks a m.0 m.1))
+          (record { registers = refl; variable = refl; lock = id_ranges locks a m.0 m.1; output = refl; words = tt }))
+      | inr h ↦ (elim (chosen (bytes_eq w (codes "release")) (option_map Release (id_of locks a)) _ i h) [
         | inl c ↦ (
-            let m = map_is Release (place_of locks a) i c.1 in
-            read_as (w ∷ a ∷ []) (Release m.0) i m.2 (one w (codes "release") a _ c.0 (place_is locks a m.0 m.1))
-            (record { registers = refl; variable = refl; lock = place_ranges locks a m.0 m.1; output = refl; words = tt }))
+            let m = map_is Release (id_of locks a) i c.1 in
+            read_as (w ∷ a ∷ []) (Release m.0) i m.2 (one w (codes "release") a _ c.0 (id_is locks a m.0 m.1))
+            (record { registers = refl; variable = refl; lock = id_ranges locks a m.0 m.1; output = refl; words = tt }))
         | inr h ↦ (elim (chosen (bytes_eq w (codes "out") && nat_le 2 version) (option_map Out (register_of a)) None i h) [
           | inl c ↦ (
               let m = map_is Out (register_of a) i c.1 in
@@ -73,16 +73,16 @@ module _ (version : ℕ) (vars locks : List (List ℕ)) where
   ]
 
   two_are : (w a b : List ℕ) (i : Instr) → two_fields vars w a b ≡ Some i → IsReadAs (w ∷ a ∷ b ∷ []) i
-  two_are w a b i h = elim (chosen (bytes_eq w (codes "load")) (both Load (register_of a) (place_of vars b)) _ i h) [
+  two_are w a b i h = elim (chosen (bytes_eq w (codes "load")) (both Load (register_of a) (id_of vars b)) _ i h) [
     | inl c ↦ (
-        let m = both_are Load (register_of a) (place_of vars b) i c.1 in
-        read_as (w ∷ a ∷ b ∷ []) (Load m.0 m.1) i m.4 (two w (codes "load") a _ b _ c.0 (register_is a m.0 m.2) (place_is vars b m.1 m.3))
-        (record { registers = register_ranges a m.0 m.2; variable = place_ranges vars b m.1 m.3; lock = refl; output = refl; words = tt }))
-    | inr h ↦ (elim (chosen (bytes_eq w (codes "store")) (both Store (place_of vars a) (register_of b)) _ i h) [
+        let m = both_are Load (register_of a) (id_of vars b) i c.1 in
+        read_as (w ∷ a ∷ b ∷ []) (Load m.0 m.1) i m.4 (two w (codes "load") a _ b _ c.0 (register_is a m.0 m.2) (id_is vars b m.1 m.3))
+        (record { registers = register_ranges a m.0 m.2; variable = id_ranges vars b m.1 m.3; lock = refl; output = refl; words = tt }))
+    | inr h ↦ (elim (chosen (bytes_eq w (codes "store")) (both Store (id_of vars a) (register_of b)) _ i h) [
       | inl c ↦ (
-          let m = both_are Store (place_of vars a) (register_of b) i c.1 in
-          read_as (w ∷ a ∷ b ∷ []) (Store m.0 m.1) i m.4 (two w (codes "store") a _ b _ c.0 (place_is vars a m.0 m.2) (register_is b m.1 m.3))
-          (record { registers = register_ranges b m.1 m.3; variable = place_ranges vars a m.0 m.2; lock = refl; output = refl; words = tt }))
+          let m = both_are Store (id_of vars a) (register_of b) i c.1 in
+          read_as (w ∷ a ∷ b ∷ []) (Store m.0 m.1) i m.4 (two w (codes "store") a _ b _ c.0 (id_is vars a m.0 m.2) (register_is b m.1 m.3))
+          (record { registers = register_ranges b m.1 m.3; variable = id_ranges vars a m.0 m.2; lock = refl; output = refl; words = tt }))
       | inr h ↦ (elim (chosen (bytes_eq w (codes "jz")) (both Jz (register_of a) (number_of b)) _ i h) [
         | inl c ↦ (
             let m = both_are Jz (register_of a) (number_of b) i c.1 in

@@ -4,10 +4,10 @@ use Rattle.std.proofs.lemmas.Bool.{eqb-true}
 use Rattle.std.proofs.lemmas.List.{map-append, length-map}
 use Rattle.std.specs.Str.{bytes_eq}
 use Rattle.risc_machine.specs.declared.parts.Parts.{Parts}
-use Rattle.code_text.specs.Inside.Reading.{pieces, is_none, row_of, with_row, ended, go_on, read_lines, read_text, begin_with, begun, version_of}
+use Rattle.code_text.specs.Inside.ListingReading.{pieces, is_none, row_of, with_row, ended, go_on, read_lines, read_text, begin_with, begun, version_of}
 use Rattle.code_text.specs.Listing.{head, rows, spelled, onto, lines_of, IsListed, IsListingOf, BeginsListing}
-use Rattle.code_text.specs.Outcome.{IsFaultyLine}
-use Rattle.code_text.specs.Inside.Reading.{Draft}
+use Rattle.code_text.specs.ListingAnswers.{IsFaultyLine}
+use Rattle.code_text.specs.Inside.ListingReading.{Draft}
 use Rattle.code_text.specs.declared.row.Row.{Row}
 use Rattle.code_text.proofs.ChainLaws.{Chain, chain_takes, IsRowWithout, AreRowsWithout, split, pieces_row}
 use Rattle.code_text.proofs.Complete.{complete, rows_without_blanks, version_back}

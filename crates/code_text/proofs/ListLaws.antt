@@ -12,7 +12,7 @@ use Rattle.risc_machine.specs.declared.parts.ThreadCode.{ThreadCode}
 use Rattle.cov_expr.specs.Names.{IsName}
 use Rattle.risc_machine.specs.declared.parts.CodeBad.TheVariants as bad
 use Rattle.risc_machine.proofs.StepLaws.{line_good, none_left}
-use Rattle.code_text.specs.Inside.Spelling.{IsSpelled, IsOfWords}
+use Rattle.code_text.specs.Inside.SpelledLines.{IsSpelled, IsOfWords}
 use Rattle.code_text.specs.Listing.{declared, head, spelled, listing, thread_rows, IsListed}
 
 pub good_lines : (p : Parts) → AreGood p → (k : ℕ) (d : ThreadCode) → k < length p.threads → (i : ℕ) (e : Line) → i < length (get_or p.threads k d).lines

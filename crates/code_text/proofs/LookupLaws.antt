@@ -19,22 +19,22 @@ use Rattle.risc_machine.specs.declared.parts.ThreadCode.{ThreadCode}
 use Rattle.risc_machine.proofs.FaultLaws.{repeated-append}
 use Rattle.code_text.specs.Inside.Lookup.{IsIndexOf, IsGuess, AreGuesses, IsRegisterOf}
 use Rattle.code_text.specs.declared.names.Register.{Register}
-use Rattle.code_text.specs.Inside.Reading.{place_from, place_of, with_line}
+use Rattle.code_text.specs.Inside.ListingReading.{id_from, id_of, with_line}
 use Rattle.code_text.proofs.Every.{all_from, every_copy}
-use Rattle.code_text.proofs.FieldLaws.{place_is}
-use Rattle.code_text.proofs.RangeLaws.{place_ranges}
+use Rattle.code_text.proofs.FieldLaws.{id_is}
+use Rattle.code_text.proofs.RangeLaws.{id_ranges}
 
-place_append : (i : ℕ) (names : List (List ℕ)) (n f : List ℕ) → place_from i (names ++ n ∷ []) f ≡ first_of (place_from i names f) (if bytes_eq f n then Some (i + length names) else None)
-place_append i [] n f = ap (λ k. if bytes_eq f n then Some k else None) (let e : i ≡ i + 0 = omega arith in e)
-place_append i (m ∷ ns) n f = by (bytes_eq f m) (place_append (i + 1) ns n f ∙ ap (λ k. first_of (place_from (i + 1) ns f) (if bytes_eq f n then Some k else None)) (let e : (i + 1) + length ns ≡ i + length (m ∷ ns) = omega arith in e))
+id_append : (i : ℕ) (names : List (List ℕ)) (n f : List ℕ) → id_from i (names ++ n ∷ []) f ≡ first_of (id_from i names f) (if bytes_eq f n then Some (i + length names) else None)
+id_append i [] n f = ap (λ k. if bytes_eq f n then Some k else None) (let e : i ≡ i + 0 = omega arith in e)
+id_append i (m ∷ ns) n f = by (bytes_eq f m) (id_append (i + 1) ns n f ∙ ap (λ k. first_of (id_from (i + 1) ns f) (if bytes_eq f n then Some k else None)) (let e : (i + 1) + length ns ≡ i + length (m ∷ ns) = omega arith in e))
   where
-    by : (b : Bool) → place_from (i + 1) (ns ++ n ∷ []) f ≡ first_of (place_from (i + 1) ns f) (if bytes_eq f n then Some (i + length (m ∷ ns)) else None)
-        → (if b then Some i else place_from (i + 1) (ns ++ n ∷ []) f) ≡ first_of (if b then Some i else place_from (i + 1) ns f) (if bytes_eq f n then Some (i + length (m ∷ ns)) else None)
+    by : (b : Bool) → id_from (i + 1) (ns ++ n ∷ []) f ≡ first_of (id_from (i + 1) ns f) (if bytes_eq f n then Some (i + length (m ∷ ns)) else None)
+        → (if b then Some i else id_from (i + 1) (ns ++ n ∷ []) f) ≡ first_of (if b then Some i else id_from (i + 1) ns f) (if bytes_eq f n then Some (i + length (m ∷ ns)) else None)
     by true rest = refl
     by false rest = rest
 
-pub place_more : (names : List (List ℕ)) (n f : List ℕ) → place_of (names ++ n ∷ []) f ≡ first_of (place_of names f) (if bytes_eq f n then Some (length names) else None)
-place_more names n f = place_append 0 names n f ∙ ap (λ k. first_of (place_of names f) (if bytes_eq f n then Some k else None)) (let e : 0 + length names ≡ length names = omega arith in e)
+pub id_more : (names : List (List ℕ)) (n f : List ℕ) → id_of (names ++ n ∷ []) f ≡ first_of (id_of names f) (if bytes_eq f n then Some (length names) else None)
+id_more names n f = id_append 0 names n f ∙ ap (λ k. first_of (id_of names f) (if bytes_eq f n then Some k else None)) (let e : 0 + length names ≡ length names = omega arith in e)
 
 same_test : (f n : List ℕ) → bytes_eq f n ≡ bytes_eq n f
 same_test f n = by (bytes_eq f n) (bytes_eq n f) refl refl
@@ -54,15 +54,15 @@ pub on_err : {T E P : Type 0} (r : Result T E) → P → OnErr r P
 on_err (Ok x) h = tt
 on_err (Err e) h = h
 
--- Places ----------------------------------------------------------------------------------------------------------
+-- Numbers of names ----------------------------------------------------------------------------------------------------------
 
 module _ {S : Type 0} where
   -- what doesn't change the entries
   pub still_indexed : (index next : IndexMap (List ℕ) ℕ S) (names : List (List ℕ)) → IsUnchanged index next → IsIndexOf index names → IsIndexOf next names
-  still_indexed index next names e is = record { named = is.named; places = λ f. ap (lookup (bytes_eq f)) e ∙ is.places f }
+  still_indexed index next names e is = record { named = is.named; ids = λ f. ap (lookup (bytes_eq f)) e ∙ is.ids f }
 
   pub none_indexed : (index : IndexMap (List ℕ) ℕ S) → IsEmpty index → IsIndexOf index []
-  none_indexed index e = record { named = All-nil IsName; places = λ f. ap (lookup (bytes_eq f)) e }
+  none_indexed index e = record { named = All-nil IsName; ids = λ f. ap (lookup (bytes_eq f)) e }
 
   module _ (index : IndexMap (List ℕ) ℕ S) (names : List (List ℕ)) (n : List ℕ) (is : IsIndexOf index names) (named : IsName n) where
     all_named : All IsName (names ++ n ∷ [])
@@ -70,75 +70,75 @@ module _ {S : Type 0} where
 
     -- a name that isn't there yet
     pub indexed_new : (next : IndexMap (List ℕ) ℕ S) → None ≡ get bytes_eq index n → Updates bytes_eq index next n (Some (length names)) → IsIndexOf next (names ++ n ∷ [])
-    indexed_new next none u = record { named = all_named; places = λ f. u.0 f ∙ by f (bytes_eq n f) refl ∙ sym (place_more names n f) }
+    indexed_new next none u = record { named = all_named; ids = λ f. u.0 f ∙ by f (bytes_eq n f) refl ∙ sym (id_more names n f) }
       where
-        by : (f : List ℕ) (b : Bool) → bytes_eq n f ≡ b → cond b (Some (length names)) (get bytes_eq index f) ≡ first_of (place_of names f) (if bytes_eq f n then Some (length names) else None)
+        by : (f : List ℕ) (b : Bool) → bytes_eq n f ≡ b → cond b (Some (length names)) (get bytes_eq index f) ≡ first_of (id_of names f) (if bytes_eq f n then Some (length names) else None)
         by f true e =
             let same : n ≡ f = (bytes_eq-Decides n f).0 e in
-            let absent : place_of names f ≡ None = sym (is.places f) ∙ ap (get bytes_eq index) (sym same) ∙ sym none in
+            let absent : id_of names f ≡ None = sym (is.ids f) ∙ ap (get bytes_eq index) (sym same) ∙ sym none in
             sym (ap (λ o. first_of o (if bytes_eq f n then Some (length names) else None)) absent ∙ ap (λ c. if c then Some (length names) else None) (same_test f n ∙ e))
         by f false e =
-            is.places f ∙ sym (ap (λ c. first_of (place_of names f) (if c then Some (length names) else None)) (same_test f n ∙ e) ∙ first_none (place_of names f))
+            is.ids f ∙ sym (ap (λ c. first_of (id_of names f) (if c then Some (length names) else None)) (same_test f n ∙ e) ∙ first_none (id_of names f))
 
-    -- a name that is there keeps its place
+    -- a name that is there keeps its id
     pub indexed_old : (k : ℕ) → Some k ≡ get bytes_eq index n → IsIndexOf index (names ++ n ∷ [])
-    indexed_old there some = record { named = all_named; places = λ f. is.places f ∙ by f (bytes_eq f n) refl (place_of names f) refl ∙ sym (place_more names n f) }
+    indexed_old there some = record { named = all_named; ids = λ f. is.ids f ∙ by f (bytes_eq f n) refl (id_of names f) refl ∙ sym (id_more names n f) }
       where
-        by : (f : List ℕ) (b : Bool) → bytes_eq f n ≡ b → (o : Option ℕ) → place_of names f ≡ o → o ≡ first_of o (if b then Some (length names) else None)
+        by : (f : List ℕ) (b : Bool) → bytes_eq f n ≡ b → (o : Option ℕ) → id_of names f ≡ o → o ≡ first_of o (if b then Some (length names) else None)
         by f b e (Some k) is_k = refl
         by f false e None is_k = refl
-        by f true e None is_k = let g : Some there ≡ None = some ∙ is.places n ∙ ap (place_of names) (sym ((bytes_eq-Decides f n).0 e)) ∙ is_k in absurd cc
+        by f true e None is_k = let g : Some there ≡ None = some ∙ is.ids n ∙ ap (id_of names) (sym ((bytes_eq-Decides f n).0 e)) ∙ is_k in absurd cc
 
--- the place of a name that was declared before, and of one that wasn't
-pub place_old : (names : List (List ℕ)) (n : List ℕ) (k : ℕ) → place_of names n ≡ Some k → place_of (names ++ n ∷ []) n ≡ Some k
-place_old names n k e = place_more names n n ∙ ap (λ o. first_of o (if bytes_eq n n then Some (length names) else None)) e
+-- the id of a name that was declared before, and of one that wasn't
+pub id_old : (names : List (List ℕ)) (n : List ℕ) (k : ℕ) → id_of names n ≡ Some k → id_of (names ++ n ∷ []) n ≡ Some k
+id_old names n k e = id_more names n n ∙ ap (λ o. first_of o (if bytes_eq n n then Some (length names) else None)) e
 
-pub place_new : (names : List (List ℕ)) (n : List ℕ) → place_of names n ≡ None → place_of (names ++ n ∷ []) n ≡ Some (length names)
-place_new names n e = place_more names n n ∙ ap (λ o. first_of o (if bytes_eq n n then Some (length names) else None)) e ∙ ap (λ b. if b then Some (length names) else None) ((bytes_eq-Decides n n).1 refl)
+pub id_new : (names : List (List ℕ)) (n : List ℕ) → id_of names n ≡ None → id_of (names ++ n ∷ []) n ≡ Some (length names)
+id_new names n e = id_more names n n ∙ ap (λ o. first_of o (if bytes_eq n n then Some (length names) else None)) e ∙ ap (λ b. if b then Some (length names) else None) ((bytes_eq-Decides n n).1 refl)
 
 -- Guesses ----------------------------------------------------------------------------------------------------------
 
 pub none_guessed : (count : ℕ) → AreGuesses (replicate count None) []
-none_guessed count = all_from (IsGuess []) (replicate count None) (every_copy (IsGuess []) count None (λ place e. absurd cc))
+none_guessed count = all_from (IsGuess []) (replicate count None) (every_copy (IsGuess []) count None (λ id e. absurd cc))
 
 -- a guess stays one behind a name more
 still_guess : (names : List (List ℕ)) (n : List ℕ) (g : Option ℕ) → IsGuess names g → IsGuess (names ++ n ∷ []) g
-still_guess names n g is place e =
-    let first = is place e in
-    let inside = ltb-true place (length names) (place_ranges names (get_or names place []) place first) in
-    ap (place_of (names ++ n ∷ [])) (get_or-append names (n ∷ []) [] place inside)
-    ∙ place_more names n (get_or names place [])
-    ∙ ap (λ o. first_of o (if bytes_eq (get_or names place []) n then Some (length names) else None)) first
+still_guess names n g is id e =
+    let first = is id e in
+    let inside = ltb-true id (length names) (id_ranges names (get_or names id []) id first) in
+    ap (id_of (names ++ n ∷ [])) (get_or-append names (n ∷ []) [] id inside)
+    ∙ id_more names n (get_or names id [])
+    ∙ ap (λ o. first_of o (if bytes_eq (get_or names id []) n then Some (length names) else None)) first
 
 module _ (names : List (List ℕ)) (guesses : List (Option ℕ)) (all : AreGuesses guesses names) where
-  guess_first : (i place : ℕ) → get_or guesses i None ≡ Some place → place_of names (get_or names place []) ≡ Some place
-  guess_first i place e = elim (cases_lt i (length guesses)) [
-    | inl inside ↦ all i None inside place e
-    | inr past ↦ (let none : None ≡ Some place = sym (get_or_past guesses i None past) ∙ e in absurd cc)
+  guess_first : (i id : ℕ) → get_or guesses i None ≡ Some id → id_of names (get_or names id []) ≡ Some id
+  guess_first i id e = elim (cases_lt i (length guesses)) [
+    | inl inside ↦ all i None inside id e
+    | inr past ↦ (let none : None ≡ Some id = sym (get_or_past guesses i None past) ∙ e in absurd cc)
   ]
 
-  pub guess_within : (i place : ℕ) → get_or guesses i None ≡ Some place → place < length names
-  guess_within i place e = ltb-true place (length names) (place_ranges names (get_or names place []) place (guess_first i place e))
+  pub guess_within : (i id : ℕ) → get_or guesses i None ≡ Some id → id < length names
+  guess_within i id e = ltb-true id (length names) (id_ranges names (get_or names id []) id (guess_first i id e))
 
   -- the guess for a name that stands there is right
-  pub guess_right : (i place : ℕ) (f : List ℕ) → get_or guesses i None ≡ Some place → f ≡ get_or names place f → Some place ≡ place_of names f
-  guess_right i place f e is = sym (ap (place_of names) (is ∙ get_or_default names place f [] (guess_within i place e)) ∙ guess_first i place e)
+  pub guess_right : (i id : ℕ) (f : List ℕ) → get_or guesses i None ≡ Some id → f ≡ get_or names id f → Some id ≡ id_of names f
+  guess_right i id f e is = sym (ap (id_of names) (is ∙ get_or_default names id f [] (guess_within i id e)) ∙ guess_first i id e)
 
-  pub guesses_more : (n : List ℕ) (i place : ℕ) → Some place ≡ place_of (names ++ n ∷ []) n → AreGuesses (set guesses i (Some place)) (names ++ n ∷ [])
-  guesses_more n i place first = All-set (IsGuess (names ++ n ∷ [])) guesses i (Some place) here (λ k d inside. still_guess names n (get_or guesses k d) (all k d inside))
+  pub guesses_more : (n : List ℕ) (i id : ℕ) → Some id ≡ id_of (names ++ n ∷ []) n → AreGuesses (set guesses i (Some id)) (names ++ n ∷ [])
+  guesses_more n i id first = All-set (IsGuess (names ++ n ∷ [])) guesses i (Some id) here (λ k d inside. still_guess names n (get_or guesses k d) (all k d inside))
     where
-      here : IsGuess (names ++ n ∷ []) (Some place)
+      here : IsGuess (names ++ n ∷ []) (Some id)
       here other e =
-          let same : place ≡ other = cc in
-          ap (place_of (names ++ n ∷ [])) (sym (place_is (names ++ n ∷ []) n other (sym first ∙ e))) ∙ sym first ∙ e
+          let same : id ≡ other = cc in
+          ap (id_of (names ++ n ∷ [])) (sym (id_is (names ++ n ∷ []) n other (sym first ∙ e))) ∙ sym first ∙ e
 
--- a field that is no name has no place
-pub unnamed : (names : List (List ℕ)) (f : List ℕ) → All IsName names → (IsName f → ⊥) → place_of names f ≡ None
-unnamed names f all other = by (place_of names f) refl
+-- a field that is no name has no id
+pub unnamed : (names : List (List ℕ)) (f : List ℕ) → All IsName names → (IsName f → ⊥) → id_of names f ≡ None
+unnamed names f all other = by (id_of names f) refl
   where
-    by : (o : Option ℕ) → place_of names f ≡ o → o ≡ None
+    by : (o : Option ℕ) → id_of names f ≡ o → o ≡ None
     by None e = refl
-    by (Some x) e = absurd (other (subst IsName (sym (place_is names f x e)) (all x [] (ltb-true x (length names) (place_ranges names f x e)))))
+    by (Some x) e = absurd (other (subst IsName (sym (id_is names f x e)) (all x [] (ltb-true x (length names) (id_ranges names f x e)))))
 
 -- the names without one that was just added
 pub popped : (last : Option (List ℕ)) (longer names rest : List (List ℕ)) (n : List ℕ) → longer ≡ names ++ n ∷ [] → MatchOption last ((longer ≡ []) × (rest ≡ [])) (λ l. longer ≡ rest ++ l ∷ []) → names ≡ rest

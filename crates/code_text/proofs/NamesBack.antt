@@ -6,12 +6,12 @@ use Rattle.std.proofs.lemmas.Slice.Eq.{bytes_eq-Decides}
 use Rattle.std.specs.List.{list_any}
 use Rattle.std.specs.Str.{bytes_eq}
 use Rattle.risc_machine.specs.Faults.{repeated}
-use Rattle.code_text.specs.Inside.Reading.{place_from, place_of}
+use Rattle.code_text.specs.Inside.ListingReading.{id_from, id_of}
 use Rattle.code_text.specs.Listing.{name}
 
 -- each name is read as its number
 abbrev pub AreExact : List (List ℕ) → Type 0
-AreExact names = (x : ℕ) → x < length names → place_of names (name names x) ≡ Some x
+AreExact names = (x : ℕ) → x < length names → id_of names (name names x) ≡ Some x
 
 fresh : (before : List (List ℕ)) (n : List ℕ) (ns : List (List ℕ)) → repeated before (n ∷ ns) ≡ None → (list_any (bytes_eq n) before ≡ false) × (repeated (before ++ n ∷ []) ns ≡ None)
 fresh before n ns h = by (list_any (bytes_eq n) before) refl h
@@ -42,13 +42,13 @@ last_apart before n ns k h inside =
     let last = (unlisted (get_or ns k []) before (n ∷ []) all).1 in
     sym (or-false (bytes_eq (get_or ns k []) n)) ∙ last
 
-exact_from : (i : ℕ) (before ns : List (List ℕ)) (x : ℕ) → repeated before ns ≡ None → x < length ns → place_from i ns (get_or ns x []) ≡ Some (i + x)
+exact_from : (i : ℕ) (before ns : List (List ℕ)) (x : ℕ) → repeated before ns ≡ None → x < length ns → id_from i ns (get_or ns x []) ≡ Some (i + x)
 exact_from i before [] x h inside = absurd (omega (arith, inside))
 exact_from i before (n ∷ ns) zero h inside =
-    ap (λ c. if c then Some i else place_from (i + 1) ns n) ((bytes_eq-Decides n n).1 refl) ∙ ap Some (let e : i ≡ i + zero = omega arith in e)
+    ap (λ c. if c then Some i else id_from (i + 1) ns n) ((bytes_eq-Decides n n).1 refl) ∙ ap Some (let e : i ≡ i + zero = omega arith in e)
 exact_from i before (n ∷ ns) (suc x) h inside =
     let rest = (fresh before n ns h).1 in
-    ap (λ c. if c then Some i else place_from (i + 1) ns (get_or ns x [])) (last_apart before n ns x rest (omega (arith, inside)))
+    ap (λ c. if c then Some i else id_from (i + 1) ns (get_or ns x [])) (last_apart before n ns x rest (omega (arith, inside)))
     ∙ exact_from (i + 1) (before ++ n ∷ []) ns x rest (omega (arith, inside)) ∙ ap Some (let e : (i + 1) + x ≡ i + suc x = omega arith in e)
 
 pub exact : (before names : List (List ℕ)) → repeated before names ≡ None → AreExact names

@@ -6,9 +6,9 @@ use Rattle.cov_expr.specs.Names.{IsName}
 use Rattle.risc_machine.specs.declared.parts.Line.{Line}
 use Rattle.risc_machine.specs.declared.parts.Parts.{Parts}
 use Rattle.risc_machine.specs.declared.parts.ThreadCode.{ThreadCode}
-use Rattle.code_text.specs.Inside.Reading.{both, number_of, line_of, head_of, begun}
+use Rattle.code_text.specs.Inside.ListingReading.{both, number_of, line_of, head_of, begun}
 use Rattle.code_text.specs.Listing.{declared, line, thread_rows, IsListedLine}
-use Rattle.code_text.specs.Inside.Reading.{Draft}
+use Rattle.code_text.specs.Inside.ListingReading.{Draft}
 use Rattle.code_text.specs.declared.row.Row.TheVariants as row
 use Rattle.code_text.proofs.BackLaws.{taken, name_back, number_back}
 use Rattle.code_text.proofs.ChainLaws.{Chain, chain_append}

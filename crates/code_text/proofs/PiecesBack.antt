@@ -1,7 +1,7 @@
 -- Pieces without the byte between them are found again.
 use Rattle.std.proofs.Common.{◌≡◌, ℕ, ◌==◌, List, [], ◌∷◌, ◌++◌, refl, ap, sym, ◌∙◌, Bool, true, false, if◌then◌else◌}
 use Rattle.code_text.specs.Listing.{onto}
-use Rattle.code_text.specs.Inside.Reading.{pieces}
+use Rattle.code_text.specs.Inside.ListingReading.{pieces}
 use Rattle.code_text.proofs.SoundLaws.{joined}
 
 -- no byte of the piece is `at`

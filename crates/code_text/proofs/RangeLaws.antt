@@ -6,7 +6,7 @@ use Rattle.std.specs.Str.Parse.{digits_value}
 use Rattle.cov_expr.specs.Names.{IsName, is_word_text}
 use Rattle.cov_expr.specs.Spellings.{is_keyword}
 use Rattle.cov_expr.specs.Words.{IsWord}
-use Rattle.code_text.specs.Inside.Reading.{is_name, name_of, is_number, number_of, digit_below, register_of, weight_of, place_from}
+use Rattle.code_text.specs.Inside.ListingReading.{is_name, name_of, is_number, number_of, digit_below, register_of, weight_of, id_from}
 use Rattle.code_text.proofs.FieldLaws.{given, chosen}
 
 pub name_ranges : (f n : List ℕ) → name_of f ≡ Some n → IsName n
@@ -40,12 +40,12 @@ weight_ranges [] w h = absurd cc
 weight_ranges (b ∷ []) w h = let g = given (digit_below 3 b) (b - 48) w h in let small = digit_ranges 3 b w g.0 g.1 in omega (arith, small)
 weight_ranges (a ∷ b ∷ f) w h = absurd cc
 
-place_below : (i : ℕ) (names : List (List ℕ)) (f : List ℕ) (x : ℕ) → place_from i names f ≡ Some x → x < i + length names
-place_below i [] f x h = absurd cc
-place_below i (n ∷ ns) f x h = elim (chosen (bytes_eq f n) (Some i) (place_from (i + 1) ns f) x h) [
+id_below : (i : ℕ) (names : List (List ℕ)) (f : List ℕ) (x : ℕ) → id_from i names f ≡ Some x → x < i + length names
+id_below i [] f x h = absurd cc
+id_below i (n ∷ ns) f x h = elim (chosen (bytes_eq f n) (Some i) (id_from (i + 1) ns f) x h) [
   | inl here ↦ (let e : i ≡ x = cc (here.1) in omega (arith, e))
-  | inr later ↦ (let k = place_below (i + 1) ns f x later in omega (arith, k))
+  | inr later ↦ (let k = id_below (i + 1) ns f x later in omega (arith, k))
 ]
 
-pub place_ranges : (names : List (List ℕ)) (f : List ℕ) (x : ℕ) → place_from 0 names f ≡ Some x → nat_lt x (length names) ≡ true
-place_ranges names f x h = let k = place_below 0 names f x h in lt-ltb x (length names) (omega (arith, k))
+pub id_ranges : (names : List (List ℕ)) (f : List ℕ) (x : ℕ) → id_from 0 names f ≡ Some x → nat_lt x (length names) ≡ true
+id_ranges names f x h = let k = id_below 0 names f x h in lt-ltb x (length names) (omega (arith, k))

@@ -6,8 +6,8 @@ use Rattle.risc_machine.specs.declared.parts.Parts.{Parts}
 use Rattle.risc_machine.specs.declared.parts.ThreadCode.{ThreadCode}
 use Rattle.code_text.specs.Inside.Drafts.{AreShort, IsSmall}
 use Rattle.code_text.specs.Listing.{onto}
-use Rattle.code_text.specs.Inside.Reading.{pieces, both, weight_of, line_with, line_of, ended, head_of, instr_of, row_of, with_row, read_lines, go_on, read_text, begin_with, begun, version_of}
-use Rattle.code_text.specs.Inside.Reading.{Draft}
+use Rattle.code_text.specs.Inside.ListingReading.{pieces, both, weight_of, line_with, line_of, ended, head_of, instr_of, row_of, with_row, read_lines, go_on, read_text, begin_with, begun, version_of}
+use Rattle.code_text.specs.Inside.ListingReading.{Draft}
 use Rattle.code_text.specs.declared.row.Row.{Row}
 use Rattle.code_text.proofs.Cuts.{glue}
 

@@ -12,8 +12,8 @@ use Rattle.risc_machine.specs.declared.parts.Parts.{Parts}
 use Rattle.risc_machine.specs.declared.parts.ThreadCode.{ThreadCode}
 use Rattle.code_text.specs.Listing.{onto, declared, head, line, thread_head, thread_rows, rows, spelled, listing, IsListedLine}
 use Rattle.code_text.specs.Inside.Drafts.{CanStand}
-use Rattle.code_text.specs.Inside.Reading.{pieces, is_none, name_of, number_of, weight_of, both, instr_of, line_of, line_with, head_of, name_row, thread_row, row_of, with_line, with_row, begun, ended, go_on, read_lines, read_text, begin_with, version_of}
-use Rattle.code_text.specs.Inside.Reading.{Draft}
+use Rattle.code_text.specs.Inside.ListingReading.{pieces, is_none, name_of, number_of, weight_of, both, instr_of, line_of, line_with, head_of, name_row, thread_row, row_of, with_line, with_row, begun, ended, go_on, read_lines, read_text, begin_with, version_of}
+use Rattle.code_text.specs.Inside.ListingReading.{Draft}
 use Rattle.code_text.specs.declared.row.Row.{Row}
 use Rattle.code_text.specs.declared.row.Row.TheVariants as row
 use Rattle.code_text.proofs.Cuts.{glue, some_piece}

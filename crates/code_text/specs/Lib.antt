@@ -1,3 +1,3 @@
 pub mod Listing
-pub mod Outcome
+pub mod ListingAnswers
 pub mod Inside

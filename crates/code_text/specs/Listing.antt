@@ -86,7 +86,7 @@ listing p = flat_map spelled (rows p)
 
 -- Parts that have a listing -------------------------------------------------------------------------------------
 
--- the numbers of an instruction that are no places of names are words
+-- the numbers of an instruction that are no ids of names are words
 abbrev pub HasWords : Instr → Type 0
 HasWords (Jump i) = IsWord i
 HasWords (Jz r i) = IsWord i

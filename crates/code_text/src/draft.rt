@@ -1,7 +1,7 @@
 ghost use Rattle.std.specs.Prelude.{◌≡◌, length, OnOk};
 ghost use Rattle.cov_expr.specs.Words.{IsWord};
 ghost use Rattle.code_text.specs.Inside.Drafts.{CanStand};
-ghost use Rattle.code_text.specs.Inside.Reading as spec;
+ghost use Rattle.code_text.specs.Inside.ListingReading as spec;
 ghost use Rattle.code_text.specs.declared.row.Row.TheVariants as row;
 
 use crate::names::Names;
@@ -25,7 +25,7 @@ impl Model for Draft {
     ghost use Rattle.std.specs.Coded.{codes};
     ghost use Rattle.cov_expr.specs.contracts.expr.Op as op;
     ghost use Rattle.risc_machine.specs.contracts.parts.Instr as instr;
-    ghost use Rattle.code_text.specs.Inside.Reading.{Draft};
+    ghost use Rattle.code_text.specs.Inside.ListingReading.{Draft};
 
     ghost Value = { Draft };
 

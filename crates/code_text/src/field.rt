@@ -3,7 +3,7 @@ ghost use Rattle.std.specs.List.{list_all};
 ghost use Rattle.std.specs.Str.{bytes_eq};
 ghost use Rattle.std.specs.Str.Parse.{digits_value};
 ghost use Rattle.cov_expr.specs.Bytes as class;
-ghost use Rattle.code_text.specs.Inside.Reading as spec;
+ghost use Rattle.code_text.specs.Inside.ListingReading as spec;
 
 use cov_expr::{Name, Op, is_digit};
 

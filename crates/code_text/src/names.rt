@@ -3,7 +3,7 @@ ghost use Rattle.cov_expr.specs.Words.{IsWord};
 ghost use Rattle.cov_expr.specs.Names.{IsName};
 ghost use Rattle.code_text.specs.Inside.Lookup.{IsIndexOf, IsRegisterOf};
 ghost use Rattle.code_text.specs.Inside.Drafts.{CanStand};
-ghost use Rattle.code_text.specs.Inside.Reading.{Draft, place_of, with_row};
+ghost use Rattle.code_text.specs.Inside.ListingReading.{Draft, id_of, with_row};
 ghost use Rattle.risc_machine.specs.Faults as faults;
 ghost use Rattle.risc_machine.specs.Faults.{names_of};
 
@@ -13,17 +13,17 @@ use indexmap::{IndexMap, IndexSet};
 use std::alloc::Global;
 use std::marker::Model;
 
-/// How many guesses at places of names are kept.
+/// How many guesses at ids of names are kept.
 const GUESSES: usize = 1024;
 
 /// Names of declarations in order, which may be repeated, and their places by hashing. Contracts see the list of the names.
 ///
-/// A guess is the place of the name that was last added among those that share it. A field is compared with that name before the
+/// A guess is the id of the name that was last added among those that share it. A field is compared with that name before the
 /// index is asked, which hashes with more care and so takes longer.
 #[derive(Drop)]
 pub struct Names {
     list: List<Name>,
-    places: IndexMap<Name, u32>,
+    ids: IndexMap<Name, u32>,
     guesses: [Option<u32>; GUESSES],
 }
 
@@ -35,7 +35,7 @@ impl Model for Names {
 
     ghost view = { λ n. n.list };
 
-    ghost invariant = { λ n. IsIndexOf n.places n.list × AreGuesses n.guesses n.list };
+    ghost invariant = { λ n. IsIndexOf n.ids n.list × AreGuesses n.guesses n.list };
 }
 
 impl Names {
@@ -46,7 +46,7 @@ impl Names {
     {
         Names {
             list: List::new(alloc),
-            places: IndexMap::new(alloc),
+            ids: IndexMap::new(alloc),
             guesses: no_guesses(),
         }
     }
@@ -59,9 +59,9 @@ impl Names {
     {
         let next = self.list.len() as u32;
         self.list.push(name)?;
-        match add_place(&mut self.places, name, next) {
-            Ok(place) => {
-                self.guesses[guess_of(name.text())] = Some(place);
+        match add_id(&mut self.ids, name, next) {
+            Ok(id) => {
+                self.guesses[guess_of(name.text())] = Some(id);
                 Ok(())
             }
             Err(fault) => {
@@ -71,25 +71,25 @@ impl Names {
         }
     }
 
-    /// The place of the name that a field is: that of its first declaration.
+    /// The id of the name that a field is: that of its first declaration.
     pub fn find(&self, field: &[u8]) -> Option<u32>
-        ensures { result ≡ place_of self.now field.now }
+        ensures { result ≡ id_of self.now field.now }
     {
         match self.guessed(field) {
-            Some(place) => Some(place),
+            Some(id) => Some(id),
             None => self.looked_up(field),
         }
     }
 
     /// The guess for a field, where the field is its name.
     fn guessed(&self, field: &[u8]) -> Option<u32>
-        ensures { IfSome result (λ place. Some place ≡ place_of self.now field.now) }
+        ensures { IfSome result (λ id. Some id ≡ id_of self.now field.now) }
     {
         let guess = self.guesses[guess_of(field)];
         match guess {
-            Some(place) => {
-                if self.list.as_slice()[place as usize].text() == field {
-                    Some(place)
+            Some(id) => {
+                if self.list.as_slice()[id as usize].text() == field {
+                    Some(id)
                 } else {
                     None
                 }
@@ -100,12 +100,12 @@ impl Names {
 
     #[tactic(auto, using(crate::proofs::LookupLaws::unnamed))]
     fn looked_up(&self, field: &[u8]) -> Option<u32>
-        ensures { result ≡ place_of self.now field.now }
+        ensures { result ≡ id_of self.now field.now }
     {
-        let places = &self.places;
+        let ids = &self.ids;
         match Name::new(field) {
             None => None,
-            Some(name) => places.get(&name).copied(),
+            Some(name) => ids.get(&name).copied(),
         }
     }
 
@@ -124,16 +124,16 @@ impl Names {
     }
 }
 
-/// The place of a name, which is added with the next one where the name wasn't declared before.
-fn add_place(places: &mut IndexMap<Name, u32>, name: Name, next: u32) -> Result<u32, NoMemory>
-    ensures ok { IfOk result (λ place. (names : List (List ℕ)) → IsName name → length names ≡ next → IsIndexOf places.old names
-        → IsIndexOf places.new (names ++ name ∷ []) × (Some place ≡ place_of (names ++ name ∷ []) name)) }
-    ensures err { OnErr result ((names : List (List ℕ)) → IsIndexOf places.old names → IsIndexOf places.new names) }
+/// The id of a name, which is added with the next one where the name wasn't declared before.
+fn add_id(ids: &mut IndexMap<Name, u32>, name: Name, next: u32) -> Result<u32, NoMemory>
+    ensures ok { IfOk result (λ id. (names : List (List ℕ)) → IsName name → length names ≡ next → IsIndexOf ids.old names
+        → IsIndexOf ids.new (names ++ name ∷ []) × (Some id ≡ id_of (names ++ name ∷ []) name)) }
+    ensures err { OnErr result ((names : List (List ℕ)) → IsIndexOf ids.old names → IsIndexOf ids.new names) }
 {
-    match places.get(&name) {
-        Some(place) => Ok(*place),
+    match ids.get(&name) {
+        Some(id) => Ok(*id),
         None => {
-            places.insert(name, next)?;
+            ids.insert(name, next)?;
             Ok(next)
         }
     }

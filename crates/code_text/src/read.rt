@@ -1,10 +1,10 @@
 ghost use Rattle.std.specs.Prelude.{◌≡◌, ℕ, ◌≤◌, ◌<◌, ◌∷◌, ◌+◌, [], length, map, take, drop, IfOk, MatchOption};
 ghost use Rattle.code_text.specs.Inside.Drafts.{Agrees};
-ghost use Rattle.code_text.specs.Inside.Reading as spec;
-ghost use Rattle.code_text.specs.Inside.Reading.{Draft};
+ghost use Rattle.code_text.specs.Inside.ListingReading as spec;
+ghost use Rattle.code_text.specs.Inside.ListingReading.{Draft};
 ghost use Rattle.code_text.specs.Inside.Cuts.{IsCut};
 ghost use Rattle.code_text.specs.Listing.{IsListingOf};
-ghost use Rattle.code_text.specs.Outcome.{IsReading, IsAnswerTo};
+ghost use Rattle.code_text.specs.ListingAnswers.{IsReading, IsAnswerTo};
 ghost use Rattle.code_text.specs.declared.limits.TheConstants.{MOST_LISTING_BYTES};
 ghost use Rattle.risc_machine.specs.Faults.{AreCounted, repeated, names_of};
 ghost use Rattle.risc_machine.specs.declared.parts.Parts.{Parts};

@@ -1,5 +1,5 @@
 ghost use Rattle.std.specs.Prelude.{◌≡◌, map};
-ghost use Rattle.code_text.specs.Inside.Reading as spec;
+ghost use Rattle.code_text.specs.Inside.ListingReading as spec;
 
 use crate::draft::Draft;
 use crate::field::{is, name_of, number_of, op_of, register_of, weight_of};

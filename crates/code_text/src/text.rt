@@ -1,7 +1,7 @@
 ghost use Rattle.std.specs.Prelude.{◌≡◌, ◌++◌, ◌∷◌, ◌+◌, ◌<◌, [], IfOk, OnOk, map, flat_map, decimal, codes, length, IsTrue, All};
 ghost use Rattle.risc_machine.specs.Faults.{has_registers, has_variable, has_lock};
 ghost use Rattle.cov_expr.specs.Names.{IsName};
-ghost use Rattle.code_text.specs.Inside.Spelling.{IsSpelled, AreOfWords, IsOfWords};
+ghost use Rattle.code_text.specs.Inside.SpelledLines.{IsSpelled, AreOfWords, IsOfWords};
 ghost use Rattle.code_text.specs.Listing as spec;
 ghost use Rattle.code_text.specs.Listing.{HasWords, IsListed};
 

@@ -99,11 +99,11 @@ impl NumberSet {
     pub fn has(&self, x: u32) -> bool
         ensures { result ≡ has self.now x }
     {
-        self.has_place(x as usize)
+        self.has_index(x as usize)
     }
 
     /// The same of a number that counts items of a list.
-    pub fn has_place(&self, x: usize) -> bool
+    pub fn has_index(&self, x: usize) -> bool
         ensures { result ≡ has self.now x }
     {
         match self.marks.as_slice().get(x) {

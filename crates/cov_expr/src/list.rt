@@ -60,13 +60,13 @@ impl<T> List<T> {
         })
     }
 
-    /// Takes out the item at a place. Those after it move down.
-    pub fn remove(&mut self, place: usize) -> T
-        requires { place < length self.old }
-        ensures item { slice_get self.old place ≡ Some result }
-        ensures rest { self.new ≡ remove self.old place }
+    /// Takes out the item at an index. Those after it move down.
+    pub fn remove(&mut self, index: usize) -> T
+        requires { index < length self.old }
+        ensures item { slice_get self.old index ≡ Some result }
+        ensures rest { self.new ≡ remove self.old index }
     {
-        self.inner.remove(place)
+        self.inner.remove(index)
     }
 
     /// Takes off the last item. `None` comes where the list is empty.
@@ -97,7 +97,7 @@ impl<T> List<T> {
         self.inner.as_slice()
     }
 
-    /// The items, in order, to be changed in place.
+    /// The items, in order, to be changed in index.
     pub fn as_mut_slice(&mut self) -> &mut [T]
         ensures* writes_back { sem 𝓛 (LendsItems T.row self.entry result) }
         ensures value { result.now ≡ self.old }
@@ -127,7 +127,7 @@ impl<T: Drop> List<T> {
         Ok(())
     }
 
-    /// Puts an item in the place of another, which is dropped.
+    /// Puts an item in the index of another, which is dropped.
     pub fn set(&mut self, i: usize, item: T)
         requires { i < length self.old }
         ensures { self.new ≡ slice_set self.old i item }

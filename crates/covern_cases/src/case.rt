@@ -22,7 +22,7 @@ pub struct Call {
 
 /// What a line belongs to.
 #[derive(Clone, Copy)]
-enum Place {
+enum Owner {
     Comment,
     File,
     Call,
@@ -31,16 +31,16 @@ enum Place {
 /// The cases of a file.
 pub fn cases_of(alloc: Global, bytes: &[u8]) -> Result<Vec<Case>, Failure> {
     let mut cases = Vec::new(alloc);
-    let mut place = Place::Comment;
+    let mut owner = Owner::Comment;
     for line in bytes.split_inclusive(|byte| *byte == b'\n') {
         match line.strip_prefix(b"//// ") {
             Some(name) => {
                 cases.push(case_named(alloc, name)?)?;
-                place = Place::File;
+                owner = Owner::File;
             }
             None => {
                 if let Some(case) = cases.last_mut() {
-                    place = continue_case(alloc, line, place, case)?;
+                    owner = continue_case(alloc, line, owner, case)?;
                 }
             }
         }
@@ -59,41 +59,41 @@ fn case_named(alloc: Global, name: &[u8]) -> Result<Case, Failure> {
     Ok(case)
 }
 
-/// Adds a line to a case. `place` is what the line before belongs to, and the answer what this one does.
+/// Adds a line to a case. `owner` is what the line before belongs to, and the answer what this one does.
 fn continue_case(
     alloc: Global,
     line: &[u8],
-    place: Place,
+    owner: Owner,
     case: &mut Case,
-) -> Result<Place, Failure> {
+) -> Result<Owner, Failure> {
     if let Some(words) = line.strip_prefix(b"$") {
         begin_call(alloc, true, words, case)?;
-        return Ok(Place::Call);
+        return Ok(Owner::Call);
     }
     if let Some(words) = line.strip_prefix(b"%") {
         begin_call(alloc, false, words, case)?;
-        return Ok(Place::Call);
+        return Ok(Owner::Call);
     }
     if let Some(name) = line.strip_prefix(b">") {
         begin_file(alloc, name.trim_ascii(), case)?;
-        return Ok(Place::File);
+        return Ok(Owner::File);
     }
     let is_empty = line.trim_ascii_end().is_empty();
-    match place {
-        Place::Call if is_empty => return Ok(Place::Comment),
-        Place::Comment => {}
-        Place::File => {
+    match owner {
+        Owner::Call if is_empty => return Ok(Owner::Comment),
+        Owner::Comment => {}
+        Owner::File => {
             if let Some((_, text)) = case.files.last_mut() {
                 add_line(alloc, line, text)?;
             }
         }
-        Place::Call => {
+        Owner::Call => {
             if let Some(call) = case.calls.last_mut() {
                 add_line(alloc, line, &mut call.due)?;
             }
         }
     }
-    Ok(place)
+    Ok(owner)
 }
 
 fn begin_call(

@@ -15,26 +15,26 @@ module _ {A : Type 0} where
   slice_get-back (x ∷ xs) ys zero j h e = absurd (omega arith)
   slice_get-back (x ∷ xs) ys (suc i) j h e = slice_get-back xs ys i j (omega arith) (omega arith)
 
-  numbered-place : (xs : List A) (number place : ℕ) → 1 ≤ number → place ≡ number - 1 → numbered xs number ≡ slice_get xs place
-  numbered-place xs zero place h e = absurd (omega arith)
-  numbered-place xs (suc number) place h e = let k : number ≡ place = omega arith in ap (λ i. slice_get xs i) k
+  numbered-index : (xs : List A) (number index : ℕ) → 1 ≤ number → index ≡ number - 1 → numbered xs number ≡ slice_get xs index
+  numbered-index xs zero index h e = absurd (omega arith)
+  numbered-index xs (suc number) index h e = let k : number ≡ index = omega arith in ap (λ i. slice_get xs i) k
 
 module _ {A B C : Type 0} (now : B → A) (v : A → C) (given : List A) where
-  pub hypothesis_given : (added : List C) (number place : ℕ) (o : Option B) → 1 ≤ number → place ≡ number - 1 → place < length given
-      → IfSome o (λ x. now x ≡ get_or given place (now x)) → (place < length given → IsSome o)
+  pub hypothesis_given : (added : List C) (number index : ℕ) (o : Option B) → 1 ≤ number → index ≡ number - 1 → index < length given
+      → IfSome o (λ x. now x ≡ get_or given index (now x)) → (index < length given → IsSome o)
       → option_map (λ x. v (now x)) o ≡ numbered (map v given ++ added) number
-  hypothesis_given added number place None m e h is some = let c : false ≡ true = some h in cc
-  hypothesis_given added number place (Some x) m e h is some =
-      let found : slice_get given place ≡ Some (now x) = slice_get_read given (length given) place (now x) refl h is in
-      sym (numbered-place (map v given ++ added) number place m e
-      ∙ slice_get-front (map v given) added place (simp length-map h)
-      ∙ slice_get-map v given place
+  hypothesis_given added number index None m e h is some = let c : false ≡ true = some h in cc
+  hypothesis_given added number index (Some x) m e h is some =
+      let found : slice_get given index ≡ Some (now x) = slice_get_read given (length given) index (now x) refl h is in
+      sym (numbered-index (map v given ++ added) number index m e
+      ∙ slice_get-front (map v given) added index (simp length-map h)
+      ∙ slice_get-map v given index
       ∙ ap (λ o. option_map v o) found)
 
 module _ {C : Type 0} where
-  pub numbered_back : (before after : List C) (number place at : ℕ) → 1 ≤ number → place ≡ number - 1 → length before ≤ place → at ≡ place - length before
+  pub numbered_back : (before after : List C) (number index at : ℕ) → 1 ≤ number → index ≡ number - 1 → length before ≤ index → at ≡ index - length before
       → numbered (before ++ after) number ≡ slice_get after at
-  numbered_back before after number place at m e h k = numbered-place (before ++ after) number place m e ∙ slice_get-back before after place at h k
+  numbered_back before after number index at m e h k = numbered-index (before ++ after) number index m e ∙ slice_get-back before after index at h k
 
 -- what stands in an option, where its view is known
 pub some_of : {A B : Type 0} (f : A → B) (o : Option A) (n : Option B) → option_map f o ≡ n → IfSome o (λ x. n ≡ Some (f x))

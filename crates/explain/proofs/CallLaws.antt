@@ -8,7 +8,7 @@ use Rattle.text_lines.specs.Excerpts.{excerpt}
 use Rattle.top_call.specs.Commands.{check}
 use Rattle.top_call.specs.Outcome.{Does}
 use Rattle.top_call.specs.Reports.{report_of}
-use Rattle.explain.specs.Calls.{Tells, TellsAll, Answers, Ends, first_of}
+use Rattle.explain.specs.FileCalls.{Tells, TellsAll, Answers, Ends, first_of}
 use Rattle.top_call.specs.Replies.{Reply, usage, read_fault, too_long, malformed, refused, accepted, spelled, ran, bad_starts, differ, status_of}
 use Rattle.top_call.specs.declared.answers.Status.{Status}
 use Rattle.top_call.specs.declared.answers.Status.TheVariants as s

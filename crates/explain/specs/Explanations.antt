@@ -1,7 +1,7 @@
 -- What is told of a file: the report of `check`, and of what it refuses where that is, what stands there and what is wrong.
 use Rattle.std.specs.Prelude.{ℕ, List, [], ◌++◌, Option, Some, None, codes, decimal, drop}
-use Rattle.explain.specs.Faults.{fault_sentence}
-use Rattle.explain.specs.Rules.{sentence}
+use Rattle.explain.specs.FaultSentences.{fault_sentence}
+use Rattle.explain.specs.RuleSentences.{sentence}
 use Rattle.text_lines.specs.Excerpts.{excerpt}
 use Rattle.text_lines.specs.Lines.{line, column}
 use Rattle.top_call.specs.Replies.{Reply, malformed, refused}

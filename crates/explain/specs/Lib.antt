@@ -1,5 +1,5 @@
-pub mod Rules
-pub mod Words
-pub mod Faults
+pub mod RuleSentences
+pub mod TokenSentences
+pub mod FaultSentences
 pub mod Explanations
-pub mod Calls
+pub mod FileCalls

@@ -1,6 +1,6 @@
 ghost use Rattle.std.specs.Prelude.{◌≡◌, ◌++◌, ◌≤◌, ℕ, List, IfOk, map, string_bytes};
 ghost use Rattle.cov_io.specs.Shelves.{Passes};
-ghost use Rattle.explain.specs.Calls.{Answers, Ends};
+ghost use Rattle.explain.specs.FileCalls.{Answers, Ends};
 
 use crate::files::tell_all;
 use cov_expr::{Blob, List, NoMemory};

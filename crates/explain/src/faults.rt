@@ -1,5 +1,5 @@
 ghost use Rattle.std.specs.Prelude.{◌≡◌, ◌++◌, OnOk};
-ghost use Rattle.explain.specs.Faults as spec;
+ghost use Rattle.explain.specs.FaultSentences as spec;
 
 use crate::words::add_token_sentence;
 use cov_expr::{Blob, NoMemory};

@@ -1,8 +1,8 @@
 ghost use Rattle.std.specs.Prelude.{◌≡◌, ◌++◌, ◌≤◌, ℕ, List, IfOk, length, map, string_bytes};
 ghost use Rattle.cov_expr.specs.declared.limits.TheConstants.{MOST_BYTES};
 ghost use Rattle.cov_io.specs.Shelves.{Passes};
-ghost use Rattle.explain.specs.Calls as spec;
-ghost use Rattle.explain.specs.Calls.{Tells, TellsAll};
+ghost use Rattle.explain.specs.FileCalls as spec;
+ghost use Rattle.explain.specs.FileCalls.{Tells, TellsAll};
 ghost use Rattle.explain.specs.Explanations.{explanation};
 ghost use Rattle.top_call.specs.Inside.{seen};
 ghost use Rattle.top_call.specs.Replies.{Reply, status_of};

@@ -1,6 +1,6 @@
 ghost use Rattle.cov_io.specs.Shelves.{Shelved};
 ghost use Rattle.std.specs.Prelude.{◌≡◌, ◌++◌, ℕ, List};
-ghost use Rattle.explain.specs.Calls.{Tells};
+ghost use Rattle.explain.specs.FileCalls.{Tells};
 ghost use Rattle.top_call.specs.Commands.{check};
 ghost use Rattle.top_call.specs.Outcome.{Does};
 ghost use Rattle.top_call.specs.Replies.{Reply};

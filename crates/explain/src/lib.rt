@@ -7,10 +7,10 @@
 //!
 //! | `src/` | `specs/` | what it has |
 //! |---|---|---|
-//! | `call`, `files` | `Calls` | the words of a command line; what is told of each file, and the status |
+//! | `call`, `files` | `FileCalls` | the words of a command line; what is told of each file, and the status |
 //! | `explanation` | `Explanations` | what is told of the bytes of a file |
-//! | `rules` | `Rules` | the sentence of each rule |
-//! | `faults`, `words` | `Faults`, `Words` | the sentence of each fault of a text; reserved words |
+//! | `rules` | `RuleSentences` | the sentence of each rule |
+//! | `faults`, `words` | `FaultSentences`, `TokenSentences` | the sentence of each fault of a text; reserved words |
 //! | `laws` | | the report is that of `check` |
 #![tactic(auto)]
 

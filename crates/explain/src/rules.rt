@@ -1,5 +1,5 @@
 ghost use Rattle.std.specs.Prelude.{◌≡◌, ◌++◌, OnOk};
-ghost use Rattle.explain.specs.Rules as spec;
+ghost use Rattle.explain.specs.RuleSentences as spec;
 
 use cov_ast::{Detail, Rule};
 use cov_expr::{Blob, NoMemory};

@@ -1,7 +1,7 @@
 ghost use Rattle.std.specs.Prelude.{◌≡◌, ◌++◌, OnOk};
 ghost use Rattle.std.specs.List.{take_while};
 ghost use Rattle.cov_expr.specs.Bytes as class;
-ghost use Rattle.explain.specs.Words as spec;
+ghost use Rattle.explain.specs.TokenSentences as spec;
 
 use cov_expr::{Blob, NoMemory, is_keyword, is_lower, is_word};
 

@@ -49,7 +49,7 @@ fn marks_of_all(alloc: Global, sets: &[NumberSet], bound: usize) -> Result<List<
 fn is_in_all(sets: &[NumberSet], x: usize) -> bool
     ensures { result ≡ list_all (λ s. has s x) sets.now }
 {
-    sets.iter().all(|set| set.has_place(x))
+    sets.iter().all(|set| set.has_index(x))
 }
 
 /// For each thread the variables that it assumes.

@@ -8,7 +8,7 @@ use Rattle.std.proofs.lemmas.List.FromFn.{get_or-range_with_len}
 use Rattle.std.proofs.lemmas.List.Kept.{AllPairs-from_increasing, AllPairs-filter}
 use Rattle.std.proofs.lemmas.Option.{slice_get_within, slice_get-get_or, get_or_from_slice_get}
 use Rattle.regalloc.specs.Plan.{Plan, spoil, add_free, free_among, below_seven, frees, part, room_below, room}
-use Rattle.regalloc.specs.Parts.{IsForPart}
+use Rattle.regalloc.specs.PartRegisters.{IsForPart}
 
 abbrev is_free : Plan → ℕ → Bool
 is_free plan r = is_none (get_or plan r None)

@@ -11,7 +11,7 @@ use Rattle.regalloc.specs.Plan.{Plan, is_for, stored, only, restrict, both, meet
 
 -- A walk that gives up some records -----------------------------------------------------------------------------
 
--- what is at a place that the walk has yet to come to
+-- what is at an index that the walk has yet to come to
 pub here_still : (f : Option ℕ → Option ℕ) (old now : Plan) (r : ℕ) → now ≡ map f (take r old) ++ drop r old → get_or now r None ≡ get_or old r None
 here_still f old now r is = ap (λ os. get_or os r None) is ∙ walk old r
   where
@@ -123,15 +123,15 @@ pub frees_is : (plan : Plan) → free_among plan below_seven ≡ frees plan
 unfolding frees
 frees_is plan = refl
 
-pub place_more : (rs rest : List ℕ) (r left less : ℕ) → rs ≡ r ∷ rest → (left ≡ 0 → ⊥) → less ≡ left - 1 → slice_get rs left ≡ slice_get rest less
-place_more rs rest r zero less e some l = absurd (some refl)
-place_more rs rest r (suc left) less e some l = let same : left ≡ less = omega arith in ap (λ rs. slice_get rs (suc left)) e ∙ ap (slice_get rest) same
+pub rank_more : (rs rest : List ℕ) (r left less : ℕ) → rs ≡ r ∷ rest → (left ≡ 0 → ⊥) → less ≡ left - 1 → slice_get rs left ≡ slice_get rest less
+rank_more rs rest r zero less e some l = absurd (some refl)
+rank_more rs rest r (suc left) less e some l = let same : left ≡ less = omega arith in ap (λ rs. slice_get rs (suc left)) e ∙ ap (slice_get rest) same
 
 length-add_free : (o : Option ℕ) (os : Plan) (r : ℕ) (rs : List ℕ) → length os ≡ length rs → length (cond (is_none o) (o ∷ os) os) ≡ length (add_free o r rs)
 length-add_free None os r rs e = ap suc e
 length-add_free (Some x) os r rs e = e
 
--- the places from a register on
+-- what stands from a register on
 free_count : (plan os : Plan) (r : ℕ) → ((i : ℕ) → i < length os → get_or plan (r + i) None ≡ get_or os i None)
     → length (filter is_none os) ≡ length (free_among plan (range_with_len r (length os)))
 free_count plan [] r same = refl

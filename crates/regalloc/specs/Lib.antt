@@ -1,3 +1,3 @@
 pub mod Plan
-pub mod Parts
+pub mod PartRegisters
 pub mod Stable

@@ -1,6 +1,6 @@
 -- Which register is kept for which variable. (After the register record of Sison and Murray.)
 --
--- A plan has eight places, one for each register, from r0: the variable whose word the register has, if there is one.
+-- A plan has eight slots, one for each register, from r0: the variable whose word the register has, if there is one.
 use Rattle.std.specs.Prelude.{ℕ, zero, suc, ◌==◌, List, [], ◌∷◌, length, get_or, set, map, Bool, false, slice_get, Option, Some, None, nat_le, if◌then◌else◌}
 
 abbrev pub Plan : Type 0
@@ -16,7 +16,7 @@ abbrev pub is_for : ℕ → Option ℕ → Bool
 is_for x None = false
 is_for x (Some y) = y == x
 
--- the lowest register that is kept for a variable, where the first place of the list is that of register r
+-- the lowest register that is kept for a variable, where the first item of the list is that of register r
 abbrev pub held_from : (r : ℕ) → Plan → (x : ℕ) → Option ℕ
 held_from r [] x = None
 held_from r (o ∷ os) x = if is_for x o then Some r else held_from (suc r) os x
@@ -74,7 +74,7 @@ below_seven = 0 ∷ 1 ∷ 2 ∷ 3 ∷ 4 ∷ 5 ∷ 6 ∷ []
 unfoldable pub frees : Plan → List ℕ
 frees plan = free_among plan below_seven
 
--- the register for a part of an expression at a depth: the one of that place, from 0
+-- the register for a part of an expression at a depth: the one of that rank, from 0
 abbrev pub part : Plan → (depth : ℕ) → Option ℕ
 part plan depth = slice_get (frees plan) depth
 

@@ -1,5 +1,5 @@
 ghost use Rattle.std.specs.Prelude.{◌≡◌, ℕ, ◌<◌, ◌≤◌, length, IfSome, IsSome};
-ghost use Rattle.regalloc.specs.Parts.{IsForPart};
+ghost use Rattle.regalloc.specs.PartRegisters.{IsForPart};
 ghost use Rattle.regalloc.specs.Plan as spec;
 ghost use Rattle.regalloc.specs.Stable.{KeepsStable};
 
@@ -104,7 +104,7 @@ impl Plan {
         }
     }
 
-    /// The register for a part of an expression at a depth, from 0 for the whole: the one of that place among those of `r0` to
+    /// The register for a part of an expression at a depth, from 0 for the whole: the one of that rank among those of `r0` to
     /// `r6` that are kept for nothing, the lowest first. None where they are too few. (`r7` is for what isn't stable.)
     pub fn part(&self, depth: u32) -> Option<u8>
         ensures part { result ≡ spec.part self.now depth }

@@ -28,7 +28,7 @@ front_grown n xs ys zs ws f g h = record {
   same = front_of_grown n xs zs f.left g ∙ f.same ∙ sym (front_of_grown n ys ws f.right h);
 }
 
--- the rest of a list from a place on, as a slice has it
+-- the rest of a list from an index on, as a slice has it
 abbrev pub rest_of : ℕ → List ℕ → List ℕ
 rest_of n xs = take (length xs - n) (drop n xs)
 

@@ -5,7 +5,7 @@ use Rattle.cov_ast.specs.Plain.{Plain, skip, assign, lock, unlock, branch, loop,
 use Rattle.flow_model.specs.Agreement.{AreAlike, MemoriesAgree, StatesAgree, shape}
 use Rattle.flow_model.specs.Source.{Item, run, put, test, emit, Holders, Outputs, local, Run, turn, step, put_back, items_of, holder, is_held_by, after_lock, after_unlock}
 use Rattle.flow_model.specs.declared.machine.Stepped.TheVariants as stepped
-use Rattle.source_machine.specs.Machine.{change_of, step_says, IsAlikeAt}
+use Rattle.source_machine.specs.SourceMachine.{change_of, step_says, IsAlikeAt}
 use Rattle.schedule_replay.specs.Inside.{KeepsAgreement, has_moved, is_quiet, stores}
 
 pub same_or_not : (u t : ℕ) → (u ≡ t) ⊎ (u ≢ t)

@@ -5,7 +5,7 @@ use Rattle.cov_ast.specs.Plain.{skip, assign, lock, unlock, branch, loop, output
 use Rattle.cov_expr.specs.Words.{IsSchedule}
 use Rattle.flow_model.specs.Source.{Item, run, put, test, emit, Holders, Outputs, Run, turn, step, run_from, stayed_from, items_of, holder, is_held_by, after_lock, after_unlock}
 use Rattle.std.specs.Prelude.{Option, Some, None}
-use Rattle.source_machine.specs.Machine.{Machine, run_of}
+use Rattle.source_machine.specs.SourceMachine.{Machine, run_of}
 use Rattle.schedule_replay.specs.Inside.{next_stays, GrowsByOne, HasStepped, HasRun}
 
 -- Schedules ----------------------------------------------------------------------------------------------------

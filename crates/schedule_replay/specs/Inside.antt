@@ -12,7 +12,7 @@ use Rattle.risc_machine.specs.declared.parts.Instr.TheVariants.{Load, Store, Jum
 use Rattle.risc_machine.specs.declared.parts.Line.{Line}
 use Rattle.serde_json.specs.View.{view}
 use Rattle.serde_json.specs.declared.value.Value.{Value}
-use Rattle.source_machine.specs.Machine.{Machine, run_of}
+use Rattle.source_machine.specs.SourceMachine.{Machine, run_of}
 use Rattle.source_machine.specs.declared.change.Change.{Change}
 use Rattle.source_machine.specs.declared.change.Change.TheVariants as change
 use Rattle.schedule_replay.specs.CodeReplays.{CodeStatesAgree}

@@ -10,7 +10,7 @@ use Rattle.flow_model.specs.declared.agreement.Differ.{Differ}
 use Rattle.flow_model.specs.declared.agreement.Differ.TheVariants as differ
 use Rattle.flow_model.specs.declared.machine.Stepped.{Stepped}
 use Rattle.flow_model.specs.declared.machine.Stepped.TheVariants as stepped
-use Rattle.source_machine.specs.Machine.{IsFirstApart}
+use Rattle.source_machine.specs.SourceMachine.{IsFirstApart}
 use Rattle.schedule_replay.specs.declared.replays.Found.{Found}
 use Rattle.schedule_replay.specs.declared.replays.Until.{Until}
 

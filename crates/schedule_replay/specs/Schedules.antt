@@ -19,7 +19,7 @@ abbrev pub with_entry : ℕ → Option ℕ → Result (List ℕ) ScheduleFault �
 with_entry i None rest = Err (faults.BadEntry i)
 with_entry i (Some entry) rest = in_front entry rest
 
--- the entries from a place on, or the first that is no number of one of so many threads
+-- the entries from an index on, or the first that is no number of one of so many threads
 abbrev pub entries_from : (threads : ℕ) → (i : ℕ) → Items → Result (List ℕ) ScheduleFault
 entries_from threads i no_items = Ok []
 entries_from threads i (item d ds) = with_entry i (number_below threads d) (entries_from threads (suc i) ds)

@@ -30,7 +30,7 @@ pub enum ScheduleFault {
     NotList,
     /// It has more than 100,000 entries.
     TooMany,
-    /// The entry at this place, the first, is no number of a thread. Places are counted from 0.
+    /// The entry at this index, the first, is no number of a thread. Indices are counted from 0.
     BadEntry(u32),
     /// Memory ran out.
     NoMemory,

@@ -1,5 +1,5 @@
 ghost use Rattle.std.specs.Prelude.{◌≡◌, ◌↔◌, ◌+◌, ◌<◌, ◌≤◌, false, length, take, IsNone, IsTrue, MatchOption};
-ghost use Rattle.watch.specs.Kept.{expr_of, words_of};
+ghost use Rattle.watch.specs.Watches.{expr_of, words_of};
 ghost use Rattle.cov_expr.specs.Entailment.{Holds};
 ghost use Rattle.cov_expr.specs.Words.{IsSchedule};
 ghost use Rattle.cov_ast.specs.Plain.{plain};
@@ -12,7 +12,7 @@ ghost use Rattle.schedule_replay.specs.Inside.{HasSameFront, HasStepped, KeepsAg
 ghost use Rattle.schedule_replay.specs.Inside as inside;
 ghost use Rattle.schedule_replay.specs.Schedules.{most_entries};
 ghost use Rattle.schedule_replay.specs.Replays.{AgreeThroughout, DiffersIn, IsFirstStepApart, StopsAt, count_of, part_run};
-ghost use Rattle.source_machine.specs.Machine.{run_of};
+ghost use Rattle.source_machine.specs.SourceMachine.{run_of};
 
 use cov_ast::Program;
 use flow_model::{Differ, Stepped, agree};

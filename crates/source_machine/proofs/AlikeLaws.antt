@@ -11,7 +11,7 @@ use Rattle.flow_model.specs.Source.{Item, run, put, test, emit, first_place}
 use Rattle.source_machine.specs.Inside.Firsts.{first_stm, same_word, alike_words, stand_alike}
 use Rattle.source_machine.specs.Frames.{items, with_word}
 use Rattle.source_machine.specs.Inside.Entries.{IsReady, AreFrames}
-use Rattle.source_machine.specs.Inside.Parts.{Stands}
+use Rattle.source_machine.specs.Inside.Standing.{Stands}
 use Rattle.source_machine.proofs.PlaceLaws.{same_part}
 
 pub with_nothing : (w : Option ℕ) → with_word w [] ≡ []

@@ -5,7 +5,7 @@ use Rattle.cov_ast.specs.Syntax as s
 use Rattle.source_machine.specs.Frames.{items, with_word}
 use Rattle.source_machine.specs.Inside.Entries.{IsReady, AreFrames}
 use Rattle.source_machine.specs.Inside.Firsts.{first_change, first_stm, stm_change}
-use Rattle.source_machine.specs.Machine.{change_of}
+use Rattle.source_machine.specs.SourceMachine.{change_of}
 use Rattle.source_machine.proofs.AlikeLaws.{with_nothing}
 
 module _ (at : ℕ) (proofs : List s.Proof) (b : Block) (bs : List Block) where

@@ -12,9 +12,9 @@ use Rattle.flow_model.specs.FirstDifference.{held_by, holders_of}
 use Rattle.flow_model.specs.Source.{Item, Run, Local, turn, step}
 use Rattle.flow_model.specs.declared.machine.Stepped.{Stepped}
 use Rattle.source_machine.specs.Frames.{items, with_word}
-use Rattle.source_machine.specs.Machine.{items_left, step_says}
+use Rattle.source_machine.specs.SourceMachine.{items_left, step_says}
 use Rattle.source_machine.specs.Inside.Entries.{AreFrames}
-use Rattle.source_machine.specs.Inside.Parts.{Stands}
+use Rattle.source_machine.specs.Inside.Standing.{Stands}
 use Rattle.source_machine.specs.Inside.Sound.{standing, IsThread, AreThreads}
 use Rattle.source_machine.specs.Inside.Stacks.{frames_of, rooms, turned_from, turned_to}
 use Rattle.source_machine.specs.declared.shared.Shared.{Shared}

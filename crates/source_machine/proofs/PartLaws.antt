@@ -8,7 +8,7 @@ use Rattle.cov_ast.specs.Syntax as s
 use Rattle.flow_model.specs.Source.{Item, run, items_then, Holders, Outputs, holder, is_held_by}
 use Rattle.source_machine.specs.Frames.{items}
 use Rattle.source_machine.specs.Inside.Entries.{entered, outer, AreFrames}
-use Rattle.source_machine.specs.Inside.Parts.{IsAtStm, IsPart, Stands}
+use Rattle.source_machine.specs.Inside.Standing.{IsAtStm, IsPart, Stands}
 use Rattle.source_machine.specs.Inside.Turns.{turned, locked, unlocked}
 use Rattle.source_machine.proofs.FrameLaws.{items_entered}
 

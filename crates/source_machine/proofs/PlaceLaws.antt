@@ -6,7 +6,7 @@ use Rattle.cov_ast.specs.Syntax.{Stm, Block, done, more}
 use Rattle.cov_ast.specs.Syntax as s
 use Rattle.cov_ast.specs.WellFormed.{are_distinct, places, places_within}
 use Rattle.flow_model.specs.Source.{Item, first_place}
-use Rattle.source_machine.specs.Inside.Parts.{IsAtStm, IsPart}
+use Rattle.source_machine.specs.Inside.Standing.{IsAtStm, IsPart}
 
 -- Numbers that differ ----------------------------------------------------------------------------------------------
 

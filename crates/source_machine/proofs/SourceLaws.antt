@@ -15,9 +15,9 @@ use Rattle.flow_model.specs.Source.{Item, first_place, items_then, begin, step}
 use Rattle.source_machine.specs.Inside.Firsts.{first_change, first_stm, stand_alike}
 use Rattle.source_machine.specs.Frames.{items, with_word}
 use Rattle.source_machine.specs.Inside.Entries.{AreFrames}
-use Rattle.source_machine.specs.Machine.{change_of, items_left, step_says}
+use Rattle.source_machine.specs.SourceMachine.{change_of, items_left, step_says}
 use Rattle.source_machine.specs.Inside.Sound.{standing, IsSound, IsThread, AreThreads}
-use Rattle.source_machine.specs.Inside.Parts.{Stands}
+use Rattle.source_machine.specs.Inside.Standing.{Stands}
 use Rattle.source_machine.specs.Inside.Stacks.{frames_of, rooms, turned_from, turned_to, Starts, AllStart}
 use Rattle.source_machine.specs.declared.shared.Shared.{Shared}
 use Rattle.source_machine.specs.declared.thread.Thread.{Thread}

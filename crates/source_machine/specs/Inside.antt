@@ -3,5 +3,5 @@ pub mod Entries
 pub mod Turns
 pub mod Stacks
 pub mod Firsts
-pub mod Parts
+pub mod Standing
 pub mod Sound

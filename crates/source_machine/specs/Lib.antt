@@ -1,3 +1,3 @@
 pub mod Frames
-pub mod Machine
+pub mod SourceMachine
 pub mod Inside

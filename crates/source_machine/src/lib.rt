@@ -10,7 +10,7 @@
 //! `done`, `place`, `change`, `same_list` and `same_lists` speak of the items that remain.
 //!
 //! The code keeps frames with places in the one program. `specs/Frames.antt` says for which items they stand, and
-//! `specs/Machine.antt` what contracts see of a machine, which run it stands for, and what its calls answer.
+//! `specs/SourceMachine.antt` what contracts see of a machine, which run it stands for, and what its calls answer.
 //! `specs/Inside` has words of private contracts alone.
 #![tactic(auto)]
 

@@ -5,7 +5,7 @@ ghost use Rattle.cov_ast.specs.WellFormed.{IsWellFormed, block_size, most_size};
 ghost use Rattle.flow_model.specs.FirstDifference.{holders_of};
 ghost use Rattle.flow_model.specs.Source as spec;
 ghost use Rattle.source_machine.specs.Inside.Stacks.{AllStart};
-ghost use Rattle.source_machine.specs.Machine.{change_of, step_says, IsAlikeAt, IsFirstApart};
+ghost use Rattle.source_machine.specs.SourceMachine.{change_of, step_says, IsAlikeAt, IsFirstApart};
 
 use crate::change::Change;
 use crate::shared::{Shared, all_free};
@@ -27,7 +27,7 @@ pub struct Source<'p> {
 impl<'p> Model for Source<'p> {
     ghost use Rattle.std.specs.Prelude.{map, vec_capacity};
     ghost use Rattle.source_machine.specs.Inside.Sound.{standing, IsSound};
-    ghost use Rattle.source_machine.specs.Machine.{Machine};
+    ghost use Rattle.source_machine.specs.SourceMachine.{Machine};
 
     ghost Value = { Machine };
 
@@ -52,7 +52,7 @@ impl<'p> Model for Source<'p> {
 }
 
 impl<'p> Source<'p> {
-    ghost use Rattle.source_machine.specs.Machine.{run_of};
+    ghost use Rattle.source_machine.specs.SourceMachine.{run_of};
 
     /// A program at its start: this memory, one word for each variable, all locks free, nothing put out, and each thread in
     /// front of its body. The memory for all frames and for `room` outputs is taken here.

@@ -20,8 +20,8 @@ use Rattle.cov_text.specs.Limits.{in_expr}
 use Rattle.cov_text.specs.Text.{Expression, expression_of}
 use Rattle.cov_text.specs.Uses.{AreUsesOf}
 use Rattle.policy_class.specs.Resolved.{var_names}
-use Rattle.top_call.specs.Expressions.{place_of, first_unknown, by_place, SpellsExpression, unknown_in, over, IsExpression, IsUnknownName, IsExpressionFault}
-use Rattle.top_call.specs.Inside.{Places, Stops, variables}
+use Rattle.top_call.specs.Expressions.{id_of, first_unknown, by_id, SpellsExpression, unknown_in, over, IsExpression, IsUnknownName, IsExpressionFault}
+use Rattle.top_call.specs.Inside.{ResolvesTo, Stops, variables}
 use Rattle.top_call.specs.Replies.{malformed}
 use Rattle.top_call.specs.declared.answers.Fault.{Fault}
 use Rattle.top_call.specs.declared.answers.Fault.TheVariants as shows
@@ -74,10 +74,10 @@ Answered p bytes r =
     MatchResult r (λ e. IsExpression p bytes (term e))
     (Stops (λ reply. (fault : Fault) × IsExpressionFault p bytes fault × (reply ≡ malformed (codes "expression") fault)))
 
-pub placed_answered : (p : Parsed) (bytes : List ℕ) (tree : Placed Term) (r : Result Expr Stop) → SpellsExpression bytes tree
-    → Places (var_names p) (expression_of bytes tree) r → Answered p bytes r
-placed_answered p bytes tree (Ok e) spells h = record { tree = tree; spelled = spells; known = h.0; is = h.1 }
-placed_answered p bytes tree (Err stop) spells h =
+pub resolved_answered : (p : Parsed) (bytes : List ℕ) (tree : Placed Term) (r : Result Expr Stop) → SpellsExpression bytes tree
+    → ResolvesTo (var_names p) (expression_of bytes tree) r → Answered p bytes r
+resolved_answered p bytes tree (Ok e) spells h = record { tree = tree; spelled = spells; known = h.0; is = h.1 }
+resolved_answered p bytes tree (Err stop) spells h =
     stops_onward (λ reply. (at : ℕ) × (unknown_in p (expression_of bytes tree) ≡ Some at) × (reply ≡ malformed (codes "expression") (shows.Text kinds.Unknown at)))
     (λ reply. (fault : Fault) × IsExpressionFault p bytes fault × (reply ≡ malformed (codes "expression") fault)) stop
     (λ reply unknown. (shows.Text kinds.Unknown unknown.0, inr (record { tree = tree; spelled = spells; at = unknown.0; first = unknown.1; is = refl }), unknown.2)) h
@@ -87,7 +87,7 @@ placed_answered p bytes tree (Err stop) spells h =
 module _ (declared names : List (List ℕ)) where
   -- past the name of a variable the first that is none is the same
   pub unknown_more : (us : List NameUse) (n : ℕ) (d : NameUse) (whole : Option ℕ) (known : Bool) → n < length us
-      → known ≡ nat_lt (place_of declared names (get_or us n d).name) (length declared) → known ≡ true
+      → known ≡ nat_lt (id_of declared names (get_or us n d).name) (length declared) → known ≡ true
       → first_unknown declared names (drop n us) ≡ whole → first_unknown declared names (drop (n + 1) us) ≡ whole
   unknown_more us n d whole known inside is there h =
       ap (λ b. cond b (first_unknown declared names (drop (n + 1) us)) (Some (get_or us n d).at)) (sym there ∙ is)
@@ -96,7 +96,7 @@ module _ (declared names : List (List ℕ)) where
   -- Each use is that of a variable.
   abbrev AreKnown : List Use → Type 0
   AreKnown [] = Unit {0}
-  AreKnown (u ∷ us) = (place_of declared names u.name < length declared) × AreKnown us
+  AreKnown (u ∷ us) = (id_of declared names u.name < length declared) × AreKnown us
 
   known_front : (us vs : List Use) → AreKnown (us ++ vs) → AreKnown us
   known_front [] vs h = tt
@@ -108,24 +108,24 @@ module _ (declared names : List (List ℕ)) where
 
   all_known : (us : List NameUse) → first_unknown declared names us ≡ None → AreKnown (map use_of us)
   all_known [] h = tt
-  all_known (u ∷ us) h = go (all_known us) (nat_lt (place_of declared names u.name) (length declared)) refl h
+  all_known (u ∷ us) h = go (all_known us) (nat_lt (id_of declared names u.name) (length declared)) refl h
     where
-      go : (first_unknown declared names us ≡ None → AreKnown (map use_of us)) → (b : Bool) → nat_lt (place_of declared names u.name) (length declared) ≡ b
+      go : (first_unknown declared names us ≡ None → AreKnown (map use_of us)) → (b : Bool) → nat_lt (id_of declared names u.name) (length declared) ≡ b
           → cond b (first_unknown declared names us) (Some u.at) ≡ None → AreKnown (map use_of (u ∷ us))
       go rest true is h = (grind (arith, nat_tests), rest h)
       go rest false is h = cc
 
-  placed_below : (e : Term) → length names ≤ HOLE → HasVarsBelow e (length names) → AreKnown (uses_in e) → HasVarsBelow (by_place declared names e) (length declared)
-  placed_below (const c) few below h = tt
-  placed_below (var x) few below h = go (x == HOLE) refl h
+  resolved_below : (e : Term) → length names ≤ HOLE → HasVarsBelow e (length names) → AreKnown (uses_in e) → HasVarsBelow (by_id declared names e) (length declared)
+  resolved_below (const c) few below h = tt
+  resolved_below (var x) few below h = go (x == HOLE) refl h
     where
-      go : (b : Bool) → (x == HOLE) ≡ b → AreKnown (cond b [] (as_variable x)) → place_of declared names x < length declared
+      go : (b : Bool) → (x == HOLE) ≡ b → AreKnown (cond b [] (as_variable x)) → id_of declared names x < length declared
       go true is h = absurd (grind (arith, nat_tests))
       go false is h = h.0
-  placed_below (neg e) few below h = placed_below e few below h
-  placed_below (bin op a b) few below h =
-      (placed_below a few below.0 (known_front (uses_in a) (uses_in b) h), placed_below b few below.1 (known_rest (uses_in a) (uses_in b) h))
+  resolved_below (neg e) few below h = resolved_below e few below h
+  resolved_below (bin op a b) few below h =
+      (resolved_below a few below.0 (known_front (uses_in a) (uses_in b) h), resolved_below b few below.1 (known_rest (uses_in a) (uses_in b) h))
 
   pub known_below : (uses : List NameUse) (e : Term) → length names ≤ HOLE → HasVarsBelow e (length names) → AreUsesOf uses e
-      → first_unknown declared names uses ≡ None → HasVarsBelow (by_place declared names e) (length declared)
-  known_below uses e few below in_order none = placed_below e few below (subst AreKnown in_order (all_known uses none))
+      → first_unknown declared names uses ≡ None → HasVarsBelow (by_id declared names e) (length declared)
+  known_below uses e few below in_order none = resolved_below e few below (subst AreKnown in_order (all_known uses none))

@@ -17,7 +17,7 @@ use Rattle.flow_model.specs.declared.start.BadStart.{BadStart}
 use Rattle.policy_class.specs.Resolved.{name_obligations, resolved}
 use Rattle.schedule_replay.specs.Replays.{after_steps, AgreeThroughout, DiffersIn, IsFirstStepApart}
 use Rattle.schedule_replay.specs.declared.replays.Found.{Found}
-use Rattle.source_machine.specs.Machine.{IsFirstApart}
+use Rattle.source_machine.specs.SourceMachine.{IsFirstApart}
 use Rattle.verify.specs.Accepted.{IsAccepted}
 use Rattle.top_call.specs.Check.{IsAcceptedText, meaning}
 use Rattle.top_call.specs.Inside.{Stops, IsDeclared, IsRefusal, PairsFit, PairsProgram}

@@ -20,20 +20,20 @@ use Rattle.top_call.specs.declared.answers.FaultKind.TheVariants as k
 -- the names of the variables that are declared, in their order, and those that an expression uses, by their numbers
 module _ (declared names : List (List ℕ)) where
   -- the place of the first variable with a name, or how many there are where none has it
-  abbrev pub place_of : ℕ → ℕ
-  place_of number = number_of declared (get_or names number [])
+  abbrev pub id_of : ℕ → ℕ
+  id_of number = number_of declared (get_or names number [])
 
   -- where the first name stands that is no variable
   abbrev pub first_unknown : List NameUse → Option ℕ
   first_unknown [] = None
-  first_unknown (u ∷ us) = if nat_lt (place_of u.name) (length declared) then first_unknown us else Some u.at
+  first_unknown (u ∷ us) = if nat_lt (id_of u.name) (length declared) then first_unknown us else Some u.at
 
   -- the expression in which each variable is the place of its declaration
-  abbrev pub by_place : Term → Term
-  by_place (const k) = const k
-  by_place (var x) = var (place_of x)
-  by_place (neg e) = neg (by_place e)
-  by_place (bin op a b) = bin op (by_place a) (by_place b)
+  abbrev pub by_id : Term → Term
+  by_id (const k) = const k
+  by_id (var x) = var (id_of x)
+  by_id (neg e) = neg (by_id e)
+  by_id (bin op a b) = bin op (by_id a) (by_id b)
 
 -- Words --------------------------------------------------------------------------------------------------------
 
@@ -47,7 +47,7 @@ unknown_in p x = first_unknown (var_names p) x.names x.uses
 
 -- an expression over the variables of a program
 abbrev pub over : Parsed → Expression → Term
-over p x = by_place (var_names p) x.names x.expr
+over p x = by_id (var_names p) x.names x.expr
 
 -- The bytes are an expression over the variables of a program.
 pub record IsExpression (p : Parsed) (bytes : List ℕ) (e : Term) : Type 0 where

@@ -21,14 +21,14 @@ use Rattle.policy_class.specs.Resolved.{name_obligations, resolved}
 use Rattle.risc_machine.specs.declared.parts.Parts.{Parts}
 use Rattle.schedule_replay.specs.Replays.{StopsAt, after_steps}
 use Rattle.schedule_replay.specs.declared.replays.Until.{Until}
-use Rattle.source_machine.specs.Machine.{Machine, run_of}
+use Rattle.source_machine.specs.SourceMachine.{Machine, run_of}
 use Rattle.verify.specs.Accepted.{IsAccepted, program_obligations}
 use Rattle.verify.specs.Verdicts.{counts}
 use Rattle.top_call.specs.Asks.{Asks}
 use Rattle.top_call.specs.Check.{IsAcceptedText, meaning}
 use Rattle.top_call.specs.Codes.{PairsCode}
 use Rattle.top_call.specs.Commands.{Command, check, compile, fmt, migrate, run, run_code, run_until, pair, pair_code, nothing}
-use Rattle.top_call.specs.Expressions.{by_place, first_unknown}
+use Rattle.top_call.specs.Expressions.{by_id, first_unknown}
 use Rattle.top_call.specs.Files.{Reads}
 use Rattle.top_call.specs.Outcome.{entries, expression, memory}
 use Rattle.top_call.specs.Pairs.{Pairs, RunsBoth, RunsFit}
@@ -204,9 +204,9 @@ abbrev pub variables : List VarDecl → List (List ℕ)
 variables vars = map (λ v. v.name) vars
 
 -- The expression with each variable by the place of its declaration; or its first name that is no variable; or memory ran out.
-abbrev pub Places : (declared : List (List ℕ)) → Expression → Result Expr Stop → Type 0
-Places declared x (Ok e) = (first_unknown declared x.names x.uses ≡ None) × (term e ≡ by_place declared x.names x.expr)
-Places declared x (Err stop) =
+abbrev pub ResolvesTo : (declared : List (List ℕ)) → Expression → Result Expr Stop → Type 0
+ResolvesTo declared x (Ok e) = (first_unknown declared x.names x.uses ≡ None) × (term e ≡ by_id declared x.names x.expr)
+ResolvesTo declared x (Err stop) =
     Stops (λ reply. (at : ℕ) × (first_unknown declared x.names x.uses ≡ Some at) × (reply ≡ malformed (codes "expression") (f.Text k.Unknown at))) stop
 
 -- A machine was run until an expression held, or under the whole schedule.

@@ -33,7 +33,7 @@ pub enum Status {
 
 /// How much an accepted program has.
 #[derive(Clone, Copy, Debug, PartialEq, Eq)]
-pub struct Counts {
+pub struct Totals {
     pub threads: u64,
     pub statements: u64,
     pub entailments: u64,
@@ -84,7 +84,7 @@ pub enum Answer<'w> {
     Malformed(&'w str, Fault),
     /// The first rule that is broken, and the name of the thread, for a rule of statements.
     Refused(Refusal, Option<Name>),
-    Accepted(Counts),
+    Accepted(Totals),
     /// The canonical spelling of a program, or the listing of its code.
     Spelled(Blob),
     /// The report on a run, of a program or of its code, or on two that agree.

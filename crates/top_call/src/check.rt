@@ -9,7 +9,7 @@ ghost use Rattle.top_call.specs.Inside.{CarriesOut, Gets, JudgesProgram, name_in
 ghost use Rattle.top_call.specs.Outcome.{plan_of};
 ghost use Rattle.top_call.specs.Texts.{ChecksBytes};
 
-use crate::answers::{Answer, Counts, Stop};
+use crate::answers::{Answer, Totals, Stop};
 use crate::files::{read_program, text_fault, unread};
 use cov_ast::{CheckFault, Parsed, Program, ThreadDecl};
 use cov_expr::Name;
@@ -62,7 +62,7 @@ fn judge_program<'w>(alloc: Global, program: &Program) -> Result<Answer<'w>, Sto
     match check_program(alloc, program) {
         Ok(verdict) => {
             let count = verdict.count();
-            Ok(Answer::Accepted(Counts {
+            Ok(Answer::Accepted(Totals {
                 threads: program.threads.len() as u64,
                 statements: count.statements,
                 entailments: count.entailments,

@@ -7,7 +7,7 @@ ghost use Rattle.cov_expr.specs.declared.limits.TheConstants.{MOST_VARIABLES};
 ghost use Rattle.cov_parse.specs.Reads.{parsed_expr};
 ghost use Rattle.cov_text.specs.Uses.{AreUsesOf};
 ghost use Rattle.top_call.specs.Expressions as spec;
-ghost use Rattle.top_call.specs.Inside.{Places, Stops, variables};
+ghost use Rattle.top_call.specs.Inside.{ResolvesTo, Stops, variables};
 ghost use Rattle.top_call.specs.Replies.{malformed};
 
 use crate::answers::{Fault, FaultKind, Stop};
@@ -40,7 +40,7 @@ fn over_variables<'w>(spelled: ParsedExpr, vars: &[VarDecl]) -> Result<Expr, Sto
     requires below { HasVarsBelow (term spelled.expr) (length spelled.names) }
     requires used { All (λ u. u.name < length spelled.names) spelled.uses }
     requires in_order { AreUsesOf spelled.uses (term spelled.expr) }
-    ensures placed { Places (variables vars.now) (parsed_expr spelled) result }
+    ensures placed { ResolvesTo (variables vars.now) (parsed_expr spelled) result }
     ensures below { IfOk result (λ e. HasVarsBelow (term e) (length vars.now)) }
 {
     let ParsedExpr {
@@ -51,7 +51,7 @@ fn over_variables<'w>(spelled: ParsedExpr, vars: &[VarDecl]) -> Result<Expr, Sto
     if let Some(at) = first_unknown(&names, vars, uses.as_slice()) {
         return Err(unread("expression", Some(Fault::Text(FaultKind::Unknown, at))));
     }
-    place_variables(&names, vars, &mut expr);
+    resolve_variables(&names, vars, &mut expr);
     Ok(expr)
 }
 
@@ -73,38 +73,38 @@ fn first_unknown(names: &NameTable, vars: &[VarDecl], uses: &[NameUse]) -> Optio
 fn is_variable(names: &NameTable, vars: &[VarDecl], number: u32) -> bool
     requires few { length vars.now ≤ MOST_VARIABLES }
     requires number { number < length names.now }
-    ensures { result ≡ nat_lt (spec.place_of (variables vars.now) names.now number) (length (variables vars.now)) }
+    ensures { result ≡ nat_lt (spec.id_of (variables vars.now) names.now number) (length (variables vars.now)) }
 {
-    (place_of(names, vars, number) as usize) < vars.len()
+    (id_of(names, vars, number) as usize) < vars.len()
 }
 
 /// Gives each variable of an expression the place of its declaration.
-fn place_variables(names: &NameTable, vars: &[VarDecl], e: &mut Expr)
+fn resolve_variables(names: &NameTable, vars: &[VarDecl], e: &mut Expr)
     requires few { length vars.now ≤ MOST_VARIABLES }
     requires below { HasVarsBelow (term e.old) (length names.now) }
-    ensures { term e.new ≡ spec.by_place (variables vars.now) names.now (term e.old) }
+    ensures { term e.new ≡ spec.by_id (variables vars.now) names.now (term e.old) }
 {
     match e {
         Expr::Const(_) => {}
-        Expr::Var(x) => *x = place_of(names, vars, *x),
-        Expr::Not(a) => place_variables(names, vars, a),
+        Expr::Var(x) => *x = id_of(names, vars, *x),
+        Expr::Not(a) => resolve_variables(names, vars, a),
         Expr::Bin(_, a, b) => {
-            place_variables(names, vars, a);
-            place_variables(names, vars, b);
+            resolve_variables(names, vars, a);
+            resolve_variables(names, vars, b);
         }
     }
 }
 
 /// The place of the first variable with the name of this number, or how many there are where none has it.
-fn place_of(names: &NameTable, vars: &[VarDecl], number: u32) -> u32
+fn id_of(names: &NameTable, vars: &[VarDecl], number: u32) -> u32
     requires few { length vars.now ≤ MOST_VARIABLES }
     requires number { number < length names.now }
-    ensures { result ≡ spec.place_of (variables vars.now) names.now number }
+    ensures { result ≡ spec.id_of (variables vars.now) names.now number }
 {
-    place_named(vars, names.name(number)) as u32
+    id_named(vars, names.name(number)) as u32
 }
 
-fn place_named(vars: &[VarDecl], name: Name) -> usize
+fn id_named(vars: &[VarDecl], name: Name) -> usize
     ensures place { result ≡ number_of (variables vars.now) name }
     ensures within { result ≤ length vars.now }
 {

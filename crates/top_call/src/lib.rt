@@ -55,7 +55,7 @@ mod run_code;
 mod run_reports;
 mod run_until;
 
-pub use answers::{Answer, Counts, Fault, FaultKind, Status, Stop, status_for};
+pub use answers::{Answer, Totals, Fault, FaultKind, Status, Stop, status_for};
 pub use call::covern;
 pub use check::check_bytes;
 pub use files::fetch;

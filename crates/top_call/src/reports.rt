@@ -3,7 +3,7 @@ ghost use Rattle.top_call.specs.Inside.{IsLine, seen};
 ghost use Rattle.top_call.specs.Reports as spec;
 ghost use Rattle.top_call.specs.Reports.{report_of};
 
-use crate::answers::{Answer, Counts};
+use crate::answers::{Answer, Totals};
 use crate::differences::{bad_starts_line, differ_line};
 use crate::faults::malformed_line;
 use crate::refusals::refusal_line;
@@ -50,7 +50,7 @@ fn line(alloc: Global, answer: &Answer<'_>) -> Result<String, AllocError>
     }
 }
 
-fn accepted_line(alloc: Global, counts: &Counts) -> Result<String, AllocError>
+fn accepted_line(alloc: Global, counts: &Totals) -> Result<String, AllocError>
     ensures { IfOk result (λ text. string_bytes text ≡ report_of (seen (Answer.Accepted counts.now))) }
 {
     let threads = counted(alloc, counts.threads, " threads, ")?;

@@ -2,7 +2,7 @@ ghost use Rattle.std.specs.Prelude.{◌≡◌, ◌++◌, ◌≤◌, IfOk, OnOk, 
 ghost use Rattle.cov_ast.specs.View as view;
 ghost use Rattle.cov_expr.specs.declared.limits.TheConstants.{MOST_THREADS};
 ghost use Rattle.flow_model.specs.FirstDifference.{held_by, holders_of};
-ghost use Rattle.source_machine.specs.Machine.{run_of};
+ghost use Rattle.source_machine.specs.SourceMachine.{run_of};
 ghost use Rattle.top_call.specs.RunReports as spec;
 
 use crate::lines::{add_name, add_number, add_numbered};

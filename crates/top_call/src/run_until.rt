@@ -7,7 +7,7 @@ ghost use Rattle.cov_expr.specs.View.{term};
 ghost use Rattle.cov_expr.specs.Words.{HasVarsBelow, IsMemory, IsSchedule};
 ghost use Rattle.cov_io.specs.Shelves.{Shelved};
 ghost use Rattle.schedule_replay.specs.Schedules.{most_entries};
-ghost use Rattle.source_machine.specs.Machine.{run_of};
+ghost use Rattle.source_machine.specs.SourceMachine.{run_of};
 ghost use Rattle.top_call.specs.Commands as asked;
 ghost use Rattle.top_call.specs.Inside.{CarriesOut, Gets, IsStopped, until_plan};
 ghost use Rattle.top_call.specs.Outcome.{plan_of};

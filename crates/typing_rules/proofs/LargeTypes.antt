@@ -14,7 +14,7 @@ use Rattle.cov_ast.specs.Plain.{Plain}
 use Rattle.cov_ast.specs.Tables.{has}
 use Rattle.mode_state.specs.Sets.{is_stable, is_hidden, locks_of}
 use Rattle.typing_state.specs.After.{updated_from, assigned_type, after_assign, forgotten_type, listed_or}
-use Rattle.typing_state.specs.Kept.{IsPoint}
+use Rattle.typing_state.specs.KeptPoints.{IsPoint}
 use Rattle.typing_state.specs.Point.{Point, is_over_controls, given_type, ty_var, conjuncts_of_types, ty, has_small_types}
 use Rattle.typing_state.specs.Terms.{each_variable, with_term, with_terms, distinct_terms, is_one, without_ones, joined_from, joined, is_small, is_small_type}
 use Rattle.typing_rules.specs.Blocks.{value_type}

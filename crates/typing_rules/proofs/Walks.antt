@@ -13,7 +13,7 @@ use Rattle.cov_ast.specs.declared.stmt.Stmt.{Stmt}
 use Rattle.cov_ast.specs.declared.stmt.StmtKind.{StmtKind, StmtKind-F, fold-roll-StmtKind}
 use Rattle.cov_ast.specs.declared.stmt.StmtKind.TheVariants as kinds
 use Rattle.cov_ast.proofs.ObligationLaws.{append_held, append_refused, same_decided}
-use Rattle.typing_state.specs.Kept.{Keeps}
+use Rattle.typing_state.specs.KeptPoints.{Keeps}
 use Rattle.typing_state.specs.Point.{Point}
 use Rattle.typing_state.specs.declared.point.Point as declared
 use Rattle.typing_rules.specs.Counts.{entailment_count}

@@ -9,7 +9,7 @@ ghost use Rattle.cov_ast.specs.Syntax as syntax;
 ghost use Rattle.cov_ast.specs.View as view;
 ghost use Rattle.cov_ast.specs.WellFormed.{IsStateInRange, state_size, most_size};
 ghost use Rattle.typing_state.specs.After.{meet, with_guard};
-ghost use Rattle.typing_state.specs.Kept.{Keeps};
+ghost use Rattle.typing_state.specs.KeptPoints.{Keeps};
 ghost use Rattle.typing_rules.specs.Entailments.{Entailment, guard_follows, state_follows};
 ghost use Rattle.typing_rules.specs.ThreadObligations.{flat, same_locks, state_obligations};
 ghost use Rattle.typing_rules.specs.Inside.Walking.{Guards, GuardsAt, IsWalk, Stands, Tries, Walks, Wherever, first_parts, fork_parts, head_parts, join_parts, plain_of, starts_of, turn_parts};

@@ -112,7 +112,7 @@ fn find_pred(alloc: Global, point: &Point, e: &Expr, next: &mut usize) -> Result
         *next = next.wrapping_add(1);
         return Ok(true);
     }
-    match point.pred_place(alloc, e)? {
+    match point.pred_index(alloc, e)? {
         Some(place) => {
             *next = place.wrapping_add(1);
             Ok(true)

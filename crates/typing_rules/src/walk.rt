@@ -5,7 +5,7 @@ ghost use Rattle.cov_ast.specs.Plain.{Plain};
 ghost use Rattle.cov_ast.specs.Syntax as syntax;
 ghost use Rattle.cov_ast.specs.View as view;
 ghost use Rattle.cov_ast.specs.WellFormed.{IsBlockInRange, IsStmInRange, block_size, stm_size, most_size};
-ghost use Rattle.typing_state.specs.Kept.{Keeps};
+ghost use Rattle.typing_state.specs.KeptPoints.{Keeps};
 ghost use Rattle.typing_state.specs.Point as typing;
 ghost use Rattle.typing_rules.specs.Inside.Walking.{IsWalk, Stands, Walks, WalksBlock, WalksStm};
 

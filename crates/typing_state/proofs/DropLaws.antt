@@ -14,7 +14,7 @@ use Rattle.cov_expr.specs.View.{term}
 use Rattle.cov_expr.specs.declared.expr.Expr.{Expr}
 use Rattle.indexmap.proofs.SetLemmas.{map-remove}
 
--- from a place on, those that are left stand as they did; of those before it each that passes the test is to stay
+-- from a index on, those that are left stand as they did; of those before it each that passes the test is to stay
 abbrev pub left_from : (Term → Bool) → List Term → ℕ → List Term
 left_from f ts i = filter f (take i ts) ++ drop i ts
 
@@ -81,10 +81,10 @@ module _ (f : Term → Bool) where
   counted_more es new e n m added before one =
       (λ k. before k + one k) ∙ sym (ap (λ l. count_by f (map term l)) added ∙ ap (count_by f) (map-append term es (e ∷ [])) ∙ sum_by_push (λ t. cond (f t) 1 0) (map term es) (term e))
 
--- Steps of a walk from the last place to the first --------------------------------------------------------------
+-- Steps of a walk from the last index to the first --------------------------------------------------------------
 
 module _ (es : List Expr) (end : ℕ) (some : 0 < end) (within : end ≤ length es) where
-  -- what is before the next place is still there
+  -- what is before the next index is still there
   pub dropped_within : (new : List Expr) → new ≡ remove es (end - 1) → end - 1 ≤ length new
   dropped_within new gone = omega (arith, ap length gone, length-remove es (end - 1) (omega arith))
 
@@ -106,7 +106,7 @@ module _ (es : List Expr) (end : ℕ) (some : 0 < end) (within : end ≤ length 
         ap (λ l. left_from f (map term l) (end - 1)) gone ∙ ap (λ l. left_from f l (end - 1)) (map-remove term es (end - 1))
         ∙ sym (left_dropped f (map term es) (end - 1) (term e) inside (ap f last_is ∙ fails)) ∙ ap (left_from f (map term es)) next ∙ so_far
 
--- Those from a place on are dropped ----------------------------------------------------------------------------
+-- Those from a index on are dropped ----------------------------------------------------------------------------
 
 -- the last one goes
 pub cut_step : (es new : List Expr) (end len : ℕ) → length es ≡ end → len < end → new ≡ remove es (end - 1)

@@ -48,23 +48,23 @@ module _ (old new : List (List Bool)) (types : List (Option Term)) (grouped : Ar
   pub grouped_more : AreGrouped new types
   grouped_more k x small below away = grouped k x small below (kept (k / 16) x away)
 
-  module _ (place : ℕ) (q : Option Term) (free : (x : ℕ) → place < 256 → x < 256 → has (get_or new (place / 16) []) x ≡ false → is_free x q ≡ true) where
+  module _ (index : ℕ) (q : Option Term) (free : (x : ℕ) → index < 256 → x < 256 → has (get_or new (index / 16) []) x ≡ false → is_free x q ≡ true) where
     -- a type is put in the place of another
-    pub grouped_set : AreGrouped new (set types place q)
-    grouped_set k x small below away = elim (cases_eq k place) [
-      | inl e ↦ elim (cases_lt place (length types)) [
-        | inl lt ↦ ap (λ i. is_free x (get_or (set types place q) i None)) e ∙ ap (is_free x) (get_or-set_same types place q None lt)
+    pub grouped_set : AreGrouped new (set types index q)
+    grouped_set k x small below away = elim (cases_eq k index) [
+      | inl e ↦ elim (cases_lt index (length types)) [
+        | inl lt ↦ ap (λ i. is_free x (get_or (set types index q) i None)) e ∙ ap (is_free x) (get_or-set_same types index q None lt)
             ∙ free x (omega (arith, e)) below (ap (λ i. has (get_or new (i / 16) []) x) (sym e) ∙ away)
-        | inr past ↦ ap (is_free x) (get_or_past (set types place q) k None (omega (arith, e, length-set types place q)))
+        | inr past ↦ ap (is_free x) (get_or_past (set types index q) k None (omega (arith, e, length-set types index q)))
       ]
-      | inr ne ↦ ap (is_free x) (get_or-set_other types place k q None ne) ∙ grouped k x small below (kept (k / 16) x away)
+      | inr ne ↦ ap (is_free x) (get_or-set_other types index k q None ne) ∙ grouped k x small below (kept (k / 16) x away)
     ]
 
     -- one more type
-    pub grouped_push : place ≡ length types → AreGrouped new (types ++ q ∷ [])
+    pub grouped_push : index ≡ length types → AreGrouped new (types ++ q ∷ [])
     grouped_push last k x small below away = elim (cases_lt k (length types)) [
       | inl lt ↦ ap (is_free x) (get_or_append_left types (q ∷ []) None k lt) ∙ grouped k x small below (kept (k / 16) x away)
-      | inr le ↦ elim (cases_eq k place) [
+      | inr le ↦ elim (cases_eq k index) [
         | inl e ↦ ap (is_free x) (get_or_push types q None k (sym (e ∙ last))) ∙ free x (omega (arith, e)) below (ap (λ i. has (get_or new (i / 16) []) x) (sym e) ∙ away)
         | inr ne ↦ ap (is_free x) (get_or_past (types ++ q ∷ []) k None (let other : k ≢ length types = λ is. ne (is ∙ sym last) in omega (arith, length-append types (q ∷ []))))
       ]

@@ -1,10 +1,10 @@
 mod DropLaws
 mod ForgetLaws
 mod GroupLaws
-mod IndexLaws
+mod OnceLaws
 mod KeyLaws
 mod LockLaws
-mod PlaceLaws
+mod KeyedLaws
 mod PointLaws
 mod RetainLaws
 mod SharedLaws

@@ -16,7 +16,7 @@ use Rattle.mode_state.specs.Sets.{Sets, modes_at, is_stable, locks_of}
 use Rattle.mode_state.proofs.HeldLaws.{any_from}
 use Rattle.typing_state.specs.Point.{Point, is_tracked, given_type, default_type}
 use Rattle.typing_state.specs.After.{locked_type, after_lock, unlocked_type, kept_type, after_unlock}
-use Rattle.typing_state.specs.Kept.{IsPoint}
+use Rattle.typing_state.specs.KeptPoints.{IsPoint}
 use Rattle.typing_state.specs.Inside.Tells.{IsTrackedBeside}
 use Rattle.typing_state.specs.Terms.{each_variable, is_closed_type}
 use Rattle.typing_state.proofs.PointLaws.{updated_at, length-updated, some_mapped}

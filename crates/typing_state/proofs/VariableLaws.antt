@@ -57,7 +57,7 @@ lists_is p t held s l x is lock inside =
     ∙ ap (λ m. has m x) (get_or-map-range_with_len (λ k. table (length p.vars) (under p k)) 0 (length p.locks) l l [] lock (omega arith))
     ∙ table_at (length p.vars) (under p l) x inside
 
--- there is a place for each variable
+-- there is a index for each variable
 pub lists_long : (p : Plain) (t : ℕ) (held : List Bool) (s : Sets) (l : ℕ) → s ≡ modes_at p t held → l < length p.locks → length (get_or s.listed l []) ≡ length p.vars
 lists_long p t held s l is lock =
     ap (λ u. length (get_or u.listed l [])) is

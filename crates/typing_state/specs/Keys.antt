@@ -4,7 +4,7 @@ use Rattle.cov_expr.specs.Term.{Term, const, var, neg, bin}
 use Rattle.cov_expr.specs.Trees.{op_number}
 
 -- The words of an expression in pre-order: 0 and k for a number k, 1 and x for a variable x, 2 before the part of `!`, and 3 plus
--- the place of the operator before the two parts of an operation.
+-- the index of the operator before the two parts of an operation.
 abbrev pub key : Term → List ℕ
 key (const k) = 0 ∷ k ∷ []
 key (var x) = 1 ∷ x ∷ []

@@ -73,12 +73,12 @@ impl Groups {
     }
 
     /// Adds to the group of a variable what its type mentions. Variables from 256 on have no group.
-    pub fn mark(&mut self, place: usize, q: &Option<Rc<Type, Global>>)
+    pub fn mark(&mut self, index: usize, q: &Option<Rc<Type, Global>>)
         ensures kept { (g x : ℕ) → has (get_or self.new g []) x ≡ false → has (get_or self.old g []) x ≡ false }
-        ensures free { (x : ℕ) → place < 256 → x < 256 → has (get_or self.new (place / 16) []) x ≡ false → is_free x (option_map (λ q. term q.value) q.now) ≡ true }
+        ensures free { (x : ℕ) → index < 256 → x < 256 → has (get_or self.new (index / 16) []) x ≡ false → is_free x (option_map (λ q. term q.value) q.now) ≡ true }
     {
         match q {
-            Some(q) if place < 256 => self.mark_type(place / 16, q.as_ref()),
+            Some(q) if index < 256 => self.mark_type(index / 16, q.as_ref()),
             Some(_) | None => {}
         }
     }

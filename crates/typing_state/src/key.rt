@@ -132,7 +132,7 @@ fn add_leaf(kind: u32, number: u32, words: &mut Vec<u32>) -> Result<(), NoMemory
     Ok(())
 }
 
-/// The word of an operator: its place among the operators, from 3 on.
+/// The word of an operator: its index among the operators, from 3 on.
 fn op_word(op: Op) -> u32
     ensures { result ≡ op_number op + 3 }
 {

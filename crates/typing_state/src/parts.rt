@@ -5,7 +5,7 @@ ghost use Rattle.cov_ast.specs.Plain.{Plain, plain};
 ghost use Rattle.cov_ast.specs.View as view;
 ghost use Rattle.cov_ast.specs.WellFormed.{IsWellFormed};
 ghost use Rattle.typing_state.specs.After as after;
-ghost use Rattle.typing_state.specs.Kept.{KeepsParts};
+ghost use Rattle.typing_state.specs.KeptPoints.{KeepsParts};
 ghost use Rattle.typing_state.specs.Inside.Tells.{OfParts};
 
 use crate::forget::{assign_types, reset_types, unlock_types};

@@ -10,8 +10,8 @@ ghost use Rattle.typing_state.specs.Point as point;
 ghost use Rattle.typing_state.specs.Terms.{distinct_terms, is_false, is_small, with_term, with_terms};
 
 use crate::copies::copy_preds;
-use crate::index::{add_key, copy_index, drop_key, index_of, place_in};
 use crate::key::Key;
+use crate::keys::{add_key, copy_keys, drop_key, index_in, keys_of};
 use crate::retain::is_kept;
 use cov_ast::Program;
 use cov_expr::{
@@ -25,12 +25,12 @@ use std::marker::Model;
 /// How many expressions are compared one by one.
 const FEW: usize = 8;
 
-/// Expressions, each once. Where there are more than a few, their keys are kept in the same order, by which the place of one is
+/// Expressions, each once. Where there are more than a few, their keys are kept in the same order, by which the index of one is
 /// found. Contracts see the list of the expressions.
 #[derive(Drop)]
 pub struct Predicates {
     list: List<Expr>,
-    index: Option<IndexSet<Key>>,
+    keys: Option<IndexSet<Key>>,
     /// How many of them are closed and don't hold.
     false_ones: usize,
     /// How many of them have more than 1,000 nodes.
@@ -55,7 +55,7 @@ impl Model for Predicates {
     ghost view = { λ s. s.list };
 
     ghost invariant = { λ s. IsDistinct bytes_eq (map key (map term s.list))
-        × IfSome s.index (λ i. i.keys ≡ map key (map term s.list))
+        × IfSome s.keys (λ i. i.keys ≡ map key (map term s.list))
         × (s.false_ones ≡ count_by is_false (map term s.list))
         × (s.large_ones ≡ count_by (λ e. not (is_small e)) (map term s.list)) };
 }
@@ -67,7 +67,7 @@ impl Predicates {
     {
         Predicates {
             list: List::new(alloc),
-            index: None,
+            keys: None,
             false_ones: 0,
             large_ones: 0,
         }
@@ -94,12 +94,12 @@ impl Predicates {
         self.large_ones == 0
     }
 
-    /// The place of an expression, if it is there.
-    pub fn place_of(&self, alloc: Global, e: &Expr) -> Result<Option<usize>, NoMemory>
-        ensures place { IfOk result (λ place. place ≡ position (λ f. tree.same f (term e.now)) (map term self.now)) }
-        ensures found { IfOk result (λ place. is_some place ≡ tree.has_term (map term self.now) (term e.now)) }
+    /// The index of an expression, if it is there.
+    pub fn index_of(&self, alloc: Global, e: &Expr) -> Result<Option<usize>, NoMemory>
+        ensures index { IfOk result (λ index. index ≡ position (λ f. tree.same f (term e.now)) (map term self.now)) }
+        ensures found { IfOk result (λ index. is_some index ≡ tree.has_term (map term self.now) (term e.now)) }
     {
-        place_in(alloc, &self.index, self.list.as_slice(), e)
+        index_in(alloc, &self.keys, self.list.as_slice(), e)
     }
 
     /// The same expressions.
@@ -108,7 +108,7 @@ impl Predicates {
     {
         Ok(Predicates {
             list: copy_preds(alloc, self.list.as_slice())?,
-            index: copy_index(&self.index)?,
+            keys: copy_keys(&self.keys)?,
             false_ones: self.false_ones,
             large_ones: self.large_ones,
         })
@@ -119,32 +119,32 @@ impl Predicates {
         ensures { OnOk result (map term self.new ≡ with_term (map term self.old) (term e)) }
     {
         if self.list.len() >= FEW {
-            self.index_all(alloc)?;
+            self.add_keys(alloc)?;
         }
         self.add_next(alloc, e)
     }
 
-    /// Makes the index, if there is none.
-    fn index_all(&mut self, alloc: Global) -> Result<(), NoMemory>
+    /// Makes the keys, if there are none.
+    fn add_keys(&mut self, alloc: Global) -> Result<(), NoMemory>
         ensures { self.new ≡ self.old }
     {
-        if self.index.is_none() {
-            self.index = Some(index_of(alloc, self.list.as_slice())?);
+        if self.keys.is_none() {
+            self.keys = Some(keys_of(alloc, self.list.as_slice())?);
         }
         Ok(())
     }
 
-    /// Adds an expression at the end, and its key where there is an index, unless an equal one is there.
+    /// Adds an expression at the end, and its key where there are keys, unless an equal one is there.
     fn add_next(&mut self, alloc: Global, e: Expr) -> Result<(), NoMemory>
         ensures { OnOk result (map term self.new ≡ with_term (map term self.old) (term e)) }
     {
-        if !add_key(alloc, &mut self.index, self.list.as_slice(), &e)? {
+        if !add_key(alloc, &mut self.keys, self.list.as_slice(), &e)? {
             return Ok(());
         }
         let false_ones = count_false(&e);
         let large_ones = count_large(&e);
         if let Err(NoMemory) = self.list.push(e) {
-            self.index = None;
+            self.keys = None;
             return Err(NoMemory);
         }
         // (there are no more of either than expressions)
@@ -166,7 +166,7 @@ impl Predicates {
         Ok(())
     }
 
-    /// Drops those from a place on.
+    /// Drops those from a index on.
     fn truncate(&mut self, len: usize)
         ensures { self.new ≡ take len self.old }
     {
@@ -223,13 +223,13 @@ impl Predicates {
         }
     }
 
-    /// Drops the one at a place.
-    fn remove(&mut self, place: usize)
-        requires { place < length self.old }
-        ensures { self.new ≡ remove self.old place }
+    /// Drops the one at a index.
+    fn remove(&mut self, index: usize)
+        requires { index < length self.old }
+        ensures { self.new ≡ remove self.old index }
     {
-        let e = self.list.remove(place);
-        drop_key(&mut self.index, place);
+        let e = self.list.remove(index);
+        drop_key(&mut self.keys, index);
         self.false_ones = false_without(self.false_ones, &e);
         self.large_ones = large_without(self.large_ones, &e);
     }

@@ -167,11 +167,11 @@ impl Types {
     {
         let large = count_large(&q);
         let varies = is_varying(&q);
-        let place = self.known.len();
-        self.groups.mark(place, &q);
+        let index = self.known.len();
+        self.groups.mark(index, &q);
         self.known.push(q)?;
-        if place < 256 {
-            self.varying.put(place as u32, varies);
+        if index < 256 {
+            self.varying.put(index as u32, varies);
         }
         // (there are no more large ones than variables)
         let _count = self.known.len();
@@ -200,13 +200,13 @@ impl Types {
     pub fn set(&mut self, x: u32, q: Option<Rc<Type, Global>>)
         ensures { map (option_map term) self.new ≡ set (map (option_map term) self.old) x (option_map (λ q. term q.value) q) }
     {
-        let place = x as usize;
-        if place < self.known.len() {
-            let before = count_large(&self.known.as_slice()[place]);
+        let index = x as usize;
+        if index < self.known.len() {
+            let before = count_large(&self.known.as_slice()[index]);
             let after = count_large(&q);
             let varies = is_varying(&q);
-            self.groups.mark(place, &q);
-            self.known.set(place, q);
+            self.groups.mark(index, &q);
+            self.known.set(index, q);
             self.varying.put(x, varies);
             self.large = self.large - before + after;
         }

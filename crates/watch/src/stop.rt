@@ -19,7 +19,7 @@ pub struct Watch {
 }
 
 impl Watch {
-    ghost use Rattle.watch.specs.Kept.{expr_of, words_of};
+    ghost use Rattle.watch.specs.Watches.{expr_of, words_of};
 
     /// Keeps a test, which may be asked of each memory of so many words, and then answers whether the expression holds there.
     /// It takes no memory: the caller has made the box.

@@ -1,6 +1,6 @@
 -- How a line is cut off a text.
 use Rattle.std.specs.Prelude.{◌≡◌, ℕ, ◌<◌, List, ◌∷◌, length}
-use Rattle.code_text.specs.Inside.Reading.{pieces}
+use Rattle.code_text.specs.Inside.ListingReading.{pieces}
 
 -- The text begins with a line of these fields, and this is what stands behind its line feed.
 pub record IsCut (text : List ℕ) (fs : List (List ℕ)) (rest : List ℕ) : Type 0 where

@@ -3,7 +3,7 @@ use Rattle.std.specs.Prelude.{◌≡◌, ℕ, ◌≤◌, List, [], ◌∷◌, le
 use Rattle.cov_expr.specs.Names.{IsName}
 use Rattle.risc_machine.specs.declared.parts.Parts.{Parts}
 use Rattle.risc_machine.specs.declared.parts.ThreadCode.{ThreadCode}
-use Rattle.code_text.specs.Inside.Reading.{Draft}
+use Rattle.code_text.specs.Inside.ListingReading.{Draft}
 use Rattle.code_text.specs.declared.read.Found.{Found}
 use Rattle.code_text.specs.declared.fault.CodeFault.{CodeFault}
 use Rattle.code_text.specs.declared.fault.CodeFault.TheVariants.{Line, Bad, NoMemory}

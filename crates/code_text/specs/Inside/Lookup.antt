@@ -6,17 +6,17 @@ use Rattle.cov_expr.specs.Names.{IsName}
 use Rattle.indexmap.specs.IndexMap.{IndexMap, get}
 use Rattle.indexmap.specs.IndexSet.{contains}
 use Rattle.risc_machine.specs.Faults as faults
-use Rattle.code_text.specs.Inside.Reading.{place_of}
+use Rattle.code_text.specs.Inside.ListingReading.{id_of}
 use Rattle.code_text.specs.declared.names.Register.{Register}
 
--- The index has the place of each name: that of its first declaration.
+-- The index has the id of each name: that of its first declaration.
 pub record IsIndexOf {S : Type 0} (index : IndexMap (List ℕ) ℕ S) (names : List (List ℕ)) : Type 0 where
   pub named : All IsName names
-  pub places : (f : List ℕ) → get bytes_eq index f ≡ place_of names f
+  pub ids : (f : List ℕ) → get bytes_eq index f ≡ id_of names f
 
--- A guess, where there is one, is the place of the first declaration of the name that stands there.
+-- A guess, where there is one, is the id of the first declaration of the name that stands there.
 abbrev pub IsGuess : List (List ℕ) → Option ℕ → Type 0
-IsGuess names guess = (place : ℕ) → guess ≡ Some place → place_of names (get_or names place []) ≡ Some place
+IsGuess names guess = (id : ℕ) → guess ≡ Some id → id_of names (get_or names id []) ≡ Some id
 
 abbrev pub AreGuesses : List (Option ℕ) → List (List ℕ) → Type 0
 AreGuesses guesses names = All (IsGuess names) guesses

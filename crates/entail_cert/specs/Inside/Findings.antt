@@ -46,7 +46,7 @@ abbrev pub Rewrites : Option (Term × Term) → Bool → Term → Term → Resul
 Rewrites None forward t goal result = result ≡ Err stop.Bad
 Rewrites (Some sides) forward t goal result = RewritesSides forward t goal sides.0 sides.1 result
 
--- The walk has looked for the first node that fails below the place where it stood. Where there is none it stands
+-- The walk has looked for the first node that fails below the node at which it stood. Where there is none it stands
 -- there again, with the same hypotheses. Where there is one it stands at that node.
 abbrev pub Finds : Walk → Walk → Option (List ℕ) → Result (Unit {0}) Stop → Type 0
 Finds before after bad (Ok _) = (bad ≡ None) × ((map held_term after.added ≡ map held_term before.added) × (after.path ≡ before.path))

@@ -7,9 +7,9 @@ use Rattle.cov_ast.specs.View as view
 use Rattle.cov_ast.specs.WellFormed.{IsWellFormed}
 use Rattle.cov_ast.specs.declared.decl.Program.{Program}
 use Rattle.source_machine.specs.Frames.{items}
-use Rattle.source_machine.specs.Machine.{Standing}
+use Rattle.source_machine.specs.SourceMachine.{Standing}
 use Rattle.source_machine.specs.Inside.Entries.{AreFrames}
-use Rattle.source_machine.specs.Inside.Parts.{Stands}
+use Rattle.source_machine.specs.Inside.Standing.{Stands}
 use Rattle.source_machine.specs.Inside.Stacks.{frames_of}
 use Rattle.source_machine.specs.declared.shared.Shared.{Shared}
 use Rattle.source_machine.specs.declared.thread.Thread.{Thread}

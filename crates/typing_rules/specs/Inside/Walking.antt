@@ -15,7 +15,7 @@ use Rattle.cov_ast.specs.declared.refusal.Rule.TheVariants.{V2, V5}
 use Rattle.mode_compat.specs.Declared.{declaration_obligations}
 use Rattle.mode_state.specs.Sets.{Sets, is_stable, may_write, modes_at}
 use Rattle.typing_state.specs.After.{meet, with_guard}
-use Rattle.typing_state.specs.Kept.{Keeps}
+use Rattle.typing_state.specs.KeptPoints.{Keeps}
 use Rattle.typing_state.specs.Point as spec
 use Rattle.typing_state.specs.Point.{is_tracked}
 use Rattle.typing_state.specs.declared.point.Point.{Point}

@@ -5,7 +5,7 @@ use Rattle.cov_expr.specs.Words.{HasVarsBelow}
 use Rattle.cov_ast.specs.Declarations.{under}
 use Rattle.cov_ast.specs.Plain.{Plain}
 use Rattle.mode_state.specs.Sets.{Sets, modes_at}
-use Rattle.typing_state.specs.Kept.{AreVariables, KeepsParts}
+use Rattle.typing_state.specs.KeptPoints.{AreVariables, KeepsParts}
 use Rattle.typing_state.specs.Point.{is_tracked}
 use Rattle.typing_state.specs.Point as spec
 use Rattle.typing_state.specs.declared.parts.Parts.{Parts}

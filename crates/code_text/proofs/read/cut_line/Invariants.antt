@@ -1,5 +1,5 @@
 use Rattle.std.proofs.Common.{◌≡◌, ◌≤◌, take, drop, map}
-use Rattle.code_text.specs.Inside.Reading.{pieces}
+use Rattle.code_text.specs.Inside.ListingReading.{pieces}
 use Rattle.code_text.proofs.Cuts.{glue, Begun, between}
 use Rattle.code_text.proofs.read.cut_line.Given as goal
 

@@ -1,5 +1,5 @@
 use Rattle.std.proofs.Common.{◌≡◌, take, drop}
-use Rattle.code_text.specs.Inside.Reading.{pieces}
+use Rattle.code_text.specs.Inside.ListingReading.{pieces}
 use Rattle.code_text.proofs.Cuts.{glue}
 use Rattle.code_text.proofs.read.find.Given as goal
 

@@ -1,5 +1,5 @@
 use Rattle.std.proofs.Common.{◌≡◌, sym, subst, ◌∙◌, Err, rules}
-use Rattle.code_text.specs.Outcome.{IsReading, IsAnswerTo}
+use Rattle.code_text.specs.ListingAnswers.{IsReading, IsAnswerTo}
 use Rattle.code_text.proofs.AnswerLaws.{listing_read, fault_read, fault_answers, code_answers, bad_answers, same_name}
 use Rattle.code_text.proofs.read.read_code.Goals as goal
 

@@ -2,7 +2,7 @@ use Rattle.std.proofs.Common.{◌≡◌, ◌+◌, ◌≤◌, length}
 use Rattle.risc_machine.specs.Faults.{names_of}
 use Rattle.code_text.specs.Inside.Drafts.{IsSmall}
 use Rattle.code_text.specs.Inside.Lookup.{IsRegisterOf}
-use Rattle.code_text.specs.Inside.Reading.{pieces, read_lines, begun}
+use Rattle.code_text.specs.Inside.ListingReading.{pieces, read_lines, begun}
 use Rattle.code_text.specs.declared.limits.TheConstants.{MOST_LISTING_BYTES}
 use Rattle.code_text.proofs.read.read_lines.Given as goal
 

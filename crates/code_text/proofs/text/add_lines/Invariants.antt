@@ -1,5 +1,5 @@
 use Rattle.std.proofs.Common.{◌≡◌, ◌++◌, map, flat_map, take}
-use Rattle.code_text.specs.Inside.Spelling.{AreOfWords}
+use Rattle.code_text.specs.Inside.SpelledLines.{AreOfWords}
 use Rattle.code_text.specs.Listing.{spelled, line}
 use Rattle.code_text.proofs.text.add_lines.Given as goal
 

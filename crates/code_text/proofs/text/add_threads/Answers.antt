@@ -1,6 +1,6 @@
 use Rattle.std.proofs.Common.{arith}
 use Rattle.std.proofs.lemmas.Grind.{common_steps}
-use Rattle.code_text.specs.Inside.Spelling.{IsOfWords}
+use Rattle.code_text.specs.Inside.SpelledLines.{IsOfWords}
 use Rattle.code_text.proofs.Every.{all_more}
 use Rattle.code_text.proofs.text.add_threads.Goals as goal
 

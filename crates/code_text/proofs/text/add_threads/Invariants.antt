@@ -1,5 +1,5 @@
 use Rattle.std.proofs.Common.{◌≡◌, ◌++◌, flat_map, take, All}
-use Rattle.code_text.specs.Inside.Spelling.{IsOfWords}
+use Rattle.code_text.specs.Inside.SpelledLines.{IsOfWords}
 use Rattle.code_text.specs.Listing.{spelled, thread_rows}
 use Rattle.code_text.proofs.text.add_threads.Given as goal
 

@@ -1,6 +1,6 @@
 use Rattle.std.proofs.Common.{◌≡◌, ◌++◌, ◌∙◌, map, string_bytes, Ok, ap, subst}
 use Rattle.cov_io.specs.Sinks.{Writes}
-use Rattle.explain.specs.Calls.{Answers}
+use Rattle.explain.specs.FileCalls.{Answers}
 use Rattle.explain.proofs.CallLaws.{of_answer, ends_whole}
 use Rattle.explain.proofs.call.explain.Goals as goal
 

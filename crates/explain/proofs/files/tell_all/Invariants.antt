@@ -1,6 +1,6 @@
 use Rattle.std.proofs.Common.{◌≡◌, ℕ, List, ◌++◌, map, take, string_bytes}
 use Rattle.cov_io.specs.Shelves.{Passes}
-use Rattle.explain.specs.Calls.{TellsAll}
+use Rattle.explain.specs.FileCalls.{TellsAll}
 use Rattle.explain.proofs.files.tell_all.Given as goal
 
 -- what is told of the files so far

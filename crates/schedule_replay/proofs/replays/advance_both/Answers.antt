@@ -1,5 +1,5 @@
 use Rattle.std.proofs.Common.{ap, sym, ◌∙◌, true≢false}
-use Rattle.source_machine.specs.Machine.{run_of}
+use Rattle.source_machine.specs.SourceMachine.{run_of}
 use Rattle.schedule_replay.specs.Inside.{is_quiet, has_moved}
 use Rattle.schedule_replay.proofs.QuietLaws.{kept_still, kept_quiet}
 use Rattle.schedule_replay.proofs.replays.advance_both.Goals.{then-has_moved, else-has_moved}

@@ -3,7 +3,7 @@ use Rattle.std.proofs.lemmas.Bool.{le-ltb}
 use Rattle.cov_expr.specs.Words.{IsSchedule}
 use Rattle.cov_ast.specs.Plain.{plain}
 use Rattle.cov_ast.specs.View as view
-use Rattle.source_machine.specs.Machine.{run_of}
+use Rattle.source_machine.specs.SourceMachine.{run_of}
 use Rattle.schedule_replay.specs.Inside.{HasSameFront}
 use Rattle.schedule_replay.proofs.PairLaws.{front_all, front_grown, agree_more, agree_now, first_apart}
 use Rattle.schedule_replay.proofs.StepLaws.{has_thread, has_run_more, stepped_grows}

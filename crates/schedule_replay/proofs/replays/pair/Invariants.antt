@@ -1,7 +1,7 @@
 use Rattle.std.proofs.Common.{◌+◌}
 use Rattle.cov_ast.specs.Plain.{plain}
 use Rattle.cov_ast.specs.View as view
-use Rattle.source_machine.specs.Machine.{run_of}
+use Rattle.source_machine.specs.SourceMachine.{run_of}
 use Rattle.schedule_replay.specs.Inside.{HasRun, HasSameFront}
 use Rattle.schedule_replay.specs.Replays.{AgreeBefore}
 use Rattle.schedule_replay.proofs.replays.pair.Given as goal

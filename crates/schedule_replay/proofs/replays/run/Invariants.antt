@@ -1,6 +1,6 @@
 use Rattle.std.proofs.Common.{◌≡◌, ◌≤◌, take}
 use Rattle.flow_model.specs.Source.{stayed_from}
-use Rattle.source_machine.specs.Machine.{run_of}
+use Rattle.source_machine.specs.SourceMachine.{run_of}
 use Rattle.schedule_replay.specs.Inside.{HasRun}
 use Rattle.schedule_replay.proofs.replays.run.Given as goal
 

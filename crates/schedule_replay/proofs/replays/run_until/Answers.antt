@@ -1,7 +1,7 @@
 use Rattle.std.proofs.Common.{◌+◌, refl, sym, ap, ◌∙◌, subst, arith, below_more, true≢false}
 use Rattle.cov_expr.specs.Entailment.{Holds}
-use Rattle.source_machine.specs.Machine.{run_of}
-use Rattle.watch.specs.Kept.{expr_of}
+use Rattle.source_machine.specs.SourceMachine.{run_of}
+use Rattle.watch.specs.Watches.{expr_of}
 use Rattle.schedule_replay.specs.Inside.{stores}
 use Rattle.schedule_replay.proofs.PairLaws.{no_hit, stops_here, stops_behind}
 use Rattle.schedule_replay.proofs.QuietLaws.{step_memory}

@@ -1,8 +1,8 @@
 use Rattle.std.proofs.Common.{◌≡◌, ℕ, ◌<◌, ◌≤◌, false, take}
 use Rattle.cov_expr.specs.Entailment.{Holds}
 use Rattle.flow_model.specs.Source.{stayed_from}
-use Rattle.source_machine.specs.Machine.{run_of}
-use Rattle.watch.specs.Kept.{expr_of}
+use Rattle.source_machine.specs.SourceMachine.{run_of}
+use Rattle.watch.specs.Watches.{expr_of}
 use Rattle.schedule_replay.specs.Inside.{HasRun}
 use Rattle.schedule_replay.specs.Replays.{after_steps}
 use Rattle.schedule_replay.proofs.replays.run_until.Given as goal

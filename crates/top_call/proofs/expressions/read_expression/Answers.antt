@@ -3,8 +3,8 @@ use Rattle.cov_ast.specs.View as view
 use Rattle.cov_text.specs.Text.{expression_of}
 use Rattle.policy_class.specs.Resolved.{var_names}
 use Rattle.top_call.specs.Expressions.{SpellsExpression}
-use Rattle.top_call.specs.Inside.{Places, variables}
-use Rattle.top_call.proofs.ExpressionLaws.{same_variables, placed_answered}
+use Rattle.top_call.specs.Inside.{ResolvesTo, variables}
+use Rattle.top_call.proofs.ExpressionLaws.{same_variables, resolved_answered}
 use Rattle.top_call.proofs.expressions.read_expression.Goals as goal
 
 pub returns-in-Ok-clause-read : goal.returns-in-Ok-clause-read
@@ -15,6 +15,6 @@ returns-in-Ok-clause-read c =
     let r = c.over_variables.result in
     let bytes : c.as_bytes.result.now ≡ word = search rules in
     let names : variables c.as_slice.result.now ≡ var_names p = ap variables c.as_slice.ensures ∙ sym (same_variables c.args.parsed.now.vars) in
-    placed_answered p word answer.0 r (subst (λ b. SpellsExpression b answer.0) bytes answer.1)
-    (subst (λ declared. Places declared (expression_of word answer.0) r) names
-    (subst (λ x. Places (variables c.as_slice.result.now) x r) (answer.2 ∙ ap (λ b. expression_of b answer.0) bytes) c.over_variables.ensures.placed))
+    resolved_answered p word answer.0 r (subst (λ b. SpellsExpression b answer.0) bytes answer.1)
+    (subst (λ declared. ResolvesTo declared (expression_of word answer.0) r) names
+    (subst (λ x. ResolvesTo (variables c.as_slice.result.now) x r) (answer.2 ∙ ap (λ b. expression_of b answer.0) bytes) c.over_variables.ensures.placed))

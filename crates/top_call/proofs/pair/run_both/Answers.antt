@@ -5,7 +5,7 @@ use Rattle.cov_ast.specs.View as view
 use Rattle.cov_expr.specs.Words.{IsMemory, IsSchedule}
 use Rattle.flow_model.specs.Source.{begin}
 use Rattle.schedule_replay.specs.Replays.{IsFirstStepApart}
-use Rattle.source_machine.specs.Machine.{run_of}
+use Rattle.source_machine.specs.SourceMachine.{run_of}
 use Rattle.top_call.specs.Replies.{differ}
 use Rattle.top_call.proofs.PairLaws.{apart_pairs}
 use Rattle.top_call.proofs.pair.run_both.Goals as goal

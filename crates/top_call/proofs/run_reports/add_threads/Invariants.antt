@@ -1,6 +1,6 @@
 use Rattle.std.proofs.Common.{◌≡◌, ◌++◌, drop, map}
 use Rattle.cov_ast.specs.View as view
-use Rattle.source_machine.specs.Machine.{run_of}
+use Rattle.source_machine.specs.SourceMachine.{run_of}
 use Rattle.top_call.specs.RunReports as spec
 use Rattle.top_call.proofs.run_reports.add_threads.Given as goal
 

@@ -1,5 +1,5 @@
 use Rattle.std.proofs.Common.{refl, arith}
-use Rattle.typing_state.proofs.PlaceLaws.{begin_more}
+use Rattle.typing_state.proofs.KeyedLaws.{begin_more}
 use Rattle.typing_state.proofs.predicates.same_beginning.Goals as goal
 
 pub loop-kept-preserved : goal.loop-kept-preserved

@@ -1,7 +1,7 @@
 use Rattle.std.proofs.Common.{slice_get, drop, ◌+◌, sym, ◌∙◌, ap, ap₂, not, true, false}
 use Rattle.regalloc.specs.Plan.{part, free_among, below_seven}
 use Rattle.regalloc.proofs.PartLaws.{is_for_part}
-use Rattle.regalloc.proofs.PlanLaws.{frees_is, free_more, place_more}
+use Rattle.regalloc.proofs.PlanLaws.{frees_is, free_more, rank_more}
 use Rattle.regalloc.proofs.plan.Plan.part.Goals as goal
 use Rattle.regalloc.proofs.plan.Plan.part.Goals.{then-is_none+else-left-eq0, else-is_none}
 
@@ -20,7 +20,7 @@ pub loop-r-preserved : goal.loop-r-preserved
 loop-r-preserved c = elim c.if-is_none.branch [
   | then-is_none+else-left-eq0 w ↦
       let e = free_more c.self.inside.kept c.loop-r.r false c.loop-r-test.true (c.is_none.ensures ∙ ap not w.if-is_none.true) in
-      c.loop-r.invariant ∙ place_more _ (free_among c.self.inside.kept (drop (c.loop-r.r + 1) below_seven)) c.loop-r.r c.loop-r.left c.if-is_none.left e w.if-left-eq0.false w.left-is
+      c.loop-r.invariant ∙ rank_more _ (free_among c.self.inside.kept (drop (c.loop-r.r + 1) below_seven)) c.loop-r.r c.loop-r.left c.if-is_none.left e w.if-left-eq0.false w.left-is
   | else-is_none w ↦
       let e = free_more c.self.inside.kept c.loop-r.r true c.loop-r-test.true (c.is_none.ensures ∙ ap not w.if-is_none.false) in
       c.loop-r.invariant ∙ ap₂ slice_get e (sym w.left-is)

@@ -1,5 +1,5 @@
 use Rattle.std.proofs.Common.{ℕ, ◌<◌}
-use Rattle.source_machine.specs.Machine.{run_of, IsAlikeAt}
+use Rattle.source_machine.specs.SourceMachine.{run_of, IsAlikeAt}
 use Rattle.source_machine.proofs.source.Source.same_lists.Given as goal
 
 -- the threads so far are alike

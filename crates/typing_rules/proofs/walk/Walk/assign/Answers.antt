@@ -7,7 +7,7 @@ use Rattle.cov_ast.proofs.ObligationLaws.{append_decided, append_refused}
 use Rattle.cov_ast.specs.Syntax as syntax
 use Rattle.cov_ast.specs.View as view
 use Rattle.typing_state.specs.After.{after_assign}
-use Rattle.typing_state.specs.Kept.{Keeps}
+use Rattle.typing_state.specs.KeptPoints.{Keeps}
 use Rattle.typing_rules.specs.Blocks.{value_type}
 use Rattle.typing_rules.specs.Entailments.{assign_entailments}
 use Rattle.typing_rules.specs.ThreadObligations.{few_preds, flat, stm_parts}

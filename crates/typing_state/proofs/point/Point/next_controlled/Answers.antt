@@ -5,7 +5,7 @@ use Rattle.cov_expr.specs.Trees.{mentions}
 use Rattle.cov_ast.specs.Declarations.{class_of}
 use Rattle.cov_ast.specs.Plain.{plain}
 use Rattle.cov_ast.specs.View as view
-use Rattle.typing_state.specs.Kept.{AreVariables}
+use Rattle.typing_state.specs.KeptPoints.{AreVariables}
 use Rattle.typing_state.specs.Next.{AreDone}
 use Rattle.typing_state.specs.Inside.Least.{if_below}
 use Rattle.typing_state.proofs.WalkLaws.{below_some, below_within, done_below}

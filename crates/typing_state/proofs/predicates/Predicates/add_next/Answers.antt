@@ -6,8 +6,8 @@ use Rattle.cov_expr.specs.View.{term}
 use Rattle.typing_state.specs.Keys.{key}
 use Rattle.typing_state.specs.Terms.{is_false, is_small}
 use Rattle.typing_state.proofs.DropLaws.{counted_more}
-use Rattle.typing_state.proofs.IndexLaws.{distinct_added, keys_more}
-use Rattle.typing_state.proofs.PlaceLaws.{with_new}
+use Rattle.typing_state.proofs.OnceLaws.{distinct_added, keys_more}
+use Rattle.typing_state.proofs.KeyedLaws.{with_new}
 use Rattle.typing_state.proofs.predicates.Predicates.add_next.Goals as goal
 
 pub returns-then-not-branch : goal.returns-then-not-branch
@@ -36,7 +36,7 @@ invariant_of-self-2 c =
     let keys : (if c.in_ok-add_key.field-0 then seen ++ key e ∷ [] else seen) ≡ map key (map term new) =
     ap (λ b. if b then seen ++ key e ∷ [] else seen) c.if-not-branch.false ∙ ap (λ l. map key (map term l) ++ key e ∷ []) c.as_slice.ensures ∙ keys_more list new c.args.e pushed in (
       distinct_added list c.self.invariant.0 new c.args.e pushed absent,
-      subst (λ ks. IfSome c.add_key.new.index (λ i. i.keys ≡ ks)) keys c.in_ok-add_key.ensures.keys,
+      subst (λ ks. IfSome c.add_key.new.keys (λ i. i.keys ≡ ks)) keys c.in_ok-add_key.ensures.keys,
       counted_more is_false list new c.args.e c.self.inside.false_ones c.count_false-false_ones.result pushed c.self.invariant.2 c.count_false-false_ones.ensures,
       counted_more (λ t. not (is_small t)) list new c.args.e c.self.inside.large_ones c.count_large-large_ones.result pushed c.self.invariant.3 c.count_large-large_ones.ensures,
     )

@@ -12,7 +12,7 @@ invariant_of-result c =
     let list = c.self.inside.list in
     let same : map term list ≡ map term c.in_ok-copy_preds.field-0 = ap (map term) (sym c.as_slice.ensures) ∙ sym c.in_ok-copy_preds.ensures in (
       subst (λ es. IsDistinct bytes_eq (map key es)) same c.self.invariant.0,
-      subst (λ es. IfSome c.in_ok-copy_index.field-0 (λ i. i.keys ≡ map key es)) same (c.in_ok-copy_index.ensures (map key (map term list)) c.self.invariant.1),
+      subst (λ es. IfSome c.in_ok-copy_keys.field-0 (λ i. i.keys ≡ map key es)) same (c.in_ok-copy_keys.ensures (map key (map term list)) c.self.invariant.1),
       c.self.invariant.2 ∙ ap (count_by is_false) same,
       c.self.invariant.3 ∙ ap (count_by (λ e. not (is_small e))) same,
     )

@@ -2,7 +2,7 @@ use Rattle.std.proofs.Common.{ap, map, sym, not}
 use Rattle.std.specs.List.{count_by}
 use Rattle.cov_expr.specs.View.{term}
 use Rattle.typing_state.specs.Terms.{is_false, is_small}
-use Rattle.typing_state.proofs.IndexLaws.{distinct_none}
+use Rattle.typing_state.proofs.OnceLaws.{distinct_none}
 use Rattle.typing_state.proofs.predicates.Predicates.new.Goals as goal
 
 pub invariant_of-result : goal.invariant_of-result

@@ -2,7 +2,7 @@ use Rattle.std.proofs.Common.{◌∙◌, ap, map, sym, take}
 use Rattle.std.proofs.lemmas.List.{take_rest}
 use Rattle.cov_expr.specs.View.{term}
 use Rattle.typing_state.specs.Terms.{with_terms}
-use Rattle.typing_state.proofs.PlaceLaws.{replaced}
+use Rattle.typing_state.proofs.KeyedLaws.{replaced}
 use Rattle.typing_state.proofs.predicates.Predicates.replace.Goals as goal
 
 pub returns : goal.returns

@@ -1,7 +1,7 @@
 use Rattle.std.proofs.Common.{ap, map}
 use Rattle.cov_expr.specs.View.{term}
 use Rattle.typing_state.specs.Keys.{key}
-use Rattle.typing_state.proofs.PlaceLaws.{each_once}
+use Rattle.typing_state.proofs.KeyedLaws.{each_once}
 use Rattle.typing_state.proofs.predicates.Predicates.tell_once.Goals as goal
 
 pub returns : goal.returns

@@ -1,6 +1,6 @@
 -- The faults of a text in plain words.
 use Rattle.std.specs.Prelude.{ℕ, List, codes}
-use Rattle.explain.specs.Words.{token_sentence}
+use Rattle.explain.specs.TokenSentences.{token_sentence}
 use Rattle.top_call.specs.declared.answers.FaultKind.{FaultKind}
 use Rattle.top_call.specs.declared.answers.FaultKind.TheVariants as k
 

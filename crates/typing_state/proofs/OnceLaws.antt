@@ -1,4 +1,4 @@
--- Laws of lists in which no two expressions are equal, of their keys, and of places in them.
+-- Laws of lists in which no two expressions are equal, of their keys, and of indices in them.
 use Rattle.std.proofs.Common.{◌≡◌, ◌<◌, ℕ, ◌+◌, zero, suc, List, [], ◌∷◌, ◌++◌, Bool, true, false, not, ◌||◌, Some, None, is_some, cond, ⊎_elim, if◌then◌else◌, nat_lt, get_or, length, map, position, remove, take, drop, refl, sym, ap, subst, ◌∙◌, arith}
 use Rattle.std.specs.List.{AllByRecursion, IsDistinct, list_any, position_or_len}
 use Rattle.std.specs.Str.{bytes_eq}
@@ -15,7 +15,7 @@ use Rattle.indexmap.proofs.SetLemmas.{map-remove}
 use Rattle.indexmap.specs.IndexSet.{insert_key}
 use Rattle.typing_state.specs.Keys.{key}
 use Rattle.typing_state.proofs.KeyLaws.{found_by_key}
-use Rattle.typing_state.proofs.PlaceLaws.{absent}
+use Rattle.typing_state.proofs.KeyedLaws.{absent}
 
 -- what holds of each holds of those that are left
 all_left : (P : List ℕ → Type 0) (ks : List (List ℕ)) (i : ℕ) → AllByRecursion P ks → AllByRecursion P (remove ks i)
@@ -32,9 +32,9 @@ distinct_left (k ∷ ks) zero h = h.1
 distinct_left (k ∷ ks) (suc i) h = (all_left (λ y. bytes_eq k y ≡ false) ks i h.0, distinct_left ks i h.1)
 
 -- the keys of those that are left
-pub keys_left : (list new : List Expr) (place : ℕ) → new ≡ remove list place → remove (map key (map term list)) place ≡ map key (map term new)
-keys_left list new place dropped =
-    sym (ap (λ l. map key (map term l)) dropped ∙ ap (map key) (map-remove term list place) ∙ map-remove key (map term list) place)
+pub keys_left : (list new : List Expr) (index : ℕ) → new ≡ remove list index → remove (map key (map term list)) index ≡ map key (map term new)
+keys_left list new index dropped =
+    sym (ap (λ l. map key (map term l)) dropped ∙ ap (map key) (map-remove term list index) ∙ map-remove key (map term list) index)
 
 -- and the keys with one more
 pub keys_more : (list new : List Expr) (e : Expr) → new ≡ list ++ e ∷ [] → map key (map term list) ++ key (term e) ∷ [] ≡ map key (map term new)
@@ -48,8 +48,8 @@ distinct_none list none = subst (λ l. IsDistinct bytes_eq (map key (map term l)
 
 module _ (list : List Expr) (once : IsDistinct bytes_eq (map key (map term list))) where
   -- where one is dropped, no two of the others are equal
-  pub distinct_dropped : (new : List Expr) (place : ℕ) → new ≡ remove list place → IsDistinct bytes_eq (map key (map term new))
-  distinct_dropped new place dropped = subst (IsDistinct bytes_eq) (keys_left list new place dropped) (distinct_left (map key (map term list)) place once)
+  pub distinct_dropped : (new : List Expr) (index : ℕ) → new ≡ remove list index → IsDistinct bytes_eq (map key (map term new))
+  distinct_dropped new index dropped = subst (IsDistinct bytes_eq) (keys_left list new index dropped) (distinct_left (map key (map term list)) index once)
 
   -- nor where one is added that isn't there
   pub distinct_added : (new : List Expr) (e : Expr) → new ≡ list ++ e ∷ [] → has_term (map term list) (term e) ≡ false → IsDistinct bytes_eq (map key (map term new))
@@ -59,26 +59,26 @@ module _ (list : List Expr) (once : IsDistinct bytes_eq (map key (map term list)
 
 -- Look-ups -----------------------------------------------------------------------------------------------------
 
-module _ (list : List Expr) (e : Expr) (place : ℕ) (inside : place < length list) (at : e ≡ get_or list place e) where
+module _ (list : List Expr) (e : Expr) (index : ℕ) (inside : index < length list) (at : e ≡ get_or list index e) where
   -- one more of a list in which no two are equal isn't there yet
-  pub next_is_new : IsDistinct bytes_eq (map key (map term list)) → has_term (map term (take place list)) (term e) ≡ false
+  pub next_is_new : IsDistinct bytes_eq (map key (map term list)) → has_term (map term (take index list)) (term e) ≡ false
   next_is_new once =
-      absent (map term (take place list)) (term e) (map term (drop (place + 1) list)) (subst (λ es. IsDistinct bytes_eq (map key es)) whole once)
+      absent (map term (take index list)) (term e) (map term (drop (index + 1) list)) (subst (λ es. IsDistinct bytes_eq (map key es)) whole once)
     where
-      parts : list ≡ take place list ++ e ∷ drop (place + 1) list
-      parts = sym (take-append-drop place list) ∙ ap (λ l. take place list ++ l) (drop_more list place e inside ∙ ap (λ f. f ∷ drop (place + 1) list) (sym at))
+      parts : list ≡ take index list ++ e ∷ drop (index + 1) list
+      parts = sym (take-append-drop index list) ∙ ap (λ l. take index list ++ l) (drop_more list index e inside ∙ ap (λ f. f ∷ drop (index + 1) list) (sym at))
 
-      whole : map term list ≡ map term (take place list) ++ term e ∷ map term (drop (place + 1) list)
-      whole = ap (map term) parts ∙ map-append term (take place list) (e ∷ drop (place + 1) list)
+      whole : map term list ≡ map term (take index list) ++ term e ∷ map term (drop (index + 1) list)
+      whole = ap (map term) parts ∙ map-append term (take index list) (e ∷ drop (index + 1) list)
 
   -- so its key goes last
-  pub next_key : (keys after : List (List ℕ)) (k : List ℕ) → IsDistinct bytes_eq (map key (map term list)) → keys ≡ map key (map term (take place list)) → k ≡ key (term e)
-      → after ≡ insert_key bytes_eq keys k → after ≡ map key (map term (take (place + 1) list))
+  pub next_key : (keys after : List (List ℕ)) (k : List ℕ) → IsDistinct bytes_eq (map key (map term list)) → keys ≡ map key (map term (take index list)) → k ≡ key (term e)
+      → after ≡ insert_key bytes_eq keys k → after ≡ map key (map term (take (index + 1) list))
   next_key keys after k once so_far is added =
       added ∙ (λ i. insert_key bytes_eq (so_far i) (is i))
-      ∙ ap (λ b. if b then map key (map term (take place list)) else map key (map term (take place list)) ++ key (term e) ∷ [])
-      (found_by_key (map term (take place list)) (term e) ∙ next_is_new once)
-      ∙ sym (ap (map key) (map_more term list place e inside ∙ ap (λ f. map term (take place list) ++ term f ∷ []) (sym at)) ∙ map-append key (map term (take place list)) (term e ∷ []))
+      ∙ ap (λ b. if b then map key (map term (take index list)) else map key (map term (take index list)) ++ key (term e) ∷ [])
+      (found_by_key (map term (take index list)) (term e) ∙ next_is_new once)
+      ∙ sym (ap (map key) (map_more term list index e inside ∙ ap (λ f. map term (take index list) ++ term f ∷ []) (sym at)) ∙ map-append key (map term (take index list)) (term e ∷ []))
 
 -- Comparing one by one -----------------------------------------------------------------------------------------
 
@@ -101,8 +101,8 @@ module _ (p : Term → Bool) (ts : List Term) (i : ℕ) (d : Term) (before : (k 
       ⊎_elim (λ below. before k below) (λ above. subst (λ n. p (get_or ts n d) ≡ false) (omega (arith, lt, above)) fails) (cases_lt k i)
 
 -- whether one passes is told by whether there is a first one
-pub placed_is_there : (p : Term → Bool) (ts : List Term) → is_some (position p ts) ≡ list_any p ts
-placed_is_there p ts = told (nat_lt (position_or_len p ts) (length ts)) (position_or_len p ts) ∙ any ts
+pub found_is_there : (p : Term → Bool) (ts : List Term) → is_some (position p ts) ≡ list_any p ts
+found_is_there p ts = told (nat_lt (position_or_len p ts) (length ts)) (position_or_len p ts) ∙ any ts
   where
     told : (b : Bool) (n : ℕ) → is_some (cond b (Some n) None) ≡ b
     told true n = refl

@@ -49,12 +49,12 @@ weight_of (b ∷ []) = if digit_below 3 b then Some (b - 48) else None
 weight_of _ = None
 
 -- the first declaration of a name, where the first of these has the number `i`
-abbrev pub place_from : ℕ → List (List ℕ) → List ℕ → Option ℕ
-place_from i [] f = None
-place_from i (n ∷ ns) f = if bytes_eq f n then Some i else place_from (i + 1) ns f
+abbrev pub id_from : ℕ → List (List ℕ) → List ℕ → Option ℕ
+id_from i [] f = None
+id_from i (n ∷ ns) f = if bytes_eq f n then Some i else id_from (i + 1) ns f
 
-abbrev pub place_of : List (List ℕ) → List ℕ → Option ℕ
-place_of names f = place_from 0 names f
+abbrev pub id_of : List (List ℕ) → List ℕ → Option ℕ
+id_of names f = id_from 0 names f
 
 abbrev pub op_of : List ℕ → Option Op
 op_of f =
@@ -84,14 +84,14 @@ no_fields w = if bytes_eq w (codes "nop") then Some Nop else None
 abbrev pub one_field : (version : ℕ) → (vars locks : List (List ℕ)) → (w a : List ℕ) → Option Instr
 one_field version vars locks w a =
     if bytes_eq w (codes "jump") then option_map Jump (number_of a)
-    else (if bytes_eq w (codes "acquire") then option_map Acquire (place_of locks a)
-    else (if bytes_eq w (codes "release") then option_map Release (place_of locks a)
+    else (if bytes_eq w (codes "acquire") then option_map Acquire (id_of locks a)
+    else (if bytes_eq w (codes "release") then option_map Release (id_of locks a)
     else (if bytes_eq w (codes "out") && nat_le 2 version then option_map Out (register_of a) else None)))
 
 abbrev pub two_fields : (vars : List (List ℕ)) → (w a b : List ℕ) → Option Instr
 two_fields vars w a b =
-    if bytes_eq w (codes "load") then both Load (register_of a) (place_of vars b)
-    else (if bytes_eq w (codes "store") then both Store (place_of vars a) (register_of b)
+    if bytes_eq w (codes "load") then both Load (register_of a) (id_of vars b)
+    else (if bytes_eq w (codes "store") then both Store (id_of vars a) (register_of b)
     else (if bytes_eq w (codes "jz") then both Jz (register_of a) (number_of b)
     else (if bytes_eq w (codes "movc") then both MovC (register_of a) (number_of b)
     else (if bytes_eq w (codes "movr") then both MovR (register_of a) (register_of b) else None))))

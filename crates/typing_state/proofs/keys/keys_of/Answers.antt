@@ -1,6 +1,6 @@
 use Rattle.std.proofs.Common.{arith}
-use Rattle.typing_state.proofs.IndexLaws.{next_key}
-use Rattle.typing_state.proofs.index.index_of.Goals as goal
+use Rattle.typing_state.proofs.OnceLaws.{next_key}
+use Rattle.typing_state.proofs.keys.keys_of.Goals as goal
 
 pub loop-e-preserved : goal.loop-e-preserved
 loop-e-preserved c =

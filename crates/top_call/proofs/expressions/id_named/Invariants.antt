@@ -1,7 +1,7 @@
 use Rattle.std.proofs.Common.{◌≡◌, ◌+◌, drop}
 use Rattle.cov_ast.specs.NameTables.{number_of}
 use Rattle.top_call.specs.Inside.{variables}
-use Rattle.top_call.proofs.expressions.place_named.Given as goal
+use Rattle.top_call.proofs.expressions.id_named.Given as goal
 
 -- none of those that were looked at has the name
 abbrev pub invariant-loop-x : goal.invariant-loop-x

@@ -29,7 +29,7 @@ first_by_key es e =
     turned true n = refl
     turned false n = refl
 
--- an expression has the place of its key
+-- an expression has the index of its key
 position_by_key : (es : List Term) (e : Term) → position (bytes_eq (key e)) (map key es) ≡ position (λ f. same f e) es
 position_by_key es e = λ i. cond (nat_lt (first_by_key es e i) (length-map es key i)) (Some (first_by_key es e i)) None
 
@@ -41,19 +41,6 @@ module _ (keys : List (List ℕ)) (list : List Expr) (keyed : keys ≡ map key (
     -- whether a key is there says whether the expression is
     pub keyed_found : list_any (bytes_eq k) keys ≡ has_term (map term seen) e
     keyed_found = (λ i. list_any (bytes_eq (is i)) (keyed i)) ∙ found_by_key (map term list) e ∙ ap (λ es. has_term (map term es) e) shown
-
-  -- an expression goes last, with its key
-  pub keys_added : (after : List (List ℕ)) (new : List Expr) (e : Expr) (k : List ℕ) → after ≡ keys ++ k ∷ [] → new ≡ list ++ e ∷ [] → k ≡ key (term e)
-      → after ≡ map key (map term new)
-  keys_added after new e k added pushed is =
-      added ∙ (λ i. keyed i ++ is i ∷ [])
-      ∙ sym (ap (λ l. map key (map term l)) pushed ∙ ap (map key) (map-append term list (e ∷ [])) ∙ map-append key (map term list) (term e ∷ []))
-
-  -- and one that is dropped goes with its key
-  pub keys_dropped : (after : List (List ℕ)) (new : List Expr) (place : ℕ) → after ≡ remove keys place → new ≡ remove list place → after ≡ map key (map term new)
-  keys_dropped after new place gone dropped =
-      gone ∙ ap (λ ks. remove ks place) keyed
-      ∙ sym (ap (λ l. map key (map term l)) dropped ∙ ap (map key) (map-remove term list place) ∙ map-remove key (map term list) place)
 
 -- an expression that isn't there is added
 pub with_new : (es : List Expr) (new : List Expr) (old : List Expr) (e : Expr) → es ≡ old → new ≡ es ++ e ∷ [] → has_term (map term old) (term e) ≡ false
@@ -103,12 +90,3 @@ replaced es left preds k cut alike once =
     ap (λ l. with_terms l (map term (drop k preds))) (sym once ∙ ap (λ l. distinct_terms (map term l)) cut ∙ ap distinct_terms alike)
     ∙ sym (with_terms-append [] (map term (take k preds)) (map term (drop k preds)))
     ∙ ap distinct_terms (sym (map-append term (take k preds) (drop k preds)) ∙ ap (map term) (take-append-drop k preds))
-
--- Copies -------------------------------------------------------------------------------------------------------
-
--- keys that are copied one by one are equal
-pub keys_copied : (ks ls : List (List ℕ)) → AllZip (λ k l. l ≡ k) ks ls → ls ≡ ks
-keys_copied [] [] h = refl
-keys_copied [] (l ∷ ls) h = absurd h
-keys_copied (k ∷ ks) [] h = absurd h
-keys_copied (k ∷ ks) (l ∷ ls) h = λ i. h.0 i ∷ keys_copied ks ls h.1 i
