@@ -25,14 +25,14 @@ def branches(inner):
     return nested("if a { ", " } else { }", inner)
 
 
-def sum_of(atom):
-    """A sum as high as an expression may be."""
-    return "(" * (HEIGHT - 1) + atom + " + 1)" * (HEIGHT - 1)
+def sum_of(atom, height=HEIGHT):
+    """A sum of this height, by default as high as an expression may be."""
+    return "(" * (height - 1) + atom + " + 1)" * (height - 1)
 
 
-def certificate():
-    """A certificate of the goal 1, as high as one may be, with an expression of that height inside."""
-    return f"have [{sum_of('1')}] calc (" + "have [1] calc (" * (HEIGHT - 2) + "calc" + ")" * (HEIGHT - 1)
+def certified(proof):
+    """A statement with a certificate as high as one may be, which ends with the proof of an expression of nearly the height of one."""
+    return f"a := 1 by {{ 1: {'have [1] calc (' * (HEIGHT - 2)}have [{proof} calc{')' * (HEIGHT - 2)} }};"
 
 
 def brackets():
@@ -46,7 +46,9 @@ def texts():
         "branches": branches("a := 1;"),
         "loops": nested("while a { ", " }", "a := 1;"),
         "expression": branches(f"a := {sum_of('a')};"),
-        "certificate": branches(f"a := 1 by {{ 1: {certificate()} }};"),
+        "calc": branches(certified(f"0 < {sum_of('1', HEIGHT - 1)}] calc")),
+        "ring": branches(certified(f"{sum_of('a', HEIGHT - 1)} == {sum_of('a', HEIGHT - 1)}] ring")),
+        "range": branches(certified(f"0 <= {sum_of('a', HEIGHT - 1)}] range")),
         "brackets": brackets(),
         "start": '{"a":1}',
         "lists": "[" * 100_000 + "]" * 100_000,
@@ -55,7 +57,7 @@ def texts():
 
 
 def calls(path):
-    programs = ["flat", "branches", "loops", "expression", "certificate", "brackets"]
+    programs = ["flat", "branches", "loops", "expression", "calc", "ring", "range", "brackets"]
     for command in ["check", "fmt", "migrate", "compile"]:
         yield from ([command, path(name)] for name in programs)
     for name in programs:
