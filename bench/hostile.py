@@ -90,7 +90,7 @@ def write_writer(folder):
 
 def injected(folder, call, what, when, path=None):
     """The words that make a call of the system do something else."""
-    only = ["-P", os.path.join(folder, path)] if path else []
+    only = ["-P", path, "-P", os.path.join(folder, path)] if path else []
     return ["strace", "-qq", "-o", os.path.join(folder, "calls"), *only, "-e", f"trace={call}", "-e", f"inject={call}:{what}:when={when}"]
 
 
