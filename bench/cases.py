@@ -9,7 +9,7 @@ both to their ends, where their memories are the same and the positions of threa
 import os
 import sys
 
-from machines import SourceRun, pair_report, program_of, reply, run_report, schedule_of, start_of
+from machines import Fault, Refused, SourceRun, pair_report, program_of, reply, rules_of_declarations, run_report, schedule_of, start_of
 
 DATA = os.path.join(os.path.dirname(os.path.dirname(os.path.abspath(__file__))), "crates", "covern_cases", "data")
 
@@ -218,6 +218,166 @@ def secrets(cases):
         cases.close()
 
 
+C = "var n: low; lock l nowrite n; thread a { lock l; n := 1; unlock l; } thread b { lock l; n := 2; unlock l; }"
+LISTING_OF_C = """code 1
+var n
+lock l
+thread a 4
+1 acquire l
+1 movc r0 1
+1 store n r0
+1 release l
+thread b 4
+1 acquire l
+1 movc r0 2
+1 store n r0
+1 release l
+"""
+SPELLING_OF_C = """var n: low;
+lock l nowrite n;
+thread a {
+  lock l;
+  n := 1;
+  unlock l;
+}
+thread b {
+  lock l;
+  n := 2;
+  unlock l;
+}
+"""
+
+
+def reports_of_c(files):
+    """Each command on program C: its words, files and report."""
+    named = {name: expanded(text).encode() for name, text in files.items()}
+
+    def worked(*words):
+        return reply(list(words), named)[0].decode()
+
+    # (from the program's start to the end of its schedule no thread of C waits, so that code does the same)
+    code = worked("run", "p", "s", "e")
+    pair = worked("pair", "p", "s", "s", "e")
+    return [("check p", "p", "accepted: 2 threads, 6 statements, 2 entailments\n"), ("compile p", "p", LISTING_OF_C), ("fmt p", "p", SPELLING_OF_C),
+            ("migrate p", "p", "version 2;\n" + SPELLING_OF_C), ("run p s k", "psk", worked("run", "p", "s", "k")), ("run-code p s e", "pse", code),
+            ("run-until p s k 'n == 1'", "psk", worked("run-until", "p", "s", "k", "n == 1")), ("pair p s t k", "pstk", worked("pair", "p", "s", "t", "k")),
+            ("pair-code p s t e", "pste", pair)]
+
+
+def fails_each(cases, words, names, report, status=0, step=7):
+    """Each fetch and each put fails in turn."""
+    for number, name in enumerate(names, 1):
+        cases.call(f"fetch={number} {words}", f"read fault: {name}\n", 4)
+    if names:
+        cases.call(f"fetch={len(names) + 1} {words}", report, status)
+    puts_each(cases, words, report, status, step)
+
+
+def puts_each(cases, words, report, status, step):
+    for put, length in enumerate(range(0, len(report), step), 1):
+        cases.pieces.append(f"$ step={step} put={put} {words}\n{report[:length]}[5]\n")
+    cases.call(f"step={step} put={(len(report) + step - 1) // step + 1} {words}", report, status)
+
+
+def failures():
+    """Files and outputs that fail, for each command and each answer."""
+    cases = Cases("Files and outputs that fail: each fetch and each put in turn, for each command and for each answer; outputs that take little at once, or\n"
+                  "// have too little room.")
+    files = {"s": start(n=0), "t": start(n=0), "k": "[0,1,1,0,1]", "e": turns((0, 9), (1, 9))}
+    reports = reports_of_c({"p": C, **files})
+    for words, names, report in reports:
+        cases.case(f"each call outside fails: {words.split()[0]}", C, **files)
+        fails_each(cases, words, names, report)
+        for step in (1, 7):
+            cases.call(f"step={step} {words}", report)
+        for room in (0, 1, len(report) - 1):
+            cases.pieces.append(f"$ room={room} {words}\n{report[:room]}[5]\n")
+            cases.pieces.append(f"$ step=7 room={room} {words}\n{report[:room]}[5]\n")
+        cases.call(f"room={len(report)} {words}", report)
+        cases.close()
+    cases.case("each put of a byte fails", C, **files)
+    puts_each(cases, "run p s k", dict((words, report) for words, _, report in reports)["run p s k"], 0, 1)
+    cases.close()
+    leak = "var a: low; var s: high; thread t { a := s; }"
+    cases.case("each put of another answer fails", leak, s=start(a=0, s=0), t=start(a=0, s=1), u=start(a=1, s=0), k="[0,0]", q="thread", r="var a: low; var a: low;")
+    for words, due, status in (("check", "usage: covern COMMAND WORDS\n", 2), ("check p p", "usage: covern COMMAND WORDS\n", 2),
+                               ("check x", "read fault: x\n", 4), ("run p x k", "read fault: x\n", 4), ("check q", "malformed q: token at 7\n", 3),
+                               ("run p k k", "malformed k: object\n", 3), ("run p s s", "malformed s: list\n", 3),
+                               ("run-until p s k s+", "malformed expression: token at 2\n", 3), ("run-until p s k x", "malformed expression: unknown at 0\n", 3),
+                               ("check r", "refused W1 at 16: a\n", 1), ("check p", "refused V9 in t at 36 entailment 1\n", 1),
+                               ("pair p s u k", "bad starts: a\n", 9), ("pair p s t k", "differ at step 2: a\n", 8)):
+        puts_each(cases, words, due, status, 7)
+        cases.pieces.append(f"$ room={len(due) - 1} {words}\n{due[:-1]}[5]\n")
+    cases.close()
+    cases.case("a file that can't be read, and an output that fails", C, **files)
+    for words, names, _ in reports:
+        for number, name in enumerate(names, 1):
+            cases.pieces.append(f"$ fetch={number} put=1 {words}\n[5]\n$ fetch={number} step=12 put=2 {words}\nread fault: [5]\n")
+    cases.close()
+    cases.case("each file is read before the next is fetched", "thread", s="{", k="[", q=C, t=start(n=0), r="thread a { } thread a { }", u="{}")
+    for words, due in (("fetch=2 run p s k", "p: token at 7"), ("fetch=3 run q s k", "s: json"), ("fetch=4 run-until q t k !", "k: json"),
+                       ("fetch=2 pair p s s k", "p: token at 7"), ("fetch=3 pair q s s k", "s: json"), ("fetch=4 pair q t s k", "s: json"),
+                       ("fetch=2 run-code p s k", "p: token at 7"), ("fetch=3 run-code q s k", "s: json"),
+                       ("fetch=3 pair-code q s s k", "s: json"), ("fetch=4 pair-code q t s k", "s: json")):
+        cases.call(words, f"malformed {due}\n", 3)
+    cases.call("fetch=2 run r u k", "read fault: u\n", 4)
+    cases.call("fetch=3 run r u k", "read fault: k\n", 4)
+    cases.close()
+    return cases
+
+
+ROW_7 = ("var mode: low; var buf: low when mode == 0; var tmp: high; var net: low; lock l hide mode, buf; thread r assume hide tmp { lock l; "
+         "if mode == 0 { tmp := buf as 1; } else { tmp := 0; } join { ; buf: mode == 0, tmp: 1 } unlock l; net := tmp; }")
+WHOLE = ("version 2; var a: low; var b: low when a == 0; lock l nowrite a hide b inv a <= 3; thread t guarantee nowrite c { lock l; a := 1 retype b as 0 "
+         "by { 1: have [1 == 0] (rev 1 [_ == 0] (hyp 2)) (clash 3), 2: axiom 4 (a, !b) (split [a < 2] auto calc) }; while a inv { a <= 3 ; b: 1 } "
+         "{ output 7; } note {} by { 1: fwd 2 [_ <= 3] range }; unlock l; }")
+
+
+def checked(text):
+    """What `check` says of a text without statements, or that isn't a program, or that has a fault in its declarations."""
+    try:
+        p = program_of(text.encode())
+        rules_of_declarations(p)
+    except Fault as fault:
+        return f"malformed p: {fault.kind} at {fault.at}\n", 3
+    except Refused as refusal:
+        return f"{refusal}\n", 1
+    if p.threads:
+        sys.exit(f"the rules of statements aren't here: {text}")
+    return "accepted: 0 threads, 0 statements, 0 entailments\n", 0
+
+
+def cuts():
+    """Texts cut behind each byte."""
+    cases = Cases("Texts that are cut behind each of their bytes.")
+    for name, text, whole in (("a program with annotations", ROW_7, "accepted: 1 threads, 6 statements, 8 entailments\n"),
+                              ("a program of each kind of part", WHOLE, None)):
+        cases.case(name, f"@1 {text}")
+        for length in range(len(text)):
+            due, status = checked(text[:length])
+            cases.call(f"cut={length} check p", due, status)
+        cases.call("check p", *((whole, 0) if whole else checked(text)))
+        cases.close()
+    whole = '{"n": 10, "m":2}'
+    cases.case("a start", f"@1 {whole}", x="var n: low; var m: low; thread t { }", k="[0]")
+    for length in range(len(whole)):
+        cases.call(f"cut={length} run x p k", "malformed p: json\n", 3)
+    cases.works_out("run", "x", "p", "k")
+    cases.close()
+    whole = "[0, 0,\t0]"
+    cases.case("a schedule", f"@1 {whole}", x="var n: low; thread t { n := 1; }", s=start(n=0))
+    for length in range(len(whole)):
+        cases.call(f"cut={length} run x s p", "malformed p: json\n", 3)
+    cases.works_out("run", "x", "s", "p")
+    cases.close()
+    cases.case("an expression", "var n: low; thread t { n := 1; }", s=start(n=0), k="[0,0]")
+    expression = "(n + 1) * 2 == 4 && !0"
+    for length in range(len(expression) + 1):
+        cases.works_out("run-until", "p", "s", "k", expression[:length])
+    cases.close()
+    return cases
+
+
 STARTS = ["", " ", "0", "null", "true", "\"n\"", "[]", "[0]", "{}", "{\"n\":0", "{\"n\":0}}", "{\"n\":0} {}", "{\"n\":0,}", "{,\"n\":0}", "{n:0}", "{'n':0}",
           "{\"n\" 0}", "{\"n\":}", "{\"n\":0 \"m\":0}", "// a\n{\"n\":0}", "{\"m\":0}", "{\"N\":0}", "{\"n \":0}", "{\"n\":0,\"m\":0}", "{\"\":0,\"n\":0}",
           "{\"n\":-1}", "{\"n\":-0}", "{\"n\":0.0}", "{\"n\":1e0}", "{\"n\":1E+2}", "{\"n\":00}", "{\"n\":01}", "{\"n\":+1}", "{\"n\":.5}", "{\"n\":1.}",
@@ -338,7 +498,7 @@ def numbers():
     return cases
 
 
-FILES = {"positions": positions, "registers": registers, "inputs": inputs, "numbers": numbers}
+FILES = {"positions": positions, "registers": registers, "failures": failures, "cuts": cuts, "inputs": inputs, "numbers": numbers}
 
 
 def main():

@@ -15,7 +15,7 @@ The parts are
 - `memory`: commands in more and more room for addresses: they answer whole, or with status 6 and nothing.
 
 A text that takes more than ten seconds is told, and so is a process that a signal ends. The status is 1 where something is told. With all parts it
-takes an hour or so on one processor; `--count 10000` takes some ten minutes.
+takes an hour or so on one processor, and some ten minutes with `--count 10000`.
 
 That each allocation may be refused in turn is tried by `rt try --fail-alloc N -- WORD..` in crates/covern_cli, for N from 1 until the answer is whole.
 """
@@ -459,7 +459,8 @@ def limit_rows():
     loop = "var v0: low; thread t { while 1 { v0 := v0 + 1; } }"
     for command in ("run", "run-code"):
         yield row(f"`{command}` of a loop, 100,000 entries", loop, f"{command} p s k", **start)
-    yield row("`run-until` of a loop, 100,000 entries and 4,095 bytes of E", loop, f"run-until p s k 0{'&&(v0==9)' * 449}", **start)
+    stop = "&&".join(["(" + "&&".join(["v0==1"] * 30) + "&&0)"] * 8)
+    yield row("`run-until` of a loop, 100,000 entries and an expression of 975 nodes", loop, f"run-until p s k {stop}", **start)
     for command in ("pair", "pair-code"):
         yield row(f"`{command}` of a loop, 100,000 entries", loop, f"{command} p s s k", **start)
     wide = low(256) + f"thread t assume nowrite {all_of(256)} {{ while 1 {{ " + "".join(f"v{i} := {i}; note {{}}; " for i in range(256)) + "} }"
@@ -479,7 +480,7 @@ def limit_rows():
 
 
 def measured(program, words, folder):
-    """Status, seconds of processor time, and the most memory that was resident, of a run."""
+    """Status and seconds of processor time of a run."""
     with open(os.path.join(folder, "out"), "wb") as out:
         child = subprocess.Popen([program, *words], cwd=folder, stdout=out, stderr=subprocess.DEVNULL)
         begun = time.monotonic()
@@ -492,7 +493,29 @@ def measured(program, words, folder):
             child.kill()
             os.wait4(child.pid, 0)
         child.returncode = 0
-    return os.waitstatus_to_exitcode(status) if done else "too long", used.ru_utime + used.ru_stime, used.ru_maxrss / 1024
+    return os.waitstatus_to_exitcode(status) if done else "too long", used.ru_utime + used.ru_stime
+
+
+def peak_of(program, words, folder):
+    """The most memory that was resident in a run, in MiB, read while the program waits to write its report to a full pipe."""
+    read_end, write_end = os.pipe()
+    os.set_blocking(write_end, False)
+    try:
+        while True:
+            os.write(write_end, bytes(4096))
+    except BlockingIOError:
+        os.set_blocking(write_end, True)
+    with subprocess.Popen([program, *words], cwd=folder, stdout=write_end, stderr=subprocess.DEVNULL) as child:
+        os.close(write_end)
+        while True:
+            with open(f"/proc/{child.pid}/status", encoding="utf-8") as status:
+                said = dict(line.split(":", 1) for line in status)
+            if said["State"].split()[0] in "SZ":
+                break
+            time.sleep(0.001)
+        with os.fdopen(read_end, "rb") as output:
+            output.read()
+    return int(said["VmHWM"].split()[0]) / 1024 if "VmHWM" in said else 0
 
 
 def limits_part(options, folder, found):
@@ -501,11 +524,12 @@ def limits_part(options, folder, found):
     for title, words, files in limit_rows():
         for name, text in files.items():
             write(folder, name, text)
-        status, seconds, memory = measured(options.program, words, folder)
+        status, seconds = measured(options.program, words, folder)
+        memory = peak_of(options.program, words, folder)
         with open(os.path.join(folder, "out"), "rb") as out:
             line = out.readline().decode("latin-1").strip()[:60]
         size = sum(len(files[name]) for name in set(words) & set(files))
-        print(f"| {title} | {size:,} | `{line}` | {seconds * 1000:.0f} | {memory:.0f} |", flush=True)
+        print(f"| {title} | {size:,} | `{line}` | {seconds * 1000:.0f} | {memory:.1f} |", flush=True)
         found.case(title, status if status in (0, 1, 2, 3, 7, 8, 9) else f"status {status}", status)
 
 

@@ -17,7 +17,9 @@
 //! - `//// NAME` begins a case. The lines behind it are the text of its file `p`.
 //! - `> NAME` begins the text of another file.
 //! - `$ WORDS` calls the product with these words, on these files in memory. The lines behind it are what the call has to report,
-//!   and `[N]` the status, where it isn't 0. A word with blanks stands between apostrophes.
+//!   and `[N]` the status, where it isn't 0. A word with blanks stands between apostrophes. In front of the command may stand what the
+//!   call meets outside: `fetch=N` and `put=N`, that the fetch or the put of this number fails; `step=N`, that a put takes N bytes;
+//!   `room=N`, that the output has room for N bytes; `cut=N`, that there are only N bytes of the file `p`.
 //! - `% PART` calls a part of the product by itself on the text of `p`: `tokens`, `parsed`, `declared`, `certificates` or `listing`
 //!   ([`parts`] says what each shows).
 //! - An empty line behind a call ends what it has to show. What stands between there and the next case is a comment.
@@ -35,6 +37,7 @@ mod certificates;
 mod claim;
 mod failure;
 mod lines;
+mod outside;
 mod parts;
 mod play;
 #[cfg(test)]

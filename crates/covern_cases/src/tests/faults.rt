@@ -62,7 +62,12 @@ fn runs_both(
     for (name, text) in texts {
         files.push((Name::new(name).ok_or("a name")?, list_of(alloc, text)?))?;
     }
-    let Ok(mut shelf) = shelf_of(alloc, files.as_slice(), list_of(alloc, &[fetch])?) else {
+    let Ok(mut shelf) = shelf_of(
+        alloc,
+        files.as_slice(),
+        usize::MAX,
+        list_of(alloc, &[fetch])?,
+    ) else {
         return Err("a shelf".into());
     };
     let mut sink = MemSink::new(alloc, 1000, 1000, List::new(alloc))?;
