@@ -7,8 +7,9 @@ use Rattle.cov_expr.specs.declared.limits.TheConstants.{MOST_BYTES}
 use Rattle.cov_io.specs.Shelves.{File, Shelved, held}
 use Rattle.flow_model.specs.Agreement.{AreFitStarts}
 use Rattle.policy_class.specs.Resolved.{resolved}
+use Rattle.top_call.specs.Big.{first_start, second_start}
 use Rattle.top_call.specs.Check.{IsAcceptedText, meaning, obligations, verdict_by}
-use Rattle.top_call.specs.Commands.{Command, check, compile, fmt, migrate, run, run_code, run_until, pair, pair_code, nothing}
+use Rattle.top_call.specs.Commands.{Command, check, compile, fmt, migrate, run, run_code, run_until, pair, pair_code, big, nothing}
 use Rattle.top_call.specs.Files.{Reads}
 use Rattle.top_call.specs.Headline.{HoldsAccepted, RunsAccepted}
 use Rattle.top_call.specs.Outcome.{Does, plan_of, memory, entries}
@@ -19,6 +20,7 @@ use Rattle.top_call.specs.Replies.{Reply, malformed, ran, status_of}
 use Rattle.top_call.specs.Runs.{IsDeclaredText, RunsTo, declared_obligations, report_on_run, unless_refused, UnlessRefused}
 use Rattle.top_call.specs.declared.answers.Fault.{Fault}
 use Rattle.top_call.specs.declared.answers.Status.TheVariants as s
+use Rattle.top_call.proofs.BigLaws.{sum_agrees}
 use Rattle.top_call.proofs.CodeLaws.{compile_agrees, pair_code_agrees, run_code_agrees}
 use Rattle.top_call.proofs.TextLaws.{program_reading, some_one}
 
@@ -97,4 +99,6 @@ never_differs before after files (pair name first second schedule) reply told ac
     plan_agrees before after (next read.0) reply (λ l r k reply' pairs differ. pairs.agree (subst IsAcceptedText same accepted.accepted) differ) read.2 e
 never_differs before after files (pair_code name first second schedule) reply told accepted h e =
     plan_agrees before after (plan_of (pair_code name first second schedule)) reply pair_code_agrees h e
+never_differs before after files (big rounds schedule) reply told accepted h e =
+    plan_agrees before after (plan_of (big rounds schedule)) reply (λ p k. sum_agrees rounds p (first_start p) (second_start p) k) h e
 never_differs before after files nothing reply told accepted h e = let wrong : s.Usage ≡ s.Differ = sym (ap status_of h) ∙ e in cc

@@ -71,7 +71,7 @@ module _ (p : Parsed) (may_reply : Reply → Type 0) where
 
 module _ (p : Parsed) (program : Program) (c : Parts) (named : IsNamed p program) (code : IsCodeOf program c) where
   -- the reply to the program and its code is the reply to the text
-  by_code : (may_reply : Program → Parts → Reply → Type 0) (reply : Reply) → may_reply program c reply → RepliesByCode p (may_reply (resolved p) (code_of p)) reply
+  pub by_code : (may_reply : Program → Parts → Reply → Type 0) (reply : Reply) → may_reply program c reply → RepliesByCode p (may_reply (resolved p) (code_of p)) reply
   by_code may_reply reply h = record {
     verdict = subst (λ o. UnlessRejected p o (may_reply (resolved p) (code_of p)) reply) (sym none)
         (subst (λ q. may_reply q (compiled q) reply) named.is (subst (λ d. may_reply program d reply) code.is h));
@@ -166,10 +166,10 @@ unfit_codes p c left right schedule found is = subst (λ o. UnlessUnfit p o (Cod
 -- Replies ------------------------------------------------------------------------------------------------------
 
 -- Replies to an accepted program: there is one at most, none is that a file couldn't be read, and it is done where all that is asked holds.
-record IsSoundByCode (IsAsked : Type 0) (may_reply : Reply → Type 0) : Type 0 where
-  one : (reply other : Reply) → may_reply reply → may_reply other → reply ≡ other
-  no_fault : (reply : Reply) → may_reply reply → status_of reply ≡ s.ReadFault → ⊥
-  done : (reply : Reply) → IsAsked → may_reply reply → status_of reply ≡ s.Done
+pub record IsSoundByCode (IsAsked : Type 0) (may_reply : Reply → Type 0) : Type 0 where
+  pub one : (reply other : Reply) → may_reply reply → may_reply other → reply ≡ other
+  pub no_fault : (reply : Reply) → may_reply reply → status_of reply ≡ s.ReadFault → ⊥
+  pub done : (reply : Reply) → IsAsked → may_reply reply → status_of reply ≡ s.Done
 
 module _ (p : Parsed) (IsAsked : Type 0) (may_reply : Reply → Type 0) (sound : IsSoundByCode IsAsked may_reply) where
   rejected_one : (o : Option Refusal) (reply other : Reply) → UnlessRejected p o may_reply reply → UnlessRejected p o may_reply other → reply ≡ other
@@ -184,7 +184,7 @@ module _ (p : Parsed) (IsAsked : Type 0) (may_reply : Reply → Type 0) (sound :
   accepted_done (Some refusal) reply e asked h = let wrong : Some refusal ≡ None = e in cc
   accepted_done None reply e asked h = sound.done reply asked h
 
-  by_code_sound : (IsAsked → IsAcceptedText p) → IsSoundReply (λ status. status ≡ s.Done) IsAsked (RepliesByCode p may_reply)
+  pub by_code_sound : (IsAsked → IsAcceptedText p) → IsSoundReply (λ status. status ≡ s.Done) IsAsked (RepliesByCode p may_reply)
   by_code_sound accepted = record {
     one = λ reply other h k. rejected_one (first_false (obligations p)) reply other h.verdict k.verdict;
     no_fault = λ reply h e. rejected_no_fault (first_false (obligations p)) reply h.verdict e;
@@ -248,7 +248,7 @@ module _ (p : Parsed) (may_reply : Reply → Type 0) (never : (reply : Reply) �
   unless_agrees (Some refusal) reply h e = let wrong : s.Refused ≡ s.Differ = sym (ap status_of h) ∙ e in cc
   unless_agrees None reply h e = never reply h e
 
-  by_code_agrees : (reply : Reply) → RepliesByCode p may_reply reply → status_of reply ≡ s.Differ → ⊥
+  pub by_code_agrees : (reply : Reply) → RepliesByCode p may_reply reply → status_of reply ≡ s.Differ → ⊥
   by_code_agrees reply h e = unless_agrees (first_false (obligations p)) reply h.verdict e
 
 pub compile_agrees : (p : Parsed) (reply : Reply) → Compiles p reply → status_of reply ≡ s.Differ → ⊥

@@ -1,6 +1,6 @@
 -- Laws of reading a file, whatever is replied to its bytes.
 use Rattle.std.proofs.Common.{◌≡◌, ◌⊎◌, ℕ, ◌<◌, ◌≤◌, nat_lt, List, Bool, true, false, Result, Option, Ok, Err, Some, None, IfSome, IsSomeAnd, IsNone, IsTrue, length, subst, ap, sym, ◌∙◌, inl, inr, arith}
-use Rattle.std.specs.Prelude.{MatchBool}
+use Rattle.std.specs.Prelude.{MatchBool, MatchResult}
 use Rattle.std.proofs.lemmas.Bool.Decides.{nat_tests}
 use Rattle.cov_io.specs.Counters.{Rose, raised}
 use Rattle.cov_io.specs.Shelves.{File, Shelved, Gives, Passes, held}
@@ -8,8 +8,8 @@ use Rattle.cov_io.specs.declared.shelf.Fetched.TheVariants.{Whole, TooLong}
 use Rattle.cov_io.specs.declared.shelf.ShelfFault.TheVariants as faults
 use Rattle.cov_io.proofs.ShelfLaws.{gives_within}
 use Rattle.top_call.specs.Files.{Misses, Reads, GivenBy}
-use Rattle.top_call.specs.Inside.{Stops, Gets, Fails, IsUnread}
-use Rattle.top_call.specs.Replies.{Reply, read_fault, too_long, status_of}
+use Rattle.top_call.specs.Inside.{Stops, Gets, Fails, IsUnread, Takes}
+use Rattle.top_call.specs.Replies.{Reply, malformed, read_fault, too_long, status_of}
 use Rattle.top_call.specs.declared.answers.Answer.{Answer}
 use Rattle.top_call.specs.declared.answers.Fault.{Fault}
 use Rattle.top_call.specs.declared.answers.Status.TheVariants as s
@@ -65,6 +65,20 @@ missed IsFault before after name most stop h counted passes = record {
   counted = counted;
   passes = passes;
 }
+
+-- one call that gives a file, whose bytes are read or have a fault
+module _ {A B : Type 0} (IsRead : List ℕ → B → Type 0) (IsFault : List ℕ → Fault → Type 0) (view : A → B) where
+  pub file_read : (before after : Shelved) (name : List ℕ) (most : ℕ) (bytes : List ℕ) (r : Result A Stop) → Gives before after name most (Ok (Whole bytes))
+      → after.calls ≡ raised before.calls 1 → Passes before after
+      → MatchResult r (λ x. IsRead bytes (view x)) (Stops (λ reply. (fault : Fault) × IsFault bytes fault × (reply ≡ malformed name fault)))
+      → MatchResult r (λ x. Takes IsRead before after name most (view x)) (λ stop. Fails IsFault before after name most stop)
+  file_read before after name most bytes (Ok x) gives counted passes h = record { bytes = bytes; gives = gives; is_read = h; counted = counted; passes = passes }
+  file_read before after name most bytes (Err stop) gives counted passes h = record {
+    stops = stops_onward (λ reply. (fault : Fault) × IsFault bytes fault × (reply ≡ malformed name fault)) (IsUnread IsFault before after name most) stop
+        (λ reply k. inl (bytes, gives, k)) h;
+    counted = counted;
+    passes = passes;
+  }
 
 -- What the files say -------------------------------------------------------------------------------------------
 

@@ -11,6 +11,8 @@ pub mod ExpressionLaws
 pub mod RunLaws
 pub mod PairLaws
 pub mod CodeLaws
+pub mod BigLaws
+pub mod RoundsLaws
 pub mod AgreeLaws
 pub mod ReportLaws
 -- Every command: what a call promises, and that it has one reply.

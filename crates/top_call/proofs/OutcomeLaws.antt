@@ -12,9 +12,10 @@ use Rattle.compiled_code.specs.GoodCode.{IsGoodCode}
 use Rattle.cov_text.specs.Text.{program_of}
 use Rattle.flow_model.specs.Secure.{IsSecure}
 use Rattle.policy_class.specs.Resolved.{resolved}
+use Rattle.top_call.specs.Big.{first_start, second_start}
 use Rattle.top_call.specs.Check.{Judges, IsAcceptedText, AreNamesInOrder, meaning}
 use Rattle.top_call.specs.Codes.{Compiles, RepliesListing, code_of}
-use Rattle.top_call.specs.Commands.{Command, check, compile, fmt, migrate, run, run_code, run_until, pair, pair_code, nothing}
+use Rattle.top_call.specs.Commands.{Command, check, compile, fmt, migrate, run, run_code, run_until, pair, pair_code, big, nothing}
 use Rattle.top_call.specs.Ends.{Ends}
 use Rattle.top_call.specs.Headline.{HoldsSecure, PutsCode, RunsAccepted}
 use Rattle.top_call.specs.Outcome.{Does, Outcome, IsMet, IsSuccess, plan_of}
@@ -25,6 +26,7 @@ use Rattle.top_call.specs.Reports.{report_of}
 use Rattle.top_call.specs.declared.answers.Status.{Status}
 use Rattle.top_call.specs.declared.answers.Status.TheVariants as s
 use Rattle.top_call.proofs.AgreeLaws.{never_differs}
+use Rattle.top_call.proofs.BigLaws.{sum_sound}
 use Rattle.top_call.proofs.CheckLaws.{check_sound, judged_accepted, names_hold}
 use Rattle.top_call.proofs.CodeLaws.{compile_sound, done_is_listed, pair_code_sound, run_code_sound}
 use Rattle.top_call.proofs.EndLaws.{done_put, ends_onward, status_is}
@@ -60,6 +62,7 @@ sound (pair name first second schedule) =
     (program_reading, λ p. (start_reading p, λ l. (start_reading p, λ r. (schedule_reading p, λ k. pair_sound p l r k))))
 sound (pair_code name first second schedule) =
     (program_reading, λ p. (start_reading p, λ l. (start_reading p, λ r. (schedule_reading p, λ k. pair_code_sound p l r k))))
+sound (big rounds schedule) = (program_reading, λ p. (schedule_reading p, λ k. sum_sound rounds p (first_start p) (second_start p) k))
 sound nothing = nothing_sound
 
 does_exact : (before after : Shelved) (files : List File) (command : Command) (reply : Reply) → before.told ≡ Some files → Reliable before after
@@ -100,6 +103,7 @@ does_secure before after (run_code name start schedule) reply h done files told 
 does_secure before after (run_until name start schedule word) reply h done files told = tt
 does_secure before after (pair name first second schedule) reply h done files told = tt
 does_secure before after (pair_code name first second schedule) reply h done files told = tt
+does_secure before after (big rounds schedule) reply h done files told = tt
 does_secure before after nothing reply h done files told = let wrong : s.Usage ≡ s.Done = sym (ap status_of h) ∙ done in cc
 
 -- bytes of which the code is listed
@@ -140,6 +144,7 @@ does_code before after (run_code name start schedule) reply h done old new put f
 does_code before after (run_until name start schedule word) reply h done old new put files told = tt
 does_code before after (pair name first second schedule) reply h done old new put files told = tt
 does_code before after (pair_code name first second schedule) reply h done old new put files told = tt
+does_code before after (big rounds schedule) reply h done old new put files told = tt
 does_code before after nothing reply h done old new put files told = let wrong : s.Usage ≡ s.Done = sym (ap status_of h) ∙ done in cc
 
 -- A call -------------------------------------------------------------------------------------------------------

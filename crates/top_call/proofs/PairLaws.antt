@@ -122,7 +122,7 @@ schedule_front count (suc n) [] h = tt
 schedule_front count (suc n) (t ∷ ts) h = (h.0, schedule_front count n ts h.1)
 
 -- two runs of a secure program from fit starts are never apart
-secure_not_apart : (p : Plain) (left right schedule : List ℕ) (f : Found) → IsSecure p → IsMemory (length p.vars) left → IsMemory (length p.vars) right
+pub secure_not_apart : (p : Plain) (left right schedule : List ℕ) (f : Found) → IsSecure p → IsMemory (length p.vars) left → IsMemory (length p.vars) right
     → AreFitStarts p left right → IsSchedule (length p.threads) schedule → IsFirstStepApart p (begin p left) (begin p right) schedule f → ⊥
 secure_not_apart p left right schedule f secure l r fit threads h =
     h.apart (secure left right l r fit (take f.step schedule) (schedule_front (length p.threads) f.step schedule threads))

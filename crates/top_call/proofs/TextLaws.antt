@@ -16,9 +16,7 @@ use Rattle.cov_text.specs.declared.fault.ParseFault.{ParseFault}
 use Rattle.cov_text.specs.declared.fault.ParseFault.TheVariants as faults
 use Rattle.cov_ast.specs.Syntax.{Parsed}
 use Rattle.cov_ast.specs.View as view
-use Rattle.cov_io.specs.Shelves.{Shelved, Gives}
-use Rattle.cov_io.specs.declared.shelf.Fetched.TheVariants.{Whole}
-use Rattle.top_call.specs.Inside.{Stops, IsUnread}
+use Rattle.top_call.specs.Inside.{Stops}
 use Rattle.top_call.specs.Programs.{SpellsProgram, IsShownFault, shown}
 use Rattle.top_call.specs.Replies.{malformed}
 use Rattle.top_call.specs.declared.answers.Fault.{Fault}
@@ -100,9 +98,9 @@ program_reading = record {
 
 -- What is answered ---------------------------------------------------------------------------------------------
 
-pub program_unread : (before after : Shelved) (name : List ℕ) (most : ℕ) (bytes : List ℕ) (fault : ParseFault) (stop : Stop)
-    → Gives before after name most (Ok (Whole bytes)) → Answers grammar.program in_program bytes view.parsed (program_of bytes) (Err fault)
-    → Stops (λ reply. (found : Fault) × (shown fault ≡ Some found) × (reply ≡ malformed name found)) stop → Stops (IsUnread IsShownFault before after name most) stop
-program_unread before after name most bytes fault (stops.Answer answer) gives h (found, e, is) =
-    inl (bytes, gives, (found, shown_found grammar.program in_program program_decided view.parsed (program_of bytes) bytes fault found h e, is))
-program_unread before after name most bytes fault stops.NoMemory gives h unread = tt
+pub text_unread : (name bytes : List ℕ) (fault : ParseFault) (stop : Stop) → Answers grammar.program in_program bytes view.parsed (program_of bytes) (Err fault)
+    → Stops (λ reply. (found : Fault) × (shown fault ≡ Some found) × (reply ≡ malformed name found)) stop
+    → Stops (λ reply. (found : Fault) × IsShownFault bytes found × (reply ≡ malformed name found)) stop
+text_unread name bytes fault (stops.Answer answer) h (found, e, is) =
+    (found, shown_found grammar.program in_program program_decided view.parsed (program_of bytes) bytes fault found h e, is)
+text_unread name bytes fault stops.NoMemory h unread = tt

@@ -1,9 +1,11 @@
 -- What a command line asks.
-use Rattle.std.specs.Prelude.{ℕ, List, [], ◌∷◌, length, nat_le, codes, if◌then◌else◌}
+use Rattle.std.specs.Prelude.{ℕ, List, [], ◌∷◌, length, nat_le, Bool, ◌&&◌, Option, Some, None, codes, decimal, if◌then◌else◌}
 use Rattle.std.specs.Str.{bytes_eq}
+use Rattle.std.specs.Str.Parse.{digits_value}
+use Rattle.cov_gen.specs.declared.text.TheConstants.{MOST_ROUNDS}
 use Rattle.top_call.specs.declared.expressions.TheConstants.{MOST_EXPRESSION_BYTES}
 
--- a command, with the words that it takes: names of files, and an expression
+-- a command, with the words that it takes: names of files, an expression, and a number of rounds
 pub data Command : Type 0 where
   check : (name : List ℕ) → Command
   compile : (name : List ℕ) → Command
@@ -14,6 +16,7 @@ pub data Command : Type 0 where
   run_until : (program start schedule expression : List ℕ) → Command
   pair : (program first second schedule : List ℕ) → Command
   pair_code : (program first second schedule : List ℕ) → Command
+  big : (rounds : ℕ) (schedule : List ℕ) → Command
   nothing : Command
 
 -- the commands of one file
@@ -23,6 +26,22 @@ of_one word name =
     else (if bytes_eq word (codes "compile") then compile name
     else (if bytes_eq word (codes "fmt") then fmt name
     else (if bytes_eq word (codes "migrate") then migrate name else nothing)))
+
+-- whether a number is one of rounds, from 1 to the most, and a word spells it in decimal without leading zeros
+abbrev pub is_rounds : (word : List ℕ) → ℕ → Bool
+is_rounds word n = nat_le 1 n && (nat_le n MOST_ROUNDS && bytes_eq word (decimal n))
+
+-- the number of rounds that a word spells, if it is one
+abbrev pub rounds_of : List ℕ → Option ℕ
+rounds_of word = if is_rounds word (digits_value 10 word) then Some (digits_value 10 word) else None
+
+abbrev pub of_rounds : Option ℕ → (schedule : List ℕ) → Command
+of_rounds (Some rounds) schedule = big rounds schedule
+of_rounds None schedule = nothing
+
+-- the command of a number and a file
+abbrev pub of_two : (word number schedule : List ℕ) → Command
+of_two word number schedule = if bytes_eq word (codes "big") then of_rounds (rounds_of number) schedule else nothing
 
 -- the commands of three files
 abbrev pub of_three : (word program start schedule : List ℕ) → Command
@@ -40,6 +59,7 @@ of_four word program start next last =
 -- the command of the words behind the program's name, and nothing where they have none of the forms
 abbrev pub command_of : List (List ℕ) → Command
 command_of (word ∷ name ∷ []) = of_one word name
+command_of (word ∷ number ∷ schedule ∷ []) = of_two word number schedule
 command_of (word ∷ program ∷ start ∷ schedule ∷ []) = of_three word program start schedule
 command_of (word ∷ program ∷ start ∷ next ∷ last ∷ []) = of_four word program start next last
 command_of words = nothing

@@ -11,7 +11,7 @@ use Rattle.flow_model.specs.Secure.{IsSecure}
 use Rattle.policy_class.specs.Resolved.{resolved}
 use Rattle.risc_machine.specs.declared.parts.Parts.{Parts}
 use Rattle.top_call.specs.Check.{AreNamesInOrder, IsAcceptedText, meaning}
-use Rattle.top_call.specs.Commands.{Command, check, compile, fmt, migrate, run, run_code, run_until, pair, pair_code, nothing}
+use Rattle.top_call.specs.Commands.{Command, check, compile, fmt, migrate, run, run_code, run_until, pair, pair_code, big, nothing}
 use Rattle.top_call.specs.Programs.{SpellsTree, SpellsProgram}
 
 -- A file that is checked holds a program that is secure: from any two fit starts, under every schedule, its two runs agree
@@ -28,6 +28,7 @@ HoldsSecure files (run_code name start schedule) = Unit {0}
 HoldsSecure files (run_until name start schedule word) = Unit {0}
 HoldsSecure files (pair name first second schedule) = Unit {0}
 HoldsSecure files (pair_code name first second schedule) = Unit {0}
+HoldsSecure files (big rounds schedule) = Unit {0}
 HoldsSecure files nothing = ⊥
 
 -- What is put is the listing of a code, and a file holds a program for which this code is good: each run of the code is a run
@@ -56,6 +57,7 @@ PutsCode files (run_code name start schedule) before after = Unit {0}
 PutsCode files (run_until name start schedule word) before after = Unit {0}
 PutsCode files (pair name first second schedule) before after = Unit {0}
 PutsCode files (pair_code name first second schedule) before after = Unit {0}
+PutsCode files (big rounds schedule) before after = Unit {0}
 PutsCode files nothing before after = ⊥
 
 -- A file holds a program that is accepted.
@@ -77,4 +79,5 @@ RunsAccepted files (run name start schedule) = Unit {0}
 RunsAccepted files (run_code name start schedule) = Unit {0}
 RunsAccepted files (run_until name start schedule word) = Unit {0}
 RunsAccepted files (pair_code name first second schedule) = Unit {0}
+RunsAccepted files (big rounds schedule) = Unit {0}
 RunsAccepted files nothing = Unit {0}

@@ -9,6 +9,7 @@ use Rattle.cov_ast.specs.declared.refusal.Refusal.{Refusal}
 use Rattle.cov_expr.specs.Term.{Term}
 use Rattle.cov_expr.specs.View.{term}
 use Rattle.cov_expr.specs.declared.expr.Expr.{Expr}
+use Rattle.cov_gen.specs.declared.text.TheConstants.{MOST_ROUNDS}
 use Rattle.cov_io.specs.Counters.{raised}
 use Rattle.cov_io.specs.Shelves.{Shelved, Gives, Passes}
 use Rattle.cov_io.specs.declared.shelf.Fetched.TheVariants.{Whole}
@@ -27,7 +28,7 @@ use Rattle.verify.specs.Verdicts.{counts}
 use Rattle.top_call.specs.Asks.{Asks}
 use Rattle.top_call.specs.Check.{IsAcceptedText, meaning}
 use Rattle.top_call.specs.Codes.{PairsCode}
-use Rattle.top_call.specs.Commands.{Command, check, compile, fmt, migrate, run, run_code, run_until, pair, pair_code, nothing}
+use Rattle.top_call.specs.Commands.{Command, check, compile, fmt, migrate, run, run_code, run_until, pair, pair_code, big, nothing}
 use Rattle.top_call.specs.Expressions.{by_id, first_unknown}
 use Rattle.top_call.specs.Files.{Reads}
 use Rattle.top_call.specs.Outcome.{entries, expression, memory}
@@ -72,12 +73,14 @@ command_seen (asked.RunCode program start schedule) = run_code program.now start
 command_seen (asked.RunUntil program start schedule expression) = run_until program.now start.now schedule.now expression.now
 command_seen (asked.Pair program first second schedule) = pair program.now first.now second.now schedule.now
 command_seen (asked.PairCode program first second schedule) = pair_code program.now first.now second.now schedule.now
+command_seen (asked.Big rounds schedule) = big rounds schedule.now
 command_seen asked.Nothing = nothing
 
--- The expression that is asked for, if any, isn't too long.
-abbrev pub IsShortEnough : Asked → Type 0
-IsShortEnough (asked.RunUntil program start schedule expression) = length expression.now ≤ MOST_EXPRESSION_BYTES
-IsShortEnough other = Unit {0}
+-- The expression that is asked for, if any, isn't too long, and the number of rounds, if any, isn't too small or too large.
+abbrev pub IsWithinLimits : Asked → Type 0
+IsWithinLimits (asked.RunUntil program start schedule expression) = length expression.now ≤ MOST_EXPRESSION_BYTES
+IsWithinLimits (asked.Big rounds schedule) = (1 ≤ rounds) × (rounds ≤ MOST_ROUNDS)
+IsWithinLimits other = Unit {0}
 
 -- A step gives what the command gives, unless memory ran out.
 abbrev pub Stops : (Reply → Type 0) → Stop → Type 0

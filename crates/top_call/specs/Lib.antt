@@ -9,6 +9,7 @@ pub mod Format
 pub mod Runs
 pub mod Pairs
 pub mod Codes
+pub mod Big
 pub mod Programs
 pub mod Texts
 pub mod Files
@@ -17,6 +18,7 @@ pub mod Replies
 pub mod Reports
 pub mod RunReports
 pub mod CodeReports
+pub mod Summaries
 pub mod Ends
 pub mod Laws
 pub mod Inside

@@ -4,10 +4,12 @@ use Rattle.cov_ast.specs.Syntax.{Parsed}
 use Rattle.cov_io.specs.Shelves.{File, Shelved}
 use Rattle.cov_expr.specs.Term.{Term}
 use Rattle.cov_expr.specs.declared.limits.TheConstants.{MOST_BYTES}
+use Rattle.cov_gen.specs.Big as gen
 use Rattle.flow_model.specs.Agreement.{AreFitStarts}
+use Rattle.top_call.specs.Big.{SumsUp, first_start, second_start}
 use Rattle.top_call.specs.Check.{Judges, IsAcceptedText, meaning}
 use Rattle.top_call.specs.Codes.{Compiles, RunsCode, PairsCode}
-use Rattle.top_call.specs.Commands.{Command, check, compile, fmt, migrate, run, run_code, run_until, pair, pair_code, nothing}
+use Rattle.top_call.specs.Commands.{Command, check, compile, fmt, migrate, run, run_code, run_until, pair, pair_code, big, nothing}
 use Rattle.top_call.specs.Expressions.{IsExpression, IsExpressionFault}
 use Rattle.top_call.specs.Format.{Formats, Migrates}
 use Rattle.top_call.specs.Inputs.{IsStart, IsStartFault, IsScheduleText, IsScheduleFault}
@@ -23,6 +25,10 @@ use Rattle.top_call.specs.declared.inputs.TheConstants.{MOST_INPUT_BYTES}
 -- a file that spells a program
 abbrev pub program : (name : List ℕ) → (next : Parsed → Plan) → Plan
 program name next = file name MOST_BYTES SpellsProgram IsShownFault next
+
+-- the text of a program of so many rounds, which is made and not fetched; its title is `big`
+abbrev pub made : (rounds : ℕ) → (next : Parsed → Plan) → Plan
+made rounds next = argument (codes "big") (gen.big rounds) SpellsProgram IsShownFault next
 
 -- a file that is a start of a program
 abbrev pub memory : Parsed → (name : List ℕ) → (next : List ℕ → Plan) → Plan
@@ -54,6 +60,9 @@ plan_of (pair name first second schedule) =
 plan_of (pair_code name first second schedule) =
     program name (λ p. memory p first (λ l. memory p second (λ r. entries p schedule (λ k.
     replies (IsAcceptedText p × AreFitStarts (meaning p) l r) (PairsCode p l r k)))))
+plan_of (big rounds schedule) =
+    made rounds (λ p. entries p schedule (λ k.
+    replies (IsAcceptedText p × AreFitStarts (meaning p) (first_start p) (second_start p)) (SumsUp rounds p (first_start p) (second_start p) k)))
 plan_of nothing = replies ⊥ (λ reply. reply ≡ usage)
 
 -- what a command may reply, by the shelf before and after the call
@@ -79,4 +88,5 @@ IsSuccess (run_code name start schedule) status = status ≡ s.Done
 IsSuccess (run_until name start schedule word) status = status ≡ s.Done
 IsSuccess (pair name first second schedule) status = (status ≡ s.Done) ⊎ (status ≡ s.Differ)
 IsSuccess (pair_code name first second schedule) status = status ≡ s.Done
+IsSuccess (big rounds schedule) status = status ≡ s.Done
 IsSuccess nothing status = ⊥

@@ -6,8 +6,8 @@ use Rattle.top_call.specs.Replies.{Reply, malformed}
 use Rattle.top_call.specs.declared.answers.Fault.{Fault}
 
 -- What a command does: it fetches a file of at most so many bytes, and what these are read as decides what is next; or it reads
--- a word of the command line itself, which has a title in reports; or it has read all, something is asked of what was read, and
--- it may reply so.
+-- a text that it needn't fetch, as a word of the command line itself, which has a title in reports; or it has read all, something
+-- is asked of what was read, and it may reply so.
 pub data Plan : Type 1 where
   replies : (IsAsked : Type 0) (may_reply : Reply → Type 0) → Plan
   file : {A : Type 0} (name : List ℕ) (most : ℕ) (IsRead : List ℕ → A → Type 0) (IsFault : List ℕ → Fault → Type 0) (next : A → Plan) → Plan
@@ -15,7 +15,7 @@ pub data Plan : Type 1 where
 
 module _ {A : Type 0} (IsRead : List ℕ → A → Type 0) where
   module _ (IsFault : List ℕ → Fault → Type 0) (name : List ℕ) (next : A → Reply → Type 0) where
-    -- The reply to the bytes of a file or of a word: what follows from what they are read as; or they are malformed, with their
+    -- The reply to the bytes of a file or of a text: what follows from what they are read as; or they are malformed, with their
     -- fault.
     abbrev pub RepliesTo : (bytes : List ℕ) → Reply → Type 0
     RepliesTo bytes reply = ((x : A) × IsRead bytes x × next x reply) ⊎ ((fault : Fault) × IsFault bytes fault × (reply ≡ malformed name fault))

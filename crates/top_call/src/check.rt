@@ -9,7 +9,7 @@ ghost use Rattle.top_call.specs.Inside.{CarriesOut, Gets, JudgesProgram, name_in
 ghost use Rattle.top_call.specs.Outcome.{plan_of};
 ghost use Rattle.top_call.specs.Texts.{ChecksBytes};
 
-use crate::answers::{Answer, Totals, Stop};
+use crate::answers::{Answer, Stop, Totals};
 use crate::files::{read_program, text_fault, unread};
 use cov_ast::{CheckFault, Parsed, Program, ThreadDecl};
 use cov_expr::Name;

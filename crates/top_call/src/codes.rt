@@ -1,10 +1,13 @@
 ghost use Rattle.std.specs.Prelude.{◌≡◌, IfOk, MatchResult, length, replicate};
+ghost use Rattle.cov_ast.specs.Plain.{plain};
 ghost use Rattle.cov_ast.specs.Ready.{IsReady};
 ghost use Rattle.cov_ast.specs.View as view;
 ghost use Rattle.cov_ast.specs.WellFormed.{IsWellFormed};
+ghost use Rattle.flow_model.specs.Secure.{IsSecure};
 ghost use Rattle.schedule_replay.specs.CodeReplays.{DeclaresAsMany};
 ghost use Rattle.top_call.specs.Codes as spec;
 ghost use Rattle.top_call.specs.Inside.{IsCodeOf, IsNameRefusal, IsNamed, IsRejection, Stops};
+ghost use Rattle.verify.specs.Accepted.{IsAccepted};
 
 use crate::answers::{Answer, Stop};
 use crate::check::thread_name;
@@ -14,7 +17,7 @@ use policy_class::resolve;
 use risc_compile::compile;
 use risc_machine::{Code, Risc};
 use std::alloc::Global;
-use verify::check_program;
+use verify::{Verdict, check_program};
 
 /// The program that a text stands for, if its names are in order.
 pub fn named<'w>(alloc: Global, parsed: Parsed) -> Result<Program, Stop<'w>>
@@ -34,11 +37,21 @@ pub fn code_of<'w>(alloc: Global, program: &Program) -> Result<Code, Stop<'w>>
     ensures code { MatchResult result (λ code. IsCodeOf (view.program program.now) code) (Stops (IsRejection (view.program program.now))) }
     ensures declared { IfOk result (λ code. DeclaresAsMany code program.now) }
 {
+    let verdict = verdict_on(alloc, program)?;
+    let code = compile(alloc, &verdict)?;
+    Ok(code)
+}
+
+/// The verdict on a program, if it is accepted.
+pub fn verdict_on<'p, 'w>(alloc: Global, program: &'p Program) -> Result<Verdict<'p>, Stop<'w>>
+    requires { IsWellFormed (view.program program.now) }
+    ensures verdict { MatchResult result
+        (λ verdict. (verdict.program.now ≡ program.now) × IsAccepted (view.program program.now))
+        (Stops (IsRejection (view.program program.now))) }
+    ensures secure { IfOk result (λ _. IsSecure (plain (view.program program.now))) }
+{
     match check_program(alloc, program) {
-        Ok(verdict) => {
-            let code = compile(alloc, &verdict)?;
-            Ok(code)
-        }
+        Ok(verdict) => Ok(verdict),
         Err(CheckFault::Refused(refusal)) => {
             let thread = thread_name(program.threads.as_slice(), refusal.thread);
             Err(Stop::Answer(Answer::Refused(refusal, thread)))

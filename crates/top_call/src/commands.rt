@@ -1,12 +1,13 @@
-ghost use Rattle.std.specs.Prelude.{◌≡◌, map, string_bytes};
+ghost use Rattle.std.specs.Prelude.{◌≡◌, ◌≤◌, IfSome, map, string_bytes};
 ghost use Rattle.cov_io.specs.Shelves.{Passes};
 ghost use Rattle.top_call.specs.Asks.{Asks, files_of};
 ghost use Rattle.top_call.specs.Commands.{command_of};
 ghost use Rattle.top_call.specs.Commands as spec;
-ghost use Rattle.top_call.specs.Inside.{Gets, IsShortEnough, LacksMemory, command_seen};
+ghost use Rattle.top_call.specs.Inside.{Gets, IsWithinLimits, LacksMemory, command_seen};
 ghost use Rattle.top_call.specs.Outcome.{Does};
 
 use crate::answers::{Answer, Stop};
+use crate::big::big;
 use crate::check::check;
 use crate::compile::compile;
 use crate::expressions::MOST_EXPRESSION_BYTES;
@@ -17,10 +18,12 @@ use crate::pair_code::pair_code;
 use crate::run::run;
 use crate::run_code::run_code;
 use crate::run_until::run_until;
+use cov_gen::MOST_ROUNDS;
 use cov_io::Shelf;
+use itoa::Buffer;
 use std::alloc::Global;
 
-/// What the words ask for, with the names of files and an expression.
+/// What the words ask for, with the names of files, an expression and a number of rounds.
 #[derive(Clone, Copy)]
 pub enum Asked<'w> {
     Check(&'w str),
@@ -32,6 +35,7 @@ pub enum Asked<'w> {
     RunUntil(&'w str, &'w str, &'w str, &'w str),
     Pair(&'w str, &'w str, &'w str, &'w str),
     PairCode(&'w str, &'w str, &'w str, &'w str),
+    Big(u32, &'w str),
     Nothing,
 }
 
@@ -54,7 +58,7 @@ fn carry_out<'w, S: Shelf>(
     asked: Asked<'w>,
     shelf: &mut S,
 ) -> Result<Answer<'w>, Stop<'w>>
-    requires { IsShortEnough asked }
+    requires { IsWithinLimits asked }
     ensures does { Gets (Does (S.shelved shelf.old) (S.shelved shelf.new) (command_seen asked.entry)) result }
     ensures asks { Asks (S.shelved shelf.old) (S.shelved shelf.new) (files_of (command_seen asked.entry)) (LacksMemory result) }
     ensures passes { Passes (S.shelved shelf.old) (S.shelved shelf.new) }
@@ -77,6 +81,7 @@ fn carry_out<'w, S: Shelf>(
         Asked::PairCode(program, first, second, schedule) => {
             pair_code(alloc, program, first, second, schedule, shelf)
         }
+        Asked::Big(rounds, schedule) => big(alloc, rounds, schedule, shelf),
         Asked::Nothing => Ok(Answer::Usage),
     }
 }
@@ -84,10 +89,13 @@ fn carry_out<'w, S: Shelf>(
 /// The command that the words ask for.
 fn find<'w>(words: &'w [String]) -> Asked<'w>
     ensures is { command_seen result ≡ command_of (map string_bytes words.now) }
-    ensures short { IsShortEnough result }
+    ensures within { IsWithinLimits result }
 {
     match words {
         [command, name] => of_one(command.as_str(), name.as_str()),
+        [command, number, schedule] => {
+            of_two(command.as_str(), number.as_str(), schedule.as_str())
+        }
         [command, program, start, schedule] => of_three(
             command.as_str(),
             program.as_str(),
@@ -107,7 +115,7 @@ fn find<'w>(words: &'w [String]) -> Asked<'w>
 
 fn of_one<'w>(command: &str, name: &'w str) -> Asked<'w>
     ensures is { command_seen result ≡ spec.of_one command.now name.now }
-    ensures short { IsShortEnough result }
+    ensures within { IsWithinLimits result }
 {
     if command == "check" {
         Asked::Check(name)
@@ -122,9 +130,40 @@ fn of_one<'w>(command: &str, name: &'w str) -> Asked<'w>
     }
 }
 
+fn of_two<'w>(command: &str, number: &str, schedule: &'w str) -> Asked<'w>
+    ensures is { command_seen result ≡ spec.of_two command.now number.now schedule.now }
+    ensures within { IsWithinLimits result }
+{
+    match rounds_of(number) {
+        Some(rounds) if command == "big" => Asked::Big(rounds, schedule),
+        _ => Asked::Nothing,
+    }
+}
+
+/// The number of rounds that a word spells, if it is one.
+fn rounds_of(word: &str) -> Option<u32>
+    ensures is { result ≡ spec.rounds_of word.now }
+    ensures within { IfSome result (λ rounds. (1 ≤ rounds) × (rounds ≤ MOST_ROUNDS)) }
+{
+    let number = word.parse::<u32>().ok()?;
+    if is_rounds(word, number) {
+        Some(number)
+    } else {
+        None
+    }
+}
+
+/// Whether a number is one of rounds, and a word spells it as numbers are printed.
+fn is_rounds(word: &str, number: u32) -> bool
+    ensures { result ≡ spec.is_rounds word.now number }
+{
+    let mut buffer = Buffer::new();
+    1 <= number && number <= MOST_ROUNDS && word == buffer.format(number)
+}
+
 fn of_three<'w>(command: &str, program: &'w str, start: &'w str, schedule: &'w str) -> Asked<'w>
     ensures is { command_seen result ≡ spec.of_three command.now program.now start.now schedule.now }
-    ensures short { IsShortEnough result }
+    ensures within { IsWithinLimits result }
 {
     if command == "run" {
         Asked::Run(program, start, schedule)
@@ -143,7 +182,7 @@ fn of_four<'w>(
     last: &'w str,
 ) -> Asked<'w>
     ensures is { command_seen result ≡ spec.of_four command.now program.now start.now next.now last.now }
-    ensures short { IsShortEnough result }
+    ensures within { IsWithinLimits result }
 {
     if command == "run-until" {
         if last.len() <= MOST_EXPRESSION_BYTES {

@@ -1,4 +1,4 @@
-ghost use Rattle.std.specs.Prelude.{◌≡◌, IfOk, MatchResult, Ok, Some};
+ghost use Rattle.std.specs.Prelude.{◌≡◌, ◌≤◌, IfOk, MatchResult, Ok, Some, length};
 ghost use Rattle.cov_ast.specs.Ready.{IsReady};
 ghost use Rattle.cov_ast.specs.View as view;
 ghost use Rattle.cov_expr.specs.declared.limits.TheConstants.{MOST_BYTES};
@@ -30,7 +30,17 @@ pub fn read_program<'w, S: Shelf>(
     ensures ready { IfOk result (λ p. IsReady (view.parsed p)) }
 {
     let bytes = fetch(alloc, name, MOST_BYTES, shelf)?;
-    match parse(alloc, bytes.as_slice()) {
+    read_text(alloc, name, bytes.as_slice())
+}
+
+/// The program that a text spells, which has this name in reports.
+pub fn read_text<'w>(alloc: Global, name: &'w str, bytes: &[u8]) -> Result<Parsed, Stop<'w>>
+    requires { length bytes.now ≤ MOST_BYTES }
+    ensures read { MatchResult result (λ p. SpellsProgram bytes.now (view.parsed p))
+        (Stops (λ reply. (fault : Fault) × IsShownFault bytes.now fault × (reply ≡ malformed name.now fault))) }
+    ensures ready { IfOk result (λ p. IsReady (view.parsed p)) }
+{
+    match parse(alloc, bytes) {
         Ok(parsed) => Ok(parsed),
         Err(fault) => Err(unread(name, text_fault(fault))),
     }

@@ -15,11 +15,11 @@
 //! | `call` | | `covern`, with all its promises |
 //! | `commands` | `Commands`, `Outcome` | which command the words ask for; the plan of each, in one row |
 //! | | `Plans`, `Asks` | plans: which files are read one behind the other, and what is replied then; which calls they make |
-//! | `check`, `compile`, `fmt`, `migrate`, `run`, `run_code`, `run_until`, `pair`, `pair_code` | `Check`, `Format`, `Runs`, `Pairs`, `Codes` | a module for each command: what it replies to what its files spell |
-//! | `codes` | `Codes` | the code of an accepted program, and its machine |
+//! | `check`, `compile`, `fmt`, `migrate`, `run`, `run_code`, `run_until`, `pair`, `pair_code`, `big` | `Check`, `Format`, `Runs`, `Pairs`, `Codes`, `Big` | a module for each command: what it replies to what its files spell |
+//! | `codes` | `Codes` | the verdict on a program, the code of an accepted one, and its machine |
 //! | `files`, `inputs`, `expressions` | `Files`, `Programs`, `Texts`, `Inputs`, `Expressions` | how a file is fetched and read, as a program, a start or a schedule, and a word as an expression, and what is replied where it isn't |
 //! | `answers` | `Replies` | what a call can answer, and the status of each answer |
-//! | `reports`, `refusals`, `faults`, `run_reports`, `code_reports`, `differences`, `lines` | `Reports`, `RunReports`, `CodeReports` | the text of each answer |
+//! | `reports`, `refusals`, `faults`, `run_reports`, `code_reports`, `summaries`, `differences`, `lines` | `Reports`, `RunReports`, `CodeReports`, `Summaries` | the text of each answer |
 //! | `end` | `Ends` | the report is made and written |
 //! | `laws` | `Laws`, `Headline` | one reply; a program in version 2; what it says of a file that it is accepted, and of what is put that it is the listing of its code |
 //!
@@ -30,6 +30,7 @@
 #![tactic(auto)]
 
 mod answers;
+mod big;
 mod call;
 mod check;
 mod code_reports;
@@ -54,8 +55,9 @@ mod run;
 mod run_code;
 mod run_reports;
 mod run_until;
+mod summaries;
 
-pub use answers::{Answer, Totals, Fault, FaultKind, Status, Stop, status_for};
+pub use answers::{Answer, Fault, FaultKind, Status, Stop, Totals, status_for};
 pub use call::covern;
 pub use check::check_bytes;
 pub use files::fetch;

@@ -50,7 +50,8 @@ fn line(alloc: Global, answer: &Answer<'_>) -> Result<String, AllocError>
     }
 }
 
-fn accepted_line(alloc: Global, counts: &Totals) -> Result<String, AllocError>
+/// The line of a check that accepts.
+pub fn accepted_line(alloc: Global, counts: &Totals) -> Result<String, AllocError>
     ensures { IfOk result (λ text. string_bytes text ≡ report_of (seen (Answer.Accepted counts.now))) }
 {
     let threads = counted(alloc, counts.threads, " threads, ")?;

@@ -115,6 +115,7 @@ fn add_state<'p>(p: &'p Program, source: &Source<'p>, text: &mut Blob) -> Result
     add_outputs(source.said(), text)
 }
 
+/// Adds a line for each variable, with its word.
 pub fn add_vars(vars: &[VarDecl], memory: &[u32], text: &mut Blob) -> Result<(), NoMemory>
     requires { length memory.now ≡ length vars.now }
     ensures { OnOk result (text.new ≡ text.old ++ spec.lines_from (spec.var_line memory.now) 0 (map view.var vars.now)) }
@@ -158,6 +159,7 @@ fn add_pair(left: u32, right: u32, var: &VarDecl, text: &mut Blob) -> Result<(),
     add_numbered(b" ", right, text)
 }
 
+/// Adds a line for each lock, with its holder.
 pub fn add_locks(
     threads: &[ThreadDecl],
     locks: &[LockDecl],
@@ -229,6 +231,7 @@ fn add_thread(place: Option<u32>, thread: &ThreadDecl, text: &mut Blob) -> Resul
     }
 }
 
+/// Adds a line for each output.
 pub fn add_outputs(said: &[u32], text: &mut Blob) -> Result<(), NoMemory>
     ensures { OnOk result (text.new ≡ text.old ++ flat_map spec.output_line said.now) }
 {

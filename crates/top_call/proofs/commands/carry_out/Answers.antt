@@ -53,3 +53,13 @@ pub returns-in-PairCode-clause-asks : goal.returns-in-PairCode-clause-asks
 returns-in-PairCode-clause-asks g c =
     let shelved = g.S.Shelf.shelved in
     subst (λ a. Asks (shelved c.args.shelf.now) (shelved c.pair_code.new.shelf) (files_of (command_seen a)) (LacksMemory c.pair_code.result)) (sym c.in-PairCode.is) c.pair_code.ensures.asks
+
+pub returns-in-Big-clause-does : goal.returns-in-Big-clause-does
+returns-in-Big-clause-does g c =
+    let shelved = g.S.Shelf.shelved in
+    subst (λ a. Gets (Does (shelved c.args.shelf.now) (shelved c.big.new.shelf) (command_seen a)) c.big.result) (sym c.in-Big.is) c.big.ensures.does
+
+pub returns-in-Big-clause-asks : goal.returns-in-Big-clause-asks
+returns-in-Big-clause-asks g c =
+    let shelved = g.S.Shelf.shelved in
+    subst (λ a. Asks (shelved c.args.shelf.now) (shelved c.big.new.shelf) (files_of (command_seen a)) (LacksMemory c.big.result)) (sym c.in-Big.is) c.big.ensures.asks

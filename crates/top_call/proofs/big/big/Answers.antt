@@ -1,0 +1,71 @@
+use Rattle.std.proofs.Common.{◌≡◌, ℕ, List, Err, sym, subst, rules, arith}
+use Rattle.std.specs.Prelude.{codes}
+use Rattle.std.proofs.lemmas.List.{length-map}
+use Rattle.cov_ast.specs.Syntax.{Parsed}
+use Rattle.cov_ast.specs.View as view
+use Rattle.cov_gen.specs.Big as gen
+use Rattle.flow_model.specs.Agreement.{AreFitStarts}
+use Rattle.top_call.specs.Big.{SumsUp, first_start, second_start}
+use Rattle.top_call.specs.Check.{IsAcceptedText, meaning}
+use Rattle.top_call.specs.Commands.{big}
+use Rattle.top_call.specs.Inputs.{IsScheduleText, IsScheduleFault}
+use Rattle.top_call.specs.Inside.{CarriesOut, Gets}
+use Rattle.top_call.specs.Outcome.{plan_of, entries}
+use Rattle.top_call.specs.Plans.{Plan, replies}
+use Rattle.top_call.specs.Programs.{SpellsProgram, IsShownFault}
+use Rattle.top_call.specs.declared.inputs.TheConstants.{MOST_INPUT_BYTES}
+use Rattle.top_call.proofs.InputLaws.{schedule_reading}
+use Rattle.top_call.proofs.PlanLaws.{carried_end, carried_on, carried_not, carried_word, carried_no_word}
+use Rattle.top_call.proofs.TextLaws.{program_reading}
+use Rattle.top_call.proofs.big.big.Goals as goal
+
+-- what follows of a program, and of a schedule
+abbrev asked : Parsed → Type 0
+asked p = IsAcceptedText p × AreFitStarts (meaning p) (first_start p) (second_start p)
+
+abbrev ended : ℕ → Parsed → List ℕ → Plan
+ended rounds p k = replies (asked p) (SumsUp rounds p (first_start p) (second_start p) k)
+
+abbrev with_program : ℕ → (schedule : List ℕ) → Parsed → Plan
+with_program rounds schedule p = entries p schedule (ended rounds p)
+
+pub returns-in_err-parsed : goal.returns-in_err-parsed
+returns-in_err-parsed g c =
+    let s0 = g.S.Shelf.shelved c.args.shelf.now in
+    let same : c.from_residual.result ≡ Err c.in_err-parsed.field-0.0 = search rules in
+    subst (CarriesOut s0 s0 (plan_of (big c.args.rounds c.args.schedule.now))) (sym same)
+    (carried_no_word SpellsProgram IsShownFault (codes "big") (gen.big c.args.rounds) (with_program c.args.rounds c.args.schedule.now) s0
+    c.in_err-parsed.field-0.0 program_reading c.in_err-parsed.ensures.read)
+
+pub returns-in_err-entries : goal.returns-in_err-entries
+returns-in_err-entries g c =
+    let shelved = g.S.Shelf.shelved in
+    let p = view.parsed c.in_ok-parsed.parsed in
+    let s0 = shelved c.args.shelf.now in
+    let s1 = shelved c.read_entries.new.shelf in
+    let stop = c.in_err-entries.field-0.0 in
+    let same : c.from_residual-in_err-entries.result ≡ Err c.in_err-entries.field-0.0 = search rules in
+    subst (CarriesOut s0 s1 (plan_of (big c.args.rounds c.args.schedule.now))) (sym same)
+    (carried_word SpellsProgram IsShownFault (codes "big") (gen.big c.args.rounds) (with_program c.args.rounds c.args.schedule.now) s0 s1 p (Err stop)
+    c.in_ok-parsed.ensures.read
+    (carried_not (IsScheduleText p) (IsScheduleFault p) c.args.schedule.now MOST_INPUT_BYTES (ended c.args.rounds p) s0 s1 stop (schedule_reading p)
+    c.in_err-entries.ensures.read))
+
+pub returns : goal.returns
+returns g c =
+    let shelved = g.S.Shelf.shelved in
+    let p = view.parsed c.in_ok-parsed.parsed in
+    let k = c.in_ok-entries.entries in
+    let s0 = shelved c.args.shelf.now in
+    let s1 = shelved c.read_entries.new.shelf in
+    let r = c.sum_up_text.result in
+    let ends : Gets (SumsUp c.args.rounds p (first_start p) (second_start p) k) r = search rules in
+    carried_word SpellsProgram IsShownFault (codes "big") (gen.big c.args.rounds) (with_program c.args.rounds c.args.schedule.now) s0 s1 p r
+    c.in_ok-parsed.ensures.read
+    (carried_on (IsScheduleText p) (IsScheduleFault p) c.args.schedule.now MOST_INPUT_BYTES (ended c.args.rounds p) s0 s1 s1 k r c.in_ok-entries.ensures.read
+    (carried_end s1 (asked p) (SumsUp c.args.rounds p (first_start p) (second_start p) k) r ends))
+
+pub read_entries-requires : goal.read_entries-requires
+read_entries-requires g c =
+    let ready = c.in_ok-parsed.ensures.ready in
+    omega (arith, length-map c.in_ok-parsed.parsed.threads view.thread, ready.limits.declared_threads)
