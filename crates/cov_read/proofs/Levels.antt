@@ -17,7 +17,7 @@ use Rattle.cov_grammar.specs.Shapes.{Shape, opt, many, head}
 use Rattle.cov_grammar.specs.Reading.{Reading, got, stopped, spent, ◌>>=◌, Reader, take_kind, reading}
 use Rattle.cov_grammar.specs.FirstKinds.{first_of, more_of}
 use Rattle.cov_grammar.specs.Grammar.{signs, grouped, compared, negated, atom, template_atom, unary, prod, sum, band, bxor, bor, cmp, both, either, body}
-use Rattle.cov_read.specs.Inside.Levels.{first_sign, other_signs, level, operand, repeats, next_place, levels, tail, atom_of, rule_for, tails_by, tails, onward, levelled, SignOf, SignAt, IsDone, Ends, Skips}
+use Rattle.cov_read.specs.Inside.Levels.{first_sign, other_signs, level, operand, repeats, next_index, levels, tail, atom_of, rule_for, tails_by, tails, onward, levelled, SignOf, SignAt, IsDone, Ends, Skips}
 use Rattle.cov_grammar.proofs.Repeats.{Item, pushed, pushed_none, item_goes, item_ends, item_breaks}
 use Rattle.cov_grammar.proofs.Basics.{left_false, right_false, kind_one}
 use Rattle.cov_grammar.proofs.Many.{Shrinks, many_of, many_is}
@@ -266,47 +266,47 @@ take_within (suc i) zero xs h = absurd (omega arith)
 take_within (suc i) (suc n) [] h = refl
 take_within (suc i) (suc n) (x ∷ xs) h = ap (λ ys. x ∷ ys) (take_within i n xs (omega arith))
 
--- an operator whose level stands at a place
-module _ (ls : List Level) (holes : Bool) (place : ℕ) (front : ls ≡ take (length ls) levels) (inside : place < length ls) where
+-- an operator whose level stands at an index
+module _ (ls : List Level) (holes : Bool) (index : ℕ) (front : ls ≡ take (length ls) levels) (inside : index < length ls) where
   abbrev B : Shape Term
   B = atom_of holes
 
   abbrev L : Level
-  L = get_or ls place Prod
+  L = get_or ls index Prod
 
   abbrev behind_it : List Level
-  behind_it = drop (suc place) ls
+  behind_it = drop (suc index) ls
 
-  operand_at : (us : List Token) → reading (operand L B) us ≡ levelled (take place ls) B us
+  operand_at : (us : List Token) → reading (operand L B) us ≡ levelled (take index ls) B us
   operand_at us =
       let below : length ls ≤ 8 = omega (arith, ap length front, length-take (length ls) levels) in
-      let same : get_or ls place Prod ≡ get_or levels place Prod = ap (λ js. get_or js place Prod) front ∙ get_or-take (length ls) levels place Prod inside in
-      let prefix : take place ls ≡ take place levels = ap (take place) front ∙ take_within place (length ls) levels (omega arith) in
-      ap (λ l. reading (operand l B) us) same ∙ operand_is B place us (omega arith) ∙ ap (λ js. levelled js B us) (sym prefix)
+      let same : get_or ls index Prod ≡ get_or levels index Prod = ap (λ js. get_or js index Prod) front ∙ get_or-take (length ls) levels index Prod inside in
+      let prefix : take index ls ≡ take index levels = ap (take index) front ∙ take_within index (length ls) levels (omega arith) in
+      ap (λ l. reading (operand l B) us) same ∙ operand_is B index us (omega arith) ∙ ap (λ js. levelled js B us) (sym prefix)
 
   rest_is : (b : Bool) (t : Term) (ts : List Token) → (rest_by L holes b t ts >>= λ u rest. onward behind_it B u rest) ≡ (if b then (tails_by true L B t ts >>= λ u rest. onward behind_it B u rest) else onward behind_it B t ts)
   rest_is true t ts = refl
   rest_is false t ts = refl
 
-  from_there : (b : Bool) → repeats L ≡ b → (t : Term) (ts : List Token) → (if b then (tails_by true L B t ts >>= λ u rest. onward behind_it B u rest) else onward behind_it B t ts) ≡ onward (drop (if b then place else place + 1) ls) B t ts
-  from_there true e t ts = sym (ap (λ js. onward js B t ts) (ahead ls place inside) ∙ ap (λ c. tails_by c L B t ts >>= λ u rest. onward behind_it B u rest) e)
-  from_there false e t ts = ap (λ n. onward (drop n ls) B t ts) (let n : suc place ≡ place + 1 = omega arith in n)
+  from_there : (b : Bool) → repeats L ≡ b → (t : Term) (ts : List Token) → (if b then (tails_by true L B t ts >>= λ u rest. onward behind_it B u rest) else onward behind_it B t ts) ≡ onward (drop (if b then index else index + 1) ls) B t ts
+  from_there true e t ts = sym (ap (λ js. onward js B t ts) (ahead ls index inside) ∙ ap (λ c. tails_by c L B t ts >>= λ u rest. onward behind_it B u rest) e)
+  from_there false e t ts = ap (λ n. onward (drop n ls) B t ts) (let n : suc index ≡ index + 1 = omega arith in n)
 
-  pub operator_goes : (from : ℕ) (op : Op) (t u s : Term) (ts us rest : List Token) → SignAt L ts (Some op) us → Skips ls from place ts → levelled (take place ls) B us ≡ got u rest → s ≡ bin op t u
-      → onward (drop (next_place L place) ls) B s rest ≡ onward (drop from ls) B t ts
+  pub operator_goes : (from : ℕ) (op : Op) (t u s : Term) (ts us rest : List Token) → SignAt L ts (Some op) us → Skips ls from index ts → levelled (take index ls) B us ≡ got u rest → s ≡ bin op t u
+      → onward (drop (next_index L index) ls) B s rest ≡ onward (drop from ls) B t ts
   operator_goes from op t u s ts us rest sign skips h e =
-      ap (λ x. onward (drop (next_place L place) ls) B x rest) e
+      ap (λ x. onward (drop (next_index L index) ls) B x rest) e
       ∙ sym (skips holes t
-      ∙ ap (λ js. onward js B t ts) (ahead ls place inside)
+      ∙ ap (λ js. onward js B t ts) (ahead ls index inside)
       ∙ ap (λ o. o >>= λ u rest. onward behind_it B u rest) (tails_go L holes (repeats L) op t u ts rest sign.0 (tail_got L holes op u ts us rest sign.1 (operand_at us ∙ h)))
       ∙ rest_is (repeats L) (bin op t u) rest
       ∙ from_there (repeats L) refl (bin op t u) rest)
 
-  pub operator_breaks : (from : ℕ) (op : Op) (t : Term) (ts us rest : List Token) → SignAt L ts (Some op) us → Skips ls from place ts → levelled (take place ls) B us ≡ stopped rest
+  pub operator_breaks : (from : ℕ) (op : Op) (t : Term) (ts us rest : List Token) → SignAt L ts (Some op) us → Skips ls from index ts → levelled (take index ls) B us ≡ stopped rest
       → onward (drop from ls) B t ts ≡ stopped rest
   operator_breaks from op t ts us rest sign skips h =
       skips holes t
-      ∙ ap (λ js. onward js B t ts) (ahead ls place inside)
+      ∙ ap (λ js. onward js B t ts) (ahead ls index inside)
       ∙ ap (λ o. o >>= λ u rest. onward behind_it B u rest) (tails_break L holes (repeats L) t ts rest sign.0 (tail_stopped L holes op ts us rest sign.1 (operand_at us ∙ h)))
 
 -- Tokens that are no operators ---------------------------------------------------------------------------------

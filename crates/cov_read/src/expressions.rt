@@ -38,13 +38,13 @@ fn read_levels(
 {
     let mut left = read_unary(reader, alloc, holes)?;
     let mut from = 0;
-    'operators: while let Some((place, op)) = operator(reader, levels, from) {
-        let right = read_levels(reader, alloc, &levels[..place], holes)?;
+    'operators: while let Some((index, op)) = operator(reader, levels, from) {
+        let right = read_levels(reader, alloc, &levels[..index], holes)?;
         left = binary(alloc, op, left, right)?;
-        from = if repeats(levels[place]) {
-            place
+        from = if repeats(levels[index]) {
+            index
         } else {
-            place + 1
+            index + 1
         };
     }
     Ok(left)
@@ -86,7 +86,7 @@ fn read_atom(reader: &mut TokenReader<'_>, alloc: Global, holes: bool) -> Result
     Ok(inside)
 }
 
-/// Takes off the next operator, if its level is among these from a place on, and tells where it stands among them.
+/// Takes off the next operator, if its level is among these from an index on, and tells where it stands among them.
 fn operator(reader: &mut TokenReader<'_>, levels: &[Level], from: usize) -> Option<(usize, Op)>
     requires { from ≤ length levels.now }
     ensures finds { Finds levels.now from reader.old result reader.new }
@@ -95,9 +95,9 @@ fn operator(reader: &mut TokenReader<'_>, levels: &[Level], from: usize) -> Opti
     if ends(reader) {
         return None;
     }
-    for place in from..levels.len() {
-        if let Some(op) = operator_of(reader, levels[place]) {
-            return Some((place, op));
+    for index in from..levels.len() {
+        if let Some(op) = operator_of(reader, levels[index]) {
+            return Some((index, op));
         }
     }
     None

@@ -69,9 +69,9 @@ repeats Compare = false
 repeats Both = true
 repeats Either = true
 
--- where the levels begin that may come behind an operator of a level that stands at a place
-abbrev pub next_place : Level → (place : ℕ) → ℕ
-next_place l place = if repeats l then place else place + 1
+-- where the levels begin that may come behind an operator of a level that stands at an index
+abbrev pub next_index : Level → (index : ℕ) → ℕ
+next_index l index = if repeats l then index else index + 1
 
 -- all levels
 abbrev pub levels : List Level
@@ -129,11 +129,11 @@ IsDone ls ts = (holes : Bool) (t : Term) → onward ls (atom_of holes) t ts ≡ 
 abbrev pub Ends : List Token → Type 0
 Ends ts = (ls : List Level) → IsDone ls ts
 
--- the same comes of the levels from one place on as from another
-abbrev pub Skips : List Level → (from place : ℕ) → List Token → Type 0
-Skips ls from place ts = (holes : Bool) (t : Term) → onward (drop from ls) (atom_of holes) t ts ≡ onward (drop place ls) (atom_of holes) t ts
+-- the same comes of the levels from one index on as from another
+abbrev pub Skips : List Level → (from index : ℕ) → List Token → Type 0
+Skips ls from index ts = (holes : Bool) (t : Term) → onward (drop from ls) (atom_of holes) t ts ≡ onward (drop index ls) (atom_of holes) t ts
 
--- What was answered is the operator of the next token, and the place of its level among those from a place on, if it is an
+-- What was answered is the operator of the next token, and the index of its level among those from an index on, if it is an
 -- operator of these, and else that nothing comes of them.
 abbrev pub Finds : List Level → (from : ℕ) → List Token → Option (ℕ × Op) → (after : List Token) → Type 0
 Finds ls from ts None rest = IsDone (drop from ls) ts × (rest ≡ ts)

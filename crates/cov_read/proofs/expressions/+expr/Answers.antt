@@ -14,17 +14,17 @@ read_levels-returns-in_err-right-clause-reads t c =
     rw (p.1, p.2)
     (stop_onward written written _ c.read_levels.new.reader (levelled _ (atom_of c.args.holes) c.operator.new.reader) _
     (λ e. sym c.operators.invariant.same
-    ∙ operator_breaks c.args.levels.now c.args.holes c.in-Some.place c.requires f.0 c.operators.from c.in-Some.op (written c.operators.left) c.operators.reader c.operator.new.reader c.read_levels.new.reader f.1 f.2 e)
+    ∙ operator_breaks c.args.levels.now c.args.holes c.in-Some.index c.requires f.0 c.operators.from c.in-Some.op (written c.operators.left) c.operators.reader c.operator.new.reader c.read_levels.new.reader f.1 f.2 e)
     c.in_err-right.ensures.reads)
 
 pub read_levels-operators-preserved-then-repeats : goal.read_levels-operators-preserved-then-repeats
 read_levels-operators-preserved-then-repeats t c =
     let f = c.in-Some.ensures.finds in
-    let b : repeats (get_or c.args.levels.now c.in-Some.place Prod) ≡ true = sym c.repeats.ensures ∙ c.if-repeats.true in
+    let b : repeats (get_or c.args.levels.now c.in-Some.index Prod) ≡ true = sym c.repeats.ensures ∙ c.if-repeats.true in
     record {
       same =
-          ap (λ b. onward (drop (if b then c.in-Some.place else c.in-Some.place + 1) c.args.levels.now) (atom_of c.args.holes) (written c.in_ok-left-2.left) c.read_levels.new.reader) (sym b)
-          ∙ operator_goes c.args.levels.now c.args.holes c.in-Some.place c.requires f.0 c.operators.from c.in-Some.op (written c.operators.left) (written c.in_ok-right.right) (written c.in_ok-left-2.left) c.operators.reader c.operator.new.reader c.read_levels.new.reader
+          ap (λ b. onward (drop (if b then c.in-Some.index else c.in-Some.index + 1) c.args.levels.now) (atom_of c.args.holes) (written c.in_ok-left-2.left) c.read_levels.new.reader) (sym b)
+          ∙ operator_goes c.args.levels.now c.args.holes c.in-Some.index c.requires f.0 c.operators.from c.in-Some.op (written c.operators.left) (written c.in_ok-right.right) (written c.in_ok-left-2.left) c.operators.reader c.operator.new.reader c.read_levels.new.reader
           f.1 f.2 c.in_ok-right.ensures.reads c.in_ok-left-2.ensures
           ∙ c.operators.invariant.same;
       shorter = omega (arith, c.in_ok-right.ensures.shorter, c.in-Some.ensures.shorter, c.operators.invariant.shorter);
@@ -34,11 +34,11 @@ read_levels-operators-preserved-then-repeats t c =
 pub read_levels-operators-preserved : goal.read_levels-operators-preserved
 read_levels-operators-preserved t c =
     let f = c.in-Some.ensures.finds in
-    let b : repeats (get_or c.args.levels.now c.in-Some.place Prod) ≡ false = sym c.repeats.ensures ∙ c.if-repeats.false in
+    let b : repeats (get_or c.args.levels.now c.in-Some.index Prod) ≡ false = sym c.repeats.ensures ∙ c.if-repeats.false in
     record {
       same =
-          ap (λ b. onward (drop (if b then c.in-Some.place else c.in-Some.place + 1) c.args.levels.now) (atom_of c.args.holes) (written c.in_ok-left-2.left) c.read_levels.new.reader) (sym b)
-          ∙ operator_goes c.args.levels.now c.args.holes c.in-Some.place c.requires f.0 c.operators.from c.in-Some.op (written c.operators.left) (written c.in_ok-right.right) (written c.in_ok-left-2.left) c.operators.reader c.operator.new.reader c.read_levels.new.reader
+          ap (λ b. onward (drop (if b then c.in-Some.index else c.in-Some.index + 1) c.args.levels.now) (atom_of c.args.holes) (written c.in_ok-left-2.left) c.read_levels.new.reader) (sym b)
+          ∙ operator_goes c.args.levels.now c.args.holes c.in-Some.index c.requires f.0 c.operators.from c.in-Some.op (written c.operators.left) (written c.in_ok-right.right) (written c.in_ok-left-2.left) c.operators.reader c.operator.new.reader c.read_levels.new.reader
           f.1 f.2 c.in_ok-right.ensures.reads c.in_ok-left-2.ensures
           ∙ c.operators.invariant.same;
       shorter = omega (arith, c.in_ok-right.ensures.shorter, c.in-Some.ensures.shorter, c.operators.invariant.shorter);
