@@ -12,7 +12,7 @@ use crate::explanation::{add_explanation, add_report};
 use cov_expr::{Blob, MOST_BYTES, NoMemory};
 use cov_io::Shelf;
 use std::alloc::Global;
-use top_call::{Status, Stop, check_bytes, fetch, status_for};
+use top_call::{Answer, Status, Stop, check_bytes, fetch, status_for};
 
 /// Adds what is told of each file, and gives the first status that isn't Done.
 pub fn tell_all<S: Shelf>(
@@ -72,11 +72,25 @@ fn tell_bytes(alloc: Global, name: &str, bytes: &[u8], text: &mut Blob) -> Resul
         × (text.new ≡ text.old ++ explanation name.now bytes.now reply)) }
 {
     match check_bytes(alloc, name, bytes) {
-        Ok(answer) | Err(Stop::Answer(answer)) => {
-            let status = status_for(&answer);
-            add_explanation(alloc, name, bytes, answer, text)?;
-            Ok(status)
-        }
+        Ok(answer) => tell_answer(alloc, name, bytes, answer, text),
+        Err(Stop::Answer(answer)) => tell_answer(alloc, name, bytes, answer, text),
         Err(Stop::NoMemory) => Err(NoMemory),
     }
+}
+
+/// Adds what is told of the bytes of a file that `check` answers so, and gives the status of that.
+fn tell_answer(
+    alloc: Global,
+    name: &str,
+    bytes: &[u8],
+    answer: Answer<'_>,
+    text: &mut Blob,
+) -> Result<Status, NoMemory>
+    requires { ChecksBytes name.now bytes.now (seen answer) }
+    ensures { IfOk result (λ status. (reply : Reply) × ChecksBytes name.now bytes.now reply × (status ≡ status_of reply)
+        × (text.new ≡ text.old ++ explanation name.now bytes.now reply)) }
+{
+    let status = status_for(&answer);
+    add_explanation(alloc, name, bytes, answer, text)?;
+    Ok(status)
 }
