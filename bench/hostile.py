@@ -12,12 +12,11 @@ The parts are
 - `inputs`: N mutated starts and schedules, and N / 10 mutated expressions, by `run`, `pair` and `run-until`, against bench/machines.py;
 - `listings`: N mutated listings by PARTS, against bench/machines.py;
 - `limits`: deep, wide and long files, with the time and the memory that each takes, as a table;
-- `memory`: commands in more and more room for addresses: they answer whole, or with status 6 and nothing.
+- `memory`: commands in more and more room for addresses: they answer whole, or with status 6 and nothing;
+- `allocations`: each request for memory of each command is refused in turn, where there is cc: the same.
 
 A text that takes more than ten seconds is told, and so is a process that a signal ends. The status is 1 where something is told. With all parts it
 takes an hour or so on one processor, and some ten minutes with `--count 10000`.
-
-That each allocation may be refused in turn is tried by `rt try --fail-alloc N -- WORD..` in crates/covern_cli, for N from 1 until the answer is whole.
 """
 import argparse
 import concurrent.futures
@@ -561,7 +560,64 @@ def memory_part(options, folder, found):
         print(f"memory: {' '.join(words)}: status 6 in {refused} sizes, whole from {(room - whole * step) / (1 << 20):.2f} MiB")
 
 
-PARTS = {"outside": outside, "texts": texts_part, "inputs": inputs_part, "listings": listings_part, "limits": limits_part, "memory": memory_part}
+# Each request for memory, refused in turn.
+
+REFUSER = r"""
+#define _GNU_SOURCE
+#include <dlfcn.h>
+#include <stdlib.h>
+
+static int refuses(void) {
+    static long left = -1;
+    if (left < 0) left = getenv("REFUSED") ? atol(getenv("REFUSED")) : 0;
+    return left > 0 && --left == 0;
+}
+
+void *malloc(size_t size) {
+    static void *(*next)(size_t);
+    if (!next) next = dlsym(RTLD_NEXT, "malloc");
+    return refuses() ? 0 : next(size);
+}
+
+void *realloc(void *old, size_t size) {
+    static void *(*next)(void *, size_t);
+    if (!next) next = dlsym(RTLD_NEXT, "realloc");
+    return refuses() ? 0 : next(old, size);
+}
+"""
+SHARED = (b"var mode: low; var buf: low when mode == 0; var key: high; var tmp: high; var net: low; lock l hide mode, buf; "
+          b"thread w guarantee hide tmp { lock l; buf := key; mode := 1; unlock l by { 1: have [1 == 0] (rev 1 [_ == 0] (hyp 2)) (clash 3) }; } "
+          b"thread r assume hide tmp { lock l; if mode == 0 { tmp := buf as 1; } else { tmp := 0; } join { ; buf: mode == 0, tmp: 1 } unlock l; "
+          b"net := tmp; }")
+
+
+def allocations_part(options, folder, found):
+    """The first request alone is refused, then the second alone, and so on until none is left to refuse."""
+    if not shutil.which("cc"):
+        print("requests for memory aren't refused: there is no cc")
+        return
+    made = os.path.join(folder, "refuser.so")
+    subprocess.run(["cc", "-O1", "-shared", "-fPIC", "-o", made, write(folder, "refuser.c", REFUSER.encode()), "-ldl"], check=True)
+    entries = json.dumps([0, 1] * 50).encode()
+    for title, text, starts in (("writer", WRITER, {"mode": 0, "buf": 0}), ("shared", SHARED, {"mode": 0, "buf": 0, "tmp": 0, "net": 0})):
+        write(folder, "p", text)
+        write(folder, "k", entries if title == "shared" else b"[0,0,0,0,0,0,0,0,0,0]")
+        for name, key in (("s", 5), ("t", 9)):
+            write(folder, name, json.dumps({**starts, "key": key}).encode())
+        for words in [*WORDS, *([["big", "1", "k"]] if title == "shared" else [])]:
+            due = ended(options.program, words, folder)
+            number = refused = whole = 0
+            # (a few requests can be done without; behind the last one every answer is whole)
+            while whole < 50:
+                number += 1
+                answer = ended(options.program, words, folder, env={"LD_PRELOAD": made, "REFUSED": str(number)})
+                found.case(f"{title}: {' '.join(words)}, request {number}", answer if answer in (due, (b"", 6)) else "another answer", answer)
+                refused, whole = (refused + 1, 0) if answer == (b"", 6) else (refused, whole + 1)
+            print(f"allocations: {title}: {' '.join(words)}: status 6 for {refused} of {number - whole} requests")
+
+
+PARTS = {"outside": outside, "texts": texts_part, "inputs": inputs_part, "listings": listings_part, "limits": limits_part, "memory": memory_part,
+         "allocations": allocations_part}
 
 
 def main():
