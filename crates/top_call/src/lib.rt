@@ -24,8 +24,8 @@
 //! | `laws` | `Laws`, `Headline` | one reply; a program in version 2; what it says of a file that it is accepted, and of what is put that it is the listing of its code |
 //!
 //! A command is a module of `src/` with its step, a module of `specs/` with its replies, and a row in each of `Command`,
-//! `command_of`, `plan_of`, `IsSuccess`, `HoldsSecure`, `PutsCode`, `RunsAccepted` and in the function `answer`. Definitions by command have no row for the
-//! rest, so that none is forgotten. What a command may reply, what it replies over files, what it asks and which calls it makes
+//! `command_of`, `plan_of`, `IsSuccess`, `HoldsSecure`, `PutsCode`, `RunsAccepted`, and of `Asked` and `carry_out` in `commands`. Definitions by command have no row
+//! for the rest, so that none is forgotten. What a command may reply, what it replies over files, what it asks and which calls it makes
 //! are said once, by recursion on plans. `specs/Inside` has the words of private contracts, which no promise of `covern` cites.
 #![tactic(auto)]
 
