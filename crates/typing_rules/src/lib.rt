@@ -1,7 +1,7 @@
 //! The rules of statements: what has to hold of each statement of a thread for the thread to be accepted.
 //!
 //! The definitions stand in `specs/`: `Blocks` has the point after a statement, `Entailments` what has to follow from the
-//! predicates of a point and by which certificate, and `Obligations` every obligation of a thread (V1 to V16) in the order
+//! predicates of a point and by which certificate, and `ThreadObligations` every obligation of a thread (V1 to V16) in the order
 //! in which they are tried, with what is refused where it fails.
 //! `proofs/Examples.antt` computes worked examples.
 //!
