@@ -5,3 +5,4 @@ pub mod CodeLaws
 pub mod QuietLaws
 pub mod QuietCodeLaws
 pub mod ReadLaws
+pub mod PlainLaws

@@ -13,10 +13,11 @@
 
 mod code_replays;
 mod fault;
-mod json;
+mod plain;
 mod replays;
 mod schedule;
 mod start;
+mod values;
 
 pub use code_replays::{pair_code, run_code};
 pub use fault::{ScheduleFault, StartFault};

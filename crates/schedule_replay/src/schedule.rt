@@ -4,17 +4,28 @@ ghost use Rattle.schedule_replay.specs.Json.{value_of};
 ghost use Rattle.schedule_replay.specs.Schedules as spec;
 
 use crate::fault::ScheduleFault;
-use crate::json::{Unread, read_value, whole_below};
+use crate::plain::read_plain;
+use crate::values::{Unread, read_value, whole_below};
 use cov_expr::List;
 use serde_json::Value;
 use std::alloc::Global;
 
 /// The most entries of a schedule.
-const MOST_ENTRIES: usize = 100000;
+pub const MOST_ENTRIES: usize = 100000;
 
 /// The entries of a schedule, from a JSON list of numbers of threads, which are counted from 0 in the order of
-/// declaration. It takes memory for the value that is read and for the entries.
+/// declaration. It takes memory for the entries and, where these are no plain list of such numbers, for the value that is read.
 pub fn read_schedule(alloc: Global, bytes: &[u8], threads: u32) -> Result<List<u32>, ScheduleFault>
+    ensures { spec.GivesSchedule result (spec.schedule_of threads (value_of bytes.now)) }
+{
+    match read_plain(alloc, bytes, threads)? {
+        Some(entries) => Ok(entries),
+        None => read_any(alloc, bytes, threads),
+    }
+}
+
+/// The entries of a schedule, or the first fault, by the value that the bytes are.
+fn read_any(alloc: Global, bytes: &[u8], threads: u32) -> Result<List<u32>, ScheduleFault>
     ensures { spec.GivesSchedule result (spec.schedule_of threads (value_of bytes.now)) }
 {
     let value = match read_value(alloc, bytes) {

@@ -4,7 +4,7 @@ ghost use Rattle.schedule_replay.specs.Json.{value_of};
 ghost use Rattle.schedule_replay.specs.Starts as spec;
 
 use crate::fault::StartFault;
-use crate::json::{Unread, has_member, member, number_below, read_value};
+use crate::values::{Unread, has_member, member, number_below, read_value};
 use cov_ast::VarDecl;
 use cov_expr::{List, Name};
 use serde_json::{Map, Value};

@@ -4,7 +4,7 @@ use Rattle.serde_json.specs.Find.{get_member}
 use Rattle.serde_json.specs.View.{view, members_view}
 use Rattle.serde_json.proofs.Views.{view_of_ref, view-lookup}
 use Rattle.schedule_replay.proofs.ReadLaws.{name_utf8}
-use Rattle.schedule_replay.proofs.json.member.Goals as goal
+use Rattle.schedule_replay.proofs.values.member.Goals as goal
 
 pub returns-in-Ok : goal.returns-in-Ok
 returns-in-Ok c =

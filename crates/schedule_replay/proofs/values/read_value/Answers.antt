@@ -1,7 +1,7 @@
 use Rattle.std.proofs.Common.{true≢false, sym, ◌∙◌}
 use Rattle.serde_json.specs.View.{view}
 use Rattle.schedule_replay.proofs.ReadLaws.{read_is, unread_is}
-use Rattle.schedule_replay.proofs.json.read_value.Goals as goal
+use Rattle.schedule_replay.proofs.values.read_value.Goals as goal
 
 pub returns-in-Ok : goal.returns-in-Ok
 returns-in-Ok c = read_is c.args.bytes.now (view c.in-Ok.value) c.in-Ok.ensures.ok.0 c.in-Ok.ensures.ok.1
