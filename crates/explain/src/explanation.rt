@@ -1,6 +1,6 @@
 ghost use Rattle.std.specs.Prelude.{◌≡◌, ◌++◌, OnOk, Some, decimal};
 ghost use Rattle.explain.specs.Explanations as spec;
-ghost use Rattle.top_call.specs.Inside.{seen};
+ghost use Rattle.top_call.specs.AnswerViews.{seen};
 ghost use Rattle.top_call.specs.Reports.{report_of};
 
 use crate::faults::add_fault_sentence;

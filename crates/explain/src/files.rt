@@ -4,7 +4,7 @@ ghost use Rattle.cov_io.specs.Shelves.{Passes};
 ghost use Rattle.explain.specs.FileCalls as spec;
 ghost use Rattle.explain.specs.FileCalls.{Tells, TellsAll};
 ghost use Rattle.explain.specs.Explanations.{explanation};
-ghost use Rattle.top_call.specs.Inside.{seen};
+ghost use Rattle.top_call.specs.AnswerViews.{seen};
 ghost use Rattle.top_call.specs.Replies.{Reply, status_of};
 ghost use Rattle.top_call.specs.Texts.{ChecksBytes};
 

@@ -21,7 +21,8 @@ use Rattle.cov_text.specs.Text.{Expression, expression_of}
 use Rattle.cov_text.specs.Uses.{AreUsesOf}
 use Rattle.policy_class.specs.Resolved.{var_names}
 use Rattle.top_call.specs.Expressions.{id_of, first_unknown, by_id, SpellsExpression, unknown_in, over, IsExpression, IsUnknownName, IsExpressionFault}
-use Rattle.top_call.specs.Inside.{ResolvesTo, Stops, variables}
+use Rattle.top_call.specs.AnswerViews.{Stops}
+use Rattle.top_call.specs.Inside.{ResolvesTo, variables}
 use Rattle.top_call.specs.Replies.{malformed}
 use Rattle.top_call.specs.declared.answers.Fault.{Fault}
 use Rattle.top_call.specs.declared.answers.Fault.TheVariants as shows

@@ -8,7 +8,8 @@ use Rattle.cov_io.specs.declared.shelf.Fetched.TheVariants.{Whole, TooLong}
 use Rattle.cov_io.specs.declared.shelf.ShelfFault.TheVariants as faults
 use Rattle.cov_io.proofs.ShelfLaws.{gives_within}
 use Rattle.top_call.specs.Files.{Misses, Reads, GivenBy}
-use Rattle.top_call.specs.Inside.{Stops, Gets, Fails, IsUnread, Takes}
+use Rattle.top_call.specs.AnswerViews.{Stops, Gets}
+use Rattle.top_call.specs.Inside.{Fails, IsUnread, Takes}
 use Rattle.top_call.specs.Replies.{Reply, malformed, read_fault, too_long, status_of}
 use Rattle.top_call.specs.declared.answers.Answer.{Answer}
 use Rattle.top_call.specs.declared.answers.Fault.{Fault}

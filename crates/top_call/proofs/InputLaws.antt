@@ -20,7 +20,8 @@ use Rattle.schedule_replay.specs.declared.fault.ScheduleFault.TheVariants as sch
 use Rattle.schedule_replay.specs.declared.fault.StartFault.{StartFault}
 use Rattle.schedule_replay.specs.declared.fault.StartFault.TheVariants as starts
 use Rattle.top_call.specs.Inputs.{named, start_shown, schedule_shown, IsStart, IsStartFault, IsScheduleText, IsScheduleFault}
-use Rattle.top_call.specs.Inside.{Stops, IsUnread}
+use Rattle.top_call.specs.AnswerViews.{Stops}
+use Rattle.top_call.specs.Inside.{IsUnread}
 use Rattle.top_call.specs.Replies.{malformed}
 use Rattle.top_call.specs.declared.answers.Fault.{Fault}
 use Rattle.top_call.specs.declared.answers.Stop.{Stop}

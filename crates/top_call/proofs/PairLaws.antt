@@ -20,7 +20,8 @@ use Rattle.schedule_replay.specs.declared.replays.Found.{Found}
 use Rattle.source_machine.specs.SourceMachine.{IsFirstApart}
 use Rattle.verify.specs.Accepted.{IsAccepted}
 use Rattle.top_call.specs.Check.{IsAcceptedText, meaning}
-use Rattle.top_call.specs.Inside.{Stops, IsDeclared, IsRefusal, PairsFit, PairsProgram}
+use Rattle.top_call.specs.AnswerViews.{Stops}
+use Rattle.top_call.specs.Inside.{IsDeclared, IsRefusal, PairsFit, PairsProgram}
 use Rattle.top_call.specs.Pairs.{Pairs, RunApart, RunTogether, RunsBoth, RunsFit, UnlessUnfit, bad_name, differ_text}
 use Rattle.top_call.specs.Replies.{Reply, bad_starts, differ, ran, refused, status_of}
 use Rattle.top_call.specs.Runs.{IsDeclaredText, UnlessRefused, declared_obligations}

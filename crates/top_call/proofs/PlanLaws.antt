@@ -9,7 +9,8 @@ use Rattle.cov_io.specs.declared.shelf.ShelfFault.{ShelfFault}
 use Rattle.cov_io.specs.declared.shelf.ShelfFault.TheVariants as faults
 use Rattle.cov_io.proofs.ShelfLaws.{passes_none, passes_both, gives_within}
 use Rattle.top_call.specs.Asks.{Asks, Follows, Continues}
-use Rattle.top_call.specs.Inside.{Stops, Gets, LacksMemory, CarriesOut, Takes, Fails, IsUnread}
+use Rattle.top_call.specs.AnswerViews.{Stops, Gets}
+use Rattle.top_call.specs.Inside.{LacksMemory, CarriesOut, Takes, Fails, IsUnread}
 use Rattle.top_call.specs.Plans.{Plan, replies, file, argument, RepliesTo, MayReply, RepliesOver, IsPlanMet}
 use Rattle.top_call.specs.Replies.{Reply, malformed, status_of}
 use Rattle.top_call.specs.declared.answers.Answer.{Answer}

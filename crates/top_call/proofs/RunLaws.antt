@@ -15,7 +15,8 @@ use Rattle.mode_compat.specs.Declared.{declaration_obligations}
 use Rattle.policy_class.specs.Resolved.{name_obligations, resolved}
 use Rattle.schedule_replay.specs.Replays.{StopsAt, after_steps}
 use Rattle.schedule_replay.specs.declared.replays.Until.{Until}
-use Rattle.top_call.specs.Inside.{Stops, IsDeclared, IsRefusal}
+use Rattle.top_call.specs.AnswerViews.{Stops}
+use Rattle.top_call.specs.Inside.{IsDeclared, IsRefusal}
 use Rattle.top_call.specs.Replies.{Reply, ran, status_of}
 use Rattle.top_call.specs.RunReports.{run_report}
 use Rattle.top_call.specs.Runs.{report_on_run, report_until, declared_obligations, IsDeclaredText, unless_refused, run_reply, Runs, RunsTo, RunsUntil, UnlessRefused}

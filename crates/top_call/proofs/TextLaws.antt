@@ -16,7 +16,7 @@ use Rattle.cov_text.specs.declared.fault.ParseFault.{ParseFault}
 use Rattle.cov_text.specs.declared.fault.ParseFault.TheVariants as faults
 use Rattle.cov_ast.specs.Syntax.{Parsed}
 use Rattle.cov_ast.specs.View as view
-use Rattle.top_call.specs.Inside.{Stops}
+use Rattle.top_call.specs.AnswerViews.{Stops}
 use Rattle.top_call.specs.Programs.{SpellsProgram, IsShownFault, shown}
 use Rattle.top_call.specs.Replies.{malformed}
 use Rattle.top_call.specs.declared.answers.Fault.{Fault}

@@ -25,6 +25,7 @@ use Rattle.schedule_replay.specs.declared.replays.Until.{Until}
 use Rattle.source_machine.specs.SourceMachine.{Machine, run_of}
 use Rattle.verify.specs.Accepted.{IsAccepted, program_obligations}
 use Rattle.verify.specs.Verdicts.{counts}
+use Rattle.top_call.specs.AnswerViews.{Gets, Stops}
 use Rattle.top_call.specs.Asks.{Asks}
 use Rattle.top_call.specs.Check.{IsAcceptedText, meaning}
 use Rattle.top_call.specs.Codes.{PairsCode}
@@ -34,7 +35,7 @@ use Rattle.top_call.specs.Files.{Reads}
 use Rattle.top_call.specs.Outcome.{entries, expression, memory}
 use Rattle.top_call.specs.Pairs.{Pairs, RunsBoth, RunsFit}
 use Rattle.top_call.specs.Plans.{Plan, MayReply, replies}
-use Rattle.top_call.specs.Replies.{Reply, usage, read_fault, too_long, malformed, refused, accepted, spelled, ran, bad_starts, differ, status_of}
+use Rattle.top_call.specs.Replies.{Reply, malformed, refused, accepted, spelled, ran, bad_starts, differ, status_of}
 use Rattle.top_call.specs.Reports.{report_of}
 use Rattle.top_call.specs.Runs.{IsDeclaredText, RunsUntil, declared_obligations}
 use Rattle.top_call.specs.declared.answers.Fault.{Fault}
@@ -43,24 +44,10 @@ use Rattle.top_call.specs.declared.answers.FaultKind.TheVariants as k
 use Rattle.top_call.specs.declared.answers.Status.TheVariants as s
 use Rattle.top_call.specs.declared.expressions.TheConstants.{MOST_EXPRESSION_BYTES}
 use Rattle.top_call.specs.declared.answers.Answer.{Answer}
-use Rattle.top_call.specs.declared.answers.Answer.TheVariants as a
 use Rattle.top_call.specs.declared.commands.Asked.{Asked}
 use Rattle.top_call.specs.declared.commands.Asked.TheVariants as asked
 use Rattle.top_call.specs.declared.answers.Stop.{Stop}
 use Rattle.top_call.specs.declared.answers.Stop.TheVariants as stops
-
--- the code's answer, without where its words lie in memory
-abbrev pub seen : Answer → Reply
-seen a.Usage = usage
-seen (a.ReadFault name) = read_fault name.now
-seen (a.TooLong name) = too_long name.now
-seen (a.Malformed name fault) = malformed name.now fault
-seen (a.Refused refusal thread) = refused refusal thread
-seen (a.Accepted counts) = accepted counts.threads counts.statements counts.entailments
-seen (a.Spelled text) = spelled text
-seen (a.Ran report) = ran report
-seen (a.BadStarts name) = bad_starts name
-seen (a.Differ step what) = differ step what
 
 -- what is asked, without where its words lie in memory
 abbrev pub command_seen : Asked → Command
@@ -81,15 +68,6 @@ abbrev pub IsWithinLimits : Asked → Type 0
 IsWithinLimits (asked.RunUntil program start schedule expression) = length expression.now ≤ MOST_EXPRESSION_BYTES
 IsWithinLimits (asked.Big rounds schedule) = (1 ≤ rounds) × (rounds ≤ MOST_ROUNDS)
 IsWithinLimits other = Unit {0}
-
--- A step gives what the command gives, unless memory ran out.
-abbrev pub Stops : (Reply → Type 0) → Stop → Type 0
-Stops does (stops.Answer answer) = does (seen answer)
-Stops does stops.NoMemory = Unit {0}
-
-abbrev pub Gets : (Reply → Type 0) → Result Answer Stop → Type 0
-Gets does (Ok answer) = does (seen answer)
-Gets does (Err stop) = Stops does stop
 
 -- A step gives nothing, since memory ran out.
 abbrev pub LacksMemory : Result Answer Stop → Type 0

@@ -15,6 +15,7 @@ pub mod Texts
 pub mod Files
 pub mod Asks
 pub mod Replies
+pub mod AnswerViews
 pub mod Reports
 pub mod RunReports
 pub mod CodeReports

@@ -1,5 +1,5 @@
 ghost use Rattle.std.specs.Prelude.{◌≡◌};
-ghost use Rattle.top_call.specs.Inside.{seen};
+ghost use Rattle.top_call.specs.AnswerViews.{seen};
 ghost use Rattle.top_call.specs.Replies.{status_of};
 ghost use Rattle.top_call.specs.declared.answers.Stop.TheVariants as stops;
 

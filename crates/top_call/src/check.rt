@@ -5,7 +5,8 @@ ghost use Rattle.cov_ast.specs.WellFormed.{IsWellFormed};
 ghost use Rattle.cov_expr.specs.declared.limits.TheConstants.{MOST_BYTES};
 ghost use Rattle.top_call.specs.Check.{Judges};
 ghost use Rattle.top_call.specs.Commands as asked;
-ghost use Rattle.top_call.specs.Inside.{CarriesOut, Gets, JudgesProgram, name_in};
+ghost use Rattle.top_call.specs.AnswerViews.{Gets};
+ghost use Rattle.top_call.specs.Inside.{CarriesOut, JudgesProgram, name_in};
 ghost use Rattle.top_call.specs.Outcome.{plan_of};
 ghost use Rattle.top_call.specs.Texts.{ChecksBytes};
 

@@ -6,7 +6,8 @@ ghost use Rattle.cov_ast.specs.WellFormed.{IsWellFormed};
 ghost use Rattle.flow_model.specs.Secure.{IsSecure};
 ghost use Rattle.schedule_replay.specs.CodeReplays.{DeclaresAsMany};
 ghost use Rattle.top_call.specs.Codes as spec;
-ghost use Rattle.top_call.specs.Inside.{IsCodeOf, IsNameRefusal, IsNamed, IsRejection, Stops};
+ghost use Rattle.top_call.specs.AnswerViews.{Stops};
+ghost use Rattle.top_call.specs.Inside.{IsCodeOf, IsNameRefusal, IsNamed, IsRejection};
 ghost use Rattle.verify.specs.Accepted.{IsAccepted};
 
 use crate::answers::{Answer, Stop};

@@ -3,7 +3,8 @@ ghost use Rattle.cov_io.specs.Shelves.{Passes};
 ghost use Rattle.top_call.specs.Asks.{Asks, files_of};
 ghost use Rattle.top_call.specs.Commands.{command_of};
 ghost use Rattle.top_call.specs.Commands as spec;
-ghost use Rattle.top_call.specs.Inside.{Gets, IsWithinLimits, LacksMemory, command_seen};
+ghost use Rattle.top_call.specs.AnswerViews.{Gets};
+ghost use Rattle.top_call.specs.Inside.{IsWithinLimits, LacksMemory, command_seen};
 ghost use Rattle.top_call.specs.Outcome.{Does};
 
 use crate::answers::{Answer, Stop};

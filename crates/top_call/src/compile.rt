@@ -2,7 +2,8 @@ ghost use Rattle.cov_ast.specs.Ready.{IsReady};
 ghost use Rattle.cov_ast.specs.View as view;
 ghost use Rattle.top_call.specs.Codes.{Compiles};
 ghost use Rattle.top_call.specs.Commands as asked;
-ghost use Rattle.top_call.specs.Inside.{CarriesOut, Gets};
+ghost use Rattle.top_call.specs.AnswerViews.{Gets};
+ghost use Rattle.top_call.specs.Inside.{CarriesOut};
 ghost use Rattle.top_call.specs.Outcome.{plan_of};
 
 use crate::answers::{Answer, Stop};

@@ -1,7 +1,7 @@
 ghost use Rattle.std.specs.Prelude.{◌≡◌, ◌≤◌};
 ghost use Rattle.cov_io.specs.Counters.{Rose};
 ghost use Rattle.top_call.specs.Ends.{Ends};
-ghost use Rattle.top_call.specs.Inside.{seen};
+ghost use Rattle.top_call.specs.AnswerViews.{seen};
 
 use crate::answers::{Answer, Status, status_for};
 use crate::reports::report;

@@ -7,7 +7,8 @@ ghost use Rattle.cov_expr.specs.declared.limits.TheConstants.{MOST_VARIABLES};
 ghost use Rattle.cov_parse.specs.Reads.{parsed_expr};
 ghost use Rattle.cov_text.specs.Uses.{AreUsesOf};
 ghost use Rattle.top_call.specs.Expressions as spec;
-ghost use Rattle.top_call.specs.Inside.{ResolvesTo, Stops, variables};
+ghost use Rattle.top_call.specs.AnswerViews.{Stops};
+ghost use Rattle.top_call.specs.Inside.{ResolvesTo, variables};
 ghost use Rattle.top_call.specs.Replies.{malformed};
 
 use crate::answers::{Fault, FaultKind, Stop};

@@ -6,7 +6,8 @@ ghost use Rattle.cov_io.specs.Counters.{raised};
 ghost use Rattle.cov_io.specs.Shelves.{Gives, Passes};
 ghost use Rattle.cov_io.specs.declared.shelf.Fetched.TheVariants as fetched;
 ghost use Rattle.top_call.specs.Files.{Misses};
-ghost use Rattle.top_call.specs.Inside.{Fails, Stops, Takes};
+ghost use Rattle.top_call.specs.AnswerViews.{Stops};
+ghost use Rattle.top_call.specs.Inside.{Fails, Takes};
 ghost use Rattle.top_call.specs.Programs.{IsShownFault, SpellsProgram, shown};
 ghost use Rattle.top_call.specs.Replies.{malformed};
 

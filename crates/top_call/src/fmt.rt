@@ -1,7 +1,8 @@
 ghost use Rattle.cov_ast.specs.View as view;
 ghost use Rattle.top_call.specs.Commands as asked;
 ghost use Rattle.top_call.specs.Format.{Formats};
-ghost use Rattle.top_call.specs.Inside.{CarriesOut, Gets};
+ghost use Rattle.top_call.specs.AnswerViews.{Gets};
+ghost use Rattle.top_call.specs.Inside.{CarriesOut};
 ghost use Rattle.top_call.specs.Outcome.{plan_of};
 
 use crate::answers::{Answer, Stop};

@@ -18,7 +18,7 @@
 //! | `check`, `compile`, `fmt`, `migrate`, `run`, `run_code`, `run_until`, `pair`, `pair_code`, `big` | `Check`, `Format`, `Runs`, `Pairs`, `Codes`, `Big` | a module for each command: what it replies to what its files spell |
 //! | `codes` | `Codes` | the verdict on a program, the code of an accepted one, and its machine |
 //! | `files`, `inputs`, `expressions` | `Files`, `Programs`, `Texts`, `Inputs`, `Expressions` | how a file is fetched and read, as a program, a start or a schedule, and a word as an expression, and what is replied where it isn't |
-//! | `answers` | `Replies` | what a call can answer, and the status of each answer |
+//! | `answers` | `Replies`, `AnswerViews` | what a call can answer, and the status of each answer; an answer of the code as the reply that it is |
 //! | `reports`, `refusals`, `faults`, `run_reports`, `code_reports`, `summaries`, `differences`, `lines` | `Reports`, `RunReports`, `CodeReports`, `Summaries` | the text of each answer |
 //! | `end` | `Ends` | the report is made and written |
 //! | `laws` | `Laws`, `Headline` | one reply; a program in version 2; what it says of a file that it is accepted, and of what is put that it is the listing of its code |

@@ -7,7 +7,8 @@ ghost use Rattle.cov_expr.specs.Words.{IsMemory, IsSchedule};
 ghost use Rattle.flow_model.specs.Agreement.{AreFitStarts};
 ghost use Rattle.schedule_replay.specs.Schedules.{most_entries};
 ghost use Rattle.top_call.specs.Commands as asked;
-ghost use Rattle.top_call.specs.Inside.{CarriesOut, Gets, PairsFit, PairsProgram, second_plan, seen};
+ghost use Rattle.top_call.specs.AnswerViews.{Gets, seen};
+ghost use Rattle.top_call.specs.Inside.{CarriesOut, PairsFit, PairsProgram, second_plan};
 ghost use Rattle.top_call.specs.Outcome.{plan_of};
 ghost use Rattle.top_call.specs.Pairs.{Pairs};
 

@@ -10,7 +10,8 @@ ghost use Rattle.schedule_replay.specs.CodeReplays.{DeclaresAsMany};
 ghost use Rattle.schedule_replay.specs.Schedules.{most_entries};
 ghost use Rattle.top_call.specs.Codes.{CodeRunsTogether, PairsCode, RunsBothCodes};
 ghost use Rattle.top_call.specs.Commands as asked;
-ghost use Rattle.top_call.specs.Inside.{CarriesOut, Gets, second_code_plan, seen};
+ghost use Rattle.top_call.specs.AnswerViews.{Gets, seen};
+ghost use Rattle.top_call.specs.Inside.{CarriesOut, second_code_plan};
 ghost use Rattle.top_call.specs.Outcome.{plan_of};
 ghost use Rattle.top_call.specs.Replies as replies;
 

@@ -1,5 +1,6 @@
 ghost use Rattle.std.specs.Prelude.{◌≡◌, IfOk, string_bytes};
-ghost use Rattle.top_call.specs.Inside.{IsLine, seen};
+ghost use Rattle.top_call.specs.AnswerViews.{seen};
+ghost use Rattle.top_call.specs.Inside.{IsLine};
 ghost use Rattle.top_call.specs.Reports as spec;
 ghost use Rattle.top_call.specs.Reports.{report_of};
 

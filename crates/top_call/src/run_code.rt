@@ -7,7 +7,8 @@ ghost use Rattle.schedule_replay.specs.CodeReplays.{DeclaresAsMany};
 ghost use Rattle.schedule_replay.specs.Schedules.{most_entries};
 ghost use Rattle.top_call.specs.Codes.{RunsCode, report_on_code};
 ghost use Rattle.top_call.specs.Commands as asked;
-ghost use Rattle.top_call.specs.Inside.{CarriesOut, Gets};
+ghost use Rattle.top_call.specs.AnswerViews.{Gets};
+ghost use Rattle.top_call.specs.Inside.{CarriesOut};
 ghost use Rattle.top_call.specs.Outcome.{plan_of};
 
 use crate::answers::{Answer, Stop};

@@ -1,4 +1,4 @@
-use Rattle.top_call.specs.Inside.{seen}
+use Rattle.top_call.specs.AnswerViews.{seen}
 use Rattle.explain.proofs.files.tell_answer.Goals as goal
 
 pub returns : goal.returns

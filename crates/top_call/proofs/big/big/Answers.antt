@@ -9,7 +9,8 @@ use Rattle.top_call.specs.Big.{SumsUp, first_start, second_start}
 use Rattle.top_call.specs.Check.{IsAcceptedText, meaning}
 use Rattle.top_call.specs.Commands.{big}
 use Rattle.top_call.specs.Inputs.{IsScheduleText, IsScheduleFault}
-use Rattle.top_call.specs.Inside.{CarriesOut, Gets}
+use Rattle.top_call.specs.AnswerViews.{Gets}
+use Rattle.top_call.specs.Inside.{CarriesOut}
 use Rattle.top_call.specs.Outcome.{plan_of, entries}
 use Rattle.top_call.specs.Plans.{Plan, replies}
 use Rattle.top_call.specs.Programs.{SpellsProgram, IsShownFault}

@@ -8,7 +8,7 @@ use Rattle.flow_model.specs.Secure.{IsSecure}
 use Rattle.policy_class.specs.Resolved.{resolved}
 use Rattle.top_call.specs.Big.{RunsAll, SumsUp, first_start, second_start}
 use Rattle.top_call.specs.Codes.{code_of}
-use Rattle.top_call.specs.Inside.{Gets, seen}
+use Rattle.top_call.specs.AnswerViews.{Gets, seen}
 use Rattle.top_call.proofs.BigLaws.{as_many_threads, as_many_variables, start_is_memory, sum_replied}
 use Rattle.top_call.proofs.CodeLaws.{declares_as_many, made_code, names_rejected, program_rejected}
 use Rattle.top_call.proofs.big.sum_up_text.Goals as goal

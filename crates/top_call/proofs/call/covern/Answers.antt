@@ -1,7 +1,8 @@
 use Rattle.std.proofs.Common.{◌≡◌, Err, refl, inl, inr, map, string_bytes, rules}
 use Rattle.top_call.specs.Asks.{files_of}
 use Rattle.top_call.specs.Commands.{command_of}
-use Rattle.top_call.specs.Inside.{seen, LacksMemory}
+use Rattle.top_call.specs.AnswerViews.{seen}
+use Rattle.top_call.specs.Inside.{LacksMemory}
 use Rattle.top_call.specs.declared.answers.Status.TheVariants as s
 use Rattle.top_call.proofs.PlanLaws.{asks_onward}
 use Rattle.top_call.proofs.OutcomeLaws.{call_outcome, call_exact, call_secure, call_code, call_agree, call_fault, call_complete}

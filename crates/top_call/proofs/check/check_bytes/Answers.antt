@@ -6,7 +6,7 @@ use Rattle.cov_text.specs.Text.{Answers, program_of}
 use Rattle.cov_text.specs.declared.fault.ParseFault.{ParseFault}
 use Rattle.cov_grammar.proofs.Exactness.{program_decided}
 use Rattle.top_call.specs.Check.{Judges}
-use Rattle.top_call.specs.Inside.{Stops}
+use Rattle.top_call.specs.AnswerViews.{Stops}
 use Rattle.top_call.specs.Programs.{shown}
 use Rattle.top_call.specs.Replies.{malformed}
 use Rattle.top_call.specs.Texts.{ChecksBytes}

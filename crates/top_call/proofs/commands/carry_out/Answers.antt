@@ -1,6 +1,7 @@
 use Rattle.std.proofs.Common.{sym, subst}
 use Rattle.top_call.specs.Asks.{Asks, files_of}
-use Rattle.top_call.specs.Inside.{Gets, LacksMemory, command_seen}
+use Rattle.top_call.specs.AnswerViews.{Gets}
+use Rattle.top_call.specs.Inside.{LacksMemory, command_seen}
 use Rattle.top_call.specs.Outcome.{Does}
 use Rattle.top_call.proofs.commands.carry_out.Goals as goal
 

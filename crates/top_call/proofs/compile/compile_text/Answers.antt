@@ -3,7 +3,7 @@ use Rattle.cov_ast.specs.View as view
 use Rattle.top_call.specs.Codes.{Compiles, RepliesListing, code_of}
 use Rattle.top_call.specs.Replies.{spelled}
 use Rattle.top_call.proofs.CodeLaws.{compiled_replied, names_rejected, program_rejected}
-use Rattle.top_call.specs.Inside.{Gets}
+use Rattle.top_call.specs.AnswerViews.{Gets}
 use Rattle.top_call.proofs.compile.compile_text.Goals as goal
 
 pub returns-in_err-program : goal.returns-in_err-program

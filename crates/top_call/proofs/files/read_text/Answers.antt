@@ -1,5 +1,5 @@
 use Rattle.std.proofs.Common.{◌≡◌, Some, subst}
-use Rattle.top_call.specs.Inside.{Stops}
+use Rattle.top_call.specs.AnswerViews.{Stops}
 use Rattle.top_call.specs.Replies.{malformed}
 use Rattle.top_call.specs.declared.answers.Fault.{Fault}
 use Rattle.top_call.proofs.TextLaws.{text_unread}

@@ -7,7 +7,7 @@ use Rattle.cov_io.specs.declared.shelf.Fetched.TheVariants.{Whole}
 use Rattle.schedule_replay.specs.Json.{value_of}
 use Rattle.schedule_replay.specs.Schedules as k
 use Rattle.top_call.specs.Inputs.{IsScheduleFault, schedule_shown}
-use Rattle.top_call.specs.Inside.{Stops}
+use Rattle.top_call.specs.AnswerViews.{Stops}
 use Rattle.top_call.specs.Replies.{malformed}
 use Rattle.top_call.specs.declared.answers.Fault.{Fault}
 use Rattle.top_call.specs.declared.inputs.TheConstants.{MOST_INPUT_BYTES}

@@ -1,5 +1,5 @@
 use Rattle.cov_ast.specs.View as view
-use Rattle.top_call.specs.Inside.{seen}
+use Rattle.top_call.specs.AnswerViews.{seen}
 use Rattle.top_call.proofs.PairLaws.{declared_pairs}
 use Rattle.top_call.proofs.pair.pair_text.Goals as goal
 

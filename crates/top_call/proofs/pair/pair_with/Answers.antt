@@ -5,7 +5,8 @@ use Rattle.cov_ast.specs.View as view
 use Rattle.flow_model.specs.Agreement.{AreFitStarts}
 use Rattle.top_call.specs.Check.{meaning}
 use Rattle.top_call.specs.Inputs.{IsStart, IsStartFault, IsScheduleText, IsScheduleFault}
-use Rattle.top_call.specs.Inside.{CarriesOut, Gets, second_plan}
+use Rattle.top_call.specs.AnswerViews.{Gets}
+use Rattle.top_call.specs.Inside.{CarriesOut, second_plan}
 use Rattle.top_call.specs.Outcome.{entries}
 use Rattle.top_call.specs.Pairs.{Pairs}
 use Rattle.top_call.specs.Plans.{Plan, replies}

@@ -3,7 +3,7 @@ use Rattle.cov_ast.specs.View as view
 use Rattle.policy_class.specs.Resolved.{resolved}
 use Rattle.top_call.specs.Codes.{PairsCode, RunsBothCodes, code_of}
 use Rattle.top_call.proofs.CodeLaws.{names_rejected, pair_replied, program_rejected}
-use Rattle.top_call.specs.Inside.{Gets, seen}
+use Rattle.top_call.specs.AnswerViews.{Gets, seen}
 use Rattle.top_call.proofs.pair_code.pair_text.Goals as goal
 
 pub returns-in_err-program : goal.returns-in_err-program

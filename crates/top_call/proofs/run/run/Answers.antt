@@ -5,7 +5,8 @@ use Rattle.cov_ast.specs.View as view
 use Rattle.cov_expr.specs.declared.limits.TheConstants.{MOST_BYTES}
 use Rattle.top_call.specs.Commands.{run}
 use Rattle.top_call.specs.Inputs.{IsStart, IsStartFault, IsScheduleText, IsScheduleFault}
-use Rattle.top_call.specs.Inside.{CarriesOut, Gets}
+use Rattle.top_call.specs.AnswerViews.{Gets}
+use Rattle.top_call.specs.Inside.{CarriesOut}
 use Rattle.top_call.specs.Outcome.{plan_of, memory, entries}
 use Rattle.top_call.specs.Plans.{Plan, replies}
 use Rattle.top_call.specs.Programs.{SpellsProgram, IsShownFault}

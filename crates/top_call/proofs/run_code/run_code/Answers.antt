@@ -7,7 +7,8 @@ use Rattle.top_call.specs.Check.{IsAcceptedText}
 use Rattle.top_call.specs.Codes.{RunsCode}
 use Rattle.top_call.specs.Commands.{run_code}
 use Rattle.top_call.specs.Inputs.{IsStart, IsStartFault, IsScheduleText, IsScheduleFault}
-use Rattle.top_call.specs.Inside.{CarriesOut, Gets}
+use Rattle.top_call.specs.AnswerViews.{Gets}
+use Rattle.top_call.specs.Inside.{CarriesOut}
 use Rattle.top_call.specs.Outcome.{plan_of, memory, entries}
 use Rattle.top_call.specs.Plans.{Plan, replies}
 use Rattle.top_call.specs.Programs.{SpellsProgram, IsShownFault}

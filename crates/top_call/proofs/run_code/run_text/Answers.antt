@@ -4,7 +4,7 @@ use Rattle.policy_class.specs.Resolved.{resolved}
 use Rattle.top_call.specs.Codes.{RunsCode, code_of, report_on_code}
 use Rattle.top_call.specs.Replies.{ran}
 use Rattle.top_call.proofs.CodeLaws.{names_rejected, program_rejected, run_replied}
-use Rattle.top_call.specs.Inside.{Gets}
+use Rattle.top_call.specs.AnswerViews.{Gets}
 use Rattle.top_call.proofs.run_code.run_text.Goals as goal
 
 pub returns-in_err-program : goal.returns-in_err-program

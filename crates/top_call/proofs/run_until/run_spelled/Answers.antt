@@ -4,7 +4,8 @@ use Rattle.std.proofs.lemmas.List.{length-map}
 use Rattle.cov_ast.specs.View as view
 use Rattle.cov_expr.specs.View.{term}
 use Rattle.top_call.specs.Expressions.{IsExpression, IsExpressionFault}
-use Rattle.top_call.specs.Inside.{CarriesOut, Gets, until_plan}
+use Rattle.top_call.specs.AnswerViews.{Gets}
+use Rattle.top_call.specs.Inside.{CarriesOut, until_plan}
 use Rattle.top_call.specs.Plans.{replies}
 use Rattle.top_call.specs.Runs.{IsDeclaredText, RunsUntil}
 use Rattle.top_call.proofs.ExpressionLaws.{expression_reading}
