@@ -1,5 +1,5 @@
 -- Two runs of an accepted program never differ, and no other command says so.
-use Rattle.std.proofs.Common.{◌≡◌, ℕ, List, Option, Some, None, IfSome, Ok, inl, inr, sym, ap, ◌∙◌, subst}
+use Rattle.std.proofs.Common.{◌≡◌, ℕ, List, Option, Some, None, IfSome, inl, inr, sym, ap, ◌∙◌, subst}
 use Rattle.cov_ast.specs.Obligations.{first_false}
 use Rattle.cov_ast.specs.Syntax.{Parsed}
 use Rattle.cov_ast.specs.declared.refusal.Refusal.{Refusal}
@@ -11,12 +11,12 @@ use Rattle.top_call.specs.Big.{first_start, second_start}
 use Rattle.top_call.specs.Check.{IsAcceptedText, meaning, obligations, verdict_by}
 use Rattle.top_call.specs.Commands.{Command, check, compile, fmt, migrate, run, run_code, run_until, pair, pair_code, big, nothing}
 use Rattle.top_call.specs.Files.{Reads}
-use Rattle.top_call.specs.Headline.{HoldsAccepted, RunsAccepted}
+use Rattle.top_call.specs.Headline.{RunsAccepted}
 use Rattle.top_call.specs.Outcome.{Does, plan_of, memory, entries}
 use Rattle.top_call.specs.Pairs.{Pairs}
 use Rattle.top_call.specs.Plans.{Plan, replies, file, argument, RepliesTo, MayReply}
 use Rattle.top_call.specs.Programs.{SpellsProgram, IsShownFault}
-use Rattle.top_call.specs.Replies.{Reply, malformed, ran, status_of}
+use Rattle.top_call.specs.Replies.{Reply, ran, status_of}
 use Rattle.top_call.specs.Runs.{IsDeclaredText, RunsTo, declared_obligations, report_on_run, unless_refused, UnlessRefused}
 use Rattle.top_call.specs.declared.answers.Fault.{Fault}
 use Rattle.top_call.specs.declared.answers.Status.TheVariants as s

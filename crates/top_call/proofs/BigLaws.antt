@@ -3,7 +3,7 @@ use Rattle.std.specs.Prelude.{MatchOption, codes}
 use Rattle.std.specs.Str.{bytes_eq}
 use Rattle.std.proofs.Common.{◌≡◌, ◌<◌, ◌^◌, ℕ, List, [], ◌∷◌, Bool, true, false, is_some, cond, Option, Some, None, refl, sym, ap, ◌∙◌, subst, length, map, arith}
 use Rattle.std.proofs.lemmas.List.{length-map}
-use Rattle.cov_ast.specs.Plain.{Plain, plain, plain_thread}
+use Rattle.cov_ast.specs.Plain.{plain, plain_thread}
 use Rattle.cov_ast.specs.Syntax.{Parsed, Program, Var}
 use Rattle.cov_ast.specs.View as view
 use Rattle.cov_ast.specs.declared.decl.Program as d
@@ -24,8 +24,8 @@ use Rattle.top_call.specs.Big.{AllRunTogether, RunsAll, SumsUp, start_with}
 use Rattle.top_call.specs.Check.{IsAcceptedText, meaning}
 use Rattle.top_call.specs.Codes.{code_of}
 use Rattle.top_call.specs.Inside.{IsCodeOf, IsNamed}
-use Rattle.top_call.specs.Pairs.{UnlessUnfit, bad_name}
-use Rattle.top_call.specs.Replies.{Reply, bad_starts, status_of}
+use Rattle.top_call.specs.Pairs.{UnlessUnfit}
+use Rattle.top_call.specs.Replies.{Reply, status_of}
 use Rattle.top_call.specs.declared.answers.Status.TheVariants as s
 use Rattle.top_call.proofs.CodeLaws.{by_code, by_code_agrees, by_code_sound}
 use Rattle.top_call.proofs.PairLaws.{no_bad_start, secure_not_apart}

@@ -1,5 +1,5 @@
 -- Laws of the expression among the words: how it is read, and over which variables it is.
-use Rattle.std.proofs.Common.{◌≡◌, ◌⊎◌, ℕ, ◌+◌, ◌<◌, ◌≤◌, ◌==◌, nat_lt, List, [], ◌∷◌, ◌++◌, Bool, true, false, cond, drop, get_or, length, map, Option, Some, None, Result, Ok, Err, refl, sym, ap, ap₂, ◌∙◌, subst, inl, inr, arith}
+use Rattle.std.proofs.Common.{◌≡◌, ℕ, ◌+◌, ◌<◌, ◌≤◌, ◌==◌, nat_lt, List, [], ◌∷◌, ◌++◌, Bool, true, false, cond, drop, get_or, length, map, Option, Some, None, Result, Ok, Err, refl, sym, ap, ◌∙◌, subst, inl, inr, arith}
 use Rattle.std.specs.Prelude.{codes, MatchResult}
 use Rattle.std.proofs.lemmas.List.{at_drop_more}
 use Rattle.std.proofs.lemmas.Bool.Decides.{nat_tests}
@@ -17,7 +17,7 @@ use Rattle.cov_grammar.specs.Grammar as grammar
 use Rattle.cov_grammar.specs.PlacedTrees.{Placed}
 use Rattle.cov_grammar.proofs.Exactness.{whole_decided}
 use Rattle.cov_text.specs.Limits.{in_expr}
-use Rattle.cov_text.specs.Text.{Expression, expression_of}
+use Rattle.cov_text.specs.Text.{expression_of}
 use Rattle.cov_text.specs.Uses.{AreUsesOf}
 use Rattle.policy_class.specs.Resolved.{var_names}
 use Rattle.top_call.specs.Expressions.{id_of, first_unknown, by_id, SpellsExpression, unknown_in, over, IsExpression, IsUnknownName, IsExpressionFault}

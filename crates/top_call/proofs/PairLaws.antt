@@ -1,12 +1,12 @@
 -- Laws of two runs side by side: there is one reply, and that to an accepted program is never that they differ.
-use Rattle.std.proofs.Common.{◌≡◌, ◌⊎◌, ℕ, zero, suc, ◌<◌, ◌≤◌, List, [], ◌∷◌, true, false, length, take, Option, Some, None, refl, sym, ap, ap₂, ◌∙◌, subst, inl, inr, arith}
-use Rattle.std.specs.Prelude.{◌≢◌, IsNone}
+use Rattle.std.proofs.Common.{◌≡◌, ◌⊎◌, ℕ, zero, suc, ◌<◌, List, [], ◌∷◌, true, false, length, take, Option, Some, None, refl, sym, ap, ap₂, ◌∙◌, subst, inl, inr}
+use Rattle.std.specs.Prelude.{IsNone}
 use Rattle.std.proofs.lemmas.List.{length-map}
 use Rattle.cov_ast.specs.Obligations.{first_false}
 use Rattle.cov_ast.specs.Plain.{Plain, plain, plain_thread}
 use Rattle.cov_ast.specs.Syntax.{Parsed, Program}
 use Rattle.cov_expr.specs.Words.{IsMemory, IsSchedule}
-use Rattle.flow_model.specs.Agreement.{AreFitStarts, StatesAgree}
+use Rattle.flow_model.specs.Agreement.{AreFitStarts}
 use Rattle.flow_model.specs.FirstDifference.{first_bad_start}
 use Rattle.flow_model.proofs.Decided.{none_is_fit}
 use Rattle.flow_model.specs.Secure.{IsSecure}
@@ -19,11 +19,11 @@ use Rattle.schedule_replay.specs.Replays.{after_steps, AgreeThroughout, DiffersI
 use Rattle.schedule_replay.specs.declared.replays.Found.{Found}
 use Rattle.source_machine.specs.SourceMachine.{IsFirstApart}
 use Rattle.verify.specs.Accepted.{IsAccepted}
-use Rattle.top_call.specs.Check.{IsAcceptedText, meaning}
+use Rattle.top_call.specs.Check.{meaning}
 use Rattle.top_call.specs.AnswerViews.{Stops}
 use Rattle.top_call.specs.Inside.{IsDeclared, IsRefusal, PairsFit, PairsProgram}
 use Rattle.top_call.specs.Pairs.{Pairs, RunApart, RunTogether, RunsBoth, RunsFit, UnlessUnfit, bad_name, differ_text}
-use Rattle.top_call.specs.Replies.{Reply, bad_starts, differ, ran, refused, status_of}
+use Rattle.top_call.specs.Replies.{Reply, bad_starts, differ, status_of}
 use Rattle.top_call.specs.Runs.{IsDeclaredText, UnlessRefused, declared_obligations}
 use Rattle.top_call.specs.declared.answers.Status.TheVariants as s
 use Rattle.top_call.specs.declared.answers.Stop.{Stop}

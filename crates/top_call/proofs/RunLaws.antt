@@ -1,5 +1,5 @@
 -- Laws of runs, also of those that stop where an expression holds: the obligations of declarations, and what is replied.
-use Rattle.std.proofs.Common.{◌≡◌, ℕ, ◌<◌, List, [], ◌++◌, Bool, Option, Some, None, Result, cond, length, take, inl, inr, refl, sym, ap, ◌∙◌, subst, arith}
+use Rattle.std.proofs.Common.{◌≡◌, ℕ, ◌<◌, List, [], ◌++◌, Bool, Option, Some, None, Result, cond, length, take, inl, inr, sym, ap, ◌∙◌, subst, arith}
 use Rattle.std.proofs.lemmas.Bool.{cases_lt}
 use Rattle.std.specs.Cmp.{both_ways}
 use Rattle.cov_ast.specs.Obligations.{first_false, Decides}

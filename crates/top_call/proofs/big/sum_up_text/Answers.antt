@@ -1,9 +1,8 @@
-use Rattle.std.proofs.Common.{◌≡◌, ℕ, List, Err, length, sym, subst, rules, arith}
+use Rattle.std.proofs.Common.{◌≡◌, Err, length, sym, subst, rules, arith}
 use Rattle.cov_ast.specs.Plain.{plain}
 use Rattle.cov_ast.specs.View as view
 use Rattle.cov_ast.specs.WellFormed.{IsWellFormed}
 use Rattle.cov_expr.specs.Words.{IsMemory, IsSchedule}
-use Rattle.compiled_code.specs.SecureCode.{IsSecureCode}
 use Rattle.flow_model.specs.Secure.{IsSecure}
 use Rattle.policy_class.specs.Resolved.{resolved}
 use Rattle.top_call.specs.Big.{RunsAll, SumsUp, first_start, second_start}

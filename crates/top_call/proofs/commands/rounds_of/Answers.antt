@@ -1,4 +1,4 @@
-use Rattle.std.proofs.Common.{◌≡◌, None, Some, sym, ◌∙◌, rules}
+use Rattle.std.proofs.Common.{◌≡◌, None, sym, ◌∙◌, rules}
 use Rattle.top_call.proofs.RoundsLaws.{said, unread, unsaid, within}
 use Rattle.top_call.proofs.commands.rounds_of.Goals as goal
 
