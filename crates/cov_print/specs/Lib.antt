@@ -1,4 +1,4 @@
 pub mod Spelling
 pub mod Unplaced
 pub mod ReadBack
-pub mod Inside
+pub mod Fronts

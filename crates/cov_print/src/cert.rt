@@ -1,7 +1,7 @@
 ghost use Rattle.std.specs.Prelude.{◌≡◌, ◌++◌, OnOk, map, codes, decimal};
 ghost use Rattle.cov_expr.specs.View.{term};
 ghost use Rattle.cov_ast.specs.View as view;
-ghost use Rattle.cov_print.specs.Inside.{front};
+ghost use Rattle.cov_print.specs.Fronts.{front};
 ghost use Rattle.cov_print.specs.Spelling as spec;
 
 use crate::expr::{add_expr, add_exprs};
@@ -50,8 +50,8 @@ fn is_word(c: &Cert) -> bool
     }
 }
 
-/// Adds what stands in a certificate before those inside of it.
-fn add_front(names: &NameTable, c: &Cert, out: &mut List<u8>) -> Result<(), NoMemory>
+/// Adds what stands in a certificate before those inside of it: its word, with its numbers and its expressions.
+pub fn add_front(names: &NameTable, c: &Cert, out: &mut List<u8>) -> Result<(), NoMemory>
     ensures { OnOk result (out.new ≡ out.old ++ front names.now (view.cert c.now)) }
 {
     match c {

@@ -48,7 +48,7 @@ fn close(operand: bool, out: &mut List<u8>) -> Result<(), NoMemory>
     }
 }
 
-/// Adds an expression.
+/// Adds an expression. A binary operation is in parentheses where it is an operand. A variable that has no name is spelled `_`.
 pub fn add_expr(
     names: &NameTable,
     operand: bool,

@@ -1,7 +1,7 @@
 ghost use Rattle.std.specs.Prelude.{◌≡◌, [], ◌∷◌, Err, MatchResult, Ok, Some, map};
 ghost use Rattle.cov_expr.specs.View.{term};
 ghost use Rattle.entail_cert.specs.Axioms.{axiom_for};
-ghost use Rattle.entail_cert.specs.Inside.Makes.{MakesAny};
+ghost use Rattle.entail_cert.specs.Makes.{MakesAny};
 
 use crate::shapes as shape;
 use cov_expr::{Expr, NoMemory, Op};

@@ -4,6 +4,7 @@
 //!   [`check_cert_with`] takes one more hypothesis.
 //! - [`axioms_hold`], [`valid_gives_entailment`] and [`expressions_are_of_words`] do nothing: their contracts are the laws on which its
 //!   answer rests.
+//! - [`operands`], [`negated`], [`axiom_for`]: the parts of a goal or a hypothesis that a node asks for, and the axiom that it makes one.
 //!
 //! [`Held`] is an expression that is lent or made, as hypotheses are here and goals in the crates above.
 //!
@@ -22,4 +23,6 @@ mod walk;
 
 pub use check::{CertFault, check_cert, check_cert_with};
 pub use held::Held;
+pub use instance::axiom_for;
 pub use laws::{axioms_hold, expressions_are_of_words, valid_gives_entailment};
+pub use parts::{negated, operands};

@@ -2,7 +2,7 @@ ghost use Rattle.cov_expr.specs.declared.expr.Op.TheVariants.{Add, And, Both, Ei
 ghost use Rattle.cov_expr.specs.Term as spec;
 ghost use Rattle.cov_expr.specs.View.{term};
 ghost use Rattle.cov_expr.specs.Words.{HasWords};
-ghost use Rattle.entail_cert.specs.Inside.Makes.{Makes};
+ghost use Rattle.entail_cert.specs.Makes.{Makes};
 
 use cov_expr::{Expr, NoMemory, Op, boxed, copy};
 use std::alloc::Global;

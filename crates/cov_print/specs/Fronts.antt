@@ -1,4 +1,4 @@
--- Words of private contracts: what stands in a certificate before those inside of it.
+-- What stands in a certificate before those inside of it: its word, with its numbers and its expressions.
 use Rattle.std.specs.Prelude.{ℕ, List, ◌++◌, codes, decimal}
 use Rattle.cov_ast.specs.Syntax as s
 use Rattle.cov_print.specs.Spelling.{Names, whole, listed}

@@ -1,0 +1,4 @@
+pub mod Examples
+pub mod FailingNodes
+pub mod NameLaws
+pub mod Pieces

@@ -1,0 +1,25 @@
+//! Entailments in plain text: what was asked where a certificate isn't valid.
+//!
+//! - [`add_told`]: the goal of an entailment, its hypotheses by number, and its certificate, with the first node that fails.
+//! - [`failing_node_is_there`] has no body: its contract is a law, that the node of which the text tells is there and fails.
+//! - [`variable_names`]: the names with which it spells expressions of a program.
+//! - [`cert_of`]: the certificate that a thread gives for an entailment.
+//!
+//! | `src/` | `specs/` | what it has |
+//! |---|---|---|
+//! | `told` | `Told` | the text |
+//! | `node` | `Nodes` | the hypotheses and the goal of each node of a certificate |
+//! | `names` | `VariableNames` | the names of variables, by their ids |
+//! | `given` | `Given` | the certificate of a number at a place |
+#![tactic(auto)]
+
+mod given;
+mod laws;
+mod names;
+mod node;
+mod told;
+
+pub use given::cert_of;
+pub use laws::failing_node_is_there;
+pub use names::variable_names;
+pub use told::add_told;

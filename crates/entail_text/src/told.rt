@@ -1,0 +1,266 @@
+//! What is told of an entailment.
+
+ghost use Rattle.std.specs.Prelude.{◌≡◌, ◌++◌, OnOk, Some, codes, decimal, flat_map, map, option_map};
+ghost use Rattle.cov_expr.specs.View.{term};
+ghost use Rattle.cov_ast.specs.View as view;
+ghost use Rattle.cov_print.specs.Spelling.{whole};
+ghost use Rattle.entail_cert.specs.Axioms.{numbered};
+ghost use Rattle.entail_cert.specs.Valid.{first_bad};
+ghost use Rattle.entail_text.specs.Inside.{seen};
+ghost use Rattle.entail_text.specs.Nodes as nodes;
+ghost use Rattle.entail_text.specs.Told as spec;
+
+use crate::node::{Node, node_at, root};
+use cov_ast::{Cert, NameTable};
+use cov_expr::{Blob, Expr, List, NoMemory};
+use cov_print::{add_expr, add_front};
+use entail_cert::{CertFault, check_cert};
+use itoa::Buffer;
+use std::alloc::Global;
+
+/// Adds what is told of an entailment: its goal, its hypotheses, each with its number, and whether a certificate is given for it; of
+/// one that isn't valid the first node that fails, with the goal there and the hypotheses that the node names. Each line begins with two
+/// blanks.
+///
+/// `names` are those of the variables. It takes the time and the memory of a check of the certificate, and memory in proportion to
+/// what is added.
+pub fn add_told(
+    alloc: Global,
+    names: &NameTable,
+    hyps: &List<Expr>,
+    goal: &Expr,
+    cert: Option<&Cert>,
+    text: &mut Blob,
+) -> Result<(), NoMemory>
+    ensures { OnOk result (text.new ≡ text.old ++ spec.told names.now (map term hyps.now) (term goal.now) (option_map (λ c. view.cert c.now) cert.entry)) }
+{
+    add_goal(names, goal, text)?;
+    add_hypotheses(names, hyps.as_slice(), text)?;
+    add_certificate_line(alloc, names, hyps, goal, cert, text)
+}
+
+/// Adds the line of the goal.
+fn add_goal(names: &NameTable, goal: &Expr, text: &mut Blob) -> Result<(), NoMemory>
+    ensures { OnOk result (text.new ≡ text.old ++ spec.goal_line names.now (term goal.now)) }
+{
+    text.extend_from_slice(b"  goal:         ")?;
+    add_expr(names, false, goal, text)?;
+    text.extend_from_slice(b"\n")
+}
+
+/// Adds a line for each hypothesis.
+fn add_hypotheses(names: &NameTable, hyps: &[Expr], text: &mut Blob) -> Result<(), NoMemory>
+    ensures { OnOk result (text.new ≡ text.old ++ spec.hypothesis_lines names.now (map term hyps.now)) }
+{
+    if hyps.is_empty() {
+        return text.extend_from_slice(b"  hypotheses:   none\n");
+    }
+    for (i, h) in hyps.iter().enumerate() {
+        add_hypothesis(names, i + 1, h, text)?;
+    }
+    Ok(())
+}
+
+/// Adds the line of a hypothesis.
+fn add_hypothesis(
+    names: &NameTable,
+    number: usize,
+    h: &Expr,
+    text: &mut Blob,
+) -> Result<(), NoMemory>
+    ensures { OnOk result (text.new ≡ text.old ++ spec.hypothesis_line names.now number (term h.now)) }
+{
+    text.extend_from_slice(label(number).as_bytes())?;
+    text.extend_from_slice(indent(number).as_bytes())?;
+    add_number(number, text)?;
+    text.extend_from_slice(b"  ")?;
+    add_expr(names, false, h, text)?;
+    text.extend_from_slice(b"\n")
+}
+
+/// The word before the first number, and blanks before the others.
+fn label(number: usize) -> &'static str
+    ensures { result.now ≡ spec.label number }
+{
+    if number == 1 {
+        "  hypotheses:  "
+    } else {
+        "               "
+    }
+}
+
+/// The blank before a number of one digit.
+fn indent(number: usize) -> &'static str
+    ensures { result.now ≡ spec.indent number }
+{
+    if number < 10 { " " } else { "" }
+}
+
+fn add_number(n: usize, text: &mut Blob) -> Result<(), NoMemory>
+    ensures { OnOk result (text.new ≡ text.old ++ decimal n) }
+{
+    let mut buffer = Buffer::new();
+    text.extend_from_slice(buffer.format(n).as_bytes())
+}
+
+/// Adds the line of the certificate.
+fn add_certificate_line(
+    alloc: Global,
+    names: &NameTable,
+    hyps: &List<Expr>,
+    goal: &Expr,
+    cert: Option<&Cert>,
+    text: &mut Blob,
+) -> Result<(), NoMemory>
+    ensures { OnOk result (text.new ≡ text.old ++ spec.certificate_line names.now (map term hyps.now) (term goal.now) (option_map (λ c. view.cert c.now) cert.entry)) }
+{
+    text.extend_from_slice(b"  certificate:  ")?;
+    add_certificate(alloc, names, hyps, goal, cert, text)?;
+    text.extend_from_slice(b"\n")
+}
+
+/// Adds whether a certificate is given, and how it fares.
+fn add_certificate(
+    alloc: Global,
+    names: &NameTable,
+    hyps: &List<Expr>,
+    goal: &Expr,
+    cert: Option<&Cert>,
+    text: &mut Blob,
+) -> Result<(), NoMemory>
+    ensures { OnOk result (text.new ≡ text.old ++ spec.certificate names.now (map term hyps.now) (term goal.now) (option_map (λ c. view.cert c.now) cert.entry)) }
+{
+    match cert {
+        Some(cert) => add_given(alloc, names, hyps, goal, cert, text),
+        None => text.extend_from_slice(b"none given"),
+    }
+}
+
+/// Adds how a certificate fares.
+fn add_given(
+    alloc: Global,
+    names: &NameTable,
+    hyps: &List<Expr>,
+    goal: &Expr,
+    cert: &Cert,
+    text: &mut Blob,
+) -> Result<(), NoMemory>
+    ensures { OnOk result (text.new ≡ text.old ++ spec.verdict names.now (nodes.node (map term hyps.now) (term goal.now) (view.cert cert.now)) (first_bad (map term hyps.now) (term goal.now) (view.cert cert.now))) }
+{
+    match check_cert(alloc, hyps, goal, cert) {
+        Ok(()) => text.extend_from_slice(b"given; valid"),
+        Err(CertFault::Invalid(path)) => {
+            let root = root(alloc, hyps.as_slice(), goal, cert)?;
+            add_failure(alloc, names, root, path.as_slice(), text)
+        }
+        Err(CertFault::NoMemory) => Err(NoMemory),
+    }
+}
+
+/// Adds which node fails, by its path from the root, and what is asked there.
+fn add_failure(
+    alloc: Global,
+    names: &NameTable,
+    root: Node<'_>,
+    path: &[u8],
+    text: &mut Blob,
+) -> Result<(), NoMemory>
+    ensures { OnOk result (text.new ≡ text.old ++ spec.verdict names.now (seen root.entry) (Some path.now)) }
+{
+    text.extend_from_slice(b"given; fails at ")?;
+    add_path(path, text)?;
+    let node = node_at(alloc, root, path)?;
+    add_any_node(names, &node, text)
+}
+
+/// Adds a node that is there.
+fn add_any_node(names: &NameTable, node: &Option<Node<'_>>, text: &mut Blob) -> Result<(), NoMemory>
+    ensures { OnOk result (text.new ≡ text.old ++ spec.node_text_of names.now (option_map seen node.now)) }
+{
+    match node {
+        Some(node) => add_node(names, node, text),
+        None => Ok(()),
+    }
+}
+
+/// Adds the path of a node.
+fn add_path(path: &[u8], text: &mut Blob) -> Result<(), NoMemory>
+    ensures { OnOk result (text.new ≡ text.old ++ spec.place_of path.now) }
+{
+    match path {
+        [] => text.extend_from_slice(b"the root"),
+        [first, rest @ ..] => {
+            text.extend_from_slice(b"node ")?;
+            add_number(*first as usize, text)?;
+            for step in rest {
+                text.extend_from_slice(b".")?;
+                add_number(*step as usize, text)?;
+            }
+            Ok(())
+        }
+    }
+}
+
+/// Adds the front of the certificate of a node, and what its own condition is asked of.
+fn add_node(names: &NameTable, node: &Node<'_>, text: &mut Blob) -> Result<(), NoMemory>
+    ensures { OnOk result (text.new ≡ text.old ++ spec.node_text names.now (seen node.now)) }
+{
+    text.extend_from_slice(b": ")?;
+    add_front(names, node.cert, text)?;
+    text.extend_from_slice(b" (the goal there is ")?;
+    add_expr(names, false, node.goal.expr(), text)?;
+    add_spoken_of(names, node, text)?;
+    text.extend_from_slice(b")")
+}
+
+/// Adds the hypotheses that the own condition of a node speaks of.
+fn add_spoken_of(names: &NameTable, node: &Node<'_>, text: &mut Blob) -> Result<(), NoMemory>
+    ensures { OnOk result (text.new ≡ text.old ++ spec.spoken_of names.now (seen node.now).hyps (seen node.now).cert) }
+{
+    match node.cert {
+        Cert::Hyp(i) | Cert::Clash(i) => add_named(names, node, *i, text),
+        Cert::Unpack(i, _) => add_named(names, node, *i, text),
+        Cert::Cases(i, _, _) => add_named(names, node, *i, text),
+        Cert::Fwd(i, _, _) | Cert::Rev(i, _, _) => add_named(names, node, *i, text),
+        Cert::Absurd(i, j) => {
+            add_named(names, node, *i, text)?;
+            add_named(names, node, *j, text)
+        }
+        Cert::Auto | Cert::Calc | Cert::Refl | Cert::Ring | Cert::Range => Ok(()),
+        Cert::And(..) | Cert::Left(_) | Cert::Right(_) | Cert::Split(..) | Cert::Have(..) => Ok(()),
+        Cert::Not(_) | Cert::Contra(_) | Cert::Axiom(..) => Ok(()),
+    }
+}
+
+/// Adds a hypothesis that a certificate names by its number, or that there is none.
+fn add_named(
+    names: &NameTable,
+    node: &Node<'_>,
+    number: u32,
+    text: &mut Blob,
+) -> Result<(), NoMemory>
+    ensures { OnOk result (text.new ≡ text.old ++ spec.named names.now number (numbered (seen node.now).hyps number)) }
+{
+    match node.hypothesis(number) {
+        Some(h) => add_known(names, number, h.expr(), text),
+        None => add_missing(number, text),
+    }
+}
+
+/// Adds that there is no hypothesis of a number.
+fn add_missing(number: u32, text: &mut Blob) -> Result<(), NoMemory>
+    ensures { OnOk result (text.new ≡ text.old ++ (codes ", and there is no hypothesis " ++ decimal number)) }
+{
+    text.extend_from_slice(b", and there is no hypothesis ")?;
+    add_number(number as usize, text)
+}
+
+/// Adds a hypothesis with its number.
+fn add_known(names: &NameTable, number: u32, h: &Expr, text: &mut Blob) -> Result<(), NoMemory>
+    ensures { OnOk result (text.new ≡ text.old ++ spec.named names.now number (Some (term h.now))) }
+{
+    text.extend_from_slice(b", and hypothesis ")?;
+    add_number(number as usize, text)?;
+    text.extend_from_slice(b" is ")?;
+    add_expr(names, false, h, text)
+}
