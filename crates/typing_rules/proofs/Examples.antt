@@ -78,7 +78,7 @@ stores_low-counts : counts stores_low 0 ≡ record { statements = 1; entailments
 stores_low-counts = refl
 
 -- var a: low; var s: high; thread t { a := s; }
-abbrev stores_high : Program
+abbrev pub stores_high : Program
 stores_high = record {
   version = 1;
   vars = variable (97 ∷ []) 4 low ∷ variable (115 ∷ []) 16 high ∷ [];
@@ -91,7 +91,7 @@ stores_high-refused = refl
 
 -- var mode: low; var buf: low when mode == 0; var key: high; lock l hide mode, buf; thread w { lock l; buf := key; mode
 -- := 1; unlock l by { 1: have [1 == 0] (rev 1 [_ == 0] (hyp 2)) (clash 3) }; }
-abbrev raises : Program
+abbrev pub raises : Program
 raises = record {
   version = 1;
   vars =
@@ -115,7 +115,7 @@ raises-counts = refl
 
 -- var mode: low; var buf: low when mode == 0; var key: high; lock l hide mode, buf; thread w { lock l; buf := key; mode
 -- := 1; unlock l; }
-abbrev raises_unproved : Program
+abbrev pub raises_unproved : Program
 raises_unproved = record {
   version = 1;
   vars =
@@ -136,7 +136,7 @@ raises_unproved-refused = refl
 
 -- var mode: low; var buf: low when mode == 0; var key: high; lock l nowrite mode, buf; thread w { lock l; mode := 1; buf
 -- := key by { 1: have [1 == 0] (rev 1 [_ == 0] (hyp 2)) (clash 3) }; mode := 0; unlock l; }
-abbrev lowers : Program
+abbrev pub lowers : Program
 lowers = record {
   version = 1;
   vars =

@@ -1,6 +1,7 @@
 pub mod Soundness
 mod Examples
 mod OutputExamples
+mod EntailmentExamples
 mod GuardLaws
 mod SeenLaws
 mod StateLaws
@@ -16,3 +17,6 @@ mod Parts
 mod Ranges
 mod Walks
 mod Splits
+mod Reaching
+mod Others
+mod ListedParts

@@ -16,7 +16,7 @@ use Rattle.typing_state.specs.Point.{Point}
 use Rattle.typing_rules.specs.Inside.Listed.{entailment_of, entailments_of, is_shown_controlled}
 use Rattle.typing_rules.specs.Entailments.{Entailment, is_small_entailment, from_one_more}
 use Rattle.typing_state.specs.Terms.{is_small}
-use Rattle.typing_rules.specs.declared.entailments.Entailment as rust
+use Rattle.typing_rules.specs.declared.asked.Entailment as rust
 
 -- One entailment more ------------------------------------------------------------------------------------------------
 

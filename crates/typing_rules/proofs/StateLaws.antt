@@ -1,10 +1,9 @@
 -- Laws of the obligations of written states, of held locks and of points.
-use Rattle.std.proofs.Common.{◌≡◌, ℕ, zero, suc, ◌+◌, ◌<◌, ◌≤◌, ◌==◌, List, [], ◌∷◌, ◌++◌, Bool, true, false, length, map, get_or, take, drop, reverse, not, ◌&&◌, ◌||◌, cond, refl, sym, ap, ◌∙◌, subst, arith, inl, inr, Some, None, Err, is_none}
+use Rattle.std.proofs.Common.{◌≡◌, ℕ, zero, suc, ◌+◌, ◌<◌, ◌≤◌, ◌==◌, List, [], ◌∷◌, Bool, true, false, length, map, get_or, take, drop, reverse, not, ◌&&◌, ◌||◌, cond, refl, sym, ap, ◌∙◌, subst, arith, inl, inr, Some, None, Err, is_none}
 use Rattle.std.specs.List.{find, range_with_len, list_any}
 use Rattle.std.proofs.Math.Bool.{beq}
 use Rattle.std.proofs.lemmas.Bool.{cases_eq}
 use Rattle.std.proofs.lemmas.List.{get_or-map, map-append, reverse-append, take_more}
-use Rattle.std.proofs.lemmas.List.Folds.{list_any-append}
 use Rattle.cov_expr.specs.Term.{Term}
 use Rattle.cov_expr.specs.Trees.{has_number}
 use Rattle.cov_expr.proofs.Trees.{has_number-append}

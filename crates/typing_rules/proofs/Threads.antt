@@ -1,5 +1,5 @@
 -- A thread of a program as the code has it, and its obligations as a walk decides them.
-use Rattle.std.proofs.Common.{◌≡◌, ℕ, ◌^◌, ◌<◌, ◌++◌, ◌&&◌, List, [], ◌∷◌, length, get_or, refl, sym, ap, ◌∙◌, subst, arith, Bool, true, false, cond, Some, None, Err, IsTrue}
+use Rattle.std.proofs.Common.{◌≡◌, ℕ, ◌^◌, ◌<◌, ◌++◌, List, [], ◌∷◌, length, get_or, refl, sym, ap, ◌∙◌, subst, arith, None, Err, IsTrue}
 use Rattle.std.proofs.lemmas.List.{get_or-map}
 use Rattle.cov_ast.specs.Obligations.{Decides, Obligation, all_hold, first_false}
 use Rattle.cov_ast.specs.Plain.{plain}

@@ -17,7 +17,7 @@ use Rattle.cov_ast.specs.declared.refusal.Refusal.{Refusal}
 use Rattle.cov_ast.specs.declared.refusal.Rule.TheVariants.{V9}
 use Rattle.typing_state.specs.Point as spec
 use Rattle.typing_state.specs.declared.point.Point.{Point}
-use Rattle.typing_rules.specs.declared.entailments.Entailment as rust
+use Rattle.typing_rules.specs.declared.asked.Entailment as rust
 use Rattle.entail_cert.specs.declared.held.Held.{Held}
 use Rattle.typing_rules.specs.declared.entailments_tried.Tried.{Tried}
 use Rattle.typing_rules.specs.declared.walk.Walk.{Walk}

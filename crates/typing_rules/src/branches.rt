@@ -101,7 +101,7 @@ impl Walk<'_> {
     }
 
     /// The point where a guard holds.
-    fn holding(&self, e: &Expr, point: &Point) -> Result<Point, NoMemory>
+    pub fn holding(&self, e: &Expr, point: &Point) -> Result<Point, NoMemory>
         requires { HasVarsBelow (term e.now) (length self.now.program.now.vars) }
         ensures { IfOk result (λ made. Wherever self.now point.now (λ a.
             Keeps (plain_of self.now) self.now.thread (with_guard (plain_of self.now) self.now.thread a (term e.now)) made)) }
@@ -111,7 +111,7 @@ impl Walk<'_> {
     }
 
     /// The point where a guard doesn't hold.
-    fn failing(&self, e: &Expr, point: Point) -> Result<Point, NoMemory>
+    pub fn failing(&self, e: &Expr, point: Point) -> Result<Point, NoMemory>
         requires { HasVarsBelow (term e.now) (length self.now.program.now.vars) }
         ensures { IfOk result (λ made. Wherever self.now point (λ a.
             Keeps (plain_of self.now) self.now.thread (with_guard (plain_of self.now) self.now.thread a (neg (term e.now))) made)) }
@@ -179,7 +179,13 @@ impl Walk<'_> {
     }
 
     /// The ends of two blocks hold the same locks, and a state may stand behind the first (V8, V12, V14, V4).
-    fn check_ends(&self, at: u32, join: &State, yes: &Point, no: &Point) -> Result<(), CheckFault>
+    pub fn check_ends(
+        &self,
+        at: u32,
+        join: &State,
+        yes: &Point,
+        no: &Point,
+    ) -> Result<(), CheckFault>
         requires walk { IsWalk self.now }
         requires range { IsStateInRange (length self.now.program.now.vars) (length self.now.program.now.locks) (view.state join.now) }
         ensures { Wherever self.now yes.now (λ a. Wherever self.now no.now (λ b. Decides

@@ -16,7 +16,7 @@ ghost use Rattle.typing_rules.specs.Inside.Listed.{entailment_of, entailments_of
 ghost use Rattle.typing_rules.specs.Entailments as spec;
 ghost use Rattle.typing_rules.specs.ThreadObligations as rule;
 
-use crate::entailments::Entailment;
+use crate::asked::Entailment;
 use crate::known::is_seen;
 use crate::site::{Site, refused_at};
 use cov_ast::{Cert, CheckFault, Detail, Program, Proof, Rule};

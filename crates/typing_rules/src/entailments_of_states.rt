@@ -10,8 +10,8 @@ ghost use Rattle.typing_rules.specs.Inside.Walking.{AtPoint};
 ghost use Rattle.typing_rules.specs.Inside.Listed.{entailments_of};
 ghost use Rattle.typing_rules.specs.Entailments as spec;
 
+use crate::asked::Entailment;
 use crate::entailment_parts::{class_held, type_held};
-use crate::entailments::Entailment;
 use cov_ast::Program;
 use cov_expr::{Expr, List, NoMemory};
 use entail_cert::Held;

@@ -16,11 +16,11 @@ ghost use Rattle.typing_rules.specs.ThreadObligations.{flat};
 ghost use Rattle.typing_state.specs.Point.{has_small_types};
 ghost use Rattle.typing_rules.specs.Inside.Walking.{IsWalk, Stands, Tries, Wherever, last_parts, plain_of};
 
-use crate::certificates::{are_small, check_numbers, first_unproved, require_proved};
-use crate::entailments::{
+use crate::asked::{
     Entailment, changed_entailments, guard_entailments, state_entailments, unlock_entailments,
     written_entailments,
 };
+use crate::certificates::{are_small, check_numbers, first_unproved, require_proved};
 use crate::entailments_of_assignments::shown_entailment;
 use crate::sizes::require_small;
 use crate::walk::Walk;

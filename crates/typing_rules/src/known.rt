@@ -9,7 +9,7 @@ ghost use Rattle.entail_cert.specs.HeldTerms.{held_term};
 ghost use Rattle.typing_rules.specs.Inside.Listed.{entailment_of};
 ghost use Rattle.typing_rules.specs.Inside.Seen.{Shows};
 
-use crate::entailments::Entailment;
+use crate::asked::Entailment;
 use cov_expr::{Expr, NoMemory, Op, same};
 use std::alloc::Global;
 use typing_state::Point;

@@ -2,16 +2,18 @@
 //!
 //! The definitions stand in `specs/`: `Blocks` has the point after a statement, `Entailments` what has to follow from the
 //! predicates of a point and by which certificate, and `ThreadObligations` every obligation of a thread (V1 to V16) in the order
-//! in which they are tried, with what is refused where it fails.
-//! `proofs/Examples.antt` computes worked examples.
+//! in which they are tried, with what is refused where it fails. `ThreadEntailments` has what has to follow at the statements of
+//! a thread, and how far that is reached. `proofs/Examples.antt` and the files beside it compute worked examples.
 //!
 //! - [`check_thread`]: whether every obligation of a thread holds, else the first that doesn't; and then the thread is secure.
 //!   [`Count`]: how many statements and entailments it has.
+//! - [`entailments`]: what has to follow at the statements of a thread, whatever certificates it has. [`Entail`]: one of these.
 //! - [`threads_end_without_locks`], [`true_declarations_are_declared`], [`true_obligations_are_secure`]: laws, without a body. The
 //!   last is the soundness of the rules.
 //!
 //! `Walk` of `walk.rt` goes over the statements: those without blocks stand in `statements.rt`, branches and loops in
-//! `branches.rt`. Where each rule is tried:
+//! `branches.rt`. A second walk, which lists what has to follow and tries none of it, stands in `listing.rt` and
+//! `listing_blocks.rt`, with the copies that it makes in `entail.rt`. Where each rule is tried:
 //!
 //! | rule | function | file |
 //! | --- | --- | --- |
@@ -32,15 +34,16 @@
 //! | V15 | `check_few_preds` | `sizes.rt` |
 //! | V16 | `require_small` | `sizes.rt` |
 //!
-//! What a statement asks to follow is collected by `entailments.rt` (its parts by `entailments_of_states.rt` and
+//! What a statement asks to follow is collected by `asked.rt` (its parts by `entailments_of_states.rt` and
 //! `entailments_of_assignments.rt`) and tried by `entailments_tried.rt`. `known.rt` sees at once which of them need no walk over the predicates.
 #![tactic(auto)]
 
+mod asked;
 mod branches;
 mod certificates;
 mod count;
+mod entail;
 mod entailment_parts;
-mod entailments;
 mod entailments_of_assignments;
 mod entailments_of_states;
 mod entailments_tried;
@@ -48,6 +51,8 @@ mod evaluation;
 mod known;
 mod large;
 mod laws;
+mod listing;
+mod listing_blocks;
 mod locks;
 mod site;
 mod sizes;
@@ -58,7 +63,8 @@ mod walk;
 mod writes;
 
 pub use count::Count;
+pub use entail::Entail;
 pub use laws::{
     threads_end_without_locks, true_declarations_are_declared, true_obligations_are_secure,
 };
-pub use thread::check_thread;
+pub use thread::{check_thread, entailments};

@@ -150,7 +150,7 @@ impl Walk<'_> {
     }
 
     /// Checks what is asked before a value of a type is assigned.
-    fn check_value(
+    pub fn check_value(
         &self,
         at: u32,
         x: u32,
@@ -172,7 +172,7 @@ impl Walk<'_> {
 }
 
 /// The name of a lock.
-fn lock_name(p: &Program, l: u32) -> Name
+pub fn lock_name(p: &Program, l: u32) -> Name
     requires { l < length p.now.locks }
     ensures { result ≡ (lock_at (plain (view.program p.now)) l).name }
 {

@@ -1,4 +1,4 @@
-ghost use Rattle.std.specs.Prelude.{◌≡◌, ◌<◌, ◌^◌, length, Err, IfOk, IsTrue, MatchResult, None};
+ghost use Rattle.std.specs.Prelude.{◌≡◌, ◌<◌, ◌^◌, length, map, Err, IfOk, IsTrue, MatchResult, None};
 ghost use Rattle.cov_ast.specs.Obligations.{Decides, all_hold, first_false};
 ghost use Rattle.cov_ast.specs.Plain.{plain};
 ghost use Rattle.cov_ast.specs.View as view;
@@ -6,14 +6,17 @@ ghost use Rattle.cov_ast.specs.WellFormed.{IsWellFormed};
 ghost use Rattle.flow_model.specs.Game.{IsSecureThread};
 ghost use Rattle.mode_compat.specs.Declared.{declaration_obligations};
 ghost use Rattle.typing_rules.specs.Counts.{DecidesWith, counts};
+ghost use Rattle.typing_rules.specs.ThreadEntailments.{thread_entailments, view_entail};
 ghost use Rattle.typing_rules.specs.ThreadObligations.{thread_obligations};
 
 use crate::count::{Count, statements};
+use crate::entail::Entail;
 use crate::laws::true_obligations_are_secure;
 use crate::locks::check_end;
 use crate::site::Site;
 use crate::walk::Walk;
 use cov_ast::{CheckFault, Program};
+use cov_expr::{List, NoMemory};
 use std::alloc::Global;
 use typing_state::Point;
 
@@ -72,4 +75,27 @@ fn check_statements(alloc: Global, p: &Program, t: u32) -> Result<u64, CheckFaul
         }
         Err(fault) => Err(fault),
     }
+}
+
+/// What has to follow at the statements of a thread of a program whose declarations keep the rules, in the order in which it
+/// is tried: up to the first obligation that doesn't hold, where those about certificates (V9, V13) don't count. No
+/// certificate is looked at.
+///
+/// Each entailment has copies of its hypotheses, so the list takes memory in proportion to what they spell.
+pub fn entailments(alloc: Global, p: &Program, t: u32) -> Result<List<Entail>, NoMemory>
+    requires formed { IsWellFormed (view.program p.now) }
+    requires declared { IsTrue (all_hold (declaration_obligations (view.program p.now))) }
+    requires thread { t < length p.now.threads }
+    ensures { IfOk result (λ listed. map view_entail listed ≡ thread_entailments (view.program p.now) t) }
+{
+    let walk = Walk {
+        alloc,
+        program: p,
+        thread: t,
+    };
+    let thread = &p.threads.as_slice()[t as usize];
+    let start = Point::start(alloc, p, t)?;
+    let mut kept = List::new(alloc);
+    walk.list_block(thread.body.as_slice(), start, &mut kept)?;
+    Ok(kept)
 }

@@ -3,12 +3,12 @@ ghost use Rattle.cov_ast.specs.WellFormed.{IsWellFormed};
 
 use super::{WRITER, demand, expression, program};
 use cov_ast::{NameUse, Program, StmtKind, plain};
-use cov_expr::{Expr, copy, same, subst, vars};
+use cov_expr::{Expr, List, copy, same, subst, vars};
 use cov_lex::lex;
 use cov_parse::read_tokens;
 use std::alloc::Global;
 use std::test::Fail;
-use typing_rules::{Count, check_thread};
+use typing_rules::{Count, Entail, check_thread, entailments};
 use verify::{check_declared, check_program};
 
 /// The names of a text are numbered as they come.
@@ -77,6 +77,35 @@ fn first_thread(alloc: Global, p: &Program) -> Result<Count, Fail>
             Ok(count) => Ok(count),
             Err(_) => Err("its statements".into()),
         },
+        Err(_) => Err("its declarations".into()),
+    }
+}
+
+/// What has to follow in the writer: where the mode is set, and where the lock is given back.
+#[test]
+fn entailments_of_the_writer(rt: HostRuntime) -> Result<(), Fail> {
+    let alloc = rt.alloc();
+    let p = program(alloc, WRITER)?;
+    let listed = first_entailments(alloc, &p)?;
+    let [set, freed] = listed.as_slice() else {
+        return Err("two entailments".into());
+    };
+    assert_eq!(rt; (set.place, set.number, set.hyps.len()), (113, 1, 1));
+    assert_eq!(rt; (freed.place, freed.number, freed.hyps.len()), (124, 1, 2));
+    demand(same(&set.goal, &Expr::Const(1)), "the type of a constant")?;
+    demand(same(&freed.goal, &Expr::Const(0)), "the type of the secret")
+}
+
+/// What has to follow in the first thread.
+#[tactic(auto, using(cov_ast::proofs::ObligationLaws::none_refused))]
+fn first_entailments(alloc: Global, p: &Program) -> Result<List<Entail>, Fail>
+    requires { IsWellFormed (view.program p.now) }
+{
+    if p.threads.is_empty() {
+        return Err("a thread".into());
+    }
+    match check_declared(alloc, p) {
+        Ok(()) => Ok(entailments(alloc, p, 0)?),
         Err(_) => Err("its declarations".into()),
     }
 }

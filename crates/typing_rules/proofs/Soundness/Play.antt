@@ -1,5 +1,5 @@
 -- The game of a typed thread: what holds where its copies stand.
-use Rattle.std.proofs.Common.{◌≡◌, ◌⊎◌, ◌↔◌, ℕ, zero, suc, ◌<◌, List, [], ◌∷◌, ◌++◌, length, set, map, Bool, true, false, replicate, Option, Some, None, refl, sym, ◌∙◌, ap, ap₂, subst, IsTrue, inl, inr, get_or-set_same, get_or-set_other, eq-eqb, eqb-true}
+use Rattle.std.proofs.Common.{◌≡◌, ◌⊎◌, ◌↔◌, ℕ, zero, suc, ◌<◌, List, [], ◌∷◌, ◌++◌, length, set, map, Bool, true, false, replicate, Option, Some, None, refl, sym, ◌∙◌, ap, ap₂, subst, IsTrue, inl, inr, get_or-set_same, get_or-set_other}
 use Rattle.std.proofs.Math.Decide.{ℕ_discrete}
 use Rattle.cov_expr.specs.Entailment.{Holds, AllHold}
 use Rattle.cov_expr.specs.Term.{Term, value}

@@ -1,13 +1,12 @@
 -- The sets along the text against the holders of a state.
-use Rattle.std.proofs.Common.{◌≡◌, ℕ, zero, suc, ◌+◌, ◌<◌, ◌≤◌, ◌||◌, ◌&&◌, not, List, [], ◌∷◌, length, get_or, Bool, true, false, Some, refl, sym, ◌∙◌, ap, subst, arith, IsTrue, inl, inr, ⊎_elim, eqb-true, cond}
-use Rattle.std.proofs.lemmas.Bool.{or_cases, or_left, or_right, not-true, false_from_ne_true, and_from, cases_lt, and_parts}
+use Rattle.std.proofs.Common.{◌≡◌, ℕ, zero, suc, ◌<◌, ◌||◌, ◌&&◌, not, List, [], ◌∷◌, length, get_or, Bool, true, false, Some, refl, sym, ◌∙◌, ap, subst, arith, IsTrue, inl, inr, ⊎_elim, eqb-true, cond}
+use Rattle.std.proofs.lemmas.Bool.{or_cases, or_left, or_right, not-true, false_from_ne_true, and_from}
 use Rattle.std.proofs.Math.Decide.{ℕ_discrete}
-use Rattle.std.specs.List.{list_any, list_all, range_with_len}
-use Rattle.std.proofs.lemmas.List.{get_or_past}
+use Rattle.std.specs.List.{list_any}
 use Rattle.cov_expr.specs.Term.{Term, const, var, neg, bin}
 use Rattle.cov_expr.specs.Trees.{mentions}
 use Rattle.cov_expr.proofs.Tests.{left_true, right_true, passing, each_below}
-use Rattle.cov_ast.specs.Declarations.{assumes, assumes_hide, class_of, guarantees_hide, hides, is_control, is_low, lists, no_lock, no_var, under}
+use Rattle.cov_ast.specs.Declarations.{assumes, assumes_hide, class_of, guarantees_hide, hides, is_control, is_low, no_var, under}
 use Rattle.cov_ast.specs.Plain.{Plain, class_term}
 use Rattle.cov_ast.specs.Syntax.{Class, low, high, when, Var}
 use Rattle.cov_ast.specs.Tables.{has}

@@ -10,7 +10,7 @@ use Rattle.typing_state.specs.Point.{Point}
 use Rattle.typing_rules.specs.Entailments.{Entailment, from_preds, from_one_more, is_small_entailment}
 use Rattle.entail_cert.specs.declared.held.Held.{Held}
 use Rattle.entail_cert.specs.HeldTerms.{held_term}
-use Rattle.typing_rules.specs.declared.entailments.Entailment as rust
+use Rattle.typing_rules.specs.declared.asked.Entailment as rust
 
 -- from the predicates, and the one expression more that an entailment may have
 abbrev pub entailment_from : List Term → Option Held → Term → Entailment

@@ -10,7 +10,7 @@ use Rattle.typing_rules.specs.Blocks.{value_type}
 use Rattle.typing_rules.specs.Inside.Listed.{AreListed, entailment_of}
 use Rattle.typing_rules.specs.Entailments.{Entailment, controlled_values, retype_follows, shown_value, written_type}
 use Rattle.typing_rules.specs.Inside.Walking.{IsWalk, Tries, plain_of}
-use Rattle.typing_rules.specs.declared.entailments.Entailment as rust
+use Rattle.typing_rules.specs.declared.asked.Entailment as rust
 use Rattle.typing_rules.specs.declared.walk.Walk.{Walk}
 use Rattle.typing_rules.proofs.Bounds.{few_entailments_assign}
 use Rattle.typing_rules.proofs.walk.Walk.try_assign.Goals as goal

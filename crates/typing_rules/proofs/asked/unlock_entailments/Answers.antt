@@ -2,7 +2,7 @@ use Rattle.std.proofs.Common.{◌<◌, ◌∙◌, ap, sym, subst, length, map, a
 use Rattle.std.proofs.lemmas.List.{length-map, get_or-map}
 use Rattle.cov_ast.specs.View as view
 use Rattle.cov_ast.specs.WellFormed.{IsLockInRange}
-use Rattle.typing_rules.proofs.entailments.unlock_entailments.Goals as goal
+use Rattle.typing_rules.proofs.asked.unlock_entailments.Goals as goal
 
 pub add_freed-requires : goal.add_freed-requires
 add_freed-requires c k d lt =

@@ -4,7 +4,7 @@ use Rattle.cov_ast.specs.Plain.{plain}
 use Rattle.cov_ast.specs.View as view
 use Rattle.typing_rules.specs.Entailments.{controlled_values, retype_follows}
 use Rattle.typing_rules.proofs.ListedLaws.{large_behind}
-use Rattle.typing_rules.proofs.entailments.changed_entailments.Goals as goal
+use Rattle.typing_rules.proofs.asked.changed_entailments.Goals as goal
 
 pub returns-then-not-branch-2 : goal.returns-then-not-branch-2
 returns-then-not-branch-2 c t a kept =

@@ -5,7 +5,7 @@ use Rattle.typing_state.specs.Point.{ty}
 use Rattle.typing_rules.specs.Entailments.{guard_follows}
 use Rattle.typing_rules.proofs.ListedLaws.{large_alone, large_goal}
 use Rattle.typing_rules.proofs.LargeTypes.{large_type}
-use Rattle.typing_rules.proofs.entailments.guard_entailments.Goals as goal
+use Rattle.typing_rules.proofs.asked.guard_entailments.Goals as goal
 
 pub returns-in_default : goal.returns-in_default
 returns-in_default c t a kept =

@@ -1,0 +1,102 @@
+//! Entailments as they are handed out: copies, with their place and number.
+
+ghost use Rattle.std.specs.Prelude.{◌≡◌, ◌<◌, ◌+◌, ◌^◌, ◌++◌, ℕ, length, map, IfOk, OnOk};
+ghost use Rattle.cov_expr.specs.View.{term};
+ghost use Rattle.cov_ast.specs.Plain.{Plain};
+ghost use Rattle.typing_rules.specs.Inside.Listed.{entailment_of, entailments_of};
+ghost use Rattle.typing_rules.specs.Inside.Walking.{AtPoint};
+ghost use Rattle.typing_rules.specs.ThreadEntailments.{placed_from, view_entail};
+
+use crate::asked::Entailment;
+use crate::site::Site;
+use cov_expr::{Expr, List, NoMemory, copy};
+use std::alloc::Global;
+use typing_state::Point;
+
+/// What has to follow at a statement of a thread.
+#[derive(Drop)]
+pub struct Entail {
+    /// The byte offset of the statement.
+    pub place: u32,
+    /// Its number among the entailments of the statement, from 1 on.
+    pub number: u32,
+    /// The predicates of the point, and behind them the one expression more from which the goal may follow.
+    pub hyps: List<Expr>,
+    /// What has to follow.
+    pub goal: Expr,
+}
+
+/// Adds copies of entailments at a point, numbered from a number on, to others.
+pub fn add_copies(
+    alloc: Global,
+    site: Site,
+    point: &Point,
+    from: u32,
+    entailments: &[Entailment<'_>],
+    kept: &mut List<Entail>,
+) -> Result<(), NoMemory>
+    requires { from + length entailments.now < 2 ^ 32 }
+    ensures { OnOk result ((p : Plain) → (t : ℕ) → AtPoint p t point.now (λ a.
+        map view_entail kept.new ≡ map view_entail kept.old ++ placed_from site.place from (entailments_of a.preds entailments.now))) }
+{
+    let mut number = from;
+    for entailment in entailments {
+        let made = copied(alloc, site, point, number, entailment)?;
+        kept.push(made)?;
+        number += 1;
+    }
+    Ok(())
+}
+
+/// A copy of an entailment at a point.
+fn copied(
+    alloc: Global,
+    site: Site,
+    point: &Point,
+    number: u32,
+    entailment: &Entailment<'_>,
+) -> Result<Entail, NoMemory>
+    ensures { IfOk result (λ made. (p : Plain) → (t : ℕ) → AtPoint p t point.now (λ a.
+        view_entail made ≡ record { place = site.place; number = number; entailment = entailment_of a.preds entailment.now })) }
+{
+    let hyps = copied_hyps(alloc, point, entailment)?;
+    let goal = copy(alloc, entailment.goal.expr())?;
+    Ok(Entail {
+        place: site.place,
+        number,
+        hyps,
+        goal,
+    })
+}
+
+/// Copies of what an entailment may follow from.
+fn copied_hyps(
+    alloc: Global,
+    point: &Point,
+    entailment: &Entailment<'_>,
+) -> Result<List<Expr>, NoMemory>
+    ensures { IfOk result (λ made. (p : Plain) → (t : ℕ) → AtPoint p t point.now (λ a.
+        map term made ≡ (entailment_of a.preds entailment.now).hyps)) }
+{
+    let mut hyps = copied_all(alloc, point.preds().as_slice())?;
+    match &entailment.more {
+        Some(more) => {
+            let last = copy(alloc, more.expr())?;
+            hyps.push(last)?;
+            Ok(hyps)
+        }
+        None => Ok(hyps),
+    }
+}
+
+/// Copies of expressions.
+fn copied_all(alloc: Global, exprs: &[Expr]) -> Result<List<Expr>, NoMemory>
+    ensures { IfOk result (λ made. map term made ≡ map term exprs.now) }
+{
+    let mut made = List::with_capacity(alloc, exprs.len())?;
+    for e in exprs {
+        let copied = copy(alloc, e)?;
+        made.push(copied)?;
+    }
+    Ok(made)
+}
