@@ -1,0 +1,155 @@
+//! What a refusal for want of a valid certificate asked.
+
+ghost use Rattle.std.specs.Prelude.{◌≡◌, ◌<◌, ◌++◌, IsTrue, OnOk, Some, length, map, option_map};
+ghost use Rattle.cov_ast.specs.Obligations.{all_hold};
+ghost use Rattle.cov_ast.specs.View as view;
+ghost use Rattle.cov_ast.specs.WellFormed.{IsWellFormed};
+ghost use Rattle.mode_compat.specs.Compatible.{numbered};
+ghost use Rattle.mode_compat.specs.Declared.{declaration_obligations};
+ghost use Rattle.typing_rules.specs.ThreadEntailments.{thread_entailments, view_entail};
+ghost use Rattle.entail_refused.specs.Asked as spec;
+
+use cov_ast::{CheckFault, Detail, Program, Refusal, Rule, Stmt};
+use cov_expr::{Blob, NoMemory};
+use entail_text::{add_told, cert_of, variable_names};
+use std::alloc::Global;
+use typing_rules::{Entail, entailments};
+use verify::check_declared;
+
+/// Adds what is told of the entailment for which a program is refused, and nothing where it is refused for another rule than V9.
+pub fn add_asked(
+    alloc: Global,
+    p: &Program,
+    refusal: &Refusal,
+    text: &mut Blob,
+) -> Result<(), NoMemory>
+    requires { IsWellFormed (view.program p.now) }
+    ensures { OnOk result (text.new ≡ text.old ++ spec.asked (view.program p.now) refusal.now.rule refusal.now.thread refusal.now.place refusal.now.detail) }
+{
+    match refusal.rule {
+        Rule::V9 => add_unproved(
+            alloc,
+            p,
+            refusal.thread,
+            refusal.place,
+            refusal.detail,
+            text,
+        ),
+        _ => Ok(()),
+    }
+}
+
+/// Adds what is told of the entailment that a refusal for V9 names.
+fn add_unproved(
+    alloc: Global,
+    p: &Program,
+    thread: Option<u32>,
+    place: u32,
+    detail: Detail,
+    text: &mut Blob,
+) -> Result<(), NoMemory>
+    requires { IsWellFormed (view.program p.now) }
+    ensures { OnOk result (text.new ≡ text.old ++ spec.unproved (view.program p.now) thread place detail) }
+{
+    match (thread, detail) {
+        (Some(t), Detail::Number(n)) => add_entailment_of(alloc, p, t, place, n, text),
+        _ => Ok(()),
+    }
+}
+
+/// Adds what is told of an entailment of a thread, where there is that thread and the declarations keep the rules.
+fn add_entailment_of(
+    alloc: Global,
+    p: &Program,
+    t: u32,
+    place: u32,
+    number: u32,
+    text: &mut Blob,
+) -> Result<(), NoMemory>
+    requires { IsWellFormed (view.program p.now) }
+    ensures { OnOk result (text.new ≡ text.old ++ spec.asked_of (view.program p.now) t place number) }
+{
+    if (t as usize) < p.threads.len() {
+        add_of_thread(alloc, p, t, place, number, text)
+    } else {
+        Ok(())
+    }
+}
+
+/// Adds what is told of an entailment of a thread, where the declarations keep the rules.
+fn add_of_thread(
+    alloc: Global,
+    p: &Program,
+    t: u32,
+    place: u32,
+    number: u32,
+    text: &mut Blob,
+) -> Result<(), NoMemory>
+    requires formed { IsWellFormed (view.program p.now) }
+    requires thread { t < length p.now.threads }
+    ensures { OnOk result (text.new ≡ text.old ++ spec.asked_in (view.program p.now) t place number) }
+{
+    match check_declared(alloc, p) {
+        Ok(()) => add_entailment(alloc, p, t, place, number, text),
+        Err(CheckFault::Refused(_)) => Ok(()),
+        Err(CheckFault::NoMemory) => Err(NoMemory),
+    }
+}
+
+/// Adds what is told of an entailment of a thread.
+fn add_entailment(
+    alloc: Global,
+    p: &Program,
+    t: u32,
+    place: u32,
+    number: u32,
+    text: &mut Blob,
+) -> Result<(), NoMemory>
+    requires formed { IsWellFormed (view.program p.now) }
+    requires declared { IsTrue (all_hold (declaration_obligations (view.program p.now))) }
+    requires thread { t < length p.now.threads }
+    ensures { OnOk result (text.new ≡ text.old ++ spec.told_of (view.program p.now) t (spec.entailment_at (thread_entailments (view.program p.now) t) place number)) }
+{
+    let listed = entailments(alloc, p, t)?;
+    match entailment_at(listed.as_slice(), place, number) {
+        Some(e) => add_found(alloc, p, t, e, text),
+        None => Ok(()),
+    }
+}
+
+/// Adds what is told of an entailment of a thread, with the certificate that the thread gives for it.
+fn add_found(
+    alloc: Global,
+    p: &Program,
+    t: u32,
+    e: &Entail,
+    text: &mut Blob,
+) -> Result<(), NoMemory>
+    requires formed { IsWellFormed (view.program p.now) }
+    requires thread { t < length p.now.threads }
+    ensures { OnOk result (text.new ≡ text.old ++ spec.told_of (view.program p.now) t (Some (view_entail e.now))) }
+{
+    let names = variable_names(alloc, p)?;
+    let cert = cert_of(body_of(p, t), e.place, e.number);
+    add_told(alloc, &names, &e.hyps, &e.goal, cert, text)
+}
+
+/// The statements of a thread.
+fn body_of(p: &Program, t: u32) -> &[Stmt]
+    requires { t < length p.now.threads }
+    ensures { view.block result.now ≡ (numbered (view.program p.now) t).body }
+{
+    p.threads.as_slice()[t as usize].body.as_slice()
+}
+
+/// The entailment with this number of the statement at this place.
+fn entailment_at(listed: &[Entail], place: u32, number: u32) -> Option<&Entail>
+    ensures { option_map (λ e. view_entail e.now) result ≡ spec.entailment_at (map view_entail listed.now) place number }
+{
+    for e in listed {
+        if e.place == place && e.number == number {
+            return Some(e);
+        }
+    }
+    None
+}
