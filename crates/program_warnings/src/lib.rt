@@ -1,0 +1,19 @@
+//! What is worth a second look in a program that is accepted, and in its text.
+//!
+//! - [`warnings`]: what is warned of, each at its place ([`Warning`], [`Cause`]), in the order of the places.
+//! - [`no_start_meets`] has no body: where the invariant of a lock is warned of, no two memories are fit to start from.
+//!
+//! `specs/Uses.antt` says what statements read and write, `specs/Unused.antt` what is warned of in a program,
+//! `specs/HiddenText.antt` what is warned of in bytes, and `specs/Warnings.antt` puts both together.
+#![tactic(auto)]
+
+mod hidden;
+mod laws;
+mod merged;
+mod unused;
+mod uses;
+mod warning;
+
+pub use laws::no_start_meets;
+pub use merged::warnings;
+pub use warning::{Cause, Warning};

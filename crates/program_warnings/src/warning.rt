@@ -1,0 +1,30 @@
+use cov_expr::Name;
+
+/// What is warned of.
+#[derive(Clone, Copy, Debug, PartialEq, Eq)]
+pub enum Cause {
+    /// The invariant of this lock has no variable and is 0, so it holds in no memory.
+    FalseInvariant(Name),
+    /// No statement reads this variable.
+    NeverRead(Name),
+    /// No statement writes this variable.
+    NeverWritten(Name),
+    /// A carriage return that no line feed follows.
+    LoneReturn,
+    /// This control character, other than tab, line feed and carriage return.
+    Control(u8),
+    /// A character that turns the direction of text.
+    Direction,
+    /// A line separator or a paragraph separator.
+    Separator,
+    /// So many more carriage returns, control characters and characters like these.
+    More(usize),
+}
+
+/// A warning, with the byte offset of what it is about. Of a lock or a variable that is the offset of the name where it is
+/// declared.
+#[derive(Clone, Copy, Debug, PartialEq, Eq)]
+pub struct Warning {
+    pub place: u32,
+    pub cause: Cause,
+}
