@@ -148,7 +148,7 @@ has_report name bytes reply (Some place) = (
 -- what is told of a file is by a reply that `check` may give to it, and has its report
 pub told_checked : (before after : Shelved) (name : List ℕ) (reply : Reply) (text : List ℕ) → Tells before after name reply text
     → Does before after (check name) reply × ((front : List ℕ) × (rest : List ℕ) × (text ≡ front ++ report_of reply ++ rest))
-told_checked before after name reply text (inl (bytes, gives, checks, is)) =
+told_checked before after name reply text (inl (bytes, gives, checks, (lines, warns, is))) =
     let h = has_report name bytes reply (place_of reply) in
-    (inl (bytes, gives, checks), (h.0, h.1, is ∙ h.2))
+    (inl (bytes, gives, checks), (h.0, h.1 ++ lines, is ∙ ap (λ t. t ++ lines) h.2 ∙ append_assoc (h.0 ++ report_of reply) h.1 lines))
 told_checked before after name reply text (inr (misses, is)) = (inr misses, ([], [], is ∙ sym (append-nil (report_of reply))))

@@ -5,7 +5,7 @@ use Rattle.cov_io.specs.Shelves.{Shelved, Gives}
 use Rattle.cov_io.specs.Sinks.{Sunk, Writes}
 use Rattle.cov_io.specs.declared.shelf.Fetched.TheVariants.{Whole}
 use Rattle.cov_io.specs.declared.sink.Failed.{Failed}
-use Rattle.explain.specs.Explanations.{explanation}
+use Rattle.explain.specs.Tellings.{IsTold}
 use Rattle.top_call.specs.Files.{Misses}
 use Rattle.top_call.specs.Replies.{Reply, status_of}
 use Rattle.top_call.specs.Reports.{report_of}
@@ -14,10 +14,10 @@ use Rattle.top_call.specs.declared.answers.Status.{Status}
 use Rattle.top_call.specs.declared.answers.Status.TheVariants as s
 
 -- One call of the shelf for a file, to which `check` replies so, and what is told of it: its bytes are fetched, and the reply to
--- them is explained; or they aren't, and the report of `check` is all.
+-- them is explained, with warnings where they are accepted; or they aren't, and the report of `check` is all.
 abbrev pub Tells : (before after : Shelved) (name : List ℕ) → Reply → (text : List ℕ) → Type 0
 Tells before after name reply text =
-    ((bytes : List ℕ) × Gives before after name MOST_BYTES (Ok (Whole bytes)) × ChecksBytes name bytes reply × (text ≡ explanation name bytes reply))
+    ((bytes : List ℕ) × Gives before after name MOST_BYTES (Ok (Whole bytes)) × ChecksBytes name bytes reply × IsTold name bytes reply text)
     ⊎ (Misses before after name MOST_BYTES reply × (text ≡ report_of reply))
 
 -- a status, or where it says that all is done, the one that comes after it

@@ -74,7 +74,7 @@ fn add_sentence_of(bytes: &[u8], answer: &Answer<'_>, text: &mut Blob) -> Result
 }
 
 /// Adds where a place is: the file, the line and the column.
-fn add_where(name: &str, bytes: &[u8], place: usize, text: &mut Blob) -> Result<(), NoMemory>
+pub fn add_where(name: &str, bytes: &[u8], place: usize, text: &mut Blob) -> Result<(), NoMemory>
     ensures { OnOk result (text.new ≡ text.old ++ spec.where_is name.now bytes.now place) }
 {
     let position = position(bytes, place);
@@ -86,7 +86,8 @@ fn add_where(name: &str, bytes: &[u8], place: usize, text: &mut Blob) -> Result<
     text.extend_from_slice(b": ")
 }
 
-fn add_number(n: usize, text: &mut Blob) -> Result<(), NoMemory>
+/// Adds a number in decimal.
+pub fn add_number(n: usize, text: &mut Blob) -> Result<(), NoMemory>
     ensures { OnOk result (text.new ≡ text.old ++ decimal n) }
 {
     let mut buffer = Buffer::new();

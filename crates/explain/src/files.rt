@@ -3,13 +3,14 @@ ghost use Rattle.cov_expr.specs.declared.limits.TheConstants.{MOST_BYTES};
 ghost use Rattle.cov_io.specs.Shelves.{Passes};
 ghost use Rattle.explain.specs.FileCalls as spec;
 ghost use Rattle.explain.specs.FileCalls.{Tells, TellsAll};
-ghost use Rattle.explain.specs.Explanations.{explanation};
+ghost use Rattle.explain.specs.Tellings.{IsTold};
 ghost use Rattle.top_call.specs.AnswerViews.{seen};
 ghost use Rattle.top_call.specs.Replies.{Reply, status_of};
 ghost use Rattle.top_call.specs.Texts.{ChecksBytes};
 
 use crate::explanation::{add_explanation, add_report};
-use cov_expr::{Blob, MOST_BYTES, NoMemory};
+use crate::more::add_more;
+use cov_expr::{Blob, List, MOST_BYTES, NoMemory};
 use cov_io::Shelf;
 use std::alloc::Global;
 use top_call::{Answer, Status, Stop, check_bytes, fetch, status_for};
@@ -68,8 +69,8 @@ fn tell<S: Shelf>(
 /// Adds what is told of the bytes of a file, and gives the status that `check` has for them.
 fn tell_bytes(alloc: Global, name: &str, bytes: &[u8], text: &mut Blob) -> Result<Status, NoMemory>
     requires { length bytes.now ≤ MOST_BYTES }
-    ensures { IfOk result (λ status. (reply : Reply) × ChecksBytes name.now bytes.now reply × (status ≡ status_of reply)
-        × (text.new ≡ text.old ++ explanation name.now bytes.now reply)) }
+    ensures { IfOk result (λ status. (reply : Reply) × (here : List ℕ) × ChecksBytes name.now bytes.now reply × IsTold name.now bytes.now reply here
+        × (status ≡ status_of reply) × (text.new ≡ text.old ++ here)) }
 {
     match check_bytes(alloc, name, bytes) {
         Ok(answer) => tell_answer(alloc, name, bytes, answer, text),
@@ -86,11 +87,15 @@ fn tell_answer(
     answer: Answer<'_>,
     text: &mut Blob,
 ) -> Result<Status, NoMemory>
-    requires { ChecksBytes name.now bytes.now (seen answer) }
-    ensures { IfOk result (λ status. (reply : Reply) × ChecksBytes name.now bytes.now reply × (status ≡ status_of reply)
-        × (text.new ≡ text.old ++ explanation name.now bytes.now reply)) }
+    requires length { length bytes.now ≤ MOST_BYTES }
+    requires checked { ChecksBytes name.now bytes.now (seen answer) }
+    ensures { IfOk result (λ status. (reply : Reply) × (here : List ℕ) × ChecksBytes name.now bytes.now reply × IsTold name.now bytes.now reply here
+        × (status ≡ status_of reply) × (text.new ≡ text.old ++ here)) }
 {
     let status = status_for(&answer);
+    let mut more = List::new(alloc);
+    add_more(alloc, name, bytes, &answer, &mut more)?;
     add_explanation(alloc, name, bytes, answer, text)?;
+    text.extend_from_slice(more.as_slice())?;
     Ok(status)
 }

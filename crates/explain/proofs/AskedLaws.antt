@@ -1,0 +1,38 @@
+-- What was asked of bytes that are refused.
+use Rattle.std.proofs.Common.{◌≡◌, ℕ, List, [], false, Option, Some, None, inl, inr, sym, ap, ◌∙◌}
+use Rattle.cov_ast.specs.Obligations.{Obligation, all_hold, first_false}
+use Rattle.cov_ast.specs.Syntax.{Parsed, Program}
+use Rattle.cov_ast.specs.declared.refusal.Refusal.{Refusal}
+use Rattle.cov_ast.proofs.ObligationLaws.{none_refused}
+use Rattle.entail_refused.specs.Asked.{asked}
+use Rattle.explain.specs.Tellings.{asked_lines}
+use Rattle.policy_class.specs.Resolved.{name_obligations, resolved}
+use Rattle.std.proofs.lemmas.Bool.{cases_Bool, cond-true, cond-false}
+use Rattle.top_call.specs.Programs.{SpellsProgram}
+use Rattle.top_call.specs.Replies.{Reply, refused, status_of}
+use Rattle.top_call.specs.Texts.{ChecksBytes}
+use Rattle.top_call.specs.declared.answers.Status.TheVariants as s
+use Rattle.top_call.proofs.CheckLaws.{none_false}
+
+-- bytes to which `check` replies that they are refused spell a program
+pub refused_bytes : (name bytes : List ℕ) (refusal : Refusal) (thread : Option (List ℕ)) → ChecksBytes name bytes (refused refusal thread) → (p : Parsed) × SpellsProgram bytes p
+refused_bytes name bytes refusal thread (inl (p, spells, judged)) = (p, spells)
+refused_bytes name bytes refusal thread (inr (fault, is_fault, is)) = let wrong : s.Refused ≡ s.Malformed = ap status_of is in cc
+
+-- where one doesn't hold, not all hold
+pub not_all : (es : List Obligation) (refusal : Refusal) → first_false es ≡ Some refusal → all_hold es ≡ false
+not_all es refusal first =
+    elim (cases_Bool (all_hold es)) [
+      | inl held ↦ (let wrong : None ≡ Some refusal = sym (none_false es held) ∙ first in cc)
+      | inr other ↦ other
+    ]
+
+-- what was asked where the names of a text are in order, and where they aren't
+pub named_lines : (p : Parsed) (q : Program) (refusal : Refusal) → first_false (name_obligations p) ≡ None → q ≡ resolved p
+    → asked_lines p refusal ≡ asked q refusal.rule refusal.thread refusal.place refusal.detail
+named_lines p q refusal named is =
+    cond-true (all_hold (name_obligations p)) _ [] (none_refused (name_obligations p) named)
+    ∙ ap (λ r. asked r refusal.rule refusal.thread refusal.place refusal.detail) (sym is)
+
+pub unnamed_lines : (p : Parsed) (refusal first : Refusal) → first_false (name_obligations p) ≡ Some first → asked_lines p refusal ≡ []
+unnamed_lines p refusal first is = cond-false (all_hold (name_obligations p)) _ [] (not_all (name_obligations p) first is)

@@ -1,0 +1,62 @@
+ghost use Rattle.std.specs.Prelude.{◌≡◌, ◌≤◌, ◌++◌, length, OnOk};
+ghost use Rattle.cov_ast.specs.Syntax.{Parsed};
+ghost use Rattle.cov_expr.specs.declared.limits.TheConstants.{MOST_BYTES};
+ghost use Rattle.explain.specs.Inside.{AreAccepted};
+ghost use Rattle.explain.specs.WarningSentences as spec;
+ghost use Rattle.top_call.specs.Check.{meaning};
+ghost use Rattle.top_call.specs.Programs.{SpellsProgram};
+ghost use Rattle.program_warnings.specs.Warnings as found;
+
+use crate::accepted::accepted_program;
+use crate::explanation::add_where;
+use crate::sentences::add_cause_sentence;
+use cov_expr::{Blob, NoMemory};
+use program_warnings::{Warning, warnings};
+use std::alloc::Global;
+
+/// Adds what is warned of in bytes that are accepted.
+pub fn add_warnings(
+    alloc: Global,
+    name: &str,
+    bytes: &[u8],
+    text: &mut Blob,
+) -> Result<(), NoMemory>
+    requires length { length bytes.now ≤ MOST_BYTES }
+    requires accepted { AreAccepted bytes.now }
+    ensures { OnOk result ((p : Parsed) × SpellsProgram bytes.now p
+        × (text.new ≡ text.old ++ spec.warning_lines name.now bytes.now (found.warnings (meaning p) bytes.now))) }
+{
+    let program = accepted_program(alloc, bytes)?;
+    let found = warnings(alloc, &program, bytes)?;
+    add_warning_lines(name, bytes, found.as_slice(), text)
+}
+
+/// Adds a line for each warning.
+fn add_warning_lines(
+    name: &str,
+    bytes: &[u8],
+    found: &[Warning],
+    text: &mut Blob,
+) -> Result<(), NoMemory>
+    ensures { OnOk result (text.new ≡ text.old ++ spec.warning_lines name.now bytes.now found.now) }
+{
+    for warning in found {
+        add_warning_line(name, bytes, warning, text)?;
+    }
+    Ok(())
+}
+
+/// Adds the line of a warning.
+fn add_warning_line(
+    name: &str,
+    bytes: &[u8],
+    warning: &Warning,
+    text: &mut Blob,
+) -> Result<(), NoMemory>
+    ensures { OnOk result (text.new ≡ text.old ++ spec.warning_line name.now bytes.now warning.now) }
+{
+    add_where(name, bytes, warning.place as usize, text)?;
+    text.extend_from_slice(b"warning: ")?;
+    add_cause_sentence(&warning.cause, text)?;
+    text.extend_from_slice(b"\n")
+}
