@@ -1,9 +1,10 @@
 #!/usr/bin/env python3
 """Uses the built program as somebody would who means it harm, and prints what it finds.
 
-usage: bench/hostile.py [--only PART] [--count N] [--jobs N] [PROGRAM [PARTS]]
+usage: bench/hostile.py [--only PART] [--count N] [--jobs N] [PROGRAM [PARTS [EXPLAINS]]]
 
-PROGRAM is crates/covern_cli/out/covern_cli, and PARTS, the program of cases, crates/covern_cases/out/covern_cases, if they aren't given.
+PROGRAM is crates/covern_cli/out/covern_cli, PARTS, the program of cases, crates/covern_cases/out/covern_cases, and EXPLAINS, the one that explains,
+crates/explain_cli/out/explain_cli, if they aren't given.
 The parts are
 
 - `outside`: each read and each write of each command fails in turn, is interrupted, or is short, where there is strace;
@@ -13,7 +14,8 @@ The parts are
 - `listings`: N mutated listings by PARTS, against bench/machines.py;
 - `limits`: deep, wide and long files, with the time and the memory that each takes, as a table;
 - `memory`: commands in more and more room for addresses: they answer whole, or with status 6 and nothing;
-- `allocations`: each request for memory of each command is refused in turn, where there is cc: the same.
+- `allocations`: each request for memory of each command is refused in turn, where there is cc: the same;
+- `explanations`: N mutated programs by EXPLAINS: the first line and the status are those of `check`, with the line and the column in front, and V9 shows what was asked.
 
 A text that takes more than ten seconds is told, and so is a process that a signal ends. The status is 1 where something is told. With all parts it
 takes an hour or so on one processor, and some ten minutes with `--count 10000`.
@@ -591,8 +593,24 @@ SHARED = (b"var mode: low; var buf: low when mode == 0; var key: high; var tmp: 
           b"net := tmp; }")
 
 
-def allocations_part(options, folder, found):
+UNPROVED = (b"var mode: low; var buf: low when mode == 0; var key: high; lock l hide mode, buf; thread w { lock l; buf := key; mode := 1; "
+            b"unlock l by { 1: have [1 == 0] (rev 1 [_ == 0] (hyp 1)) (clash 3) }; }")
+
+
+def refused_in_turn(program, words, folder, refuser, title, found):
     """The first request alone is refused, then the second alone, and so on until none is left to refuse."""
+    due = ended(program, words, folder)
+    number = refused = whole = 0
+    # (a few requests can be done without; behind the last one every answer is whole)
+    while whole < 50:
+        number += 1
+        answer = ended(program, words, folder, env={"LD_PRELOAD": refuser, "REFUSED": str(number)})
+        found.case(f"{title}, request {number}", answer if answer in (due, (b"", 6)) else "another answer", answer)
+        refused, whole = (refused + 1, 0) if answer == (b"", 6) else (refused, whole + 1)
+    print(f"allocations: {title}: status 6 for {refused} of {number - whole} requests")
+
+
+def allocations_part(options, folder, found):
     if not shutil.which("cc"):
         print("requests for memory aren't refused: there is no cc")
         return
@@ -605,19 +623,58 @@ def allocations_part(options, folder, found):
         for name, key in (("s", 5), ("t", 9)):
             write(folder, name, json.dumps({**starts, "key": key}).encode())
         for words in [*WORDS, *([["big", "1", "k"]] if title == "shared" else [])]:
-            due = ended(options.program, words, folder)
-            number = refused = whole = 0
-            # (a few requests can be done without; behind the last one every answer is whole)
-            while whole < 50:
-                number += 1
-                answer = ended(options.program, words, folder, env={"LD_PRELOAD": made, "REFUSED": str(number)})
-                found.case(f"{title}: {' '.join(words)}, request {number}", answer if answer in (due, (b"", 6)) else "another answer", answer)
-                refused, whole = (refused + 1, 0) if answer == (b"", 6) else (refused, whole + 1)
-            print(f"allocations: {title}: {' '.join(words)}: status 6 for {refused} of {number - whole} requests")
+            refused_in_turn(options.program, words, folder, made, f"{title}: {' '.join(words)}", found)
+    for title, text in (("writer", WRITER), ("unproved", UNPROVED), ("malformed", b"var ring: low;"), ("twice", b"var a: low; var a: low;")):
+        write(folder, "p", text)
+        refused_in_turn(options.explains, ["p"], folder, made, f"{title}: explain p", found)
+
+
+# The explanation of each answer.
+
+ADDRESS = re.compile(rb"^(?:refused|malformed) .*?\bat (\d+)")
+
+
+def explained(text, answer):
+    """The first line of an explanation, by the text and what `check` answers, and its status."""
+    line, status = answer
+    place = ADDRESS.match(line)
+    if not place:
+        return line, status
+    front = text[:int(place.group(1))]
+    return b"p:%d:%d: %s" % (front.count(b"\n") + 1, len(front) - front.rfind(b"\n"), line), status
+
+
+def some_explanations(order):
+    """A batch of mutated programs: how many are tried, for how many V9 shows what was asked, and what is told."""
+    program, explains, _, part, number = order
+    chance, texts, found, shown = random.Random(f"{part} {number}"), corpus(), [], 0
+    with tempfile.TemporaryDirectory() as folder:
+        for _ in range(BATCH):
+            text = mutated(chance.choice(texts), texts, chance)
+            write(folder, "p", text)
+            due, answer = explained(text, ended(program, ["check", "p"], folder)), ended(explains, ["p"], folder)
+            shown += b"\n  goal:         " in answer[0]
+            first = answer[0][:answer[0].find(b"\n") + 1]
+            asked = b" refused V9 " in first
+            if (first, answer[1]) != due or asked != all(word in answer[0] for word in (b"\n  goal:         ", b"\n  hypotheses:  ", b"\n  certificate:  ")):
+                found.append((text, answer, due))
+    return BATCH, shown, found
+
+
+def explanations_part(options, folder, found):
+    shown = 0
+    parts, options.parts = options.parts, options.explains
+    for tried, some_shown, differ in batches(options, "explanations", some_explanations):
+        found.tried, shown = found.tried + tried, shown + some_shown
+        for text, answer, due in differ:
+            found.tried -= 1
+            found.case(f"explain of {text!r}", answer, due)
+    options.parts = parts
+    print(f"explanations: {found.tried} tried, {shown} by V9")
 
 
 PARTS = {"outside": outside, "texts": texts_part, "inputs": inputs_part, "listings": listings_part, "limits": limits_part, "memory": memory_part,
-         "allocations": allocations_part}
+         "allocations": allocations_part, "explanations": explanations_part}
 
 
 def main():
@@ -625,7 +682,7 @@ def main():
     words.add_argument("--only", choices=sorted(PARTS))
     words.add_argument("--count", type=int, default=100_000)
     words.add_argument("--jobs", type=int, default=1)
-    for name, crate in (("program", "covern_cli"), ("parts", "covern_cases")):
+    for name, crate in (("program", "covern_cli"), ("parts", "covern_cases"), ("explains", "explain_cli")):
         words.add_argument(name, nargs="?", type=os.path.abspath, default=os.path.join(TOP, "crates", crate, "out", crate))
     options = words.parse_args()
     if not os.access(options.program, os.X_OK):
