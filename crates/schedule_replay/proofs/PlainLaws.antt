@@ -88,8 +88,7 @@ module _ (threads : ℕ) (parse : Parse json.Json) (numbers : (s : List ℕ) (ts
   listed before entries rest zero i l h = absurd (omega arith)
   listed before [] rest (suc n) i l h = (json.no_items, no_items, ap (items parse (suc n)) h, refl, refl, refl)
   listed before (x ∷ xs) rest (suc n) i l h =
-      let more = listed h.1 xs rest n (suc i) (omega arith) h.5 in
-      (
+      let more = listed h.1 xs rest n (suc i) (omega arith) h.5 in (
         json.item (json.number h.0) more.0,
         item (number (unsigned x)) more.1,
         ap (items parse (suc n)) h.2 ∙ rw (numbers h.0 h.1, more.2) refl,

@@ -17,11 +17,7 @@ use std::alloc::Global;
 
 /// The entries of a schedule, where the bytes are a list of numbers of threads, at most [`MOST_ENTRIES`] of them. `None` says
 /// nothing of the bytes.
-pub fn read_plain(
-    alloc: Global,
-    bytes: &[u8],
-    threads: u32,
-) -> Result<Option<List<u32>>, NoMemory>
+pub fn read_plain(alloc: Global, bytes: &[u8], threads: u32) -> Result<Option<List<u32>>, NoMemory>
     ensures { IfOk result (λ read. IfSome read (λ entries. spec.schedule_of threads (value_of bytes.now) ≡ Ok entries)) }
 {
     let Ok(text) = str::from_utf8(bytes) else {
