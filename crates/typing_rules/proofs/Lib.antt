@@ -17,6 +17,8 @@ mod Parts
 mod Ranges
 mod Walks
 mod Splits
+mod KeptLaws
 mod Reaching
 mod Others
-mod ListedParts
+mod Concluding
+mod Assigning

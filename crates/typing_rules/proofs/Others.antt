@@ -14,7 +14,7 @@ use Rattle.typing_state.specs.After.{with_guard, meet}
 use Rattle.typing_rules.specs.Counts.{entailment_count}
 use Rattle.typing_rules.specs.Blocks.{after_stm, after_block}
 use Rattle.typing_rules.specs.Entailments.{guard_follows, state_follows, assign_entailments, unlock_entailments}
-use Rattle.typing_rules.specs.Inside.Listing.{are_others}
+use Rattle.typing_rules.specs.Inside.Keeping.{are_others}
 use Rattle.typing_rules.specs.Inside.Walking.{value_parts}
 use Rattle.typing_rules.specs.ThreadEntailments.{block_entailments, is_about_certificates, placed_from, stm_entailments}
 use Rattle.typing_rules.specs.ThreadObligations.{flat, guard_obligations, narrow, of_var, one_unstable, over_stable, reads, state_obligations, type_obligations, stm_parts, block_obligations}

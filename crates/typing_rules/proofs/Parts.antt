@@ -1,5 +1,5 @@
 -- The verdict on the parts of a rule, and on entailments that are tried in two batches.
-use Rattle.std.proofs.Common.{◌≡◌, ℕ, suc, ◌+◌, ◌&&◌, List, [], ◌∷◌, ◌++◌, length, Bool, true, false, cond, refl, sym, ap, ◌∙◌, subst, arith, append_assoc, Some, None, Result, Err}
+use Rattle.std.proofs.Common.{◌≡◌, ℕ, suc, ◌+◌, ◌&&◌, List, [], ◌∷◌, ◌++◌, length, map, Bool, true, false, cond, refl, sym, ap, ◌∙◌, subst, arith, append_assoc, Some, None, Result, Err}
 use Rattle.std.specs.List.{list_all}
 use Rattle.std.proofs.lemmas.Bool.{and_parts}
 use Rattle.std.proofs.lemmas.List.{append-nil}
@@ -14,7 +14,10 @@ use Rattle.cov_ast.proofs.ObligationLaws.{append_decided, append_held, append_re
 use Rattle.typing_rules.specs.Entailments.{Entailment, is_small_entailment}
 use Rattle.typing_state.specs.Point.{Point, has_small_types}
 use Rattle.typing_rules.specs.ThreadObligations.{obligation, flat, numbers, proved, small_terms}
-use Rattle.typing_rules.specs.Inside.Walking.{Tries, first_unproved, last_parts}
+use Rattle.typing_rules.specs.Inside.Keeping.{kept_for}
+use Rattle.typing_rules.specs.Inside.Walking.{Tries, unproved_for}
+use Rattle.typing_rules.specs.ThreadEntailments.{placed_from, view_entail}
+use Rattle.typing_rules.specs.declared.purpose.Purpose.{Purpose}
 use Rattle.typing_rules.specs.declared.entailments_tried.Tried.{Tried}
 
 -- The verdict on parts --------------------------------------------------------------------------------------------
@@ -74,16 +77,9 @@ proved-append p t at proofs n (g ∷ gs) hs =
     (proved-append p t at proofs (suc n) gs hs ∙ ap (λ m. proved p t at proofs (suc n) gs ++ proved p t at proofs m hs) e)
 
 -- where entailments and the types after them are small, what came of the entailments is known
-pub tried_decided : (p : Plain) (t at : ℕ) (proofs : List Proof) (n : ℕ) (gs : List Entailment) (points : List Point) (tried : Tried)
-    → Tries proofs n gs tried → first_false (small_terms p t at gs points) ≡ None → (tried.count ≡ length gs) × (tried.unproved ≡ first_unproved proofs n gs)
-tried_decided p t at proofs n gs points tried h sizes =
+pub tried_decided : (u : Purpose) (p : Plain) (t at : ℕ) (proofs : List Proof) (n : ℕ) (gs : List Entailment) (points : List Point) (tried : Tried)
+    → Tries u at proofs n gs tried → first_false (small_terms p t at gs points) ≡ None
+    → (tried.count ≡ length gs) × (tried.unproved ≡ unproved_for u proofs n gs) × (map view_entail tried.copies ≡ kept_for u (placed_from at n gs))
+tried_decided u p t at proofs n gs points tried h sizes =
     let small = list_all is_small_entailment gs && list_all has_small_types points in
     h.decided (h.small ∙ (and_parts (list_all is_small_entailment gs) (list_all has_small_types points) (held_is p t at small sizes)).0)
-
--- where the obligations that come last hold, each entailment was counted
-pub all_counted : (p : Plain) (t at : ℕ) (proofs : List Proof) (n count : ℕ) (gs : List Entailment) (points : List Point) (tried : Tried) (front : List Obligation)
-    → Tries proofs n gs tried → first_false (front ++ flat (last_parts p t at proofs n count gs points)) ≡ None → tried.count ≡ length gs
-all_counted p t at proofs n count gs points tried front h held =
-    let last = append_none front (flat (last_parts p t at proofs n count gs points)) held in
-    let sizes = append_none (small_terms p t at gs points) (proved p t at proofs n gs ++ (numbers p t at count proofs ++ [])) last.1 in
-    (tried_decided p t at proofs n gs points tried h sizes.0).0

@@ -1,27 +1,34 @@
 -- How far obligations are reached, and which entailments that leaves.
-use Rattle.std.proofs.Common.{◌≡◌, ℕ, suc, ◌+◌, ◌≤◌, List, [], ◌∷◌, ◌++◌, length, map, take, Bool, true, false, not, ◌&&◌, ◌||◌, cond, refl, sym, ap, ◌∙◌, subst, arith, append_assoc, Some, None}
+use Rattle.std.proofs.Common.{◌≡◌, ℕ, suc, ◌+◌, ◌≤◌, List, [], ◌∷◌, ◌++◌, length, map, take, Bool, true, false, not, ◌&&◌, ◌||◌, cond, refl, sym, ap, ◌∙◌, arith, append_assoc, Some, None, Result, Ok, Err}
+use Rattle.std.specs.Prelude.{filter}
 use Rattle.std.specs.List.{list_all}
-use Rattle.std.proofs.Math.Bool.{and-true, or-true}
+use Rattle.std.proofs.Math.Bool.{or-true}
 use Rattle.std.proofs.Math.Seq.{take-append-add}
-use Rattle.std.proofs.lemmas.Bool.{and_left, and_parts, and_right, not-true}
+use Rattle.std.proofs.lemmas.Bool.{and_parts, not-true}
 use Rattle.std.proofs.lemmas.List.{append-nil, take-append-le, take_all}
+use Rattle.std.proofs.lemmas.List.Elements.{filter-append}
 use Rattle.std.proofs.lemmas.List.Folds.{list_all-append}
-use Rattle.cov_ast.specs.Obligations.{Obligation, first_false}
+use Rattle.cov_ast.specs.Obligations.{Decides, Obligation, first_false}
 use Rattle.cov_ast.specs.Plain.{Plain}
-use Rattle.cov_ast.specs.Syntax.{Proof}
+use Rattle.cov_ast.specs.declared.refusal.CheckFault.{CheckFault}
+use Rattle.cov_ast.specs.declared.refusal.CheckFault.TheVariants.{Refused, NoMemory}
 use Rattle.cov_ast.specs.declared.refusal.Refusal.{Refusal}
 use Rattle.cov_ast.specs.declared.refusal.Rule.{Rule}
 use Rattle.cov_ast.specs.declared.refusal.Rule.TheVariants.{W1, W2, W3, W4, W5, W6, W7, W8, W9, V1, V2, V3, V4, V5, V6, V7, V8, V9, V10, V11, V12, V13, V14, V15, V16}
-use Rattle.cov_ast.specs.declared.refusal.Detail.TheVariants.{Nothing, Number}
-use Rattle.typing_state.specs.Point.{Point, has_small_types}
+use Rattle.cov_ast.proofs.ObligationLaws.{append_held, append_refused}
+use Rattle.typing_state.specs.Point.{Point}
 use Rattle.typing_rules.specs.Counts.{entailment_count, is_entailment}
-use Rattle.typing_rules.specs.Entailments.{Entailment, is_proved, is_small_entailment}
-use Rattle.typing_rules.specs.Inside.Listing.{Lists, are_others, are_passed}
-use Rattle.typing_rules.specs.Inside.Walking.{first_parts, last_parts}
+use Rattle.typing_rules.specs.Entailments.{Entailment}
+use Rattle.typing_rules.specs.Inside.Keeping.{are_others, are_passed, is_other, kept_for, looked_at, wanted_among}
+use Rattle.typing_rules.specs.Inside.Passing.{Adds, Passes, Stops}
+use Rattle.typing_rules.specs.Inside.Walking.{Walks}
 use Rattle.typing_rules.specs.ThreadEntailments.{PlacedEntailment, is_about_certificates, is_passed, placed_from, reached, reached_entailments, view_entail}
-use Rattle.typing_rules.specs.ThreadObligations.{few_preds, flat, is_number, numbers, obligation, proved, small_terms}
 use Rattle.typing_rules.specs.declared.entail.Entail.{Entail}
-use Rattle.typing_rules.proofs.Counting.{count_append, count_cons, count_numbers, count_proved}
+use Rattle.typing_rules.specs.declared.purpose.Purpose.{Purpose}
+use Rattle.typing_rules.specs.declared.purpose.Purpose.TheVariants.{Judge, Collect}
+use Rattle.typing_rules.specs.declared.walk.Walked.{Walked}
+use Rattle.typing_rules.proofs.Counting.{count_append, count_cons}
+use Rattle.typing_rules.proofs.KeptLaws.{kept-append, kept_none}
 
 -- Obligations that are passed --------------------------------------------------------------------------------------
 
@@ -34,22 +41,37 @@ held_passed (e ∷ es) h = go (held_passed es) e.holds h
     go rest true h = rest h
     go rest false h = cc
 
-pub refused_stops : (es : List Obligation) (r : Refusal) → are_others es ≡ true → first_false es ≡ Some r → are_passed es ≡ false
-refused_stops [] r others h = cc
-refused_stops (e ∷ es) r others h =
-    let parts = and_parts (not (is_about_certificates e.refusal.rule)) (are_others es) others in
-    go (refused_stops es r parts.1) (not-true (is_about_certificates e.refusal.rule) parts.0) e.holds h
+-- the same of those that aren't about certificates
+pub others_held : (es : List Obligation) → first_false (filter is_other es) ≡ None → are_passed es ≡ true
+others_held [] h = refl
+others_held (e ∷ es) h = go (others_held es) (is_about_certificates e.refusal.rule) h
   where
-    go : (first_false es ≡ Some r → are_passed es ≡ false) → is_about_certificates e.refusal.rule ≡ false → (b : Bool)
-        → cond b (first_false es) (Some e.refusal) ≡ Some r → ((b || is_about_certificates e.refusal.rule) && are_passed es) ≡ false
-    go rest other true h = rest h
-    go rest other false h = ap (λ c. c && are_passed es) other
+    held : (first_false (filter is_other es) ≡ None → are_passed es ≡ true) → (b : Bool)
+        → cond b (first_false (filter is_other es)) (Some e.refusal) ≡ None → ((b || false) && are_passed es) ≡ true
+    held rest true h = rest h
+    held rest false h = cc
 
-pub passed-append : (a b : List Obligation) → are_passed (a ++ b) ≡ (are_passed a && are_passed b)
-passed-append a b = list_all-append is_passed a b
+    go : (first_false (filter is_other es) ≡ None → are_passed es ≡ true) → (c : Bool)
+        → first_false (cond (not c) (e ∷ filter is_other es) (filter is_other es)) ≡ None → ((e.holds || c) && are_passed es) ≡ true
+    go rest true h = ap (λ v. v && are_passed es) (or-true e.holds) ∙ rest h
+    go rest false h = held rest e.holds h
+
+pub others_stop : (es : List Obligation) (r : Refusal) → first_false (filter is_other es) ≡ Some r → are_passed es ≡ false
+others_stop [] r h = cc
+others_stop (e ∷ es) r h = go (others_stop es r) (is_about_certificates e.refusal.rule) h
+  where
+    stops : (first_false (filter is_other es) ≡ Some r → are_passed es ≡ false) → (b : Bool)
+        → cond b (first_false (filter is_other es)) (Some e.refusal) ≡ Some r → ((b || false) && are_passed es) ≡ false
+    stops rest true h = rest h
+    stops rest false h = refl
+
+    go : (first_false (filter is_other es) ≡ Some r → are_passed es ≡ false) → (c : Bool)
+        → first_false (cond (not c) (e ∷ filter is_other es) (filter is_other es)) ≡ Some r → ((e.holds || c) && are_passed es) ≡ false
+    go rest true h = ap (λ v. v && are_passed es) (or-true e.holds) ∙ rest h
+    go rest false h = stops rest e.holds h
 
 pub others-append : (a b : List Obligation) → are_others a ≡ true → are_others b ≡ true → are_others (a ++ b) ≡ true
-others-append a b h k = list_all-append (λ e. not (is_about_certificates e.refusal.rule)) a b ∙ ap (λ c. c && are_others b) h ∙ k
+others-append a b h k = list_all-append is_other a b ∙ ap (λ c. c && are_others b) h ∙ k
 
 -- an obligation that asks that something follows is about certificates
 asks_nothing : (r : Rule) → is_about_certificates r ≡ false → is_entailment r ≡ false
@@ -94,7 +116,7 @@ reached_passed (e ∷ es) b h =
     let parts = and_parts (is_passed e) (are_passed es) h in
     ap (λ v. cond v (e ∷ reached (es ++ b)) []) parts.0 ∙ ap (λ fs. e ∷ fs) (reached_passed es b parts.1)
 
-pub reached_all : (a : List Obligation) → are_passed a ≡ true → reached a ≡ a
+reached_all : (a : List Obligation) → are_passed a ≡ true → reached a ≡ a
 reached_all a h = ap reached (sym (append-nil a)) ∙ reached_passed a [] h ∙ append-nil a
 
 reached_stopped : (a b : List Obligation) → are_passed a ≡ false → reached (a ++ b) ≡ reached a
@@ -126,49 +148,111 @@ reached_then o1 o2 a1 a2 h is =
     ap entailment_count (reached_passed o1 o2 h) ∙ count_append o1 (reached o2) ∙ ap (λ m. m + entailment_count (reached o2)) is in
     ap (λ m. take m (a1 ++ a2)) n ∙ take-append-add a1 a2 (entailment_count (reached o2))
 
-reached_no_more : (o1 o2 : List Obligation) (a1 a2 : List PlacedEntailment) → are_passed o1 ≡ false → entailment_count o1 ≡ length a1
+pub reached_no_more : (o1 o2 : List Obligation) (a1 a2 : List PlacedEntailment) → are_passed o1 ≡ false → entailment_count o1 ≡ length a1
     → reached_entailments (o1 ++ o2) (a1 ++ a2) ≡ reached_entailments o1 a1
 reached_no_more o1 o2 a1 a2 h is =
     ap (λ es. take (entailment_count es) (a1 ++ a2)) (reached_stopped o1 o2 h)
     ∙ take-append-le (entailment_count (reached o1)) a1 a2 (omega (arith, reached_few o1, is))
 
--- What is listed ------------------------------------------------------------------------------------------------------
+-- What a walk looks at ----------------------------------------------------------------------------------------------
 
-abbrev pub seen : List Entail → List PlacedEntailment
-seen kept = map view_entail kept
+pub looked-append : (u : Purpose) (a b : List Obligation) → looked_at u (a ++ b) ≡ looked_at u a ++ looked_at u b
+looked-append Judge a b = refl
+looked-append (Collect wanted) a b = filter-append is_other a b
 
-module _ (o1 o2 : List Obligation) (a1 a2 : List PlacedEntailment) (is : entailment_count o1 ≡ length a1) where
-  -- one part and then another
-  pub lists_then : (k0 k1 k2 : List Entail) (passed : Bool) → Lists o1 a1 k0 k1 true → Lists o2 a2 k1 k2 passed → Lists (o1 ++ o2) (a1 ++ a2) k0 k2 passed
-  lists_then k0 k1 k2 passed h k = (
-    passed-append o1 o2 ∙ ap (λ v. v && are_passed o2) h.0 ∙ k.0,
-    k.1 ∙ ap (λ l. l ++ reached_entailments o2 a2) (h.1 ∙ ap (λ l. seen k0 ++ l) (all_reached o1 a1 h.0 is))
-        ∙ append_assoc (seen k0) a1 (reached_entailments o2 a2) ∙ ap (λ l. seen k0 ++ l) (sym (reached_then o1 o2 a1 a2 h.0 is)),
-  )
+others_only : (a : List Obligation) → are_others a ≡ true → filter is_other a ≡ a
+others_only [] h = refl
+others_only (e ∷ es) h =
+    let parts = and_parts (is_other e) (are_others es) h in
+    ap (λ b. cond b (e ∷ filter is_other es) (filter is_other es)) parts.0 ∙ ap (λ fs. e ∷ fs) (others_only es parts.1)
 
-  -- nothing comes behind a part that isn't passed
-  pub lists_stop : (k0 k1 : List Entail) → Lists o1 a1 k0 k1 false → Lists (o1 ++ o2) (a1 ++ a2) k0 k1 false
-  lists_stop k0 k1 h = (
-    passed-append o1 o2 ∙ ap (λ v. v && are_passed o2) h.0,
-    h.1 ∙ ap (λ l. seen k0 ++ l) (sym (reached_no_more o1 o2 a1 a2 h.0 is)),
-  )
+pub others_looked : (u : Purpose) (a : List Obligation) → are_others a ≡ true → looked_at u a ≡ a
+others_looked Judge a h = refl
+others_looked (Collect wanted) a h = others_only a h
+
+looked_passed : (u : Purpose) (a : List Obligation) → first_false (looked_at u a) ≡ None → are_passed a ≡ true
+looked_passed Judge a h = held_passed a h
+looked_passed (Collect wanted) a h = others_held a h
+
+-- What is kept -------------------------------------------------------------------------------------------------------
+
+-- where nothing is reached that the walk keeps
+pub adds_none : (u : Purpose) (o : List Obligation) (a : List PlacedEntailment) (k : List Entail) → kept_for u (reached_entailments o a) ≡ [] → Adds u o a k k
+adds_none u o a k h = sym (ap (λ l. map view_entail k ++ l) h ∙ append-nil (map view_entail k))
 
 -- no entailment is reached where there is none
-pub lists_nothing : (o : List Obligation) (k : List Entail) (passed : Bool) → are_passed o ≡ passed → Lists o [] k k passed
-lists_nothing o k passed h = (h, sym (ap (λ l. seen k ++ l) (take_all (entailment_count (reached o)) [] (omega arith)) ∙ append-nil (seen k)))
+pub no_entailments : (u : Purpose) (o : List Obligation) → kept_for u (reached_entailments o []) ≡ []
+no_entailments u o = ap (kept_for u) (take_all (entailment_count (reached o)) [] (omega arith)) ∙ kept_none u
 
-module _ (front : List Obligation) (others : are_others front ≡ true) where
-  pub lists_front : (rest : List Obligation) (a : List PlacedEntailment) (k0 k1 : List Entail) (passed : Bool) → are_passed front ≡ true → Lists rest a k0 k1 passed
-      → Lists (front ++ rest) a k0 k1 passed
-  lists_front rest a k0 k1 passed h k = lists_then front rest [] a (others_counted front others) k0 k0 k1 passed (lists_nothing front k0 true h) k
+-- where there is no entailment
+pub stops_bare : (u : Purpose) (o : List Obligation) (k : List Entail) (fault : CheckFault) → Decides (looked_at u o) (Err fault) → Stops u o [] k k fault
+stops_bare u o k (Refused r) h = (h, adds_none u o [] k (no_entailments u o))
+stops_bare u o k NoMemory h = tt
 
-  pub lists_refused : (rest : List Obligation) (a : List PlacedEntailment) (k : List Entail) → are_passed front ≡ false → Lists (front ++ rest) a k k false
-  lists_refused rest a k h = lists_stop front rest [] a (others_counted front others) k k (lists_nothing front k false h)
+-- all entailments of obligations that hold
+pub adds_all : (u : Purpose) (o : List Obligation) (a : List PlacedEntailment) (k0 k1 : List Entail) → first_false (looked_at u o) ≡ None → entailment_count o ≡ length a
+    → map view_entail k1 ≡ map view_entail k0 ++ kept_for u a → Adds u o a k0 k1
+adds_all u o a k0 k1 h is k = k ∙ ap (λ gs. map view_entail k0 ++ kept_for u gs) (sym (all_reached o a (looked_passed u o h) is))
 
--- all entailments of passed obligations
-pub lists_all : (o : List Obligation) (a : List PlacedEntailment) (k0 k1 : List Entail) → are_passed o ≡ true → entailment_count o ≡ length a → seen k1 ≡ seen k0 ++ a
-    → Lists o a k0 k1 true
-lists_all o a k0 k1 h is k = (h, k ∙ ap (λ l. seen k0 ++ l) (sym (all_reached o a h is)))
+module _ (u : Purpose) (o1 o2 : List Obligation) (a1 a2 : List PlacedEntailment) (is : entailment_count o1 ≡ length a1) where
+  -- one part and then another
+  pub adds_then : (k0 k1 k2 : List Entail) → Passes u o1 a1 k0 k1 → Adds u o2 a2 k1 k2 → Adds u (o1 ++ o2) (a1 ++ a2) k0 k2
+  adds_then k0 k1 k2 h k =
+      let passed = looked_passed u o1 h.0 in
+      let rest = reached_entailments o2 a2 in
+      k ∙ ap (λ l. l ++ kept_for u rest) (h.1 ∙ ap (λ gs. map view_entail k0 ++ kept_for u gs) (all_reached o1 a1 passed is))
+      ∙ append_assoc (map view_entail k0) (kept_for u a1) (kept_for u rest)
+      ∙ ap (λ l. map view_entail k0 ++ l) (sym (kept-append u a1 rest) ∙ ap (kept_for u) (sym (reached_then o1 o2 a1 a2 passed is)))
+
+  pub passes_then : (k0 k1 k2 : List Entail) → Passes u o1 a1 k0 k1 → Passes u o2 a2 k1 k2 → Passes u (o1 ++ o2) (a1 ++ a2) k0 k2
+  passes_then k0 k1 k2 h k =
+      (ap first_false (looked-append u o1 o2) ∙ append_held (looked_at u o1) (looked_at u o2) h.0 ∙ k.0, adds_then k0 k1 k2 h k.1)
+
+  pub stops_then : (k0 k1 k2 : List Entail) (fault : CheckFault) → Passes u o1 a1 k0 k1 → Stops u o2 a2 k1 k2 fault → Stops u (o1 ++ o2) (a1 ++ a2) k0 k2 fault
+  stops_then k0 k1 k2 (Refused r) h k =
+      (ap first_false (looked-append u o1 o2) ∙ append_held (looked_at u o1) (looked_at u o2) h.0 ∙ k.0, adds_then k0 k1 k2 h k.1)
+  stops_then k0 k1 k2 NoMemory h k = tt
+
+  pub walks_then : (p : Plain) (t : ℕ) (end : Point) (counted : ℕ) (k0 k1 k2 : List Entail) (r : Result Walked CheckFault) → Passes u o1 a1 k0 k1
+      → Walks u p t o2 a2 end counted k1 k2 r → Walks u p t (o1 ++ o2) (a1 ++ a2) end counted k0 k2 r
+  walks_then p t end counted k0 k1 k2 (Ok walked) h k = (passes_then k0 k1 k2 h k.0, k.1, k.2)
+  walks_then p t end counted k0 k1 k2 (Err fault) h k = stops_then k0 k1 k2 fault h k
+
+-- nothing comes behind a part that stops
+pub adds_stop : (u : Purpose) (o1 o2 : List Obligation) (a1 a2 : List PlacedEntailment) → entailment_count o1 ≡ length a1 → (k0 k1 : List Entail) (r : Refusal)
+    → first_false (looked_at u o1) ≡ Some r → Adds u o1 a1 k0 k1 → Adds u (o1 ++ o2) (a1 ++ a2) k0 k1
+adds_stop Judge o1 o2 a1 a2 is k0 k1 r h k = k
+adds_stop (Collect wanted) o1 o2 a1 a2 is k0 k1 r h k =
+    k ∙ ap (λ gs. map view_entail k0 ++ wanted_among wanted gs) (sym (reached_no_more o1 o2 a1 a2 (others_stop o1 r h) is))
+
+pub stops_behind : (u : Purpose) (o1 o2 : List Obligation) (a1 a2 : List PlacedEntailment) → entailment_count o1 ≡ length a1 → (k0 k1 : List Entail) (fault : CheckFault)
+    → Stops u o1 a1 k0 k1 fault → Stops u (o1 ++ o2) (a1 ++ a2) k0 k1 fault
+stops_behind u o1 o2 a1 a2 is k0 k1 (Refused r) h =
+    (ap first_false (looked-append u o1 o2) ∙ append_refused (looked_at u o1) (looked_at u o2) (Refused r) h.0, adds_stop u o1 o2 a1 a2 is k0 k1 r h.0 h.1)
+stops_behind u o1 o2 a1 a2 is k0 k1 NoMemory h = tt
+
+-- a walk that judges looks at all
+pub judge_stops : (o : List Obligation) (a : List PlacedEntailment) (k0 k1 : List Entail) (fault : CheckFault) → Stops Judge o a k0 k1 fault → Decides o (Err fault)
+judge_stops o a k0 k1 (Refused r) h = h.0
+judge_stops o a k0 k1 NoMemory h = tt
+
+-- Obligations that aren't about certificates, before others ----------------------------------------------------------
+
+module _ (u : Purpose) (front rest : List Obligation) (others : are_others front ≡ true) (a : List PlacedEntailment) where
+  -- those that hold
+  pub front_passes : (k : List Entail) → first_false front ≡ None → Passes u front [] k k
+  front_passes k h = (ap first_false (others_looked u front others) ∙ h, adds_none u front [] k (no_entailments u front))
+
+  pub front_walks : (p : Plain) (t : ℕ) (end : Point) (counted : ℕ) (k0 k1 : List Entail) (r : Result Walked CheckFault) → first_false front ≡ None
+      → Walks u p t rest a end counted k0 k1 r → Walks u p t (front ++ rest) a end counted k0 k1 r
+  front_walks p t end counted k0 k1 r h w = walks_then u front rest [] a (others_counted front others) p t end counted k0 k0 k1 r (front_passes k0 h) w
+
+  -- one of which doesn't hold
+  pub front_stops : (k : List Entail) (fault : CheckFault) → Decides front (Err fault) → Stops u (front ++ rest) a k k fault
+  front_stops k (Refused r) h =
+      stops_behind u front rest [] a (others_counted front others) k k (Refused r)
+      (ap first_false (others_looked u front others) ∙ h, adds_none u front [] k (no_entailments u front))
+  front_stops k NoMemory h = tt
 
 -- Entailments of a statement ------------------------------------------------------------------------------------------
 
@@ -181,122 +265,3 @@ placed-append at n [] hs = let e : n ≡ n + 0 = omega arith in ap (λ m. placed
 placed-append at n (g ∷ gs) hs =
     let e : suc n + length gs ≡ n + suc (length gs) = omega arith in
     ap (λ l. placed_from at n (g ∷ []) ++ l) (placed-append at (suc n) gs hs ∙ ap (λ m. placed_from at (suc n) gs ++ placed_from at m hs) e)
-
-module _ (p : Plain) (t at : ℕ) where
-  proved_passed : (proofs : List Proof) (n : ℕ) (gs : List Entailment) → are_passed (proved p t at proofs n gs) ≡ true
-  proved_passed proofs n [] = refl
-  proved_passed proofs n (g ∷ gs) = ap (λ v. v && are_passed (proved p t at proofs (suc n) gs)) (or-true (is_proved proofs n g)) ∙ proved_passed proofs (suc n) gs
-
-  numbers_of : (count : ℕ) (all qs : List Proof)
-      → are_passed (map (λ q. obligation p t at V13 (Number q.number) (is_number count all q.number)) qs) ≡ true
-  numbers_of count all [] = refl
-  numbers_of count all (q ∷ qs) =
-      ap (λ v. v && are_passed (map (λ q. obligation p t at V13 (Number q.number) (is_number count all q.number)) qs)) (or-true (is_number count all q.number))
-      ∙ numbers_of count all qs
-
-  pub numbers_passed : (count : ℕ) (proofs : List Proof) → are_passed (numbers p t at count proofs ++ []) ≡ true
-  numbers_passed count proofs = ap are_passed (append-nil (numbers p t at count proofs)) ∙ numbers_of count proofs proofs
-
-  module _ (proofs : List Proof) (n : ℕ) (gs : List Entailment) (k0 k1 : List Entail) (k : seen k1 ≡ seen k0 ++ placed_from at n gs) where
-    -- entailments, and then nothing that could stop
-    pub lists_proved : Lists (proved p t at proofs n gs ++ []) (placed_from at n gs) k0 k1 true
-    lists_proved =
-        lists_all (proved p t at proofs n gs ++ []) (placed_from at n gs) k0 k1
-        (ap are_passed (append-nil (proved p t at proofs n gs)) ∙ proved_passed proofs n gs)
-        (ap entailment_count (append-nil (proved p t at proofs n gs)) ∙ count_proved p t at proofs n gs ∙ sym (placed_length at n gs)) k
-
-    pub lists_last : (count : ℕ) → Lists (proved p t at proofs n gs ++ (numbers p t at count proofs ++ [])) (placed_from at n gs) k0 k1 true
-    lists_last count =
-        lists_all (proved p t at proofs n gs ++ (numbers p t at count proofs ++ [])) (placed_from at n gs) k0 k1
-        (passed-append (proved p t at proofs n gs) (numbers p t at count proofs ++ []) ∙ ap (λ v. v && are_passed (numbers p t at count proofs ++ [])) (proved_passed proofs n gs)
-        ∙ numbers_passed count proofs)
-        (omega (
-          arith,
-          count_append (proved p t at proofs n gs) (numbers p t at count proofs ++ []),
-          count_append (numbers p t at count proofs) [],
-          count_proved p t at proofs n gs,
-          count_numbers p t at count proofs,
-          placed_length at n gs,
-        )) k
-
-  -- What comes before entailments, and that they and the types after them are small.
-  module _ (front : List Obligation) (others : are_others front ≡ true) (small : Bool) (gs : List Entailment) (points : List Point)
-      (is : small ≡ (list_all is_small_entailment gs && list_all has_small_types points)) where
-    abbrev sized : Bool → List Obligation
-    sized b = obligation p t at V16 Nothing b ∷ []
-
-    abbrev sizes : List Obligation
-    sizes = small_terms p t at gs points
-
-    same : front ++ sized small ≡ front ++ sizes
-    same = ap (λ b. front ++ sized b) is
-
-    pub part_passed : are_passed (front ++ sized small) ≡ true → (rest : List Obligation) (a : List PlacedEntailment) (k0 k1 : List Entail) (passed : Bool)
-        → Lists rest a k0 k1 passed → Lists (front ++ (sizes ++ rest)) a k0 k1 passed
-    part_passed h rest a k0 k1 passed k =
-        subst (λ o. Lists o a k0 k1 passed) (append_assoc front sizes rest)
-        (lists_front (front ++ sizes) (others-append front sizes others refl) rest a k0 k1 passed (ap are_passed (sym same) ∙ h) k)
-
-    pub part_stopped : are_passed (front ++ sized small) ≡ false → (rest : List Obligation) (a : List PlacedEntailment) (k : List Entail)
-        → Lists (front ++ (sizes ++ rest)) a k k false
-    part_stopped h rest a k =
-        subst (λ o. Lists o a k k false) (append_assoc front sizes rest)
-        (lists_refused (front ++ sizes) (others-append front sizes others refl) rest a k (ap are_passed (sym same) ∙ h))
-
-  -- entailments and types that aren't small
-  pub part_large : (front : List Obligation) → are_others front ≡ true → (gs : List Entailment) (points : List Point)
-      → (list_all is_small_entailment gs && list_all has_small_types points) ≡ false → (rest : List Obligation) (a : List PlacedEntailment) (k : List Entail)
-      → Lists (front ++ (small_terms p t at gs points ++ rest)) a k k false
-  part_large front others gs points h rest a k =
-      part_stopped front others false gs points (sym h)
-      (passed-append front (obligation p t at V16 Nothing false ∷ []) ∙ and_right (are_passed front) false refl) rest a k
-
--- What comes before the entailments that a statement asks last, and that they and the types after them are small.
-module _ (p : Plain) (t at : ℕ) (proofs : List Proof) (n count : ℕ) (front : List Obligation) (others : are_others front ≡ true) (small : Bool) (gs : List Entailment)
-    (after : Point) (is : small ≡ (list_all is_small_entailment gs && has_small_types after)) where
-  same_sizes : small ≡ (list_all is_small_entailment gs && list_all has_small_types (after ∷ []))
-  same_sizes = is ∙ ap (λ b. list_all is_small_entailment gs && b) (sym (and-true (has_small_types after)))
-
-  pub last_stopped : are_passed (front ++ obligation p t at V16 Nothing small ∷ []) ≡ false → (k : List Entail)
-      → Lists (front ++ flat (last_parts p t at proofs n count gs (after ∷ []))) (placed_from at n gs) k k false
-  last_stopped h k =
-      part_stopped p t at front others small gs (after ∷ []) same_sizes h (proved p t at proofs n gs ++ (numbers p t at count proofs ++ [])) (placed_from at n gs) k
-
-  pub last_listed : are_passed (front ++ obligation p t at V16 Nothing small ∷ []) ≡ true → (k0 k1 : List Entail) → seen k1 ≡ seen k0 ++ placed_from at n gs
-      → Lists (front ++ flat (last_parts p t at proofs n count gs (after ∷ []))) (placed_from at n gs) k0 k1 true
-  last_listed h k0 k1 k =
-      part_passed p t at front others small gs (after ∷ []) same_sizes h (proved p t at proofs n gs ++ (numbers p t at count proofs ++ [])) (placed_from at n gs) k0 k1 true
-      (lists_last p t at proofs n gs k0 k1 k count)
-
--- The same before blocks are entered: few predicates behind what comes first, and entailments that are small.
-module _ (p : Plain) (t at : ℕ) (proofs : List Proof) (front : List Obligation) (others : are_others front ≡ true) (points : List Point) (gs : List Entailment) where
-  abbrev few : List Obligation
-  few = few_preds p t at points
-
-  abbrev asked : List Obligation
-  asked = proved p t at proofs 1 gs ++ []
-
-  entered_others : are_others (front ++ few) ≡ true
-  entered_others = others-append front few others refl
-
-  entered_is : (k0 k1 : List Entail) (passed : Bool) → Lists ((front ++ few) ++ (small_terms p t at gs [] ++ asked)) (placed_from at 1 gs) k0 k1 passed
-      → Lists (front ++ flat (first_parts p t at proofs gs points)) (placed_from at 1 gs) k0 k1 passed
-  entered_is k0 k1 passed h = subst (λ o. Lists o (placed_from at 1 gs) k0 k1 passed) (append_assoc front few (small_terms p t at gs [] ++ asked)) h
-
-  pub entered_large : list_all is_small_entailment gs ≡ false → (k : List Entail) → Lists (front ++ flat (first_parts p t at proofs gs points)) (placed_from at 1 gs) k k false
-  entered_large h k =
-      entered_is k k false (part_large p t at (front ++ few) entered_others gs [] (and_left (list_all is_small_entailment gs) true h) asked (placed_from at 1 gs) k)
-
-  module _ (small : Bool) (is : small ≡ list_all is_small_entailment gs) where
-    no_points : small ≡ (list_all is_small_entailment gs && true)
-    no_points = is ∙ sym (and-true (list_all is_small_entailment gs))
-
-    pub entered_stopped : are_passed ((front ++ few) ++ obligation p t at V16 Nothing small ∷ []) ≡ false → (k : List Entail)
-        → Lists (front ++ flat (first_parts p t at proofs gs points)) (placed_from at 1 gs) k k false
-    entered_stopped h k =
-        entered_is k k false (part_stopped p t at (front ++ few) entered_others small gs [] no_points h asked (placed_from at 1 gs) k)
-
-    pub entered_listed : are_passed ((front ++ few) ++ obligation p t at V16 Nothing small ∷ []) ≡ true → (k0 k1 : List Entail) → seen k1 ≡ seen k0 ++ placed_from at 1 gs
-        → Lists (front ++ flat (first_parts p t at proofs gs points)) (placed_from at 1 gs) k0 k1 true
-    entered_listed h k0 k1 k =
-        entered_is k0 k1 true (part_passed p t at (front ++ few) entered_others small gs [] no_points h asked (placed_from at 1 gs) k0 k1 true (lists_proved p t at proofs 1 gs k0 k1 k))

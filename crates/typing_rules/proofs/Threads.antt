@@ -1,6 +1,6 @@
 -- A thread of a program as the code has it, and its obligations as a walk decides them.
-use Rattle.std.proofs.Common.{◌≡◌, ℕ, ◌^◌, ◌<◌, ◌++◌, List, [], ◌∷◌, length, get_or, refl, sym, ap, ◌∙◌, subst, arith, None, Err, IsTrue}
-use Rattle.std.proofs.lemmas.List.{get_or-map}
+use Rattle.std.proofs.Common.{◌≡◌, ℕ, ◌^◌, ◌<◌, ◌++◌, List, [], ◌∷◌, length, map, get_or, refl, sym, ap, ◌∙◌, subst, arith, None, Err, IsTrue}
+use Rattle.std.proofs.lemmas.List.{append-nil, get_or-map}
 use Rattle.cov_ast.specs.Obligations.{Decides, Obligation, all_hold, first_false}
 use Rattle.cov_ast.specs.Plain.{plain}
 use Rattle.cov_ast.specs.Syntax.{Program, Block}
@@ -9,6 +9,8 @@ use Rattle.cov_ast.specs.WellFormed.{IsBlockInRange, IsBodyFine, IsWellFormed, b
 use Rattle.cov_ast.specs.declared.decl.Program as decl
 use Rattle.cov_ast.specs.declared.decl.ThreadDecl.{ThreadDecl}
 use Rattle.cov_ast.specs.declared.refusal.CheckFault.{CheckFault}
+use Rattle.cov_ast.specs.declared.refusal.CheckFault.TheVariants.{Refused}
+use Rattle.cov_ast.specs.declared.refusal.Refusal.{Refusal}
 use Rattle.cov_ast.proofs.ObligationLaws.{append_decided, append_held, append_refused}
 use Rattle.cov_ast.proofs.WellFormedLaws.{seen_item, thread_in_range}
 use Rattle.mode_compat.specs.Compatible.{no_thread, numbered}
@@ -16,9 +18,18 @@ use Rattle.mode_compat.specs.Declared.{declaration_obligations}
 use Rattle.typing_state.specs.After.{start}
 use Rattle.typing_rules.specs.Counts.{counts, entailment_count}
 use Rattle.typing_rules.specs.Blocks.{after_block}
-use Rattle.typing_rules.specs.ThreadObligations.{block_obligations, end_obligation, thread_obligations}
+use Rattle.typing_state.specs.Point.{Point}
+use Rattle.typing_rules.specs.Inside.Keeping.{wanted_among}
+use Rattle.typing_rules.specs.Inside.Passing.{Adds, Passes, Stops}
+use Rattle.typing_rules.specs.ThreadEntailments.{all_entailments, block_entailments, reached_entailments, thread_entailments, view_entail}
+use Rattle.typing_rules.specs.ThreadObligations.{block_obligations, end_obligation, end_point, thread_obligations}
+use Rattle.typing_rules.specs.declared.entail.Entail.{Entail}
+use Rattle.typing_rules.specs.declared.purpose.Purpose.TheVariants.{Collect}
+use Rattle.typing_rules.specs.declared.purpose.Wanted.{Wanted}
 use Rattle.typing_rules.proofs.Bounds.{few_entailments, few_places}
 use Rattle.typing_rules.proofs.Counting.{count_append}
+use Rattle.typing_rules.proofs.Others.{block_counted}
+use Rattle.typing_rules.proofs.Reaching.{adds_none, adds_stop, adds_then, no_entailments}
 
 -- Obligations ----------------------------------------------------------------------------------------------------
 
@@ -51,6 +62,38 @@ module _ (p : Program) (t : ℕ) (b : Block) (place : ℕ) (body : b ≡ (number
   thread_counted n h =
       let same : n ≡ entailment_count (obligations ++ last) = omega (arith, count_append obligations last, h) in
       subst (λ es. n ≡ entailment_count es) whole same
+
+-- What is kept ------------------------------------------------------------------------------------------------------
+
+module _ (wanted : Wanted) (p : Program) (t : ℕ) (b : Block) (body : b ≡ (numbered p t).body) (k0 k1 : List Entail) (none : k0 ≡ []) where
+  abbrev from : Point
+  from = start (plain p) t
+
+  abbrev of_body : List Obligation
+  of_body = block_obligations (plain p) t (numbered p t).body from
+
+  abbrev of_end : List Obligation
+  of_end = end_obligation (plain p) t (numbered p t).end (end_point p t).held ∷ []
+
+  -- the end of a thread asks nothing to follow
+  at_end : Adds (Collect wanted) (of_body ++ of_end) (all_entailments p t ++ []) k0 k1 → map view_entail k1 ≡ wanted_among wanted (thread_entailments p t)
+  at_end h =
+      h ∙ ap (λ k. map view_entail k ++ wanted_among wanted (reached_entailments (of_body ++ of_end) (all_entailments p t ++ []))) none
+      ∙ ap (λ gs. wanted_among wanted (reached_entailments (of_body ++ of_end) gs)) (append-nil (all_entailments p t))
+
+  pub kept_held : Passes (Collect wanted) (block_obligations (plain p) t b (start (plain p) t)) (block_entailments (plain p) t b (start (plain p) t)) k0 k1
+      → map view_entail k1 ≡ wanted_among wanted (thread_entailments p t)
+  kept_held h =
+      at_end
+      (adds_then (Collect wanted) of_body of_end (all_entailments p t) [] (block_counted (plain p) t (numbered p t).body from) k0 k1 k1
+      (subst (λ c. Passes (Collect wanted) (block_obligations (plain p) t c from) (block_entailments (plain p) t c from) k0 k1) body h)
+      (adds_none (Collect wanted) of_end [] k1 (no_entailments (Collect wanted) of_end)))
+
+  pub kept_refused : (r : Refusal) → Stops (Collect wanted) (block_obligations (plain p) t b (start (plain p) t)) (block_entailments (plain p) t b (start (plain p) t)) k0 k1 (Refused r)
+      → map view_entail k1 ≡ wanted_among wanted (thread_entailments p t)
+  kept_refused r h =
+      let same = subst (λ c. Stops (Collect wanted) (block_obligations (plain p) t c from) (block_entailments (plain p) t c from) k0 k1 (Refused r)) body h in
+      at_end (adds_stop (Collect wanted) of_body of_end (all_entailments p t) [] (block_counted (plain p) t (numbered p t).body from) k0 k1 r same.0 same.1)
 
 -- Threads of the code ----------------------------------------------------------------------------------------------
 

@@ -1,5 +1,5 @@
 -- Laws of entailments, and of what is tried for them.
-use Rattle.std.proofs.Common.{◌≡◌, ℕ, suc, ◌+◌, ◌<◌, ◌≤◌, List, [], ◌∷◌, ◌++◌, Bool, true, false, cond, if◌then◌else◌, ◌&&◌, ◌==◌, length, drop, get_or, refl, sym, ap, subst, arith, ◌∙◌, Option, Some, None, option_map, Result, Ok, Err}
+use Rattle.std.proofs.Common.{◌≡◌, ℕ, suc, ◌+◌, ◌<◌, ◌≤◌, List, [], ◌∷◌, ◌++◌, Bool, true, false, cond, if◌then◌else◌, ◌&&◌, ◌==◌, length, drop, get_or, map, refl, sym, ap, subst, arith, ◌∙◌, Option, Some, None, option_map, Result, Ok, Err}
 use Rattle.std.specs.List.{list_all}
 use Rattle.std.specs.Option.{option_or}
 use Rattle.std.specs.Prelude.{IfOk}
@@ -23,7 +23,14 @@ use Rattle.typing_rules.specs.declared.entailments_tried.Tried.{Tried}
 use Rattle.typing_rules.specs.declared.walk.Walk.{Walk}
 use Rattle.entail_cert.specs.HeldTerms.{held_term}
 use Rattle.typing_rules.specs.Inside.Listed.{AreListed, entailment_of, entailment_from, entailments_of}
-use Rattle.typing_rules.specs.Inside.Walking.{Tries, Wherever, first_unproved}
+use Rattle.typing_rules.specs.Inside.Keeping.{looked_at, wanted_among}
+use Rattle.typing_rules.specs.ThreadEntailments.{placed_from, view_entail}
+use Rattle.typing_rules.specs.declared.purpose.Wanted.{Wanted}
+use Rattle.std.proofs.lemmas.Bool.{false≢true}
+use Rattle.typing_rules.specs.Inside.Walking.{Tries, Wherever, first_unproved, unproved_for}
+use Rattle.typing_rules.specs.declared.purpose.Purpose.{Purpose}
+use Rattle.typing_rules.specs.declared.purpose.Purpose.TheVariants.{Judge, Collect}
+use Rattle.typing_rules.proofs.Concluding.{proved_silent}
 use Rattle.typing_rules.specs.Entailments.{Entailment, is_proved, is_small_entailment}
 use Rattle.typing_rules.specs.ThreadObligations.{obligation, proved}
 use Rattle.typing_state.specs.Terms.{is_small}
@@ -74,6 +81,20 @@ module _ (p : Plain) (t at : ℕ) (proofs : List Proof) where
   pub unproved_none : (n : ℕ) (gs : List Entailment) → None ≡ first_unproved proofs n gs → first_false (proved p t at proofs n gs) ≡ None
   unproved_none n gs first = unproved_is n gs ∙ ap (option_map refusal) (sym first)
 
+some_number : (m : ℕ) → Some m ≡ None → ⊥
+some_number m h = cc
+
+-- where none is found that the walk looks at, each that it looks at is proved
+pub unproved_for_none : (u : Purpose) (p : Plain) (t at : ℕ) (proofs : List Proof) (n : ℕ) (gs : List Entailment) → None ≡ unproved_for u proofs n gs
+    → first_false (looked_at u (proved p t at proofs n gs)) ≡ None
+unproved_for_none Judge p t at proofs n gs h = unproved_none p t at proofs n gs h
+unproved_for_none (Collect wanted) p t at proofs n gs h = ap first_false (proved_silent p t at wanted proofs n gs)
+
+pub unproved_for_refused : (u : Purpose) (p : Plain) (t at : ℕ) (proofs : List Proof) (n : ℕ) (gs : List Entailment) (m : ℕ) (fault : CheckFault) → Some m ≡ unproved_for u proofs n gs
+    → fault ≡ Refused (obligation p t at V9 (Number m) false).refusal → Decides (looked_at u (proved p t at proofs n gs)) (Err fault)
+unproved_for_refused Judge p t at proofs n gs m fault h is = unproved_refused p t at proofs n gs m fault h is
+unproved_for_refused (Collect wanted) p t at proofs n gs m fault h is = absurd (some_number m h)
+
 module _ (proofs : List Proof) where
   pub unproved-append : (n : ℕ) (gs hs : List Entailment)
       → first_unproved proofs n (gs ++ hs) ≡ option_or (first_unproved proofs n gs) (first_unproved proofs (n + length gs) hs)
@@ -84,6 +105,11 @@ module _ (proofs : List Proof) where
       elim (is_proved proofs n g) as (λ v. cond v (first_unproved proofs (suc n) (gs ++ hs)) (Some n)
       ≡ option_or (cond v (first_unproved proofs (suc n) gs) (Some n)) (first_unproved proofs (n + suc (length gs)) hs))
       [ true ↦ rest | false ↦ refl ]
+
+  pub unproved_for-append : (u : Purpose) (n : ℕ) (gs hs : List Entailment)
+      → unproved_for u proofs n (gs ++ hs) ≡ option_or (unproved_for u proofs n gs) (unproved_for u proofs (n + length gs) hs)
+  unproved_for-append Judge n gs hs = unproved-append n gs hs
+  unproved_for-append (Collect wanted) n gs hs = refl
 
   -- one entailment more is tried
   module _ (preds : List Term) (n : ℕ) (xs : List rust.Entailment) (i : ℕ) (x : rust.Entailment) (whole : Option ℕ) (inside : i < length xs) (is : x ≡ get_or xs i x)
@@ -107,14 +133,41 @@ module _ (proofs : List Proof) where
   unproved_end preds n xs i whole past kept = sym (at_drop_all (λ ys. first_unproved proofs n (entailments_of preds ys)) xs i past) ∙ kept
 
 -- what is tried of entailments is tried of the same in other words
-pub tried_same : (w : Walk) (kept : Point) (proofs : List Proof) (n : ℕ) (f g : spec.Point → List Entailment) (result : Result Tried NoMemory) → Wherever w kept (λ a. f a ≡ g a)
-    → IfOk result (λ tried. Wherever w kept (λ a. Tries proofs n (f a) tried)) → IfOk result (λ tried. Wherever w kept (λ a. Tries proofs n (g a) tried))
-tried_same w kept proofs n f g (Ok tried) same h = λ a k. subst (λ gs. Tries proofs n gs tried) (same a k) (h a k)
-tried_same w kept proofs n f g (Err e) same h = tt
+pub tried_same : (w : Walk) (at : ℕ) (kept : Point) (proofs : List Proof) (n : ℕ) (f g : spec.Point → List Entailment) (result : Result Tried NoMemory) → Wherever w kept (λ a. f a ≡ g a)
+    → IfOk result (λ tried. Wherever w kept (λ a. Tries w.purpose at proofs n (f a) tried)) → IfOk result (λ tried. Wherever w kept (λ a. Tries w.purpose at proofs n (g a) tried))
+tried_same w at kept proofs n f g (Ok tried) same h = λ a k. subst (λ gs. Tries w.purpose at proofs n gs tried) (same a k) (h a k)
+tried_same w at kept proofs n f g (Err e) same h = tt
 
-pub tried_listed : (w : Walk) (kept : Point) (proofs : List Proof) (n : ℕ) (made : Option (List rust.Entailment)) (g : spec.Point → List Entailment) (result : Result Tried NoMemory)
+pub tried_listed : (w : Walk) (at : ℕ) (kept : Point) (proofs : List Proof) (n : ℕ) (made : Option (List rust.Entailment)) (g : spec.Point → List Entailment) (result : Result Tried NoMemory)
     → Wherever w kept (λ a. AreListed a.preds (g a) made)
-    → IfOk result (λ tried. Wherever w kept (λ a. (gs : List Entailment) → AreListed a.preds gs made → Tries proofs n gs tried))
-    → IfOk result (λ tried. Wherever w kept (λ a. Tries proofs n (g a) tried))
-tried_listed w kept proofs n made g (Ok tried) listed h = λ a k. h a k (g a) (listed a k)
-tried_listed w kept proofs n made g (Err e) listed h = tt
+    → IfOk result (λ tried. Wherever w kept (λ a. (gs : List Entailment) → AreListed a.preds gs made → Tries w.purpose at proofs n gs tried))
+    → IfOk result (λ tried. Wherever w kept (λ a. Tries w.purpose at proofs n (g a) tried))
+tried_listed w at kept proofs n made g (Ok tried) listed h = λ a k. h a k (g a) (listed a k)
+tried_listed w at kept proofs n made g (Err e) listed h = tt
+
+-- What came of no entailments, of some of which one is large, and of small ones ----------------------------------------
+
+pub tries_none : (u : Purpose) (at : ℕ) (proofs : List Proof) (n : ℕ) (tried : Tried) → tried.count ≡ 0 → tried.small ≡ true → tried.unproved ≡ None → tried.copies ≡ []
+    → Tries u at proofs n [] tried
+tries_none Judge at proofs n tried count small unproved copies =
+    record { few = omega (arith, count); small = small; decided = λ _. (count, unproved, ap (map view_entail) copies) }
+tries_none (Collect wanted) at proofs n tried count small unproved copies =
+    record { few = omega (arith, count); small = small; decided = λ _. (count, unproved, ap (map view_entail) copies) }
+
+pub tries_large : (u : Purpose) (at : ℕ) (proofs : List Proof) (n : ℕ) (gs : List Entailment) (tried : Tried) → tried.count ≡ 0 → tried.small ≡ false
+    → list_all is_small_entailment gs ≡ false → Tries u at proofs n gs tried
+tries_large u at proofs n gs tried count small large =
+    record { few = omega (arith, count); small = small ∙ sym large; decided = λ e. absurd (false≢true (sym small ∙ e)) }
+
+module _ (at : ℕ) (proofs : List Proof) (n : ℕ) (gs : List Entailment) (tried : Tried) (count : tried.count ≡ length gs) (small : tried.small ≡ list_all is_small_entailment gs) where
+  few : tried.count ≤ length gs
+  few = omega (arith, count)
+
+  pub tries_judged : (u : Purpose) → u ≡ Judge → tried.unproved ≡ first_unproved proofs n gs → tried.copies ≡ [] → Tries u at proofs n gs tried
+  tries_judged u is unproved copies =
+      subst (λ v. Tries v at proofs n gs tried) (sym is) (record { few = few; small = small; decided = λ _. (count, unproved, ap (map view_entail) copies) })
+
+  pub tries_collected : (u : Purpose) (wanted : Wanted) → u ≡ Collect wanted → tried.unproved ≡ None → map view_entail tried.copies ≡ wanted_among wanted (placed_from at n gs)
+      → Tries u at proofs n gs tried
+  tries_collected u wanted is unproved copies =
+      subst (λ v. Tries v at proofs n gs tried) (sym is) (record { few = few; small = small; decided = λ _. (count, unproved, copies) })

@@ -1,8 +1,7 @@
 -- Statements one after another, and the views of statements.
-use Rattle.std.proofs.Common.{◌≡◌, ℕ, ◌+◌, ◌≤◌, List, map, option_map, refl, sym, ap, ◌∙◌, subst, arith, Option, Ok, Err}
+use Rattle.std.proofs.Common.{◌≡◌, ℕ, ◌+◌, ◌≤◌, List, [], map, option_map, refl, sym, ap, ◌∙◌, subst, arith, Option, Result, Ok, Err}
 use Rattle.cov_expr.specs.View.{term}
 use Rattle.cov_expr.specs.declared.expr.Expr.{Expr}
-use Rattle.cov_ast.specs.Obligations.{Decides, first_false}
 use Rattle.cov_ast.specs.Plain.{Plain}
 use Rattle.cov_ast.specs.Syntax.{Proof, Stm, skip, assign, lock, unlock, branch, loop, note, output, Block, done, more}
 use Rattle.cov_ast.specs.View as view
@@ -12,16 +11,21 @@ use Rattle.cov_ast.specs.declared.stmt.Retype.{Retype}
 use Rattle.cov_ast.specs.declared.stmt.Stmt.{Stmt}
 use Rattle.cov_ast.specs.declared.stmt.StmtKind.{StmtKind, StmtKind-F, fold-roll-StmtKind}
 use Rattle.cov_ast.specs.declared.stmt.StmtKind.TheVariants as kinds
-use Rattle.cov_ast.proofs.ObligationLaws.{append_held, append_refused, same_decided}
 use Rattle.typing_state.specs.KeptPoints.{Keeps}
 use Rattle.typing_state.specs.Point.{Point}
 use Rattle.typing_state.specs.declared.point.Point as declared
 use Rattle.typing_rules.specs.Counts.{entailment_count}
+use Rattle.typing_rules.specs.Inside.Passing.{Stops}
 use Rattle.typing_rules.specs.Inside.Walking.{Walks}
+use Rattle.typing_rules.specs.ThreadEntailments.{block_entailments, stm_entailments}
+use Rattle.typing_rules.specs.declared.entail.Entail.{Entail}
+use Rattle.typing_rules.specs.declared.purpose.Purpose.{Purpose}
 use Rattle.typing_rules.specs.Blocks.{after_block, after_stm}
 use Rattle.typing_rules.specs.ThreadObligations.{block_obligations, flat, stm_parts}
 use Rattle.typing_rules.specs.declared.walk.Walked.{Walked}
 use Rattle.typing_rules.proofs.Counting.{count_more}
+use Rattle.typing_rules.proofs.Others.{stm_counted}
+use Rattle.typing_rules.proofs.Reaching.{front_passes, stops_behind, walks_then}
 use Rattle.typing_rules.proofs.StatementLaws.{branch_is}
 
 -- what is kept is kept of one point
@@ -32,38 +36,56 @@ one_point p t a b kept h k =
     let preds = sym h.preds ∙ k.preds in
     λ i. record { held = held i; types = types i; preds = preds i }
 
--- What is left of a block, at the point that was reached, decides like the whole and leads to the same end; so many
+-- What is left of a block, at the point that was reached, is walked like the whole and leads to the same end; so many
 -- entailments were counted.
-pub record Reaches (p : Plain) (t : ℕ) (whole : Block) (a : Point) (rest : Block) (b : Point) (counted : ℕ) : Type 0 where
-  pub verdict : first_false (block_obligations p t rest b) ≡ first_false (block_obligations p t whole a)
+pub record Reaches (u : Purpose) (p : Plain) (t : ℕ) (whole : Block) (a : Point) (rest : Block) (b : Point) (counted : ℕ) (before here : List Entail) : Type 0 where
   pub after : after_block p t rest b ≡ after_block p t whole a
   pub count : counted + entailment_count (block_obligations p t rest b) ≡ entailment_count (block_obligations p t whole a)
+  pub walks : (end : Point) (n : ℕ) (kept : List Entail) (r : Result Walked CheckFault) → Walks u p t (block_obligations p t rest b) (block_entailments p t rest b) end n here kept r
+      → Walks u p t (block_obligations p t whole a) (block_entailments p t whole a) end n before kept r
 
-module _ (p : Plain) (t : ℕ) (whole : Block) (a : Point) where
-  pub reaches_start : Reaches p t whole a whole a 0
-  reaches_start = record { verdict = refl; after = refl; count = omega arith }
+module _ (u : Purpose) (p : Plain) (t : ℕ) (whole : Block) (a : Point) (before : List Entail) where
+  -- the answer about the whole
+  abbrev WholeWalks : List Entail → Result Walked CheckFault → Type 0
+  WholeWalks kept r =
+      Walks u p t (block_obligations p t whole a) (block_entailments p t whole a) (after_block p t whole a) (entailment_count (block_obligations p t whole a)) before kept r
 
-  module _ (at : ℕ) (s : Stm) (proofs : List Proof) (rest : Block) (b : Point) (counted : ℕ) (h : Reaches p t whole a (more at s proofs rest) b counted) where
+  pub reaches_start : Reaches u p t whole a whole a 0 before before
+  reaches_start = record { after = refl; count = omega arith; walks = λ end n kept r h. h }
+
+  module _ (at : ℕ) (s : Stm) (proofs : List Proof) (rest : Block) (b : Point) (counted : ℕ) (here : List Entail)
+      (h : Reaches u p t whole a (more at s proofs rest) b counted before here) where
     -- the statement has no more entailments than are left
     pub reaches_few : counted + entailment_count (flat (stm_parts p t s at proofs b)) ≤ entailment_count (block_obligations p t whole a)
     reaches_few = omega (arith, h.count, count_more p t at s proofs rest b)
 
-    pub reaches_more : (next : Walked) → Walks p t (flat (stm_parts p t s at proofs b)) (after_stm p t s b) (entailment_count (flat (stm_parts p t s at proofs b))) (Ok next)
-        → Reaches p t whole a rest (after_stm p t s b) (counted + next.entailments)
-    reaches_more next w = record {
-      verdict = sym (append_held (flat (stm_parts p t s at proofs b)) (block_obligations p t rest (after_stm p t s b)) w.0) ∙ h.verdict;
+    pub reaches_more : (next : Walked) (kept : List Entail)
+        → Walks u p t (flat (stm_parts p t s at proofs b)) (stm_entailments p t s at b) (after_stm p t s b) (entailment_count (flat (stm_parts p t s at proofs b))) here kept (Ok next)
+        → Reaches u p t whole a rest (after_stm p t s b) (counted + next.entailments) before kept
+    reaches_more next kept w = record {
       after = h.after;
       count = omega (arith, h.count, w.2, count_more p t at s proofs rest b);
+      walks = λ end n last r k.
+          h.walks end n last r
+          (walks_then u (flat (stm_parts p t s at proofs b)) (block_obligations p t rest (after_stm p t s b)) (stm_entailments p t s at b) (block_entailments p t rest (after_stm p t s b))
+          (stm_counted p t s at proofs b) p t end n here kept last r w.0 k);
     }
 
-    pub reaches_refused : (fault : CheckFault) → Decides (flat (stm_parts p t s at proofs b)) (Err fault) → Decides (block_obligations p t whole a) (Err fault)
-    reaches_refused fault d =
-        same_decided (block_obligations p t (more at s proofs rest) b) (block_obligations p t whole a) (Err fault) h.verdict
-        (append_refused (flat (stm_parts p t s at proofs b)) (block_obligations p t rest (after_stm p t s b)) fault d)
+    pub reaches_refused : (fault : CheckFault) (kept : List Entail) → Stops u (flat (stm_parts p t s at proofs b)) (stm_entailments p t s at b) here kept fault
+        → WholeWalks kept (Err fault)
+    reaches_refused fault kept k =
+        h.walks (after_block p t whole a) (entailment_count (block_obligations p t whole a)) kept (Err fault)
+        (stops_behind u (flat (stm_parts p t s at proofs b)) (block_obligations p t rest (after_stm p t s b)) (stm_entailments p t s at b) (block_entailments p t rest (after_stm p t s b))
+        (stm_counted p t s at proofs b) here kept fault k)
 
-  pub reaches_end : (b : Point) (walked : Walked) → Reaches p t whole a done b walked.entailments → Keeps p t b walked.point
-      → Walks p t (block_obligations p t whole a) (after_block p t whole a) (entailment_count (block_obligations p t whole a)) (Ok walked)
-  reaches_end b walked h k = (sym h.verdict, subst (λ q. Keeps p t q walked.point) h.after k, (let e : walked.entailments ≡ entailment_count (block_obligations p t whole a) = omega (arith, h.count) in e))
+  pub reaches_end : (b : Point) (here : List Entail) (walked : Walked) → Reaches u p t whole a done b walked.entailments before here → Keeps p t b walked.point
+      → WholeWalks here (Ok walked)
+  reaches_end b here walked h k =
+      h.walks (after_block p t whole a) (entailment_count (block_obligations p t whole a)) here (Ok walked) (
+        front_passes u [] [] refl [] here refl,
+        subst (λ q. Keeps p t q walked.point) h.after k,
+        (let e : walked.entailments ≡ entailment_count (block_obligations p t whole a) = omega (arith, h.count) in e),
+      )
 
 -- Views of statements ---------------------------------------------------------------------------------------------
 

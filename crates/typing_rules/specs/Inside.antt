@@ -1,5 +1,6 @@
 -- Words of private contracts. What is promised doesn't rest on them.
+pub mod Keeping
 pub mod Listed
-pub mod Listing
+pub mod Passing
 pub mod Seen
 pub mod Walking

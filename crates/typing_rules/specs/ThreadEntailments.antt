@@ -1,6 +1,6 @@
 -- The entailments of a thread: what has to follow, at which statement and by which number there, and how far they are
 -- reached. None of it depends on a certificate.
-use Rattle.std.specs.Prelude.{ℕ, suc, ◌||◌, List, [], ◌∷◌, ◌++◌, length, take, map, Bool, true, false, if◌then◌else◌}
+use Rattle.std.specs.Prelude.{ℕ, suc, ◌==◌, ◌&&◌, ◌||◌, List, [], ◌∷◌, ◌++◌, length, take, map, Bool, true, false, if◌then◌else◌, Option, Some, None}
 use Rattle.cov_expr.specs.Term.{neg}
 use Rattle.cov_expr.specs.View.{term}
 use Rattle.cov_ast.specs.Syntax.{Stm, skip, assign, lock, unlock, branch, loop, note, output, Block, done, more, Program}
@@ -88,6 +88,11 @@ all_entailments p t = block_entailments (plain p) t (numbered p t).body (start (
 -- count.
 abbrev pub thread_entailments : Program → (t : ℕ) → List PlacedEntailment
 thread_entailments p t = reached_entailments (thread_obligations p t) (all_entailments p t)
+
+-- the first of entailments with this number of the statement at this place
+abbrev pub entailment_among : List PlacedEntailment → (place number : ℕ) → Option PlacedEntailment
+entailment_among [] place number = None
+entailment_among (g ∷ gs) place number = if g.place == place && g.number == number then Some g else entailment_among gs place number
 
 -- what the code keeps of one
 abbrev pub view_entail : Entail → PlacedEntailment

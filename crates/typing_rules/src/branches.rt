@@ -1,6 +1,6 @@
 //! What is checked of a branch and of a loop before and after their blocks.
 
-ghost use Rattle.std.specs.Prelude.{◌≡◌, ◌<◌, ◌+◌, ◌*◌, ◌^◌, ◌++◌, [], ◌∷◌, ℕ, List, length, map, IfOk};
+ghost use Rattle.std.specs.Prelude.{◌≡◌, ◌<◌, ◌+◌, ◌*◌, ◌^◌, ◌++◌, [], ◌∷◌, ℕ, suc, List, length, map, true, IfOk};
 ghost use Rattle.cov_expr.specs.Term.{neg};
 ghost use Rattle.cov_expr.specs.View.{term};
 ghost use Rattle.cov_expr.specs.Words.{HasVarsBelow};
@@ -11,18 +11,21 @@ ghost use Rattle.cov_ast.specs.WellFormed.{IsStateInRange, state_size, most_size
 ghost use Rattle.typing_state.specs.After.{meet, with_guard};
 ghost use Rattle.typing_state.specs.KeptPoints.{Keeps};
 ghost use Rattle.typing_rules.specs.Entailments.{Entailment, guard_follows, state_follows};
+ghost use Rattle.typing_rules.specs.Inside.Keeping.{are_others};
+ghost use Rattle.typing_rules.specs.ThreadEntailments.{placed_from};
 ghost use Rattle.typing_rules.specs.ThreadObligations.{flat, same_locks, state_obligations};
 ghost use Rattle.typing_rules.specs.Inside.Walking.{Guards, GuardsAt, IsWalk, Stands, Tries, Walks, Wherever, first_parts, fork_parts, head_parts, join_parts, plain_of, starts_of, turn_parts};
 
 use crate::certificates::require_proved;
+use crate::entail::{Entail, add_all};
 use crate::entailments_tried::Tried;
 use crate::evaluation::check_guard;
 use crate::locks::check_same_locks;
 use crate::sizes::{check_both_few_preds, require_small};
 use crate::types::check_state;
-use crate::walk::{Guarded, Walk, Walked, both, finish};
+use crate::walk::{Guarded, Walk, Walked, both};
 use cov_ast::{CheckFault, Proof, State};
-use cov_expr::{Expr, NoMemory, boxed, copy};
+use cov_expr::{Expr, List, NoMemory, boxed, copy};
 use std::alloc::Global;
 use typing_state::Point;
 
@@ -34,14 +37,24 @@ impl Walk<'_> {
         e: &Expr,
         proofs: &[Proof],
         point: Point,
+        kept: &mut List<Entail>,
     ) -> Result<Guarded, CheckFault>
         requires guard { HasVarsBelow (term e.now) (length self.now.program.now.vars) }
         requires point { Stands self.now point }
-        ensures { Wherever self.now point (λ a. GuardsAt self.now
-            (flat (fork_parts (plain_of self.now) self.now.thread at (map view.proof proofs.now) a (term e.now) (starts_of self.now a (term e.now)))) a (term e.now) 1 result) }
+        ensures { Wherever self.now point (λ a. GuardsAt self.now at
+            (flat (fork_parts (plain_of self.now) self.now.thread at (map view.proof proofs.now) a (term e.now) (starts_of self.now a (term e.now))))
+            (guard_follows (plain_of self.now) self.now.thread a (term e.now) ∷ []) a (term e.now) kept.old kept.new result) }
     {
         let evaluated = check_guard(self.program, self.site(at), point.modes(), e);
-        self.guard(at, e, proofs, point, evaluated, Tried::none())
+        self.guard(
+            at,
+            e,
+            proofs,
+            point,
+            evaluated,
+            Tried::none(self.alloc),
+            kept,
+        )
     }
 
     /// Checks what is asked before the block of a loop.
@@ -52,25 +65,25 @@ impl Walk<'_> {
         e: &Expr,
         proofs: &[Proof],
         point: Point,
+        kept: &mut List<Entail>,
     ) -> Result<Guarded, CheckFault>
         requires walk { IsWalk self.now }
         requires guard { HasVarsBelow (term e.now) (length self.now.program.now.vars) }
         requires range { IsStateInRange (length self.now.program.now.vars) (length self.now.program.now.locks) (view.state inv.now) }
         requires small { state_size (view.state inv.now) < most_size }
         requires point { Stands self.now point }
-        ensures { Wherever self.now point (λ a. GuardsAt self.now
+        ensures { Wherever self.now point (λ a. GuardsAt self.now at
             (flat (head_parts (plain_of self.now) self.now.thread at (map view.proof proofs.now) a (view.state inv.now) (term e.now)
             (starts_of self.now (meet (plain_of self.now) self.now.thread a (view.state inv.now)) (term e.now))))
-            (meet (plain_of self.now) self.now.thread a (view.state inv.now)) (term e.now)
-            (length (state_follows a (view.state inv.now) ++ guard_follows (plain_of self.now) self.now.thread (meet (plain_of self.now) self.now.thread a (view.state inv.now)) (term e.now) ∷ []))
-            result) }
+            (state_follows a (view.state inv.now) ++ guard_follows (plain_of self.now) self.now.thread (meet (plain_of self.now) self.now.thread a (view.state inv.now)) (term e.now) ∷ [])
+            (meet (plain_of self.now) self.now.thread a (view.state inv.now)) (term e.now) kept.old kept.new result) }
     {
         let (p, site) = (self.program, self.site(at));
         let stated = check_state(p, site, &point, inv);
         let evaluated = check_guard(p, site, point.modes(), e);
-        let entered = self.try_state(&point, inv, proofs, 1)?;
+        let entered = self.try_state(at, &point, inv, proofs, 1)?;
         let top = point.meet(self.alloc, p, inv)?;
-        self.guard(at, e, proofs, top, both(stated, evaluated), entered)
+        self.guard(at, e, proofs, top, both(stated, evaluated), entered, kept)
     }
 
     /// Checks what is asked of a guard, behind what is asked before it.
@@ -82,22 +95,23 @@ impl Walk<'_> {
         point: Point,
         before: Result<(), CheckFault>,
         entered: Tried,
+        kept: &mut List<Entail>,
     ) -> Result<Guarded, CheckFault>
         requires guard { HasVarsBelow (term e.now) (length self.now.program.now.vars) }
         requires point { Stands self.now point }
         requires few { entered.count < 4294967294 }
         ensures { Wherever self.now point (λ a. (front : List Obligation) → (gs : List Entailment)
-            → Decides front before → Tries (map view.proof proofs.now) 1 gs entered
-            → GuardsAt self.now
+            → are_others front ≡ true → Decides front before → Tries self.now.purpose at (map view.proof proofs.now) 1 gs entered
+            → GuardsAt self.now at
             (front ++ flat (first_parts (plain_of self.now) self.now.thread at (map view.proof proofs.now)
             (gs ++ guard_follows (plain_of self.now) self.now.thread a (term e.now) ∷ []) (starts_of self.now a (term e.now))))
-            a (term e.now) (length (gs ++ guard_follows (plain_of self.now) self.now.thread a (term e.now) ∷ [])) result) }
+            (gs ++ guard_follows (plain_of self.now) self.now.thread a (term e.now) ∷ []) a (term e.now) kept.old kept.new result) }
     {
-        let tried = self.try_guard(&point, e, proofs, 1 + entered.count)?;
-        let all = entered.and(tried);
+        let tried = self.try_guard(at, &point, e, proofs, 1 + entered.count)?;
+        let all = entered.and(tried)?;
         let holds = self.holding(e, &point)?;
         let fails = self.failing(e, point)?;
-        self.guarded(at, before, all, holds, fails)
+        self.guarded(at, before, all, holds, fails, kept)
     }
 
     /// The point where a guard holds.
@@ -128,21 +142,26 @@ impl Walk<'_> {
         tried: Tried,
         holds: Point,
         fails: Point,
+        kept: &mut List<Entail>,
     ) -> Result<Guarded, CheckFault>
         ensures { Wherever self.now holds (λ a. Wherever self.now fails (λ b. (front : List Obligation) → (proofs : List syntax.Proof) → (gs : List Entailment)
-            → Decides front before → Tries proofs 1 gs tried
-            → Guards (plain_of self.now) self.now.thread (front ++ flat (first_parts (plain_of self.now) self.now.thread at proofs gs (a ∷ b ∷ []))) a b (length gs) result)) }
+            → are_others front ≡ true → Decides front before → Tries self.now.purpose at proofs 1 gs tried
+            → Guards self.now.purpose (plain_of self.now) self.now.thread (front ++ flat (first_parts (plain_of self.now) self.now.thread at proofs gs (a ∷ b ∷ [])))
+            (placed_from at 1 gs) a b (length gs) kept.old kept.new result)) }
     {
         let few = check_both_few_preds(self.program, self.site(at), &holds, &fails);
         let small = require_small(self.program, self.site(at), tried.small);
-        let count = tried.count;
         let proved = require_proved(self.site(at), tried.unproved);
+        let Tried { count, copies, .. } = tried;
         match both(before, both(few, both(small, proved))) {
-            Ok(()) => Ok(Guarded {
-                holds,
-                fails,
-                count,
-            }),
+            Ok(()) => {
+                add_all(kept, copies)?;
+                Ok(Guarded {
+                    holds,
+                    fails,
+                    count,
+                })
+            }
             Err(fault) => Err(fault),
         }
     }
@@ -156,6 +175,7 @@ impl Walk<'_> {
         before: u32,
         yes: Walked,
         no: Walked,
+        kept: &mut List<Entail>,
     ) -> Result<Walked, CheckFault>
         requires walk { IsWalk self.now }
         requires range { IsStateInRange (length self.now.program.now.vars) (length self.now.program.now.locks) (view.state join.now) }
@@ -163,19 +183,19 @@ impl Walk<'_> {
         requires no { Stands self.now no.point }
         requires few { before + yes.entailments + no.entailments + 2 * state_size (view.state join.now) < 4294967295 }
         ensures { Wherever self.now yes.point (λ a. Wherever self.now no.point (λ b.
-            Walks (plain_of self.now) self.now.thread
+            Walks self.now.purpose (plain_of self.now) self.now.thread
             (flat (join_parts (plain_of self.now) self.now.thread at (map view.proof proofs.now) before (view.state join.now) a b))
+            (placed_from at (suc before) (state_follows a (view.state join.now) ++ state_follows b (view.state join.now)))
             (meet (plain_of self.now) self.now.thread a (view.state join.now))
-            (before + yes.entailments + no.entailments + length (state_follows a (view.state join.now) ++ state_follows b (view.state join.now))) result)) }
+            (before + (yes.entailments + no.entailments) + length (state_follows a (view.state join.now) ++ state_follows b (view.state join.now)))
+            kept.old kept.new result)) }
     {
         let inside = yes.entailments + no.entailments;
         let (yes, no) = (yes.point, no.point);
         let met = self.check_ends(at, join, &yes, &no);
-        let tried = self.try_both(&yes, &no, join, proofs, 1 + before)?;
-        let entailments = u64::from(before) + inside + u64::from(tried.count);
+        let tried = self.try_both(at, &yes, &no, join, proofs, 1 + before)?;
         let after = yes.meet(self.alloc, self.program, join)?;
-        let last = self.check_last(at, proofs, before, tried, after.has_small_types());
-        finish(after, entailments, both(met, last))
+        self.conclude(at, proofs, before, inside, met, tried, after, kept)
     }
 
     /// The ends of two blocks hold the same locks, and a state may stand behind the first (V8, V12, V14, V4).
@@ -200,6 +220,7 @@ impl Walk<'_> {
     /// Tries what is asked where a state is to be met at two points.
     fn try_both(
         &self,
+        at: u32,
         yes: &Point,
         no: &Point,
         join: &State,
@@ -210,11 +231,11 @@ impl Walk<'_> {
         requires no { Stands self.now no.now }
         requires few { from + 2 * state_size (view.state join.now) < 2 ^ 32 }
         ensures { IfOk result (λ tried. Wherever self.now yes.now (λ a. Wherever self.now no.now (λ b.
-            Tries (map view.proof proofs.now) from (state_follows a (view.state join.now) ++ state_follows b (view.state join.now)) tried))) }
+            Tries self.now.purpose at (map view.proof proofs.now) from (state_follows a (view.state join.now) ++ state_follows b (view.state join.now)) tried))) }
     {
-        let first = self.try_state(yes, join, proofs, from)?;
-        let second = self.try_state(no, join, proofs, from + first.count)?;
-        Ok(first.and(second))
+        let first = self.try_state(at, yes, join, proofs, from)?;
+        let second = self.try_state(at, no, join, proofs, from + first.count)?;
+        first.and(second)
     }
 
     /// Checks what is asked after the block of a loop.
@@ -226,21 +247,21 @@ impl Walk<'_> {
         before: u32,
         end: Walked,
         after: Point,
+        kept: &mut List<Entail>,
     ) -> Result<Walked, CheckFault>
         requires walk { IsWalk self.now }
         requires end { Stands self.now end.point }
         requires few { before + end.entailments + state_size (view.state inv.now) < 4294967295 }
         ensures { Wherever self.now end.point (λ a. Wherever self.now after (λ b.
-            Walks (plain_of self.now) self.now.thread
+            Walks self.now.purpose (plain_of self.now) self.now.thread
             (flat (turn_parts (plain_of self.now) self.now.thread at (map view.proof proofs.now) before (view.state inv.now) a b))
-            b (before + end.entailments + length (state_follows a (view.state inv.now))) result)) }
+            (placed_from at (suc before) (state_follows a (view.state inv.now)))
+            b (before + end.entailments + length (state_follows a (view.state inv.now))) kept.old kept.new result)) }
     {
         let Walked { point, entailments } = end;
         let same = check_same_locks(self.program, self.site(at), point.modes(), after.modes());
-        let tried = self.try_state(&point, inv, proofs, 1 + before)?;
-        let entailments = u64::from(before) + entailments + u64::from(tried.count);
-        let last = self.check_last(at, proofs, before, tried, after.has_small_types());
-        finish(after, entailments, both(same, last))
+        let tried = self.try_state(at, &point, inv, proofs, 1 + before)?;
+        self.conclude(at, proofs, before, entailments, same, tried, after, kept)
     }
 }
 

@@ -10,11 +10,13 @@ ghost use Rattle.cov_ast.specs.Syntax as syntax;
 ghost use Rattle.cov_ast.specs.View as view;
 ghost use Rattle.entail_cert.specs.Answers.{Answers};
 ghost use Rattle.entail_cert.specs.Valid.{first_bad, is_valid};
+ghost use Rattle.typing_rules.specs.Inside.Keeping.{looked_at};
 ghost use Rattle.typing_rules.specs.Inside.Walking.{AtPoint};
 ghost use Rattle.typing_rules.specs.Inside.Walking as walking;
 ghost use Rattle.typing_rules.specs.Inside.Listed.{entailment_of, entailments_of};
 ghost use Rattle.typing_rules.specs.Entailments as spec;
 ghost use Rattle.typing_rules.specs.ThreadObligations as rule;
+ghost use Rattle.typing_rules.specs.declared.purpose.Purpose.{Purpose};
 
 use crate::asked::Entailment;
 use crate::known::is_seen;
@@ -76,10 +78,10 @@ pub fn first_unproved(
     Ok(None)
 }
 
-/// Each entailment has a valid certificate (V9), unless this is the number of the first without one.
+/// Each entailment that a walk looks at has a valid certificate (V9), unless this is the number of the first without one.
 pub fn require_proved(site: Site, unproved: Option<u32>) -> Result<(), CheckFault>
-    ensures { (p : Plain) → (proofs : List syntax.Proof) → (n : ℕ) → (gs : List spec.Entailment) → unproved ≡ walking.first_unproved proofs n gs
-        → Decides (rule.proved p site.thread site.place proofs n gs) result }
+    ensures { (u : Purpose) → (p : Plain) → (proofs : List syntax.Proof) → (n : ℕ) → (gs : List spec.Entailment) → unproved ≡ walking.unproved_for u proofs n gs
+        → Decides (looked_at u (rule.proved p site.thread site.place proofs n gs)) result }
 {
     match unproved {
         Some(number) => Err(refused_at(site, Rule::V9, Detail::Number(number))),

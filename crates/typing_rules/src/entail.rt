@@ -1,13 +1,15 @@
 //! Entailments as they are handed out: copies, with their place and number.
 
-ghost use Rattle.std.specs.Prelude.{◌≡◌, ◌<◌, ◌+◌, ◌^◌, ◌++◌, ℕ, length, map, IfOk, OnOk};
+ghost use Rattle.std.specs.Prelude.{◌≡◌, ◌<◌, ◌+◌, ◌^◌, ◌++◌, [], ◌∷◌, ℕ, length, map, IfOk, OnOk};
 ghost use Rattle.cov_expr.specs.View.{term};
 ghost use Rattle.cov_ast.specs.Plain.{Plain};
+ghost use Rattle.typing_rules.specs.Inside.Keeping.{wanted_among};
 ghost use Rattle.typing_rules.specs.Inside.Listed.{entailment_of, entailments_of};
 ghost use Rattle.typing_rules.specs.Inside.Walking.{AtPoint};
 ghost use Rattle.typing_rules.specs.ThreadEntailments.{placed_from, view_entail};
 
 use crate::asked::Entailment;
+use crate::purpose::Wanted;
 use crate::site::Site;
 use cov_expr::{Expr, List, NoMemory, copy};
 use std::alloc::Global;
@@ -26,24 +28,45 @@ pub struct Entail {
     pub goal: Expr,
 }
 
-/// Adds copies of entailments at a point, numbered from a number on, to others.
-pub fn add_copies(
+/// Copies of entailments at a point, numbered from a number on: of those that are wanted.
+pub fn copies_of(
     alloc: Global,
     site: Site,
     point: &Point,
     from: u32,
     entailments: &[Entailment<'_>],
-    kept: &mut List<Entail>,
-) -> Result<(), NoMemory>
+    wanted: Wanted,
+) -> Result<List<Entail>, NoMemory>
     requires { from + length entailments.now < 2 ^ 32 }
-    ensures { OnOk result ((p : Plain) → (t : ℕ) → AtPoint p t point.now (λ a.
-        map view_entail kept.new ≡ map view_entail kept.old ++ placed_from site.place from (entailments_of a.preds entailments.now))) }
+    ensures { IfOk result (λ copies. (p : Plain) → (t : ℕ) → AtPoint p t point.now (λ a.
+        map view_entail copies ≡ wanted_among wanted (placed_from site.place from (entailments_of a.preds entailments.now)))) }
 {
+    let mut copies = List::new(alloc);
     let mut number = from;
     for entailment in entailments {
-        let made = copied(alloc, site, point, number, entailment)?;
-        kept.push(made)?;
+        add_copy(alloc, site, point, number, entailment, wanted, &mut copies)?;
         number += 1;
+    }
+    Ok(copies)
+}
+
+/// Adds a copy of an entailment at a point to others, if it is wanted.
+fn add_copy(
+    alloc: Global,
+    site: Site,
+    point: &Point,
+    number: u32,
+    entailment: &Entailment<'_>,
+    wanted: Wanted,
+    copies: &mut List<Entail>,
+) -> Result<(), NoMemory>
+    ensures { OnOk result ((p : Plain) → (t : ℕ) → AtPoint p t point.now (λ a.
+        map view_entail copies.new ≡ map view_entail copies.old
+        ++ wanted_among wanted (record { place = site.place; number = number; entailment = entailment_of a.preds entailment.now } ∷ []))) }
+{
+    if wanted.has(site.place, number) {
+        let made = copied(alloc, site, point, number, entailment)?;
+        copies.push(made)?;
     }
     Ok(())
 }
@@ -99,4 +122,15 @@ fn copied_all(alloc: Global, exprs: &[Expr]) -> Result<List<Expr>, NoMemory>
         made.push(copied)?;
     }
     Ok(made)
+}
+
+/// Moves entailments behind others.
+pub fn add_all(kept: &mut List<Entail>, mut copies: List<Entail>) -> Result<(), NoMemory>
+    ensures { OnOk result (kept.new ≡ kept.old ++ copies) }
+{
+    copies.as_mut_slice().reverse();
+    while let Some(next) = copies.pop() {
+        kept.push(next)?;
+    }
+    Ok(())
 }

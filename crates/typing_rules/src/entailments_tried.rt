@@ -1,10 +1,10 @@
 //! What came of the entailments of a statement.
 
-ghost use Rattle.std.specs.Prelude.{◌≡◌, ◌<◌, ◌≤◌, ◌+◌, ◌^◌, ◌++◌, [], ◌∷◌, ℕ, suc, List, length, map, option_map, IfOk, MatchOption};
+ghost use Rattle.std.specs.Prelude.{◌≡◌, ◌<◌, ◌≤◌, ◌+◌, ◌^◌, ◌++◌, [], ◌∷◌, ℕ, suc, List, length, map, option_map, true, false, IfOk, MatchOption};
 ghost use Rattle.std.specs.List.{list_all};
 ghost use Rattle.cov_expr.specs.View.{term};
 ghost use Rattle.cov_expr.specs.Words.{HasVarsBelow};
-ghost use Rattle.cov_ast.specs.Obligations.{Decides};
+ghost use Rattle.cov_ast.specs.Obligations.{Decides, Obligation};
 ghost use Rattle.cov_ast.specs.Syntax as syntax;
 ghost use Rattle.cov_ast.specs.View as view;
 ghost use Rattle.cov_ast.specs.WellFormed.{AreTypesInRange, IsStmInRange, state_size, stm_size, most_size};
@@ -12,58 +12,87 @@ ghost use Rattle.typing_state.specs.Point as typing;
 ghost use Rattle.typing_rules.specs.Blocks.{value_type};
 ghost use Rattle.typing_rules.specs.Inside.Listed.{AreListed, entailments_of};
 ghost use Rattle.typing_rules.specs.Entailments as spec;
-ghost use Rattle.typing_rules.specs.ThreadObligations.{flat};
+ghost use Rattle.typing_rules.specs.Inside.Keeping.{are_others, looked_at};
+ghost use Rattle.typing_rules.specs.ThreadEntailments.{placed_from};
+ghost use Rattle.typing_rules.specs.ThreadObligations.{flat, numbers};
+ghost use Rattle.typing_rules.specs.declared.purpose.Purpose.{Purpose};
 ghost use Rattle.typing_state.specs.Point.{has_small_types};
-ghost use Rattle.typing_rules.specs.Inside.Walking.{IsWalk, Stands, Tries, Wherever, last_parts, plain_of};
+ghost use Rattle.typing_rules.specs.Inside.Walking.{IsWalk, Stands, Tries, Walks, Wherever, last_parts, plain_of};
 
 use crate::asked::{
     Entailment, changed_entailments, guard_entailments, state_entailments, unlock_entailments,
     written_entailments,
 };
 use crate::certificates::{are_small, check_numbers, first_unproved, require_proved};
+use crate::entail::{Entail, add_all, copies_of};
 use crate::entailments_of_assignments::shown_entailment;
+use crate::purpose::Purpose;
+use crate::site::Site;
 use crate::sizes::require_small;
-use crate::walk::Walk;
+use crate::walk::{Walk, Walked, both};
 use cov_ast::{CheckFault, Proof, Retype, State};
 use cov_expr::{Expr, List, NoMemory};
+use std::alloc::Global;
 use std::slice::from_ref;
 use typing_state::Point;
 
-/// How many entailments there were, and what came of them. A large one isn't tried.
-#[derive(Clone, Copy, Debug)]
+/// How many entailments there were, and what came of them. Large ones aren't tried.
+#[derive(Drop)]
 pub struct Tried {
     /// How many there are, if they are small.
     pub count: u32,
     /// Whether no hypothesis and no goal has more than 1,000 nodes.
     pub small: bool,
-    /// The number of the first without a valid certificate, if they are small and there is one.
+    /// The number of the first without a valid certificate, if they are small and there is one that the walk looks at.
     pub unproved: Option<u32>,
+    /// Copies of those that the walk keeps, if they are small.
+    pub copies: List<Entail>,
 }
 
 impl Tried {
     /// What came of no entailments.
-    pub fn none() -> Tried
-        ensures tried { (proofs : List syntax.Proof) → (n : ℕ) → Tries proofs n [] result }
+    pub fn none(alloc: Global) -> Tried
+        ensures tried { (u : Purpose) → (at : ℕ) → (proofs : List syntax.Proof) → (n : ℕ) → Tries u at proofs n [] result }
         ensures empty { result.count ≡ 0 }
     {
         Tried {
             count: 0,
             small: true,
             unproved: None,
+            copies: List::new(alloc),
+        }
+    }
+
+    /// What came of entailments one of which is large.
+    fn large(alloc: Global) -> Tried
+        ensures { (u : Purpose) → (at : ℕ) → (proofs : List syntax.Proof) → (n : ℕ) → (gs : List spec.Entailment) → list_all spec.is_small_entailment gs ≡ false
+            → Tries u at proofs n gs result }
+    {
+        Tried {
+            count: 0,
+            small: false,
+            unproved: None,
+            copies: List::new(alloc),
         }
     }
 
     /// What came of these entailments and then of others.
-    pub fn and(self, next: Tried) -> Tried
+    pub fn and(self, next: Tried) -> Result<Tried, NoMemory>
         requires { self.count + next.count < 2 ^ 32 }
-        ensures { (proofs : List syntax.Proof) → (n : ℕ) → (gs hs : List spec.Entailment) → Tries proofs n gs self
-            → Tries proofs (n + self.count) hs next → Tries proofs n (gs ++ hs) result }
+        ensures { IfOk result (λ all. (u : Purpose) → (at : ℕ) → (proofs : List syntax.Proof) → (n : ℕ) → (gs hs : List spec.Entailment) → Tries u at proofs n gs self
+            → Tries u at proofs (n + self.count) hs next → Tries u at proofs n (gs ++ hs) all) }
     {
-        Tried {
-            count: self.count + next.count,
-            small: self.small && next.small,
-            unproved: self.unproved.or(next.unproved),
-        }
+        let small = self.small && next.small;
+        let unproved = self.unproved.or(next.unproved);
+        let count = self.count + next.count;
+        let Tried { mut copies, .. } = self;
+        add_all(&mut copies, next.copies)?;
+        Ok(Tried {
+            count,
+            small,
+            unproved,
+            copies,
+        })
     }
 }
 
@@ -71,6 +100,7 @@ impl Walk<'_> {
     /// Tries what is asked where a state is to be met.
     pub fn try_state(
         &self,
+        at: u32,
         point: &Point,
         s: &State,
         proofs: &[Proof],
@@ -79,15 +109,16 @@ impl Walk<'_> {
         requires point { Stands self.now point.now }
         requires few { from + state_size (view.state s.now) < 2 ^ 32 }
         ensures { IfOk result (λ tried. Wherever self.now point.now (λ a.
-            Tries (map view.proof proofs.now) from (spec.state_follows a (view.state s.now)) tried)) }
+            Tries self.now.purpose at (map view.proof proofs.now) from (spec.state_follows a (view.state s.now)) tried)) }
     {
         let entailments = state_entailments(self.alloc, point, s)?;
-        self.try_entailments(point, proofs, from, entailments.as_slice())
+        self.try_entailments(at, point, proofs, from, entailments.as_slice())
     }
 
     /// Tries what is asked of a guard.
     pub fn try_guard(
         &self,
+        at: u32,
         point: &Point,
         e: &Expr,
         proofs: &[Proof],
@@ -97,15 +128,16 @@ impl Walk<'_> {
         requires guard { HasVarsBelow (term e.now) (length self.now.program.now.vars) }
         requires few { from + 1 < 2 ^ 32 }
         ensures { IfOk result (λ tried. Wherever self.now point.now (λ a.
-            Tries (map view.proof proofs.now) from (spec.guard_follows (plain_of self.now) self.now.thread a (term e.now) ∷ []) tried)) }
+            Tries self.now.purpose at (map view.proof proofs.now) from (spec.guard_follows (plain_of self.now) self.now.thread a (term e.now) ∷ []) tried)) }
     {
         let entailments = guard_entailments(self.alloc, self.program, point, e)?;
-        self.try_listed(point, proofs, from, &entailments)
+        self.try_listed(at, point, proofs, from, &entailments)
     }
 
     /// Tries what is asked of an assignment of a value of a type, which is the written one, if there is one.
     pub fn try_assign(
         &self,
+        at: u32,
         point: &Point,
         x: u32,
         e: &Expr,
@@ -121,22 +153,23 @@ impl Walk<'_> {
             (syntax.assign x (term e.now) (option_map term written.now) (map view.retype retypes.now)) }
         requires small { stm_size (syntax.assign x (term e.now) (option_map term written.now) (map view.retype retypes.now)) < most_size }
         ensures { IfOk result (λ tried. Wherever self.now point.now (λ a.
-            Tries (map view.proof proofs.now) 1
+            Tries self.now.purpose at (map view.proof proofs.now) 1
             (spec.assign_entailments (plain_of self.now) self.now.thread a x (term e.now) (option_map term written.now) (map view.retype retypes.now)) tried)) }
     {
         let (alloc, p) = (self.alloc, self.program);
         let written = written_entailments(alloc, p, point, e, written, q)?;
-        let first = self.try_listed(point, proofs, 1, &written)?;
-        let shown = self.try_shown(point, x, q, proofs, 1 + first.count)?;
-        let before = first.and(shown);
+        let first = self.try_listed(at, point, proofs, 1, &written)?;
+        let shown = self.try_shown(at, point, x, q, proofs, 1 + first.count)?;
+        let before = first.and(shown)?;
         let changed = changed_entailments(alloc, p, point, x, e, retypes)?;
-        let last = self.try_listed(point, proofs, 1 + before.count, &changed)?;
-        Ok(before.and(last))
+        let last = self.try_listed(at, point, proofs, 1 + before.count, &changed)?;
+        before.and(last)
     }
 
     /// Tries what is asked of an assigned value that may be seen. It makes no list.
     fn try_shown(
         &self,
+        at: u32,
         point: &Point,
         x: u32,
         q: &Expr,
@@ -146,29 +179,42 @@ impl Walk<'_> {
         requires variable { x < length self.now.program.now.vars }
         requires few { from + 1 < 2 ^ 32 }
         ensures { IfOk result (λ tried. Wherever self.now point.now (λ a.
-            Tries (map view.proof proofs.now) from (spec.shown_value (plain_of self.now) self.now.thread a x (term q.now)) tried)) }
+            Tries self.now.purpose at (map view.proof proofs.now) from (spec.shown_value (plain_of self.now) self.now.thread a x (term q.now)) tried)) }
     {
         match shown_entailment(self.program, point, x, q) {
-            Some(entailment) => self.try_entailments(point, proofs, from, from_ref(&entailment)),
-            None => Ok(Tried::none()),
+            Some(entailment) => self.try_entailments(
+                at,
+                point,
+                proofs,
+                from,
+                from_ref(&entailment),
+            ),
+            None => Ok(Tried::none(self.alloc)),
         }
     }
 
     /// Tries what is asked where a lock is given back.
-    pub fn try_unlock(&self, point: &Point, l: u32, proofs: &[Proof]) -> Result<Tried, NoMemory>
+    pub fn try_unlock(
+        &self,
+        at: u32,
+        point: &Point,
+        l: u32,
+        proofs: &[Proof],
+    ) -> Result<Tried, NoMemory>
         requires walk { IsWalk self.now }
         requires point { Stands self.now point.now }
         requires lock { l < length self.now.program.now.locks }
         ensures { IfOk result (λ tried. Wherever self.now point.now (λ a.
-            Tries (map view.proof proofs.now) 1 (spec.unlock_entailments (plain_of self.now) self.now.thread a l) tried)) }
+            Tries self.now.purpose at (map view.proof proofs.now) 1 (spec.unlock_entailments (plain_of self.now) self.now.thread a l) tried)) }
     {
         let entailments = unlock_entailments(self.alloc, self.program, point, l)?;
-        self.try_entailments(point, proofs, 1, entailments.as_slice())
+        self.try_entailments(at, point, proofs, 1, entailments.as_slice())
     }
 
     /// Tries entailments, of which there may be none where one is too large to be built.
     fn try_listed(
         &self,
+        at: u32,
         point: &Point,
         proofs: &[Proof],
         from: u32,
@@ -176,21 +222,24 @@ impl Walk<'_> {
     ) -> Result<Tried, NoMemory>
         requires { MatchOption entailments.now (Unit {0}) (λ made. from + length made < 2 ^ 32) }
         ensures { IfOk result (λ tried. Wherever self.now point.now (λ a. (gs : List spec.Entailment) → AreListed a.preds gs entailments.now
-            → Tries (map view.proof proofs.now) from gs tried)) }
+            → Tries self.now.purpose at (map view.proof proofs.now) from gs tried)) }
     {
         match entailments {
-            Some(entailments) => self.try_entailments(point, proofs, from, entailments.as_slice()),
-            None => Ok(Tried {
-                count: 0,
-                small: false,
-                unproved: None,
-            }),
+            Some(entailments) => self.try_entailments(
+                at,
+                point,
+                proofs,
+                from,
+                entailments.as_slice(),
+            ),
+            None => Ok(Tried::large(self.alloc)),
         }
     }
 
     /// Tries entailments, if they are small.
     fn try_entailments(
         &self,
+        at: u32,
         point: &Point,
         proofs: &[Proof],
         from: u32,
@@ -198,42 +247,118 @@ impl Walk<'_> {
     ) -> Result<Tried, NoMemory>
         requires { from + length entailments.now < 2 ^ 32 }
         ensures { IfOk result (λ tried. Wherever self.now point.now (λ a.
-            Tries (map view.proof proofs.now) from (entailments_of a.preds entailments.now) tried)) }
+            Tries self.now.purpose at (map view.proof proofs.now) from (entailments_of a.preds entailments.now) tried)) }
     {
-        let small = are_small(point, entailments);
-        let mut unproved = None;
-        if small {
-            unproved = first_unproved(self.alloc, point, proofs, from, entailments)?;
+        if !are_small(point, entailments) {
+            return Ok(Tried::large(self.alloc));
         }
-        Ok(Tried {
-            count: entailments.len() as u32,
-            small,
-            unproved,
-        })
+        self.try_small(at, point, proofs, from, entailments)
     }
 
-    /// The verdict on what is asked last of a statement: that entailments and the types after it are small (V16), that the entailments
-    /// are proved (V9), and that each number of a proof is that of an entailment, of which so many came before (V13).
-    pub fn check_last(
+    /// Tries entailments that are small, or makes copies of them where the walk collects them.
+    fn try_small(
+        &self,
+        at: u32,
+        point: &Point,
+        proofs: &[Proof],
+        from: u32,
+        entailments: &[Entailment<'_>],
+    ) -> Result<Tried, NoMemory>
+        requires { from + length entailments.now < 2 ^ 32 }
+        ensures { IfOk result (λ tried. Wherever self.now point.now (λ a. list_all spec.is_small_entailment (entailments_of a.preds entailments.now) ≡ true
+            → Tries self.now.purpose at (map view.proof proofs.now) from (entailments_of a.preds entailments.now) tried)) }
+    {
+        let alloc = self.alloc;
+        let count = entailments.len() as u32;
+        match self.purpose {
+            Purpose::Judge => {
+                let unproved = first_unproved(alloc, point, proofs, from, entailments)?;
+                Ok(Tried {
+                    count,
+                    small: true,
+                    unproved,
+                    copies: List::new(alloc),
+                })
+            }
+            Purpose::Collect(wanted) => {
+                let copies = copies_of(alloc, self.site(at), point, from, entailments, wanted)?;
+                Ok(Tried {
+                    count,
+                    small: true,
+                    unproved: None,
+                    copies,
+                })
+            }
+        }
+    }
+
+    /// The point after a statement whose last entailments were tried, if each of its obligations holds, and then the copies are kept.
+    /// So many entailments came before in the statement itself, and so many in its blocks.
+    pub fn conclude(
         &self,
         at: u32,
         proofs: &[Proof],
         before: u32,
+        inside: u64,
+        front: Result<(), CheckFault>,
         tried: Tried,
+        after: Point,
+        kept: &mut List<Entail>,
+    ) -> Result<Walked, CheckFault>
+        requires few { inside < 2 ^ 32 }
+        ensures { Wherever self.now after (λ b. (asked : List Obligation) → (gs : List spec.Entailment) → (count counted : ℕ) → are_others asked ≡ true → Decides asked front
+            → Tries self.now.purpose at (map view.proof proofs.now) (suc before) gs tried → before + length gs ≡ count → before + inside + length gs ≡ counted
+            → Walks self.now.purpose (plain_of self.now) self.now.thread
+            (asked ++ flat (last_parts (plain_of self.now) self.now.thread at (map view.proof proofs.now) (suc before) count gs (b ∷ [])))
+            (placed_from at (suc before) gs) b counted kept.old kept.new result) }
+    {
+        let last = self.check_last(at, proofs, before, &tried, after.has_small_types());
+        let Tried { count, copies, .. } = tried;
+        match both(front, last) {
+            Ok(()) => {
+                add_all(kept, copies)?;
+                Ok(Walked {
+                    point: after,
+                    entailments: u64::from(before) + inside + u64::from(count),
+                })
+            }
+            Err(fault) => Err(fault),
+        }
+    }
+
+    /// The verdict on what is asked last of a statement: that entailments and the types after it are small (V16), that the entailments
+    /// are proved (V9), and that each number of a proof is that of an entailment, of which so many came before (V13).
+    fn check_last(
+        &self,
+        at: u32,
+        proofs: &[Proof],
+        before: u32,
+        tried: &Tried,
         types: bool,
     ) -> Result<(), CheckFault>
-        ensures { (gs : List spec.Entailment) → (points : List typing.Point) → (count : ℕ) → Tries (map view.proof proofs.now) (suc before) gs tried
+        ensures { (gs : List spec.Entailment) → (points : List typing.Point) → (count : ℕ) → Tries self.now.purpose at (map view.proof proofs.now) (suc before) gs tried.now
             → types ≡ list_all has_small_types points → before + length gs ≡ count
-            → Decides (flat (last_parts (plain_of self.now) self.now.thread at (map view.proof proofs.now) (suc before) count gs points)) result }
+            → Decides (looked_at self.now.purpose
+            (flat (last_parts (plain_of self.now) self.now.thread at (map view.proof proofs.now) (suc before) count gs points))) result }
     {
         let site = self.site(at);
         let count = before as usize + tried.count as usize;
         match require_small(self.program, site, tried.small && types) {
             Ok(()) => match require_proved(site, tried.unproved) {
-                Ok(()) => check_numbers(self.program, site, count, proofs),
+                Ok(()) => self.check_given(site, count, proofs),
                 Err(fault) => Err(fault),
             },
             Err(fault) => Err(fault),
+        }
+    }
+
+    /// The verdict on the numbers of proofs of a statement that has so many entailments (V13), if the walk looks at it.
+    pub fn check_given(&self, site: Site, count: usize, proofs: &[Proof]) -> Result<(), CheckFault>
+        ensures { Decides (looked_at self.now.purpose (numbers (plain_of self.now) site.thread site.place count (map view.proof proofs.now))) result }
+    {
+        match self.purpose {
+            Purpose::Judge => check_numbers(self.program, site, count, proofs),
+            Purpose::Collect(_) => Ok(()),
         }
     }
 }

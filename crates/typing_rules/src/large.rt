@@ -12,7 +12,8 @@ ghost use Rattle.cov_ast.specs.WellFormed.{AreTypesInRange, IsStmInRange};
 ghost use Rattle.typing_state.specs.After.{after_assign};
 ghost use Rattle.typing_state.specs.Point.{conjuncts_of_types, is_over_controls, ty, ty_var};
 ghost use Rattle.typing_rules.specs.Blocks as blocks;
-ghost use Rattle.typing_rules.specs.ThreadObligations.{few_preds, flat, stm_parts};
+ghost use Rattle.typing_rules.specs.Entailments.{assign_entailments};
+ghost use Rattle.typing_rules.specs.ThreadObligations.{few_preds, flat, small_terms};
 ghost use Rattle.typing_rules.specs.Inside.Walking.{IsWalk, Stands, Wherever, plain_of, type_parts, value_parts};
 
 use crate::entailment_parts::read_held;
@@ -61,9 +62,14 @@ impl Walk<'_> {
         requires range { IsStmInRange (length self.now.program.now.vars) (length self.now.program.now.locks)
             (syntax.assign x (term e.now) None (map view.retype retypes.now)) }
         requires point { Stands self.now point }
-        ensures { (proofs : List syntax.Proof) → Wherever self.now point (λ a.
+        ensures { Wherever self.now point (λ a. let q = ty (plain_of self.now) self.now.thread a (term e.now) in
+            let after = after_assign (plain_of self.now) self.now.thread a x (term e.now) q (map view.retype retypes.now) in
             500 < length (conjuncts_of_types (plain_of self.now) self.now.thread a (tree.vars (term e.now)))
-            → Decides (flat (stm_parts (plain_of self.now) self.now.thread (syntax.assign x (term e.now) None (map view.retype retypes.now)) at proofs a)) (Err result)) }
+            → Decides
+            (flat (value_parts (plain_of self.now) self.now.thread at a x (term e.now) q (map view.retype retypes.now)
+            ++ few_preds (plain_of self.now) self.now.thread at (after ∷ [])
+            ∷ small_terms (plain_of self.now) self.now.thread at (assign_entailments (plain_of self.now) self.now.thread a x (term e.now) None (map view.retype retypes.now)) (after ∷ []) ∷ []))
+            (Err result)) }
     {
         match self.check_but_size(at, x, e, retypes, point) {
             Ok(()) => refused_at(self.site(at), Rule::V16, Detail::Nothing),

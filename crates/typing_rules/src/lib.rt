@@ -8,12 +8,14 @@
 //! - [`check_thread`]: whether every obligation of a thread holds, else the first that doesn't; and then the thread is secure.
 //!   [`Count`]: how many statements and entailments it has.
 //! - [`entailments`]: what has to follow at the statements of a thread, whatever certificates it has. [`Entail`]: one of these.
+//!   [`entailment_at`]: one of them alone, by its place and number.
 //! - [`threads_end_without_locks`], [`true_declarations_are_declared`], [`true_obligations_are_secure`]: laws, without a body. The
 //!   last is the soundness of the rules.
 //!
 //! `Walk` of `walk.rt` goes over the statements: those without blocks stand in `statements.rt`, branches and loops in
-//! `branches.rt`. A second walk, which lists what has to follow and tries none of it, stands in `listing.rt` and
-//! `listing_blocks.rt`, with the copies that it makes in `entail.rt`. Where each rule is tried:
+//! `branches.rt`. There is one walk for two purposes (`purpose.rt`). To judge, it tries each obligation and keeps nothing. To
+//! collect what has to follow, it looks at no certificate, and keeps copies (`entail.rt`) of what is wanted of the entailments of
+//! each statement that holds but for its certificates. Where each rule is tried:
 //!
 //! | rule | function | file |
 //! | --- | --- | --- |
@@ -51,9 +53,8 @@ mod evaluation;
 mod known;
 mod large;
 mod laws;
-mod listing;
-mod listing_blocks;
 mod locks;
+mod purpose;
 mod site;
 mod sizes;
 mod statements;
@@ -67,4 +68,4 @@ pub use entail::Entail;
 pub use laws::{
     threads_end_without_locks, true_declarations_are_declared, true_obligations_are_secure,
 };
-pub use thread::{check_thread, entailments};
+pub use thread::{check_thread, entailment_at, entailments};

@@ -11,8 +11,9 @@ ghost use Rattle.cov_ast.specs.View as view;
 ghost use Rattle.cov_ast.specs.WellFormed.{AreTypesInRange, IsStateInRange, IsStmInRange, IsTypeInRange, state_size, stm_size, most_size};
 ghost use Rattle.typing_rules.specs.ThreadObligations.{flat};
 ghost use Rattle.typing_rules.specs.Inside.Walking.{IsWalk, Stands, WalksStm, Wherever, plain_of, value_parts};
+ghost use Rattle.typing_rules.specs.declared.entail.Entail.{Entail};
 
-use crate::certificates::check_numbers;
+use crate::entail::Entail;
 use crate::evaluation::check_guard;
 use crate::site::require_at;
 use crate::sizes::{check_few_preds, require_small};
@@ -25,20 +26,16 @@ use typing_state::Point;
 impl Walk<'_> {
     /// Checks a skip.
     pub fn skip(&self, at: u32, proofs: &[Proof], point: Point) -> Result<Walked, CheckFault>
-        ensures { WalksStm self.now at syntax.skip (map view.proof proofs.now) point result }
+        ensures { (kept : List Entail) → WalksStm self.now at syntax.skip (map view.proof proofs.now) point kept kept result }
     {
-        finish(
-            point,
-            0,
-            check_numbers(self.program, self.site(at), 0, proofs),
-        )
+        finish(point, self.check_given(self.site(at), 0, proofs))
     }
 
     /// Checks that a lock is taken.
     pub fn lock(&self, at: u32, l: u32, point: Point) -> Result<Walked, CheckFault>
         requires walk { IsWalk self.now }
         requires lock { l < length self.now.program.now.locks }
-        ensures { (proofs : List syntax.Proof) → WalksStm self.now at (syntax.lock l) proofs point result }
+        ensures { (proofs : List syntax.Proof) → (kept : List Entail) → WalksStm self.now at (syntax.lock l) proofs point kept kept result }
     {
         let (p, site) = (self.program, self.site(at));
         let held = point.modes().holds(l);
@@ -46,7 +43,7 @@ impl Walk<'_> {
         let after = point.after_lock(self.alloc, p, l)?;
         let few = check_few_preds(p, site, &after);
         let small = require_small(p, site, after.has_small_types());
-        finish(after, 0, both(free, both(few, small)))
+        finish(after, both(free, both(few, small)))
     }
 
     /// Checks that a lock is given back.
@@ -56,20 +53,19 @@ impl Walk<'_> {
         l: u32,
         proofs: &[Proof],
         point: Point,
+        kept: &mut List<Entail>,
     ) -> Result<Walked, CheckFault>
         requires walk { IsWalk self.now }
         requires lock { l < length self.now.program.now.locks }
         requires point { Stands self.now point }
-        ensures { WalksStm self.now at (syntax.unlock l) (map view.proof proofs.now) point result }
+        ensures { WalksStm self.now at (syntax.unlock l) (map view.proof proofs.now) point kept.old kept.new result }
     {
         let p = self.program;
         let held = point.modes().holds(l);
         let taken = require_at(self.site(at), held, Rule::V7, Detail::One(lock_name(p, l)));
-        let tried = self.try_unlock(&point, l, proofs)?;
-        let entailments = u64::from(tried.count);
+        let tried = self.try_unlock(at, &point, l, proofs)?;
         let after = point.after_unlock(self.alloc, p, l)?;
-        let last = self.check_last(at, proofs, 0, tried, after.has_small_types());
-        finish(after, entailments, both(taken, last))
+        self.conclude(at, proofs, 0, 0, taken, tried, after, kept)
     }
 
     /// Checks a note.
@@ -79,18 +75,17 @@ impl Walk<'_> {
         j: &State,
         proofs: &[Proof],
         point: Point,
+        kept: &mut List<Entail>,
     ) -> Result<Walked, CheckFault>
         requires range { IsStateInRange (length self.now.program.now.vars) (length self.now.program.now.locks) (view.state j.now) }
         requires small { state_size (view.state j.now) < most_size }
         requires point { Stands self.now point }
-        ensures { WalksStm self.now at (syntax.note (view.state j.now)) (map view.proof proofs.now) point result }
+        ensures { WalksStm self.now at (syntax.note (view.state j.now)) (map view.proof proofs.now) point kept.old kept.new result }
     {
         let stated = check_state(self.program, self.site(at), &point, j);
-        let tried = self.try_state(&point, j, proofs, 1)?;
-        let entailments = u64::from(tried.count);
+        let tried = self.try_state(at, &point, j, proofs, 1)?;
         let after = point.noted(self.alloc, j)?;
-        let last = self.check_last(at, proofs, 0, tried, after.has_small_types());
-        finish(after, entailments, both(stated, last))
+        self.conclude(at, proofs, 0, 0, stated, tried, after, kept)
     }
 
     /// Checks an output.
@@ -100,16 +95,15 @@ impl Walk<'_> {
         e: &Expr,
         proofs: &[Proof],
         point: Point,
+        kept: &mut List<Entail>,
     ) -> Result<Walked, CheckFault>
         requires range { HasVarsBelow (term e.now) (length self.now.program.now.vars) }
         requires point { Stands self.now point }
-        ensures { WalksStm self.now at (syntax.output (term e.now)) (map view.proof proofs.now) point result }
+        ensures { WalksStm self.now at (syntax.output (term e.now)) (map view.proof proofs.now) point kept.old kept.new result }
     {
         let evaluated = check_guard(self.program, self.site(at), point.modes(), e);
-        let tried = self.try_guard(&point, e, proofs, 1)?;
-        let entailments = u64::from(tried.count);
-        let last = self.check_last(at, proofs, 0, tried, point.has_small_types());
-        finish(point, entailments, both(evaluated, last))
+        let tried = self.try_guard(at, &point, e, proofs, 1)?;
+        self.conclude(at, proofs, 0, 0, evaluated, tried, point, kept)
     }
 
     /// Checks an assignment.
@@ -122,13 +116,14 @@ impl Walk<'_> {
         retypes: &List<Retype>,
         proofs: &[Proof],
         point: Point,
+        kept: &mut List<Entail>,
     ) -> Result<Walked, CheckFault>
         requires walk { IsWalk self.now }
         requires range { IsStmInRange (length self.now.program.now.vars) (length self.now.program.now.locks)
             (syntax.assign x (term e.now) (option_map term written.now) (map view.retype retypes.now)) }
         requires small { stm_size (syntax.assign x (term e.now) (option_map term written.now) (map view.retype retypes.now)) < most_size }
         requires point { Stands self.now point }
-        ensures { WalksStm self.now at (syntax.assign x (term e.now) (option_map term written.now) (map view.retype retypes.now)) (map view.proof proofs.now) point result }
+        ensures { WalksStm self.now at (syntax.assign x (term e.now) (option_map term written.now) (map view.retype retypes.now)) (map view.proof proofs.now) point kept.old kept.new result }
     {
         let Some(q) = self.value_type(e, written, &point)? else {
             return Err(self.refuse_large(at, x, e, retypes, point));
@@ -137,16 +132,10 @@ impl Walk<'_> {
         if let Err(fault) = self.check_value(at, x, e, &q, items, &point) {
             return Err(fault);
         }
-        let tried = self.try_assign(&point, x, e, written, &q, items, proofs)?;
-        let entailments = u64::from(tried.count);
-        let point = point.after_assign(self.alloc, self.program, x, e, q, retypes)?;
-        if let Err(fault) = check_few_preds(self.program, self.site(at), &point) {
-            return Err(fault);
-        }
-        if let Err(fault) = self.check_last(at, proofs, 0, tried, point.has_small_types()) {
-            return Err(fault);
-        }
-        Ok(Walked { point, entailments })
+        let tried = self.try_assign(at, &point, x, e, written, &q, items, proofs)?;
+        let after = point.after_assign(self.alloc, self.program, x, e, q, retypes)?;
+        let few = check_few_preds(self.program, self.site(at), &after);
+        self.conclude(at, proofs, 0, 0, few, tried, after, kept)
     }
 
     /// Checks what is asked before a value of a type is assigned.

@@ -1,4 +1,4 @@
-ghost use Rattle.std.specs.Prelude.{◌≡◌, ◌<◌, ◌^◌, length, map, Err, IfOk, IsTrue, MatchResult, None};
+ghost use Rattle.std.specs.Prelude.{◌≡◌, ◌<◌, ◌^◌, length, map, option_map, slice_get, Err, IfOk, IsTrue, MatchResult, None};
 ghost use Rattle.cov_ast.specs.Obligations.{Decides, all_hold, first_false};
 ghost use Rattle.cov_ast.specs.Plain.{plain};
 ghost use Rattle.cov_ast.specs.View as view;
@@ -6,13 +6,15 @@ ghost use Rattle.cov_ast.specs.WellFormed.{IsWellFormed};
 ghost use Rattle.flow_model.specs.Game.{IsSecureThread};
 ghost use Rattle.mode_compat.specs.Declared.{declaration_obligations};
 ghost use Rattle.typing_rules.specs.Counts.{DecidesWith, counts};
-ghost use Rattle.typing_rules.specs.ThreadEntailments.{thread_entailments, view_entail};
+ghost use Rattle.typing_rules.specs.Inside.Keeping.{wanted_among};
+ghost use Rattle.typing_rules.specs.ThreadEntailments.{entailment_among, thread_entailments, view_entail};
 ghost use Rattle.typing_rules.specs.ThreadObligations.{thread_obligations};
 
 use crate::count::{Count, statements};
 use crate::entail::Entail;
 use crate::laws::true_obligations_are_secure;
 use crate::locks::check_end;
+use crate::purpose::{Purpose, Wanted};
 use crate::site::Site;
 use crate::walk::Walk;
 use cov_ast::{CheckFault, Program};
@@ -59,10 +61,12 @@ fn check_statements(alloc: Global, p: &Program, t: u32) -> Result<u64, CheckFaul
         alloc,
         program: p,
         thread: t,
+        purpose: Purpose::Judge,
     };
     let thread = &p.threads.as_slice()[t as usize];
     let start = Point::start(alloc, p, t)?;
-    match walk.block(thread.body.as_slice(), start) {
+    let mut none = List::new(alloc);
+    match walk.block(thread.body.as_slice(), start, &mut none) {
         Ok(end) => {
             let site = Site {
                 thread: t,
@@ -88,14 +92,65 @@ pub fn entailments(alloc: Global, p: &Program, t: u32) -> Result<List<Entail>, N
     requires thread { t < length p.now.threads }
     ensures { IfOk result (λ listed. map view_entail listed ≡ thread_entailments (view.program p.now) t) }
 {
+    wanted_entailments(alloc, p, t, Wanted::Every)
+}
+
+/// The first of the entailments that `entailments` lists whose statement is at a place, and which has a number there. `None` comes
+/// where there is none.
+///
+/// Of those that the walk comes by only what has this number at this place is copied, so it takes no memory for the others
+/// once their statement is passed.
+pub fn entailment_at(
+    alloc: Global,
+    p: &Program,
+    t: u32,
+    place: u32,
+    number: u32,
+) -> Result<Option<Entail>, NoMemory>
+    requires formed { IsWellFormed (view.program p.now) }
+    requires declared { IsTrue (all_hold (declaration_obligations (view.program p.now))) }
+    requires thread { t < length p.now.threads }
+    ensures { IfOk result (λ found. option_map view_entail found ≡ entailment_among (thread_entailments (view.program p.now) t) place number) }
+{
+    let found = wanted_entailments(alloc, p, t, Wanted::Numbered(place, number))?;
+    Ok(first(found))
+}
+
+/// The first of a list.
+fn first(mut found: List<Entail>) -> Option<Entail>
+    ensures { result ≡ slice_get found 0 }
+{
+    if found.is_empty() {
+        None
+    } else {
+        Some(found.remove(0))
+    }
+}
+
+/// Those of the entailments of a thread that are wanted.
+fn wanted_entailments(
+    alloc: Global,
+    p: &Program,
+    t: u32,
+    wanted: Wanted,
+) -> Result<List<Entail>, NoMemory>
+    requires formed { IsWellFormed (view.program p.now) }
+    requires declared { IsTrue (all_hold (declaration_obligations (view.program p.now))) }
+    requires thread { t < length p.now.threads }
+    ensures { IfOk result (λ listed. map view_entail listed ≡ wanted_among wanted (thread_entailments (view.program p.now) t)) }
+{
     let walk = Walk {
         alloc,
         program: p,
         thread: t,
+        purpose: Purpose::Collect(wanted),
     };
     let thread = &p.threads.as_slice()[t as usize];
     let start = Point::start(alloc, p, t)?;
     let mut kept = List::new(alloc);
-    walk.list_block(thread.body.as_slice(), start, &mut kept)?;
-    Ok(kept)
+    match walk.block(thread.body.as_slice(), start, &mut kept) {
+        Ok(_) => Ok(kept),
+        Err(CheckFault::Refused(_)) => Ok(kept),
+        Err(CheckFault::NoMemory) => Err(NoMemory),
+    }
 }

@@ -1,4 +1,4 @@
-ghost use Rattle.std.specs.Prelude.{◌≡◌, ◌<◌, ◌++◌, ℕ, List, map, length, None};
+ghost use Rattle.std.specs.Prelude.{◌≡◌, ◌<◌, ◌++◌, [], ℕ, List, map, length, None};
 ghost use Rattle.cov_expr.specs.View.{term};
 ghost use Rattle.cov_ast.specs.Obligations.{Decides, Obligation, first_false};
 ghost use Rattle.cov_ast.specs.Plain.{Plain};
@@ -7,20 +7,26 @@ ghost use Rattle.cov_ast.specs.View as view;
 ghost use Rattle.cov_ast.specs.WellFormed.{IsBlockInRange, IsStmInRange, block_size, stm_size, most_size};
 ghost use Rattle.typing_state.specs.KeptPoints.{Keeps};
 ghost use Rattle.typing_state.specs.Point as typing;
+ghost use Rattle.typing_rules.specs.Inside.Keeping.{looked_at};
 ghost use Rattle.typing_rules.specs.Inside.Walking.{IsWalk, Stands, Walks, WalksBlock, WalksStm};
+ghost use Rattle.typing_rules.specs.declared.entail.Entail.{Entail};
+ghost use Rattle.typing_rules.specs.declared.purpose.Purpose.{Purpose};
 
+use crate::entail::Entail;
+use crate::purpose::Purpose;
 use crate::site::Site;
 use cov_ast::{CheckFault, Program, Proof, State, Stmt, StmtKind};
-use cov_expr::Expr;
+use cov_expr::{Expr, List};
 use std::alloc::Global;
 use typing_state::Point;
 
-/// A walk over the statements of a thread of a program.
+/// A walk over the statements of a thread of a program, to judge them or to collect what has to follow at them.
 #[derive(Clone, Copy)]
 pub struct Walk<'p> {
     pub alloc: Global,
     pub program: &'p Program,
     pub thread: u32,
+    pub purpose: Purpose,
 }
 
 /// Where a walk has come: the point after what it has checked, and how many entailments that had.
@@ -48,17 +54,16 @@ pub fn both(first: Result<(), CheckFault>, second: Result<(), CheckFault>) -> Re
     }
 }
 
-/// The point after a statement, if each of its obligations holds.
-pub fn finish(
-    point: Point,
-    entailments: u64,
-    verdict: Result<(), CheckFault>,
-) -> Result<Walked, CheckFault>
-    ensures { (p : Plain) → (t : ℕ) → (obligations : List Obligation) → (a : typing.Point) → (counted : ℕ) → Keeps p t a point → Decides obligations verdict
-        → (first_false obligations ≡ None → entailments ≡ counted) → Walks p t obligations a counted result }
+/// The point after a statement that asks nothing to follow, if each of its obligations holds.
+pub fn finish(point: Point, verdict: Result<(), CheckFault>) -> Result<Walked, CheckFault>
+    ensures { (u : Purpose) → (p : Plain) → (t : ℕ) → (obligations : List Obligation) → (a : typing.Point) → (kept : List Entail) → Keeps p t a point
+        → Decides (looked_at u obligations) verdict → Walks u p t obligations [] a 0 kept kept result }
 {
     match verdict {
-        Ok(()) => Ok(Walked { point, entailments }),
+        Ok(()) => Ok(Walked {
+            point,
+            entailments: 0,
+        }),
         Err(fault) => Err(fault),
     }
 }
@@ -76,17 +81,22 @@ impl Walk<'_> {
 
     /// Checks the statements of a block, from a point on.
     #[cycle(walk)]
-    pub fn block(&self, body: &[Stmt], point: Point) -> Result<Walked, CheckFault>
+    pub fn block(
+        &self,
+        body: &[Stmt],
+        point: Point,
+        kept: &mut List<Entail>,
+    ) -> Result<Walked, CheckFault>
         requires walk { IsWalk self.now }
         requires range { IsBlockInRange (length self.now.program.now.vars) (length self.now.program.now.locks) (view.block body.now) }
         requires small { block_size (view.block body.now) < most_size }
         requires point { Stands self.now point }
-        ensures { WalksBlock self.now (view.block body.now) point result }
+        ensures { WalksBlock self.now (view.block body.now) point kept.old kept.new result }
     {
         let mut here = point;
         let mut entailments = 0;
         for stmt in body {
-            match self.statement(stmt.at, &stmt.kind, stmt.proofs.as_slice(), here) {
+            match self.statement(stmt.at, &stmt.kind, stmt.proofs.as_slice(), here, kept) {
                 Ok(next) => {
                     here = next.point;
                     entailments += next.entailments;
@@ -108,27 +118,37 @@ impl Walk<'_> {
         kind: &StmtKind,
         proofs: &[Proof],
         point: Point,
+        kept: &mut List<Entail>,
     ) -> Result<Walked, CheckFault>
         requires walk { IsWalk self.now }
         requires range { IsStmInRange (length self.now.program.now.vars) (length self.now.program.now.locks) (view.kind kind.now) }
         requires small { stm_size (view.kind kind.now) < most_size }
         requires point { Stands self.now point }
-        ensures { WalksStm self.now at (view.kind kind.now) (map view.proof proofs.now) point result }
+        ensures { WalksStm self.now at (view.kind kind.now) (map view.proof proofs.now) point kept.old kept.new result }
     {
         match kind {
             StmtKind::Skip => self.skip(at, proofs, point),
             StmtKind::Assign(x, e, written, retypes) => {
-                self.assign(at, *x, e, written, retypes, proofs, point)
+                self.assign(at, *x, e, written, retypes, proofs, point, kept)
             }
             StmtKind::Lock(l) => self.lock(at, *l, point),
-            StmtKind::Unlock(l) => self.unlock(at, *l, proofs, point),
-            StmtKind::Note(j) => self.note(at, j, proofs, point),
-            StmtKind::Output(e) => self.output(at, e, proofs, point),
+            StmtKind::Unlock(l) => self.unlock(at, *l, proofs, point, kept),
+            StmtKind::Note(j) => self.note(at, j, proofs, point, kept),
+            StmtKind::Output(e) => self.output(at, e, proofs, point, kept),
             StmtKind::If(e, yes, no, join) => {
-                self.branch(at, e, yes.as_slice(), no.as_slice(), join, proofs, point)
+                self.branch(
+                    at,
+                    e,
+                    yes.as_slice(),
+                    no.as_slice(),
+                    join,
+                    proofs,
+                    point,
+                    kept,
+                )
             }
             StmtKind::While(e, inv, body) => {
-                self.while_loop(at, e, inv, body.as_slice(), proofs, point)
+                self.while_loop(at, e, inv, body.as_slice(), proofs, point, kept)
             }
         }
     }
@@ -144,22 +164,23 @@ impl Walk<'_> {
         join: &State,
         proofs: &[Proof],
         point: Point,
+        kept: &mut List<Entail>,
     ) -> Result<Walked, CheckFault>
         requires walk { IsWalk self.now }
         requires range { IsStmInRange (length self.now.program.now.vars) (length self.now.program.now.locks)
             (syntax.branch (term e.now) (view.block yes.now) (view.block no.now) (view.state join.now)) }
         requires small { stm_size (syntax.branch (term e.now) (view.block yes.now) (view.block no.now) (view.state join.now)) < most_size }
         requires point { Stands self.now point }
-        ensures { WalksStm self.now at (syntax.branch (term e.now) (view.block yes.now) (view.block no.now) (view.state join.now)) (map view.proof proofs.now) point result }
+        ensures { WalksStm self.now at (syntax.branch (term e.now) (view.block yes.now) (view.block no.now) (view.state join.now)) (map view.proof proofs.now) point kept.old kept.new result }
     {
         let Guarded {
             holds,
             fails,
             count,
-        } = self.fork(at, e, proofs, point)?;
-        let first = self.block(yes, holds)?;
-        let second = self.block(no, fails)?;
-        self.join(at, join, proofs, count, first, second)
+        } = self.fork(at, e, proofs, point, kept)?;
+        let first = self.block(yes, holds, kept)?;
+        let second = self.block(no, fails, kept)?;
+        self.join(at, join, proofs, count, first, second, kept)
     }
 
     /// Checks a loop.
@@ -172,20 +193,21 @@ impl Walk<'_> {
         body: &[Stmt],
         proofs: &[Proof],
         point: Point,
+        kept: &mut List<Entail>,
     ) -> Result<Walked, CheckFault>
         requires walk { IsWalk self.now }
         requires range { IsStmInRange (length self.now.program.now.vars) (length self.now.program.now.locks)
             (syntax.loop (term e.now) (view.state inv.now) (view.block body.now)) }
         requires small { stm_size (syntax.loop (term e.now) (view.state inv.now) (view.block body.now)) < most_size }
         requires point { Stands self.now point }
-        ensures { WalksStm self.now at (syntax.loop (term e.now) (view.state inv.now) (view.block body.now)) (map view.proof proofs.now) point result }
+        ensures { WalksStm self.now at (syntax.loop (term e.now) (view.state inv.now) (view.block body.now)) (map view.proof proofs.now) point kept.old kept.new result }
     {
         let Guarded {
             holds,
             fails,
             count,
-        } = self.head(at, inv, e, proofs, point)?;
-        let end = self.block(body, holds)?;
-        self.turn(at, inv, proofs, count, end, fails)
+        } = self.head(at, inv, e, proofs, point, kept)?;
+        let end = self.block(body, holds, kept)?;
+        self.turn(at, inv, proofs, count, end, fails, kept)
     }
 }

@@ -8,7 +8,7 @@ use cov_lex::lex;
 use cov_parse::read_tokens;
 use std::alloc::Global;
 use std::test::Fail;
-use typing_rules::{Count, Entail, check_thread, entailments};
+use typing_rules::{Count, Entail, check_thread, entailment_at, entailments};
 use verify::{check_declared, check_program};
 
 /// The names of a text are numbered as they come.
@@ -93,7 +93,12 @@ fn entailments_of_the_writer(rt: HostRuntime) -> Result<(), Fail> {
     assert_eq!(rt; (set.place, set.number, set.hyps.len()), (113, 1, 1));
     assert_eq!(rt; (freed.place, freed.number, freed.hyps.len()), (124, 1, 2));
     demand(same(&set.goal, &Expr::Const(1)), "the type of a constant")?;
-    demand(same(&freed.goal, &Expr::Const(0)), "the type of the secret")
+    demand(same(&freed.goal, &Expr::Const(0)), "the type of the secret")?;
+    let Some(alone) = entailment_of_first(alloc, &p, 124, 1)? else {
+        return Err("the second of them".into());
+    };
+    assert_eq!(rt; (alone.place, alone.number, alone.hyps.len()), (124, 1, 2));
+    demand(same(&alone.goal, &Expr::Const(0)), "the same alone")
 }
 
 /// What has to follow in the first thread.
@@ -106,6 +111,25 @@ fn first_entailments(alloc: Global, p: &Program) -> Result<List<Entail>, Fail>
     }
     match check_declared(alloc, p) {
         Ok(()) => Ok(entailments(alloc, p, 0)?),
+        Err(_) => Err("its declarations".into()),
+    }
+}
+
+/// What has to follow in the first thread at a place, by its number there.
+#[tactic(auto, using(cov_ast::proofs::ObligationLaws::none_refused))]
+fn entailment_of_first(
+    alloc: Global,
+    p: &Program,
+    place: u32,
+    number: u32,
+) -> Result<Option<Entail>, Fail>
+    requires { IsWellFormed (view.program p.now) }
+{
+    if p.threads.is_empty() {
+        return Err("a thread".into());
+    }
+    match check_declared(alloc, p) {
+        Ok(()) => Ok(entailment_at(alloc, p, 0, place, number)?),
         Err(_) => Err("its declarations".into()),
     }
 }

@@ -5,7 +5,7 @@ use Rattle.cov_expr.specs.Term.{Term, neg}
 use Rattle.cov_expr.specs.Trees.{vars}
 use Rattle.cov_expr.specs.Words.{HasVarsBelow}
 use Rattle.cov_ast.specs.Declarations.{is_control}
-use Rattle.cov_ast.specs.Obligations.{all_hold, Decides, Obligation, first_false}
+use Rattle.cov_ast.specs.Obligations.{all_hold, Obligation}
 use Rattle.cov_ast.specs.Plain.{Plain, plain}
 use Rattle.cov_ast.specs.Syntax.{State, Proof, Stm, Block}
 use Rattle.cov_ast.specs.View as view
@@ -23,7 +23,13 @@ use Rattle.typing_rules.specs.Counts.{entailment_count}
 use Rattle.typing_rules.specs.Blocks.{after_block, after_stm}
 use Rattle.typing_rules.specs.Entailments.{Entailment, is_proved, is_small_entailment, guard_follows, state_follows}
 use Rattle.typing_rules.specs.ThreadObligations.{block_obligations, few_preds, flat, guard_obligations, narrow, numbers, of_var, one_unstable, over_controls, proved, reads, same_locks, small_terms, state_obligations, stm_parts, type_obligations}
+use Rattle.typing_rules.specs.Inside.Keeping.{kept_for}
+use Rattle.typing_rules.specs.Inside.Passing.{Passes, Stops}
+use Rattle.typing_rules.specs.ThreadEntailments.{PlacedEntailment, block_entailments, placed_from, stm_entailments, view_entail}
+use Rattle.typing_rules.specs.declared.entail.Entail.{Entail}
 use Rattle.typing_rules.specs.declared.entailments_tried.Tried.{Tried}
+use Rattle.typing_rules.specs.declared.purpose.Purpose.{Purpose}
+use Rattle.typing_rules.specs.declared.purpose.Purpose.TheVariants.{Judge, Collect}
 use Rattle.typing_rules.specs.declared.walk.Guarded.{Guarded}
 use Rattle.typing_rules.specs.declared.walk.Walk.{Walk}
 use Rattle.typing_rules.specs.declared.walk.Walked.{Walked}
@@ -36,12 +42,13 @@ AtHeld p t sets P = (held : List Bool) → sets ≡ modes_at p t held → P held
 abbrev pub AtPoint : Plain → (t : ℕ) → Point → (spec.Point → Type 0) → Type 0
 AtPoint p t kept P = (a : spec.Point) → Keeps p t a kept → P a
 
--- All obligations hold, and this is the point after them, with how many entailments were counted; or this is the first
--- obligation that doesn't hold, unless memory ran out.
-abbrev pub Walks : Plain → (t : ℕ) → List Obligation → (after : spec.Point) → (counted : ℕ) → Result Walked CheckFault → Type 0
-Walks p t obligations after counted (Ok walked) =
-    (first_false obligations ≡ None) × Keeps p t after walked.point × (walked.entailments ≡ counted)
-Walks p t obligations after counted (Err fault) = Decides obligations (Err fault)
+-- All obligations hold that the walk looks at, and this is the point after them, with how many entailments were counted; or this
+-- is the first of them that doesn't hold, unless memory ran out.
+abbrev pub Walks : Purpose → Plain → (t : ℕ) → List Obligation → List PlacedEntailment → (end : spec.Point) → (counted : ℕ) → (before after : List Entail)
+    → Result Walked CheckFault → Type 0
+Walks u p t obligations entailments end counted before after (Ok walked) =
+    Passes u obligations entailments before after × Keeps p t end walked.point × (walked.entailments ≡ counted)
+Walks u p t obligations entailments end counted before after (Err fault) = Stops u obligations entailments before after fault
 
 -- The program is well formed, its declarations keep the rules, and it has the thread.
 pub record IsWalk (w : Walk) : Type 0 where
@@ -70,16 +77,18 @@ Wherever w kept P = AtPoint (plain_of w) w.thread kept P
 -- Statements and blocks ------------------------------------------------------------------------------------------
 
 -- the answer about a statement
-abbrev pub WalksStm : Walk → (at : ℕ) → Stm → List Proof → Point → Result Walked CheckFault → Type 0
-WalksStm w at s proofs kept result =
+abbrev pub WalksStm : Walk → (at : ℕ) → Stm → List Proof → Point → (before after : List Entail) → Result Walked CheckFault → Type 0
+WalksStm w at s proofs kept before after result =
     Wherever w kept (λ a. let obligations = flat (stm_parts (plain_of w) w.thread s at proofs a) in
-    Walks (plain_of w) w.thread obligations (after_stm (plain_of w) w.thread s a) (entailment_count obligations) result)
+    Walks w.purpose (plain_of w) w.thread obligations (stm_entailments (plain_of w) w.thread s at a) (after_stm (plain_of w) w.thread s a)
+    (entailment_count obligations) before after result)
 
 -- the answer about a block
-abbrev pub WalksBlock : Walk → Block → Point → Result Walked CheckFault → Type 0
-WalksBlock w b kept result =
+abbrev pub WalksBlock : Walk → Block → Point → (before after : List Entail) → Result Walked CheckFault → Type 0
+WalksBlock w b kept before after result =
     Wherever w kept (λ a. let obligations = block_obligations (plain_of w) w.thread b a in
-    Walks (plain_of w) w.thread obligations (after_block (plain_of w) w.thread b a) (entailment_count obligations) result)
+    Walks w.purpose (plain_of w) w.thread obligations (block_entailments (plain_of w) w.thread b a) (after_block (plain_of w) w.thread b a)
+    (entailment_count obligations) before after result)
 
 -- Entailments ----------------------------------------------------------------------------------------------------
 
@@ -88,12 +97,18 @@ abbrev pub first_unproved : List Proof → (n : ℕ) → List Entailment → Opt
 first_unproved proofs n [] = None
 first_unproved proofs n (g ∷ gs) = if is_proved proofs n g then first_unproved proofs (suc n) gs else Some n
 
--- What came of entailments that are numbered from a number on: whether they are small, and, if so, how many there are and
--- which has no valid certificate.
-pub record Tries (proofs : List Proof) (n : ℕ) (gs : List Entailment) (tried : Tried) : Type 0 where
+-- the one that a walk finds: to collect, it looks at no certificate
+abbrev pub unproved_for : Purpose → List Proof → (n : ℕ) → List Entailment → Option ℕ
+unproved_for Judge proofs n gs = first_unproved proofs n gs
+unproved_for (Collect wanted) proofs n gs = None
+
+-- What came of entailments of the statement at a place that are numbered from a number on: whether they are small, and, if so, how
+-- many there are, which has no valid certificate, and copies of those that the walk keeps.
+pub record Tries (u : Purpose) (at : ℕ) (proofs : List Proof) (n : ℕ) (gs : List Entailment) (tried : Tried) : Type 0 where
   pub few : tried.count ≤ length gs
   pub small : tried.small ≡ list_all is_small_entailment gs
-  pub decided : tried.small ≡ true → (tried.count ≡ length gs) × (tried.unproved ≡ first_unproved proofs n gs)
+  pub decided : tried.small ≡ true
+      → (tried.count ≡ length gs) × (tried.unproved ≡ unproved_for u proofs n gs) × (map view_entail tried.copies ≡ kept_for u (placed_from at n gs))
 
 -- Parts of branches and loops ------------------------------------------------------------------------------------
 
@@ -147,18 +162,20 @@ module _ (p : Plain) (t at : ℕ) where
       same_locks p t at end.held after.held
       ∷ last_parts proofs (suc before) (before + length (state_follows end inv)) (state_follows end inv) (after ∷ [])
 
--- All obligations hold, and these are the points where a guard holds and where it doesn't, with how many entailments were
--- counted; or this is the first obligation that doesn't hold, unless memory ran out.
-abbrev pub Guards : Plain → (t : ℕ) → List Obligation → (holds fails : spec.Point) → (counted : ℕ) → Result Guarded CheckFault → Type 0
-Guards p t obligations holds fails counted (Ok guarded) =
-    (first_false obligations ≡ None) × Keeps p t holds guarded.holds × Keeps p t fails guarded.fails × (guarded.count ≡ counted)
-Guards p t obligations holds fails counted (Err fault) = Decides obligations (Err fault)
+-- All obligations hold that the walk looks at, and these are the points where a guard holds and where it doesn't, with how many
+-- entailments were counted; or this is the first of them that doesn't hold, unless memory ran out.
+abbrev pub Guards : Purpose → Plain → (t : ℕ) → List Obligation → List PlacedEntailment → (holds fails : spec.Point) → (counted : ℕ) → (before after : List Entail)
+    → Result Guarded CheckFault → Type 0
+Guards u p t obligations entailments holds fails counted before after (Ok guarded) =
+    Passes u obligations entailments before after × Keeps p t holds guarded.holds × Keeps p t fails guarded.fails × (guarded.count ≡ counted)
+Guards u p t obligations entailments holds fails counted before after (Err fault) = Stops u obligations entailments before after fault
 
 -- the points where a guard holds and where it doesn't
 abbrev pub starts_of : Walk → spec.Point → Term → List spec.Point
 starts_of w a e = with_guard (plain_of w) w.thread a e ∷ with_guard (plain_of w) w.thread a (neg e) ∷ []
 
--- the answer about what stands before a guard that is tried at a point
-abbrev pub GuardsAt : Walk → List Obligation → spec.Point → Term → (counted : ℕ) → Result Guarded CheckFault → Type 0
-GuardsAt w obligations a e counted result =
-    Guards (plain_of w) w.thread obligations (with_guard (plain_of w) w.thread a e) (with_guard (plain_of w) w.thread a (neg e)) counted result
+-- the answer about what stands before a guard that is tried at a point of a statement with these entailments so far
+abbrev pub GuardsAt : Walk → (at : ℕ) → List Obligation → List Entailment → spec.Point → Term → (before after : List Entail) → Result Guarded CheckFault → Type 0
+GuardsAt w at obligations gs a e before after result =
+    Guards w.purpose (plain_of w) w.thread obligations (placed_from at 1 gs) (with_guard (plain_of w) w.thread a e)
+    (with_guard (plain_of w) w.thread a (neg e)) (length gs) before after result

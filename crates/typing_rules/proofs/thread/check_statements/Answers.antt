@@ -5,6 +5,9 @@ use Rattle.cov_ast.specs.WellFormed.{IsBlockInRange, block_size, most_size}
 use Rattle.mode_compat.specs.Compatible.{numbered}
 use Rattle.typing_state.specs.After.{start}
 use Rattle.typing_rules.specs.Blocks.{after_block}
+use Rattle.typing_rules.specs.ThreadEntailments.{block_entailments}
+use Rattle.typing_rules.specs.ThreadObligations.{block_obligations}
+use Rattle.typing_rules.proofs.Reaching.{judge_stops}
 use Rattle.typing_rules.proofs.Ranges.{classes_below, start_below}
 use Rattle.typing_rules.proofs.Threads.{body_in_range, body_refused, body_small, end_refused, thread_counted, thread_held, thread_seen}
 use Rattle.typing_rules.proofs.thread.check_statements.Goals as goal
@@ -46,7 +49,7 @@ returns-in-Ok-check_end c =
     let end : thread.end ≡ (numbered (view.program p) t).end = ap (λ s. s.end) seen in
     let walked = c.in-Ok.ensures (start (plain (view.program p)) t) c.in_ok-start.ensures in
     let after = after_block (plain (view.program p)) t b (start (plain (view.program p)) t) in (
-      thread_held (view.program p) t b thread.end body end walked.0 (c.in-Ok-check_end.ensures after.held (c.modes.ensures (plain (view.program p)) t after walked.1)),
+      thread_held (view.program p) t b thread.end body end walked.0.0 (c.in-Ok-check_end.ensures after.held (c.modes.ensures (plain (view.program p)) t after walked.1)),
       thread_counted (view.program p) t b thread.end body end c.in-Ok.end.entailments walked.2,
     )
 
@@ -62,7 +65,7 @@ returns-in-Ok c =
     let end : thread.end ≡ (numbered (view.program p) t).end = ap (λ s. s.end) seen in
     let walked = c.in-Ok.ensures (start (plain (view.program p)) t) c.in_ok-start.ensures in
     let after = after_block (plain (view.program p)) t b (start (plain (view.program p)) t) in
-    end_refused (view.program p) t b thread.end body end walked.0 c.in-Err-check_end.fault
+    end_refused (view.program p) t b thread.end body end walked.0.0 c.in-Err-check_end.fault
     (c.in-Err-check_end.ensures after.held (c.modes.ensures (plain (view.program p)) t after walked.1))
 
 pub returns : goal.returns
@@ -72,5 +75,8 @@ returns c =
     let thread = c.index-as_slice-t.result in
     let is : thread ≡ get_or p.threads t thread = rw c.as_slice.ensures at c.index-as_slice-t.is in
     let seen = thread_seen p t thread c.requires.thread is in
+    let b = view.block c.as_slice-2.result.now in
     body_refused (view.program p) t (view.block c.as_slice-2.result.now) thread.end (ap view.block c.as_slice-2.ensures ∙ ap (λ s. s.body) seen) (ap (λ s. s.end) seen)
-    c.in-Err.fault (c.in-Err.ensures (start (plain (view.program p)) t) c.in_ok-start.ensures)
+    c.in-Err.fault
+    (judge_stops (block_obligations (plain (view.program p)) t b (start (plain (view.program p)) t)) (block_entailments (plain (view.program p)) t b (start (plain (view.program p)) t))
+    c.new-none.result c.block.new.kept c.in-Err.fault (c.in-Err.ensures (start (plain (view.program p)) t) c.in_ok-start.ensures))

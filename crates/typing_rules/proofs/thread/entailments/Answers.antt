@@ -1,46 +1,11 @@
-use Rattle.std.proofs.Common.{◌≡◌, ◌<◌, ◌∙◌, ap, get_or, length, sym, subst}
-use Rattle.cov_ast.specs.Plain.{plain}
+use Rattle.std.proofs.Common.{◌≡◌, map, subst}
+use Rattle.std.specs.Prelude.{IfOk}
 use Rattle.cov_ast.specs.View as view
-use Rattle.cov_ast.specs.WellFormed.{IsBlockInRange, block_size, most_size}
-use Rattle.mode_compat.specs.Compatible.{numbered}
-use Rattle.typing_state.specs.After.{start}
-use Rattle.typing_rules.proofs.ListedParts.{thread_listed_to}
-use Rattle.typing_rules.proofs.Ranges.{classes_below, start_below}
-use Rattle.typing_rules.proofs.Threads.{body_in_range, body_small, thread_seen}
+use Rattle.typing_rules.specs.ThreadEntailments.{thread_entailments, view_entail}
+use Rattle.typing_rules.proofs.KeptLaws.{every_wanted}
 use Rattle.typing_rules.proofs.thread.entailments.Goals as goal
-
-pub list_block-requires-clause-range : goal.list_block-requires-clause-range
-list_block-requires-clause-range c =
-    let p = c.args.p.now in
-    let thread = c.index-as_slice-t.result in
-    let is : thread ≡ get_or p.threads c.args.t thread = rw c.as_slice.ensures at c.index-as_slice-t.is in
-    subst (λ ss. IsBlockInRange (length p.vars) (length p.locks) (view.block ss)) (sym c.as_slice-2.ensures)
-    (body_in_range p c.requires.formed c.args.t thread c.requires.thread is)
-
-pub list_block-requires-clause-small : goal.list_block-requires-clause-small
-list_block-requires-clause-small c =
-    let p = c.args.p.now in
-    let thread = c.index-as_slice-t.result in
-    let is : thread ≡ get_or p.threads c.args.t thread = rw c.as_slice.ensures at c.index-as_slice-t.is in
-    subst (λ ss. block_size (view.block ss) < most_size) (sym c.as_slice-2.ensures)
-    (body_small p c.requires.formed c.args.t thread c.requires.thread is)
-
-pub list_block-requires-clause-point : goal.list_block-requires-clause-point
-list_block-requires-clause-point c =
-    let p = c.args.p.now in
-    record {
-      at = start (plain (view.program p)) c.args.t;
-      keeps = c.in_ok-start.ensures;
-      types = start_below (plain (view.program p)) c.args.t (length p.vars) 0 (classes_below p c.requires.formed);
-    }
 
 pub returns : goal.returns
 returns c =
-    let p = c.args.p.now in
-    let t = c.args.t in
-    let thread = c.index-as_slice-t.result in
-    let is : thread ≡ get_or p.threads t thread = rw c.as_slice.ensures at c.index-as_slice-t.is in
-    let seen = thread_seen p t thread c.requires.thread is in
-    let body : view.block c.as_slice-2.result.now ≡ (numbered (view.program p) t).body = ap view.block c.as_slice-2.ensures ∙ ap (λ s. s.body) seen in
-    thread_listed_to (view.program p) t (view.block c.as_slice-2.result.now) body c.list_block.new.kept c.in_ok-list_block.field-0
-    (rw c.new-kept.ensures at (c.in_ok-list_block.ensures (start (plain (view.program p)) t) c.in_ok-start.ensures))
+    subst (λ gs. IfOk c.wanted_entailments.result (λ listed. map view_entail listed ≡ gs))
+    (every_wanted (thread_entailments (view.program c.args.p.now) c.args.t)) c.wanted_entailments.ensures

@@ -1,21 +1,25 @@
-use Rattle.std.proofs.Common.{◌≡◌, ◌+◌, ◌&&◌, ◌++◌, length, sym, ap, ◌∙◌, subst, arith}
+use Rattle.std.proofs.Common.{◌≡◌, ◌+◌, ◌&&◌, ◌++◌, length, map, sym, ap, ◌∙◌, subst, arith}
 use Rattle.std.specs.Option.{option_or}
 use Rattle.std.proofs.lemmas.Bool.{and_parts}
-use Rattle.std.proofs.lemmas.List.{length-append}
+use Rattle.std.proofs.lemmas.List.{length-append, map-append}
 use Rattle.std.proofs.lemmas.List.Folds.{list_all-append}
 use Rattle.typing_rules.specs.Entailments.{is_small_entailment}
-use Rattle.typing_rules.specs.Inside.Walking.{first_unproved}
-use Rattle.typing_rules.proofs.TryLaws.{unproved-append}
+use Rattle.typing_rules.specs.Inside.Keeping.{kept_for}
+use Rattle.typing_rules.specs.Inside.Walking.{unproved_for}
+use Rattle.typing_rules.specs.ThreadEntailments.{placed_from, view_entail}
+use Rattle.typing_rules.proofs.KeptLaws.{kept-append}
+use Rattle.typing_rules.proofs.Reaching.{placed-append}
+use Rattle.typing_rules.proofs.TryLaws.{unproved_for-append}
 use Rattle.typing_rules.proofs.entailments_tried.Tried.and.Goals as goal
 use Rattle.typing_rules.proofs.entailments_tried.Tried.and.Goals.{then-self, else-self}
 
 pub returns : goal.returns
-returns c proofs n gs hs h k =
+returns c u at proofs n gs hs h k =
     let first = c.args.self in
     let next = c.args.next in
-    let is : c.if-self.result ≡ (first.small && next.small) = elim c.if-self.branch [
-      | then-self w ↦ w.result-is ∙ ap (λ b. b && next.small) (sym w.if-self.true)
-      | else-self w ↦ w.result-is ∙ w.if-self.false ∙ ap (λ b. b && next.small) (sym w.if-self.false)
+    let is : c.if-self.small ≡ (first.small && next.small) = elim c.if-self.branch [
+      | then-self w ↦ w.small-is ∙ ap (λ b. b && next.small) (sym w.if-self.true)
+      | else-self w ↦ w.small-is ∙ w.if-self.false ∙ ap (λ b. b && next.small) (sym w.if-self.false)
     ] in
     record {
       few = omega (arith, length-append gs hs, h.few, k.few);
@@ -25,8 +29,12 @@ returns c proofs n gs hs h k =
           let one = h.decided both_small.0 in
           let two = k.decided both_small.1 in
           let counted : first.count + next.count ≡ length (gs ++ hs) = omega (arith, length-append gs hs, one.0, two.0) in
-          let rest : next.unproved ≡ first_unproved proofs (n + length gs) hs = subst (λ m. next.unproved ≡ first_unproved proofs (n + m) hs) one.0 two.1 in (
+          let rest : next.unproved ≡ unproved_for u proofs (n + length gs) hs = subst (λ m. next.unproved ≡ unproved_for u proofs (n + m) hs) one.0 two.1 in
+          let behind : map view_entail next.copies ≡ kept_for u (placed_from at (n + length gs) hs) =
+          subst (λ m. map view_entail next.copies ≡ kept_for u (placed_from at (n + m) hs)) one.0 two.2 in (
             counted,
-            c.or.ensures ∙ (λ i. option_or (one.1 i) (rest i)) ∙ sym (unproved-append proofs n gs hs),
+            c.or-unproved.ensures ∙ (λ i. option_or (one.1 i) (rest i)) ∙ sym (unproved_for-append proofs u n gs hs),
+            ap (map view_entail) c.in_ok-add_all.ensures ∙ map-append view_entail first.copies next.copies ∙ (λ i. one.2 i ++ behind i)
+                ∙ sym (kept-append u (placed_from at n gs) (placed_from at (n + length gs) hs)) ∙ ap (kept_for u) (sym (placed-append at n gs hs)),
           );
     }

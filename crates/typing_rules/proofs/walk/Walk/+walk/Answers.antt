@@ -1,6 +1,5 @@
 use Rattle.std.proofs.Common.{◌≡◌, ◌+◌, ◌*◌, ◌≤◌, ◌<◌, [], ◌∷◌, ◌++◌, length, map, drop, sym, ap, ◌∙◌, subst, arith, Err}
 use Rattle.std.proofs.lemmas.List.{drop_all, length-append, length-map}
-use Rattle.cov_ast.specs.Obligations.{Decides}
 use Rattle.cov_expr.specs.Term.{neg}
 use Rattle.cov_expr.specs.View.{term}
 use Rattle.cov_ast.specs.Syntax.{branch, loop, Block}
@@ -13,6 +12,8 @@ use Rattle.typing_rules.specs.Counts.{entailment_count}
 use Rattle.typing_rules.specs.Blocks.{after_block, after_stm}
 use Rattle.typing_rules.specs.Entailments.{guard_follows, state_follows}
 use Rattle.typing_rules.specs.ThreadObligations.{block_obligations, flat, stm_parts}
+use Rattle.typing_rules.specs.Inside.Passing.{Stops}
+use Rattle.typing_rules.specs.ThreadEntailments.{stm_entailments}
 use Rattle.typing_rules.specs.Inside.Walking.{HasTypesBelow, IsWalk, WalksStm, plain_of}
 use Rattle.typing_rules.specs.declared.walk.Walk.{Walk}
 use Rattle.typing_rules.proofs.Bounds.{few_entailments_state, few_entailments}
@@ -20,7 +21,7 @@ use Rattle.typing_rules.proofs.Counting.{count_branch, count_loop}
 use Rattle.typing_rules.proofs.Ranges.{block_below, classes_below, meet_below, stm_below}
 use Rattle.typing_rules.proofs.Splits.{branch_walks, first_refused, fork_refused, head_refused, loop_walks, second_refused, turn_refused}
 use Rattle.typing_rules.proofs.StatementLaws.{block_from}
-use Rattle.typing_rules.proofs.Walks.{assign_is, branch_seen, lock_is, loop_seen, output_is, Reaches, one_point, reaches_end, reaches_few, reaches_more, reaches_refused, reaches_start}
+use Rattle.typing_rules.proofs.Walks.{assign_is, branch_seen, lock_is, loop_seen, output_is, skip_is, Reaches, one_point, reaches_end, reaches_few, reaches_more, reaches_refused, reaches_start}
 use Rattle.typing_rules.proofs.walk.Walk.+walk.Goals as goal
 
 -- ids in range of the program as it is seen
@@ -34,7 +35,7 @@ pub block-loop-stmt-init : goal.block-loop-stmt-init
 block-loop-stmt-init t c = (
   c.requires.range,
   (let e : block_size (view.block c.args.body.now) ≤ block_size (view.block c.args.body.now) = omega arith in e),
-  λ a k h. (a, (k, h, reaches_start (plain_of c.args.self.now) c.args.self.now.thread (view.block c.args.body.now) a)),
+  λ a k h. (a, (k, h, reaches_start c.args.self.now.purpose (plain_of c.args.self.now) c.args.self.now.thread (view.block c.args.body.now) a c.args.kept.now)),
 )
 
 pub block-statement-requires : goal.block-statement-requires
@@ -67,11 +68,11 @@ block-overflow_add-entailments t c =
     let start = c.requires.point in
     let next = block_from c.args.body.now c.loop-stmt.stmt-index s c.loop-stmt-test.true c.stmt-item.is in
     let r = c.loop-stmt.invariant.2 start.at start.keeps start.types in
-    let reached = subst (λ b. Reaches p w.thread whole start.at b r.0 c.loop-stmt.entailments) next r.1.2 in
+    let reached = subst (λ b. Reaches w.purpose p w.thread whole start.at b r.0 c.loop-stmt.entailments c.args.kept.now c.loop-stmt.kept) next r.1.2 in
     let walked = (rw c.as_slice.ensures at c.in-Ok.ensures) r.0 r.1.0 in
     omega (
       arith,
-      reaches_few p w.thread whole start.at s.at (view.kind s.kind) proofs rest r.0 c.loop-stmt.entailments reached,
+      reaches_few w.purpose p w.thread whole start.at c.args.kept.now s.at (view.kind s.kind) proofs rest r.0 c.loop-stmt.entailments c.loop-stmt.kept reached,
       walked.2,
       few_entailments (view.program program) w.thread c.requires.walk.formed c.requires.walk.declared whole start.at (seen_range program whole c.requires.range),
       c.requires.small,
@@ -97,13 +98,13 @@ block-loop-stmt-preserved t c =
       smaller,
       λ a k h.
           let r = c.loop-stmt.invariant.2 a k h in
-          let reached = subst (λ b. Reaches p w.thread whole a b r.0 c.loop-stmt.entailments) next r.1.2 in
+          let reached = subst (λ b. Reaches w.purpose p w.thread whole a b r.0 c.loop-stmt.entailments c.args.kept.now c.loop-stmt.kept) next r.1.2 in
           let walked = (rw c.as_slice.ensures at c.in-Ok.ensures) r.0 r.1.0 in (
             after_stm p w.thread stm r.0,
             (
               walked.1,
               stm_below p w.thread n m (classes_below program c.requires.walk.formed) stm r.0 range.0 r.1.1,
-              reaches_more p w.thread whole a s.at stm proofs rest r.0 c.loop-stmt.entailments reached c.in-Ok.next walked,
+              reaches_more w.purpose p w.thread whole a c.args.kept.now s.at stm proofs rest r.0 c.loop-stmt.entailments c.loop-stmt.kept reached c.in-Ok.next c.statement.new.kept walked,
             ),
           ),
     )
@@ -117,8 +118,8 @@ block-returns t c a k =
     let same = one_point p w.thread start.at a c.args.point start.keeps k in
     let r = c.loop-stmt.invariant.2 a k (subst (λ q. HasTypesBelow q (length w.program.now.vars)) same start.types) in
     let over : drop c.loop-stmt.stmt-index c.args.body.now ≡ [] = drop_all _ _ c.loop-stmt-test.false in
-    reaches_end p w.thread whole a r.0 (record { point = c.loop-stmt.here; entailments = c.loop-stmt.entailments })
-    (subst (λ ss. Reaches p w.thread whole a (view.block ss) r.0 c.loop-stmt.entailments) over r.1.2) r.1.0
+    reaches_end w.purpose p w.thread whole a c.args.kept.now r.0 c.loop-stmt.kept (record { point = c.loop-stmt.here; entailments = c.loop-stmt.entailments })
+    (subst (λ ss. Reaches w.purpose p w.thread whole a (view.block ss) r.0 c.loop-stmt.entailments c.args.kept.now c.loop-stmt.kept) over r.1.2) r.1.0
 
 pub block-returns-in-Err : goal.block-returns-in-Err
 block-returns-in-Err t c a k =
@@ -131,9 +132,11 @@ block-returns-in-Err t c a k =
     let next = block_from c.args.body.now c.loop-stmt.stmt-index s c.loop-stmt-test.true c.stmt-item.is in
     let same = one_point p w.thread start.at a c.args.point start.keeps k in
     let r = c.loop-stmt.invariant.2 a k (subst (λ q. HasTypesBelow q (length w.program.now.vars)) same start.types) in
-    let reached = subst (λ b. Reaches p w.thread whole a b r.0 c.loop-stmt.entailments) next r.1.2 in
-    reaches_refused p w.thread whole a s.at (view.kind s.kind) (map view.proof s.proofs) rest r.0 c.loop-stmt.entailments reached c.in-Err.fault
-    (subst (λ ps. Decides (flat (stm_parts p w.thread (view.kind s.kind) s.at (map view.proof ps) r.0)) (Err c.in-Err.fault)) c.as_slice.ensures (c.in-Err.ensures r.0 r.1.0))
+    let reached = subst (λ b. Reaches w.purpose p w.thread whole a b r.0 c.loop-stmt.entailments c.args.kept.now c.loop-stmt.kept) next r.1.2 in
+    reaches_refused w.purpose p w.thread whole a c.args.kept.now s.at (view.kind s.kind) (map view.proof s.proofs) rest r.0 c.loop-stmt.entailments c.loop-stmt.kept reached c.in-Err.fault
+    c.statement.new.kept
+    (subst (λ ps. Stops w.purpose (flat (stm_parts p w.thread (view.kind s.kind) s.at (map view.proof ps) r.0)) (stm_entailments p w.thread (view.kind s.kind) s.at r.0)
+    c.loop-stmt.kept c.statement.new.kept c.in-Err.fault) c.as_slice.ensures (c.in-Err.ensures r.0 r.1.0))
 
 -- Statements by their kind ----------------------------------------------------------------------------------------
 
@@ -147,7 +150,7 @@ statement-branch-self-requires t c =
 
 pub statement-returns-in-If : goal.statement-returns-in-If
 statement-returns-in-If t c =
-    subst (λ s. WalksStm c.args.self.now c.args.at s (map view.proof c.args.proofs.now) c.args.point c.branch-self.result)
+    subst (λ s. WalksStm c.args.self.now c.args.at s (map view.proof c.args.proofs.now) c.args.point c.args.kept.now c.branch-self.new.kept c.branch-self.result)
     (sym (branch_seen c.args.kind.now c.in-If.e c.in-If.yes c.in-If.no c.in-If.join c.in-If.is c.as_slice.result.now c.as_slice.ensures c.as_slice-in-If.result.now c.as_slice-in-If.ensures)) c.branch-self.ensures
 
 pub statement-while_loop-requires : goal.statement-while_loop-requires
@@ -160,7 +163,7 @@ statement-while_loop-requires t c =
 
 pub statement-returns-in-While : goal.statement-returns-in-While
 statement-returns-in-While t c =
-    subst (λ s. WalksStm c.args.self.now c.args.at s (map view.proof c.args.proofs.now) c.args.point c.while_loop.result)
+    subst (λ s. WalksStm c.args.self.now c.args.at s (map view.proof c.args.proofs.now) c.args.point c.args.kept.now c.while_loop.new.kept c.while_loop.result)
     (sym (loop_seen c.args.kind.now c.in-While.e c.in-While.inv c.in-While.body c.in-While.is c.as_slice-in-While.result.now c.as_slice-in-While.ensures)) c.while_loop.ensures
 
 pub statement-assign-requires-clause-range : goal.statement-assign-requires-clause-range
@@ -175,13 +178,13 @@ statement-assign-requires-clause-small t c =
 
 pub statement-returns-in-Assign : goal.statement-returns-in-Assign
 statement-returns-in-Assign t c =
-    subst (λ s. WalksStm c.args.self.now c.args.at s (map view.proof c.args.proofs.now) c.args.point c.assign.result)
+    subst (λ s. WalksStm c.args.self.now c.args.at s (map view.proof c.args.proofs.now) c.args.point c.args.kept.now c.assign.new.kept c.assign.result)
     (sym (ap view.kind c.in-Assign.is ∙ assign_is c.in-Assign.x c.in-Assign.e c.in-Assign.written c.in-Assign.retypes)) c.assign.ensures
 
 pub statement-returns-in-Lock : goal.statement-returns-in-Lock
 statement-returns-in-Lock t c =
-    subst (λ s. WalksStm c.args.self.now c.args.at s (map view.proof c.args.proofs.now) c.args.point c.lock.result)
-    (sym (ap view.kind c.in-Lock.is ∙ lock_is c.in-Lock.l)) (c.lock.ensures (map view.proof c.args.proofs.now))
+    subst (λ s. WalksStm c.args.self.now c.args.at s (map view.proof c.args.proofs.now) c.args.point c.args.kept.now c.args.kept.now c.lock.result)
+    (sym (ap view.kind c.in-Lock.is ∙ lock_is c.in-Lock.l)) (c.lock.ensures (map view.proof c.args.proofs.now) c.args.kept.now)
 
 pub statement-output-requires-clause-range : goal.statement-output-requires-clause-range
 statement-output-requires-clause-range t c =
@@ -190,8 +193,13 @@ statement-output-requires-clause-range t c =
 
 pub statement-returns-in-Output : goal.statement-returns-in-Output
 statement-returns-in-Output t c =
-    subst (λ s. WalksStm c.args.self.now c.args.at s (map view.proof c.args.proofs.now) c.args.point c.output.result)
+    subst (λ s. WalksStm c.args.self.now c.args.at s (map view.proof c.args.proofs.now) c.args.point c.args.kept.now c.output.new.kept c.output.result)
     (sym (ap view.kind c.in-Output.is ∙ output_is c.in-Output.e)) c.output.ensures
+
+pub statement-returns-in-Skip : goal.statement-returns-in-Skip
+statement-returns-in-Skip t c =
+    subst (λ s. WalksStm c.args.self.now c.args.at s (map view.proof c.args.proofs.now) c.args.point c.args.kept.now c.args.kept.now c.skip.result)
+    (sym (ap view.kind c.in-Skip.is ∙ skip_is)) (c.skip.ensures c.args.kept.now)
 
 -- Branches -------------------------------------------------------------------------------------------------------
 
@@ -249,8 +257,13 @@ branch-block-requires-2 t c =
 pub branch-returns-in_err-holds : goal.branch-returns-in_err-holds
 branch-returns-in_err-holds t c a k =
     let w = c.args.self.now in
-    fork_refused (plain_of w) w.thread c.args.at (map view.proof c.args.proofs.now) a (term c.args.e.now) (view.block c.args.yes.now) (view.block c.args.no.now) (view.state c.args.join.now)
-    c.in_err-holds.field-0.0 c.from_residual.result c.from_residual.ensures.1 (c.in_err-holds.ensures a k)
+    let yes = view.block c.args.yes.now in
+    let no = view.block c.args.no.now in
+    let j = view.state c.args.join.now in
+    let proofs = map view.proof c.args.proofs.now in
+    let e = term c.args.e.now in
+    fork_refused w.purpose (plain_of w) w.thread c.args.at proofs a e yes no j (entailment_count (flat (stm_parts (plain_of w) w.thread (branch e yes no j) c.args.at proofs a)))
+    c.args.kept.now c.fork.new.kept c.in_err-holds.field-0.0 c.from_residual.result c.from_residual.ensures.1 (c.in_err-holds.ensures a k)
 
 pub branch-returns-in_err-first : goal.branch-returns-in_err-first
 branch-returns-in_err-first t c a k =
@@ -258,7 +271,12 @@ branch-returns-in_err-first t c a k =
     let p = plain_of w in
     let e = term c.args.e.now in
     let fork = c.in_ok-holds.ensures a k in
-    first_refused p w.thread c.args.at (map view.proof c.args.proofs.now) a e (view.block c.args.yes.now) (view.block c.args.no.now) (view.state c.args.join.now) fork.0
+    let yes = view.block c.args.yes.now in
+    let no = view.block c.args.no.now in
+    let j = view.state c.args.join.now in
+    let proofs = map view.proof c.args.proofs.now in
+    first_refused w.purpose p w.thread c.args.at proofs a e yes no j c.args.kept.now c.fork.new.kept fork.0
+    (entailment_count (flat (stm_parts p w.thread (branch e yes no j) c.args.at proofs a))) c.block.new.kept
     c.in_err-first.field-0.0 c.from_residual-in_err-first.result c.from_residual-in_err-first.ensures.1 (c.in_err-first.ensures (with_guard p w.thread a e) fork.1)
 
 pub branch-returns-in_err-second : goal.branch-returns-in_err-second
@@ -268,7 +286,12 @@ branch-returns-in_err-second t c a k =
     let e = term c.args.e.now in
     let fork = c.in_ok-holds.ensures a k in
     let first = c.in_ok-first.ensures (with_guard p w.thread a e) fork.1 in
-    second_refused p w.thread c.args.at (map view.proof c.args.proofs.now) a e (view.block c.args.yes.now) (view.block c.args.no.now) (view.state c.args.join.now) fork.0 first.0
+    let yes = view.block c.args.yes.now in
+    let no = view.block c.args.no.now in
+    let j = view.state c.args.join.now in
+    let proofs = map view.proof c.args.proofs.now in
+    second_refused w.purpose p w.thread c.args.at proofs a e yes no j c.args.kept.now c.fork.new.kept fork.0 c.block.new.kept first.0
+    (entailment_count (flat (stm_parts p w.thread (branch e yes no j) c.args.at proofs a))) c.block-2.new.kept
     c.in_err-second.field-0.0 c.from_residual-in_err-second.result c.from_residual-in_err-second.ensures.1 (c.in_err-second.ensures (with_guard p w.thread a (neg e)) fork.2)
 
 pub branch-join-requires-clause-range : goal.branch-join-requires-clause-range
@@ -336,9 +359,10 @@ branch-returns t c a k =
     let second = c.in_ok-second.ensures (with_guard p w.thread a (neg e)) fork.2 in
     let yes_end = after_block p w.thread yes (with_guard p w.thread a e) in
     let no_end = after_block p w.thread no (with_guard p w.thread a (neg e)) in
-    let counted = c.in_ok-holds.field-0.count + c.in_ok-first.first.entailments + c.in_ok-second.second.entailments + length (state_follows yes_end j ++ state_follows no_end j) in
+    let counted = c.in_ok-holds.field-0.count + (c.in_ok-first.first.entailments + c.in_ok-second.second.entailments) + length (state_follows yes_end j ++ state_follows no_end j) in
     let sum : counted ≡ entailment_count (flat (stm_parts p w.thread (branch e yes no j) c.args.at proofs a)) = omega (arith, fork.3, first.2, second.2, count_branch p w.thread c.args.at proofs a e yes no j) in
-    branch_walks p w.thread c.args.at proofs a e yes no j fork.0 first.0 second.0 c.join.result c.in_ok-holds.field-0.count counted fork.3 sum
+    branch_walks w.purpose p w.thread c.args.at proofs a e yes no j c.args.kept.now c.fork.new.kept fork.0 c.block.new.kept first.0 c.block-2.new.kept c.join.new.kept second.0
+    c.join.result c.in_ok-holds.field-0.count counted fork.3 sum
     (c.join.ensures yes_end first.1 no_end second.1)
 
 -- Loops ----------------------------------------------------------------------------------------------------------
@@ -352,8 +376,12 @@ while_loop-head-requires-clause-range t c = c.requires.range.1
 pub while_loop-returns-in_err-holds : goal.while_loop-returns-in_err-holds
 while_loop-returns-in_err-holds t c a k =
     let w = c.args.self.now in
-    head_refused (plain_of w) w.thread c.args.at (map view.proof c.args.proofs.now) a (term c.args.e.now) (view.state c.args.inv.now) (view.block c.args.body.now)
-    c.in_err-holds.field-0.0 c.from_residual.result c.from_residual.ensures.1 (c.in_err-holds.ensures a k)
+    let e = term c.args.e.now in
+    let j = view.state c.args.inv.now in
+    let body = view.block c.args.body.now in
+    let proofs = map view.proof c.args.proofs.now in
+    head_refused w.purpose (plain_of w) w.thread c.args.at proofs a e j body (entailment_count (flat (stm_parts (plain_of w) w.thread (loop e j body) c.args.at proofs a)))
+    c.args.kept.now c.head.new.kept c.in_err-holds.field-0.0 c.from_residual.result c.from_residual.ensures.1 (c.in_err-holds.ensures a k)
 
 pub while_loop-block-requires : goal.while_loop-block-requires
 while_loop-block-requires t c =
@@ -389,7 +417,10 @@ while_loop-returns-in_err-end t c a k =
     let e = term c.args.e.now in
     let j = view.state c.args.inv.now in
     let head = c.in_ok-holds.ensures a k in
-    turn_refused p w.thread c.args.at (map view.proof c.args.proofs.now) a e j (view.block c.args.body.now) head.0
+    let body = view.block c.args.body.now in
+    let proofs = map view.proof c.args.proofs.now in
+    turn_refused w.purpose p w.thread c.args.at proofs a e j body c.args.kept.now c.head.new.kept head.0
+    (entailment_count (flat (stm_parts p w.thread (loop e j body) c.args.at proofs a))) c.block.new.kept
     c.in_err-end.field-0.0 c.from_residual-in_err-end.result c.from_residual-in_err-end.ensures.1 (c.in_err-end.ensures (with_guard p w.thread (meet p w.thread a j) e) head.1)
 
 pub while_loop-turn-requires-clause-end : goal.while_loop-turn-requires-clause-end
@@ -444,5 +475,6 @@ while_loop-returns t c a k =
     let body_end = after_block p w.thread body (with_guard p w.thread top e) in
     let counted = c.in_ok-holds.field-0.count + c.in_ok-end.end.entailments + length (state_follows body_end j) in
     let sum : counted ≡ entailment_count (flat (stm_parts p w.thread (loop e j body) c.args.at proofs a)) = omega (arith, head.3, end.2, count_loop p w.thread c.args.at proofs a e j body) in
-    loop_walks p w.thread c.args.at proofs a e j body head.0 end.0 c.turn.result c.in_ok-holds.field-0.count counted head.3 sum
+    loop_walks w.purpose p w.thread c.args.at proofs a e j body c.args.kept.now c.head.new.kept head.0 c.block.new.kept c.turn.new.kept end.0
+    c.turn.result c.in_ok-holds.field-0.count counted head.3 sum
     (c.turn.ensures body_end end.1 (with_guard p w.thread top (neg e)) head.2)

@@ -17,7 +17,7 @@ invariant-block-loop-stmt l =
     × (block_size rest ≤ block_size (view.block l.body))
     × ((a : Point) → Keeps (plain_of l.self) l.self.thread a l.fn.point → HasTypesBelow a (length l.self.program.now.vars)
     → (b : Point) × (Keeps (plain_of l.self) l.self.thread b l.here × HasTypesBelow b (length l.self.program.now.vars)
-    × Reaches (plain_of l.self) l.self.thread (view.block l.body) a rest b l.entailments))
+    × Reaches l.self.purpose (plain_of l.self) l.self.thread (view.block l.body) a rest b l.entailments l.initial.kept l.kept))
 
 -- a statement is smaller than the block that it stands in, and so is a block than its statement
 

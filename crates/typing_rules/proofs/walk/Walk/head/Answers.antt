@@ -6,6 +6,8 @@ use Rattle.typing_rules.specs.Entailments.{guard_follows, state_follows}
 use Rattle.typing_rules.specs.ThreadObligations.{flat, guard_obligations, state_obligations}
 use Rattle.typing_rules.specs.Inside.Walking.{GuardsAt, first_parts, plain_of, starts_of}
 use Rattle.typing_rules.proofs.Bounds.{few_entailments_state}
+use Rattle.typing_rules.proofs.Others.{others_guard, others_state}
+use Rattle.typing_rules.proofs.Reaching.{others-append}
 use Rattle.typing_rules.proofs.Ranges.{classes_below, meet_below}
 use Rattle.typing_rules.proofs.walk.Walk.head.Goals as goal
 
@@ -44,5 +46,6 @@ returns c a k =
     let stated = (rw c.site-site.ensures at c.check_state-stated.ensures) a k in
     let evaluated = (rw c.site-site.ensures at c.check_guard-evaluated.ensures) a.held (c.modes.ensures p t a k) in
     let rest = flat (first_parts p t at proofs (gs ++ hs) (starts_of w top e)) in
-    subst (λ es. GuardsAt w es top e (length (gs ++ hs)) c.guard.result) (append_assoc first second rest)
-    (c.guard.ensures top (c.in_ok-top.ensures t a k) (first ++ second) gs (c.both.ensures first second stated (λ _. evaluated)) (c.in_ok-entered.ensures a k))
+    subst (λ es. GuardsAt w at es (gs ++ hs) top e c.args.kept.now c.guard.new.kept c.guard.result) (append_assoc first second rest)
+    (c.guard.ensures top (c.in_ok-top.ensures t a k) (first ++ second) gs (others-append first second (others_state p t at a.held j) (others_guard p t at a.held e))
+    (c.both.ensures first second stated (λ _. evaluated)) (c.in_ok-entered.ensures a k))

@@ -8,10 +8,11 @@ use Rattle.typing_state.specs.After.{after_lock}
 use Rattle.typing_rules.specs.ThreadObligations.{obligation, few_preds, of_lock, small_terms, thread_obligation}
 use Rattle.typing_state.specs.Point.{has_small_types}
 use Rattle.typing_rules.specs.Inside.Walking.{plain_of}
+use Rattle.typing_rules.proofs.Reaching.{others_looked}
 use Rattle.typing_rules.proofs.walk.Walk.lock.Goals as goal
 
 pub returns : goal.returns
-returns c proofs a k =
+returns c proofs kept a k =
     let w = c.args.self.now in
     let p = plain_of w in
     let t = w.thread in
@@ -31,4 +32,7 @@ returns c proofs a k =
     let first = of_lock p t at V6 l (not (has a.held l)) ∷ [] in
     let second = few_preds p t at (after ∷ []) in
     let third = small_terms p t at [] (after ∷ []) in
-    c.finish.ensures p t (first ++ (second ++ third)) after 0 keeps (c.both-2.ensures first (second ++ third) free (λ _. c.both.ensures second third few (λ _. small))) (λ _. refl)
+    let whole = first ++ (second ++ third) in
+    c.finish.ensures w.purpose p t whole after kept keeps
+    (subst (λ o. Decides o c.both-2.result) (sym (others_looked w.purpose whole refl))
+    (c.both-2.ensures first (second ++ third) free (λ _. c.both.ensures second third few (λ _. small))))

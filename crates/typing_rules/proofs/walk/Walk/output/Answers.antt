@@ -1,14 +1,12 @@
-use Rattle.std.proofs.Common.{[], ◌∷◌, ◌++◌, length, map, sym, ◌∙◌, zero-add}
-use Rattle.std.proofs.Math.Bool.{and-true}
+use Rattle.std.proofs.Common.{◌≡◌, ◌+◌, [], ◌∷◌, ◌++◌, length, map, sym, ◌∙◌, arith, zero-add}
 use Rattle.cov_expr.specs.View.{term}
 use Rattle.cov_ast.specs.View as view
 use Rattle.typing_rules.specs.Counts.{entailment_count}
 use Rattle.typing_rules.specs.Entailments.{guard_follows}
 use Rattle.typing_rules.specs.ThreadObligations.{flat, guard_obligations}
-use Rattle.typing_state.specs.Point.{has_small_types}
 use Rattle.typing_rules.specs.Inside.Walking.{plain_of, last_parts}
+use Rattle.typing_rules.proofs.Others.{others_guard}
 use Rattle.typing_rules.proofs.Counting.{count_output}
-use Rattle.typing_rules.proofs.Parts.{all_counted}
 use Rattle.typing_rules.proofs.walk.Walk.output.Goals as goal
 
 pub returns : goal.returns
@@ -23,8 +21,7 @@ returns c a k =
     let tries = c.in_ok-tried.ensures a k in
     let first = guard_obligations p t at a.held e in
     let evaluated = (rw c.site.ensures at c.check_guard-evaluated.ensures) a.held (c.modes.ensures p t a k) in
-    let rest = flat (last_parts p t at proofs 1 (length gs) gs (a ∷ [])) in
-    let last = c.check_last-last.ensures gs (a ∷ []) (length gs) tries (c.has_small_types.ensures p t a k ∙ sym (and-true (has_small_types a))) (zero-add (length gs)) in
-    c.finish.ensures p t (first ++ rest) a (entailment_count (first ++ rest)) k (c.both.ensures first rest evaluated (λ _. last))
-    (λ held. c.from-entailments.ensures ∙ all_counted p t at proofs 1 (length gs) gs (a ∷ []) c.in_ok-tried.tried first tries held
-    ∙ sym (count_output p t at proofs a e))
+    let counted : 0 + 0 + length gs ≡ entailment_count (first ++ flat (last_parts p t at proofs 1 (length gs) gs (a ∷ []))) =
+    (let none : 0 + 0 + length gs ≡ length gs = omega arith in none) ∙ sym (count_output p t at proofs a e) in
+    c.conclude.ensures a k first gs (length gs) (entailment_count (first ++ flat (last_parts p t at proofs 1 (length gs) gs (a ∷ []))))
+    (others_guard p t at a.held e) evaluated tries (zero-add (length gs)) counted

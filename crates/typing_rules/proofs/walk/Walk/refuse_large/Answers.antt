@@ -17,7 +17,7 @@ use Rattle.typing_rules.proofs.StateLaws.{obligation_refused}
 use Rattle.typing_rules.proofs.walk.Walk.refuse_large.Goals as goal
 
 pub returns-in-Ok : goal.returns-in-Ok
-returns-in-Ok c proofs a k many =
+returns-in-Ok c a k many =
     let w = c.args.self.now in
     let p = plain_of w in
     let t = w.thread in
@@ -31,13 +31,13 @@ returns-in-Ok c proofs a k many =
     let small = list_all is_small_entailment gs && list_all has_small_types (after ∷ []) in
     let large : small ≡ false = large_value p t a x e retypes k.point inside (large_type p t a e many) in
     part_refused (value_parts p t at a x e (ty p t a e) retypes ++ few_preds p t at (after ∷ []) ∷ []) (small_terms p t at gs (after ∷ []))
-    (proved p t at proofs 1 gs ∷ numbers p t at (length gs) proofs ∷ []) c.refused_at.result
+    [] c.refused_at.result
     (c.in-Ok.ensures a k)
     (obligation_refused (obligation p t at V16 Nothing small) c.refused_at.result large
     (c.refused_at.ensures ∙ ap (λ s. Refused (thread_obligation s.thread s.place V16 Nothing false).refusal) c.site.ensures))
 
 pub returns-in-Err : goal.returns-in-Err
-returns-in-Err c proofs a k many =
+returns-in-Err c a k many =
     let w = c.args.self.now in
     let p = plain_of w in
     let t = w.thread in
@@ -48,5 +48,5 @@ returns-in-Err c proofs a k many =
     let after = after_assign p t a x e (ty p t a e) retypes in
     let gs = assign_entailments p t a x e None retypes in
     parts_refused (value_parts p t at a x e (ty p t a e) retypes ++ few_preds p t at (after ∷ []) ∷ [])
-    (small_terms p t at gs (after ∷ []) ∷ proved p t at proofs 1 gs ∷ numbers p t at (length gs) proofs ∷ []) c.in-Err.fault
+    (small_terms p t at gs (after ∷ []) ∷ []) c.in-Err.fault
     (c.in-Err.ensures a k)

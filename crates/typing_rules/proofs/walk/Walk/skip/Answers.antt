@@ -1,16 +1,19 @@
-use Rattle.std.proofs.Common.{[], ◌++◌, map, sym}
+use Rattle.std.proofs.Common.{[], ◌++◌, map, sym, subst}
+use Rattle.std.proofs.lemmas.List.{append-nil}
+use Rattle.cov_ast.specs.Obligations.{Decides}
 use Rattle.cov_ast.specs.View as view
-use Rattle.typing_rules.specs.Counts.{entailment_count}
+use Rattle.typing_rules.specs.Inside.Keeping.{looked_at}
+use Rattle.typing_rules.specs.Inside.Walking.{Walks, plain_of}
 use Rattle.typing_rules.specs.ThreadObligations.{numbers}
-use Rattle.typing_rules.specs.Inside.Walking.{plain_of}
 use Rattle.typing_rules.proofs.Counting.{count_skip}
-use Rattle.typing_rules.proofs.Parts.{padded}
 use Rattle.typing_rules.proofs.walk.Walk.skip.Goals as goal
 
 pub returns : goal.returns
-returns c a k =
+returns c kept a k =
     let w = c.args.self.now in
+    let p = plain_of w in
     let proofs = map view.proof c.args.proofs.now in
-    let obligations = numbers (plain_of w) w.thread c.args.at 0 proofs in
-    c.finish.ensures (plain_of w) w.thread (obligations ++ []) a (entailment_count (obligations ++ [])) k
-    (padded obligations c.check_numbers.result (rw c.site.ensures at c.check_numbers.ensures)) (λ _. sym (count_skip (plain_of w) w.thread c.args.at proofs a))
+    let obligations = numbers p w.thread c.args.at 0 proofs in
+    subst (λ n. Walks w.purpose p w.thread (obligations ++ []) [] a n kept kept c.finish.result) (sym (count_skip p w.thread c.args.at proofs a))
+    (c.finish.ensures w.purpose p w.thread (obligations ++ []) a kept k
+    (subst (λ o. Decides (looked_at w.purpose o) c.check_given.result) (sym (append-nil obligations)) (rw c.site.ensures at c.check_given.ensures)))

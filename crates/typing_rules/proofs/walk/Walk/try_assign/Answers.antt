@@ -1,5 +1,6 @@
 use Rattle.std.proofs.Common.{◌≡◌, ◌+◌, ◌<◌, ◌++◌, ◌∙◌, ℕ, List, length, map, ap, arith, append_assoc, option_map, subst, sym, Option, Some, None, MatchOption}
 use Rattle.std.proofs.lemmas.List.{length-append, length-map}
+use Rattle.std.proofs.lemmas.Result.{IfOk-weaker}
 use Rattle.cov_expr.specs.Term.{Term}
 use Rattle.cov_expr.specs.View.{term}
 use Rattle.cov_ast.specs.Syntax.{assign}
@@ -84,8 +85,8 @@ try_shown-requires-clause-few c =
     let one = c.in_ok-first.ensures a k (first w a c.args.x e q rs) (c.in_ok-written.ensures w.thread a k typed) in
     omega (arith, one.few, few w a c.args.x e q rs c.requires.walk (term c.args.q.now) typed c.requires.small)
 
-pub and-before-requires : goal.and-before-requires
-and-before-requires c =
+pub and-requires : goal.and-requires
+and-requires c =
     let w = c.args.self.now in
     let a = c.requires.point.at in
     let k = c.requires.point.keeps in
@@ -107,7 +108,7 @@ overflow_add-before c =
     let typed = c.requires.typed a k in
     let v = term c.args.q.now in
     let one = c.in_ok-first.ensures a k (first w a c.args.x e q rs) (c.in_ok-written.ensures w.thread a k typed) in
-    let both = c.and-before.ensures (map view.proof c.args.proofs.now) 1 (first w a c.args.x e q rs) (shown w a c.args.x e q rs v) one (c.in_ok-shown.ensures a k) in
+    let both = c.in_ok-before.ensures w.purpose c.args.at (map view.proof c.args.proofs.now) 1 (first w a c.args.x e q rs) (shown w a c.args.x e q rs v) one (c.in_ok-shown.ensures a k) in
     omega (arith, both.few, length-append (first w a c.args.x e q rs) (shown w a c.args.x e q rs v), few w a c.args.x e q rs c.requires.walk v typed c.requires.small)
 
 pub try_listed-requires-2 : goal.try_listed-requires-2
@@ -121,12 +122,12 @@ try_listed-requires-2 c =
     let typed = c.requires.typed a k in
     let v = term c.args.q.now in
     let one = c.in_ok-first.ensures a k (first w a c.args.x e q rs) (c.in_ok-written.ensures w.thread a k typed) in
-    let both = c.and-before.ensures (map view.proof c.args.proofs.now) 1 (first w a c.args.x e q rs) (shown w a c.args.x e q rs v) one (c.in_ok-shown.ensures a k) in
-    few_made a.preds (changed w a c.args.x e q rs) (1 + c.and-before.result.count) 4294967296 c.in_ok-changed.changed (c.in_ok-changed.ensures w.thread a k)
+    let both = c.in_ok-before.ensures w.purpose c.args.at (map view.proof c.args.proofs.now) 1 (first w a c.args.x e q rs) (shown w a c.args.x e q rs v) one (c.in_ok-shown.ensures a k) in
+    few_made a.preds (changed w a c.args.x e q rs) (1 + c.in_ok-before.before.count) 4294967296 c.in_ok-changed.changed (c.in_ok-changed.ensures w.thread a k)
     (omega (arith, both.few, length-append (first w a c.args.x e q rs) (shown w a c.args.x e q rs v), few w a c.args.x e q rs c.requires.walk v typed c.requires.small))
 
-pub and-requires : goal.and-requires
-and-requires c =
+pub and-requires-2 : goal.and-requires-2
+and-requires-2 c =
     let w = c.args.self.now in
     let a = c.requires.point.at in
     let k = c.requires.point.keeps in
@@ -136,12 +137,12 @@ and-requires c =
     let typed = c.requires.typed a k in
     let v = term c.args.q.now in
     let one = c.in_ok-first.ensures a k (first w a c.args.x e q rs) (c.in_ok-written.ensures w.thread a k typed) in
-    let both = c.and-before.ensures (map view.proof c.args.proofs.now) 1 (first w a c.args.x e q rs) (shown w a c.args.x e q rs v) one (c.in_ok-shown.ensures a k) in
+    let both = c.in_ok-before.ensures w.purpose c.args.at (map view.proof c.args.proofs.now) 1 (first w a c.args.x e q rs) (shown w a c.args.x e q rs v) one (c.in_ok-shown.ensures a k) in
     let last = c.in_ok-last.ensures a k (changed w a c.args.x e q rs) (c.in_ok-changed.ensures w.thread a k) in
     omega (arith, both.few, last.few, length-append (first w a c.args.x e q rs) (shown w a c.args.x e q rs v), few w a c.args.x e q rs c.requires.walk v typed c.requires.small)
 
 pub returns : goal.returns
-returns c a k =
+returns c =
     let w = c.args.self.now in
     let p = plain_of w in
     let t = w.thread in
@@ -150,14 +151,15 @@ returns c a k =
     let q = option_map term c.args.written.now in
     let rs = map view.retype c.args.retypes.now in
     let proofs = map view.proof c.args.proofs.now in
-    let typed = c.requires.typed a k in
     let v = term c.args.q.now in
+    IfOk-weaker c.and-2.result _ _ (λ all h a k.
+    let typed = c.requires.typed a k in
     let before = first w a x e q rs ++ shown w a x e q rs v in
     let controlled = controlled_values p t a x e in
     let retyped = map (retype_follows p t a x e) rs in
     let one = c.in_ok-first.ensures a k (first w a x e q rs) (c.in_ok-written.ensures t a k typed) in
-    let both = c.and-before.ensures proofs 1 (first w a x e q rs) (shown w a x e q rs v) one (c.in_ok-shown.ensures a k) in
+    let both = c.in_ok-before.ensures w.purpose c.args.at proofs 1 (first w a x e q rs) (shown w a x e q rs v) one (c.in_ok-shown.ensures a k) in
     let last = c.in_ok-last.ensures a k (changed w a x e q rs) (c.in_ok-changed.ensures t a k) in
-    subst (λ gs. Tries proofs 1 gs c.and.result)
+    subst (λ gs. Tries w.purpose c.args.at proofs 1 gs all)
     (sym (append_assoc before controlled retyped) ∙ ap (λ u. first w a x e q rs ++ shown w a x e q rs u ++ controlled ++ retyped) typed)
-    (c.and.ensures proofs 1 before (controlled ++ retyped) both last)
+    (h w.purpose c.args.at proofs 1 before (controlled ++ retyped) both last)) c.and-2.ensures

@@ -1,4 +1,5 @@
 use Rattle.std.proofs.Common.{map, arith}
+use Rattle.std.proofs.lemmas.Result.{IfOk-weaker}
 use Rattle.cov_ast.specs.View as view
 use Rattle.typing_rules.specs.Entailments.{state_follows}
 use Rattle.typing_rules.proofs.Bounds.{few_entailments_state}
@@ -29,6 +30,7 @@ and-requires c =
     )
 
 pub returns : goal.returns
-returns c a k b kb =
+returns c =
     let j = view.state c.args.join.now in
-    c.and.ensures (map view.proof c.args.proofs.now) c.args.from (state_follows a j) (state_follows b j) (c.in_ok-first.ensures a k) (c.in_ok-second.ensures b kb)
+    IfOk-weaker c.and.result _ _ (λ all h a k b kb.
+    h c.args.self.now.purpose c.args.at (map view.proof c.args.proofs.now) c.args.from (state_follows a j) (state_follows b j) (c.in_ok-first.ensures a k) (c.in_ok-second.ensures b kb)) c.and.ensures

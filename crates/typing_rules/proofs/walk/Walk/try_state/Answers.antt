@@ -24,5 +24,5 @@ try_entailments-requires c =
 pub returns : goal.returns
 returns c =
     let w = c.args.self.now in
-    tried_same w c.args.point.now (map view.proof c.args.proofs.now) c.args.from (λ a. entailments_of a.preds c.as_slice.result.now) (λ a. state_follows a (view.state c.args.s.now))
+    tried_same w c.args.at c.args.point.now (map view.proof c.args.proofs.now) c.args.from (λ a. entailments_of a.preds c.as_slice.result.now) (λ a. state_follows a (view.state c.args.s.now))
     c.try_entailments.result (λ a k. ap (entailments_of a.preds) c.as_slice.ensures ∙ c.in_ok-entailments.ensures (plain_of w) w.thread a k) c.try_entailments.ensures

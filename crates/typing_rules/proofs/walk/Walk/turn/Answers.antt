@@ -1,11 +1,8 @@
 use Rattle.std.proofs.Common.{◌≡◌, [], ◌∷◌, ◌++◌, ◌+◌, suc, map, length, refl, sym, ◌∙◌, arith, subst}
-use Rattle.std.proofs.Math.Bool.{and-true}
 use Rattle.cov_ast.specs.View as view
 use Rattle.typing_rules.specs.Entailments.{state_follows}
 use Rattle.typing_rules.specs.ThreadObligations.{flat, same_locks}
-use Rattle.typing_state.specs.Point.{has_small_types}
 use Rattle.typing_rules.specs.Inside.Walking.{Tries, last_parts, plain_of}
-use Rattle.typing_rules.proofs.Parts.{all_counted}
 use Rattle.typing_rules.proofs.walk.Walk.turn.Goals as goal
 
 pub returns : goal.returns
@@ -19,11 +16,7 @@ returns c a k b kb =
     let gs = state_follows a (view.state c.args.inv.now) in
     let count = before + length gs in
     let n : 1 + before ≡ suc before = omega arith in
-    let tries = subst (λ n. Tries proofs n gs c.in_ok-tried.tried) n (c.in_ok-tried.ensures a k) in
+    let tries = subst (λ n. Tries w.purpose at proofs n gs c.in_ok-tried.tried) n (c.in_ok-tried.ensures a k) in
     let same = same_locks p t at a.held b.held in
     let same_ok = (rw c.site.ensures at c.check_same_locks-same.ensures) a.held (c.modes.ensures p t a k) b.held (c.modes-2.ensures p t b kb) in
-    let rest = flat (last_parts p t at proofs (suc before) count gs (b ∷ [])) in
-    let last = c.check_last-last.ensures gs (b ∷ []) count tries (c.has_small_types.ensures p t b kb ∙ sym (and-true (has_small_types b))) refl in
-    c.finish.ensures p t (same ++ rest) b (before + c.args.end.entailments + length gs) kb (c.both.ensures same rest same_ok (λ _. last))
-    (λ held. let counted = all_counted p t at proofs (suc before) count gs (b ∷ []) c.in_ok-tried.tried same tries held in
-    omega (arith, counted, c.from.ensures, c.from-2.ensures))
+    c.conclude.ensures b kb same gs count (before + c.args.end.entailments + length gs) refl same_ok tries refl refl

@@ -1,5 +1,4 @@
-use Rattle.std.proofs.Common.{◌≡◌, [], ◌∷◌, ◌++◌, length, map, sym, ap, ◌∙◌, subst, zero-add}
-use Rattle.std.proofs.Math.Bool.{and-true}
+use Rattle.std.proofs.Common.{◌≡◌, ◌+◌, refl, arith, [], ◌∷◌, ◌++◌, length, map, sym, ap, ◌∙◌, subst, zero-add}
 use Rattle.cov_ast.specs.Obligations.{Decides}
 use Rattle.cov_ast.specs.Tables.{has}
 use Rattle.cov_ast.specs.View as view
@@ -9,10 +8,8 @@ use Rattle.typing_state.specs.After.{after_unlock}
 use Rattle.typing_rules.specs.Counts.{entailment_count}
 use Rattle.typing_rules.specs.Entailments.{unlock_entailments}
 use Rattle.typing_rules.specs.ThreadObligations.{flat, of_lock, thread_obligation}
-use Rattle.typing_state.specs.Point.{has_small_types}
 use Rattle.typing_rules.specs.Inside.Walking.{plain_of, last_parts}
 use Rattle.typing_rules.proofs.Counting.{count_unlock}
-use Rattle.typing_rules.proofs.Parts.{all_counted}
 use Rattle.typing_rules.proofs.walk.Walk.unlock.Goals as goal
 
 pub returns : goal.returns
@@ -33,8 +30,7 @@ returns c a k =
     subst (λ n. Decides (thread_obligation t at V7 (One n) (has a.held l) ∷ []) c.require_at-taken.result) c.lock_name.ensures
     (subst (λ b. Decides (thread_obligation t at V7 (One c.lock_name.result) b ∷ []) c.require_at-taken.result) held
     (rw c.site.ensures at c.require_at-taken.ensures)) in
-    let rest = flat (last_parts p t at proofs 1 (length gs) gs (after ∷ [])) in
-    let last = c.check_last-last.ensures gs (after ∷ []) (length gs) tries (c.has_small_types.ensures p t after keeps ∙ sym (and-true (has_small_types after))) (zero-add (length gs)) in
-    c.finish.ensures p t (first ++ rest) after (entailment_count (first ++ rest)) keeps (c.both.ensures first rest taken (λ _. last))
-    (λ held. c.from-entailments.ensures ∙ all_counted p t at proofs 1 (length gs) gs (after ∷ []) c.in_ok-tried.tried first tries held
-    ∙ sym (count_unlock p t at proofs a l))
+    let counted : 0 + 0 + length gs ≡ entailment_count (first ++ flat (last_parts p t at proofs 1 (length gs) gs (after ∷ []))) =
+    (let none : 0 + 0 + length gs ≡ length gs = omega arith in none) ∙ sym (count_unlock p t at proofs a l) in
+    c.conclude.ensures after keeps first gs (length gs) (entailment_count (first ++ flat (last_parts p t at proofs 1 (length gs) gs (after ∷ []))))
+    refl taken tries (zero-add (length gs)) counted

@@ -1,0 +1,47 @@
+use Rattle.std.proofs.Common.{◌≡◌, ◌+◌, ◌&&◌, [], ◌∷◌, ◌++◌, suc, length, map, refl, sym, ap, ◌∙◌, subst, arith, Ok, Err}
+use Rattle.std.proofs.Math.Bool.{and-true}
+use Rattle.cov_ast.specs.Obligations.{Decides}
+use Rattle.cov_ast.specs.View as view
+use Rattle.typing_state.specs.Point.{has_small_types}
+use Rattle.typing_rules.specs.Inside.Keeping.{looked_at}
+use Rattle.typing_rules.specs.Inside.Walking.{last_parts, plain_of}
+use Rattle.typing_rules.specs.ThreadObligations.{flat, numbers, proved}
+use Rattle.typing_rules.proofs.Concluding.{all_tried, concludes, last_counted, last_silent, last_stops, looked_front}
+use Rattle.typing_rules.proofs.walk.Walk.conclude.Goals as goal
+
+pub returns-in_ok-add_all-in-Ok : goal.returns-in_ok-add_all-in-Ok
+returns-in_ok-add_all-in-Ok c b k asked gs count counted others front tries sum total =
+    let w = c.args.self.now in
+    let p = plain_of w in
+    let t = w.thread in
+    let u = w.purpose in
+    let at = c.args.at in
+    let n = suc c.args.before in
+    let proofs = map view.proof c.args.proofs.now in
+    let rest = flat (last_parts p t at proofs n count gs (b ∷ [])) in
+    let tail = proved p t at proofs n gs ++ (numbers p t at count proofs ++ []) in
+    let last = c.check_last-last.ensures gs (b ∷ []) count tries (c.has_small_types.ensures p t b k ∙ sym (and-true (has_small_types b))) sum in
+    let held =
+    subst (λ o. Decides o (Ok tt)) (sym (looked_front u asked rest others))
+    (subst (λ r. Decides (asked ++ looked_at u rest) r) c.in-Ok.is (c.both.ensures asked (looked_at u rest) front (λ _. last))) in
+    let all = all_tried u p t at proofs n gs (b ∷ []) asked tail others c.args.tried tries held in (
+      concludes u p t at proofs n gs (b ∷ []) asked tail others c.args.tried tries held (last_counted p t at proofs n gs count) c.args.kept.now c.add_all.new.kept c.in_ok-add_all-in-Ok.ensures,
+      k,
+      (let e : c.from.result + c.args.inside + c.from-in-Ok.result ≡ counted = omega (arith, all.0, total, c.from.ensures, c.from-in-Ok.ensures) in e),
+    )
+
+pub returns-in-Err : goal.returns-in-Err
+returns-in-Err c b k asked gs count counted others front tries sum total =
+    let w = c.args.self.now in
+    let p = plain_of w in
+    let t = w.thread in
+    let u = w.purpose in
+    let at = c.args.at in
+    let n = suc c.args.before in
+    let proofs = map view.proof c.args.proofs.now in
+    let rest = flat (last_parts p t at proofs n count gs (b ∷ [])) in
+    let tail = proved p t at proofs n gs ++ (numbers p t at count proofs ++ []) in
+    let last = c.check_last-last.ensures gs (b ∷ []) count tries (c.has_small_types.ensures p t b k ∙ sym (and-true (has_small_types b))) sum in
+    last_stops u p t at proofs n gs (b ∷ []) asked tail others (λ wanted. last_silent p t at wanted proofs n count gs) c.args.kept.now c.in-Err.fault
+    (subst (λ o. Decides o (Err c.in-Err.fault)) (sym (looked_front u asked rest others))
+    (subst (λ r. Decides (asked ++ looked_at u rest) r) c.in-Err.is (c.both.ensures asked (looked_at u rest) front (λ _. last))))
