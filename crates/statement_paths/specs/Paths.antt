@@ -1,0 +1,91 @@
+-- The way to a statement of a thread's text: what is passed and entered on it, from the start of the thread on.
+use Rattle.std.specs.Prelude.{ℕ, ◌==◌, List, [], ◌∷◌, ◌++◌, map, Option, Some, None, option_map, if◌then◌else◌}
+use Rattle.std.specs.Option.{option_or}
+use Rattle.cov_expr.specs.Term.{Term}
+use Rattle.cov_expr.specs.View.{term}
+use Rattle.cov_ast.specs.Syntax.{State, Proof, Stm, skip, assign, lock, unlock, branch, loop, note, output, Block, done, more}
+use Rattle.cov_ast.specs.View as view
+use Rattle.statement_paths.specs.declared.way.Step as declared
+use Rattle.statement_paths.specs.declared.way.Step.TheVariants as steps
+use Rattle.statement_paths.specs.declared.way.Way as declared_way
+
+-- A step on the way, with the place of the statement that it is about.
+pub data Step : Type 0 where
+  -- past a statement in front, in the same block or in one around it
+  passed : (at : ℕ) → Stm → Step
+  -- into a block at whose start this guard holds: the first block of a branch, or the block of a loop
+  yes : (at : ℕ) → Term → Step
+  -- into the second block of a branch, at whose start this guard doesn't hold
+  no : (at : ℕ) → Term → Step
+  -- to the head of a loop, with what the loop states
+  head : (at : ℕ) → State → Step
+
+-- The steps to a statement, the first of the thread first, and what stands at their end.
+pub record Way : Type 0 where
+  pub steps : List Step
+  pub stm : Stm
+  pub proofs : List Proof
+
+-- The way to a place -------------------------------------------------------------------------------------------
+
+-- the way to a statement itself
+abbrev pub here : Stm → List Proof → Way
+here s proofs = record { steps = []; stm = s; proofs = proofs }
+
+-- a way with steps in front
+abbrev pub behind : List Step → Way → Way
+behind steps w = record { steps = steps ++ w.steps; stm = w.stm; proofs = w.proofs }
+
+abbrev mutual
+  -- The way to the first statement at a place, in the order of the text: a statement itself, then those in its blocks, then
+  -- those behind it. `None` comes where no statement is at the place.
+  pub way_to : Block → (place : ℕ) → Option Way
+  way_to done place = None
+  way_to (more at s proofs rest) place =
+      option_or (if at == place then Some (here s proofs) else way_within at s place) (option_map (behind (passed at s ∷ [])) (way_to rest place))
+
+  -- where it stands in the blocks of a statement
+  pub way_within : (at : ℕ) → Stm → (place : ℕ) → Option Way
+  way_within at skip place = None
+  way_within at (assign x e q retypes) place = None
+  way_within at (lock l) place = None
+  way_within at (unlock l) place = None
+  way_within at (branch e a b join) place =
+      option_or (option_map (behind (yes at e ∷ [])) (way_to a place)) (option_map (behind (no at e ∷ [])) (way_to b place))
+  way_within at (loop e inv b) place = option_map (behind (head at inv ∷ yes at e ∷ [])) (way_to b place)
+  way_within at (note j) place = None
+  way_within at (output e) place = None
+
+-- The ends of blocks -------------------------------------------------------------------------------------------
+
+-- past each statement of a block
+abbrev pub passed_all : Block → List Step
+passed_all done = []
+passed_all (more at s proofs rest) = passed at s ∷ passed_all rest
+
+-- from a branch to the end of its first block
+abbrev pub to_first_end : (at : ℕ) → Term → Block → List Step
+to_first_end at e a = yes at e ∷ passed_all a
+
+-- from a branch to the end of its second block
+abbrev pub to_second_end : (at : ℕ) → Term → Block → List Step
+to_second_end at e b = no at e ∷ passed_all b
+
+-- from a loop to its head
+abbrev pub to_head : (at : ℕ) → State → List Step
+to_head at inv = head at inv ∷ []
+
+-- from a loop to the end of its block
+abbrev pub to_body_end : (at : ℕ) → Term → State → Block → List Step
+to_body_end at e inv b = head at inv ∷ yes at e ∷ passed_all b
+
+-- What the code has --------------------------------------------------------------------------------------------
+
+abbrev pub step : declared.Step → Step
+step (steps.Passed s) = passed s.now.at (view.kind s.now.kind)
+step (steps.Yes at e) = yes at (term e.now)
+step (steps.No at e) = no at (term e.now)
+step (steps.Head at inv) = head at (view.state inv.now)
+
+abbrev pub way : declared_way.Way → Way
+way w = record { steps = map step w.steps; stm = view.kind w.stmt.now.kind; proofs = map view.proof w.stmt.now.proofs }
