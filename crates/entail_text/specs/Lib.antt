@@ -1,5 +1,5 @@
 pub mod Given
 pub mod Nodes
-pub mod Told
+pub mod EntailmentLines
 pub mod VariableNames
 pub mod Inside

@@ -7,7 +7,7 @@
 //!
 //! | `src/` | `specs/` | what it has |
 //! |---|---|---|
-//! | `told` | `Told` | the text |
+//! | `told` | `EntailmentLines` | the text |
 //! | `node` | `Nodes` | the hypotheses and the goal of each node of a certificate |
 //! | `names` | `VariableNames` | the names of variables, by their ids |
 //! | `given` | `Given` | the certificate of a number at a place |

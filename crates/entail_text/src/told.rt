@@ -1,6 +1,6 @@
 //! What is told of an entailment.
 
-ghost use Rattle.std.specs.Prelude.{◌≡◌, ◌++◌, OnOk, Some, codes, decimal, flat_map, map, option_map};
+ghost use Rattle.std.specs.Prelude.{◌≡◌, [], ◌++◌, OnOk, Some, codes, decimal, flat_map, get_or, map, option_map};
 ghost use Rattle.cov_expr.specs.View.{term};
 ghost use Rattle.cov_ast.specs.View as view;
 ghost use Rattle.cov_print.specs.Spelling.{whole};
@@ -8,7 +8,7 @@ ghost use Rattle.entail_cert.specs.Axioms.{numbered};
 ghost use Rattle.entail_cert.specs.Valid.{first_bad};
 ghost use Rattle.entail_text.specs.Inside.{seen};
 ghost use Rattle.entail_text.specs.Nodes as nodes;
-ghost use Rattle.entail_text.specs.Told as spec;
+ghost use Rattle.entail_text.specs.EntailmentLines as spec;
 
 use crate::node::{Node, node_at, root};
 use cov_ast::{Cert, NameTable};
@@ -18,24 +18,26 @@ use entail_cert::{CertFault, check_cert};
 use itoa::Buffer;
 use std::alloc::Global;
 
-/// Adds what is told of an entailment: its goal, its hypotheses, each with its number, and whether a certificate is given for it; of
-/// one that isn't valid the first node that fails, with the goal there and the hypotheses that the node names. Each line begins with two
-/// blanks.
+/// Adds what is told of an entailment: its goal, its hypotheses, each with its number and its remark, and whether a certificate is given
+/// for it; of one that isn't valid the first node that fails, with the goal there and the hypotheses that the node names. Each line begins
+/// with two blanks.
 ///
-/// `names` are those of the variables. It takes the time and the memory of a check of the certificate, and memory in proportion to
+/// `names` are those of the variables. `remarks` go with the hypotheses, in their order: one that is missing is taken as empty, of an
+/// empty one nothing is shown, and those past the last hypothesis are left out. It takes the time and the memory of a check of the certificate, and memory in proportion to
 /// what is added.
 pub fn add_told(
     alloc: Global,
     names: &NameTable,
     hyps: &List<Expr>,
+    remarks: &[Blob],
     goal: &Expr,
     cert: Option<&Cert>,
     text: &mut Blob,
 ) -> Result<(), NoMemory>
-    ensures { OnOk result (text.new ≡ text.old ++ spec.told names.now (map term hyps.now) (term goal.now) (option_map (λ c. view.cert c.now) cert.entry)) }
+    ensures { OnOk result (text.new ≡ text.old ++ spec.told names.now (map term hyps.now) remarks.now (term goal.now) (option_map (λ c. view.cert c.now) cert.entry)) }
 {
     add_goal(names, goal, text)?;
-    add_hypotheses(names, hyps.as_slice(), text)?;
+    add_hypotheses(names, hyps.as_slice(), remarks, text)?;
     add_certificate_line(alloc, names, hyps, goal, cert, text)
 }
 
@@ -49,16 +51,31 @@ fn add_goal(names: &NameTable, goal: &Expr, text: &mut Blob) -> Result<(), NoMem
 }
 
 /// Adds a line for each hypothesis.
-fn add_hypotheses(names: &NameTable, hyps: &[Expr], text: &mut Blob) -> Result<(), NoMemory>
-    ensures { OnOk result (text.new ≡ text.old ++ spec.hypothesis_lines names.now (map term hyps.now)) }
+fn add_hypotheses(
+    names: &NameTable,
+    hyps: &[Expr],
+    remarks: &[Blob],
+    text: &mut Blob,
+) -> Result<(), NoMemory>
+    ensures { OnOk result (text.new ≡ text.old ++ spec.hypothesis_lines names.now remarks.now (map term hyps.now)) }
 {
     if hyps.is_empty() {
         return text.extend_from_slice(b"  hypotheses:   none\n");
     }
     for (i, h) in hyps.iter().enumerate() {
-        add_hypothesis(names, i + 1, h, text)?;
+        add_hypothesis(names, i + 1, h, remark_at(remarks, i), text)?;
     }
     Ok(())
+}
+
+/// The remark at an index, counted from 0; an empty one where it is missing.
+fn remark_at(remarks: &[Blob], index: usize) -> &[u8]
+    ensures { result.now ≡ get_or remarks.now index [] }
+{
+    match remarks.get(index) {
+        Some(remark) => remark.as_slice(),
+        None => &[],
+    }
 }
 
 /// Adds the line of a hypothesis.
@@ -66,16 +83,36 @@ fn add_hypothesis(
     names: &NameTable,
     number: usize,
     h: &Expr,
+    remark: &[u8],
     text: &mut Blob,
 ) -> Result<(), NoMemory>
-    ensures { OnOk result (text.new ≡ text.old ++ spec.hypothesis_line names.now number (term h.now)) }
+    ensures { OnOk result (text.new ≡ text.old ++ spec.hypothesis_line names.now number (term h.now) remark.now) }
+{
+    add_front_of(number, text)?;
+    add_expr(names, false, h, text)?;
+    add_line_end(remark, text)
+}
+
+/// Adds what stands in front of the hypothesis of a number.
+fn add_front_of(number: usize, text: &mut Blob) -> Result<(), NoMemory>
+    ensures { OnOk result (text.new ≡ text.old ++ spec.front_of number) }
 {
     text.extend_from_slice(label(number).as_bytes())?;
     text.extend_from_slice(indent(number).as_bytes())?;
     add_number(number, text)?;
-    text.extend_from_slice(b"  ")?;
-    add_expr(names, false, h, text)?;
-    text.extend_from_slice(b"\n")
+    text.extend_from_slice(b"  ")
+}
+
+/// Adds the end of a line, with a remark where that isn't empty.
+fn add_line_end(remark: &[u8], text: &mut Blob) -> Result<(), NoMemory>
+    ensures { OnOk result (text.new ≡ text.old ++ spec.line_end remark.now) }
+{
+    if remark.is_empty() {
+        return text.extend_from_slice(b"\n");
+    }
+    text.extend_from_slice(b"   (")?;
+    text.extend_from_slice(remark)?;
+    text.extend_from_slice(b")\n")
 }
 
 /// The word before the first number, and blanks before the others.

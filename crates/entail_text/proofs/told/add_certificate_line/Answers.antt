@@ -1,7 +1,7 @@
 use Rattle.std.proofs.Common.{codes, map, option_map}
 use Rattle.cov_expr.specs.View.{term}
 use Rattle.cov_ast.specs.View as view
-use Rattle.entail_text.specs.Told.{certificate}
+use Rattle.entail_text.specs.EntailmentLines.{certificate}
 use Rattle.entail_text.proofs.Pieces.{three_added}
 use Rattle.entail_text.proofs.told.add_certificate_line.Goals as goal
 

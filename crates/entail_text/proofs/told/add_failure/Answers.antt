@@ -1,7 +1,7 @@
 use Rattle.std.proofs.Common.{codes}
 use Rattle.entail_text.specs.Inside.{seen}
 use Rattle.entail_text.specs.Nodes.{node_at}
-use Rattle.entail_text.specs.Told.{place_of, node_text_of}
+use Rattle.entail_text.specs.EntailmentLines.{place_of, node_text_of}
 use Rattle.entail_text.proofs.Pieces.{three_added}
 use Rattle.entail_text.proofs.told.add_failure.Goals as goal
 

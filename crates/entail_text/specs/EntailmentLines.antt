@@ -1,6 +1,7 @@
--- What is told of an entailment: its goal, its hypotheses with their numbers, and its certificate, with the first node that fails.
+-- What is told of an entailment: its goal, its hypotheses with their numbers and remarks, and its certificate, with the first node that
+-- fails.
 -- Expressions are spelled canonically.
-use Rattle.std.specs.Prelude.{ℕ, suc, ◌==◌, nat_lt, List, [], ◌∷◌, ◌++◌, Option, Some, None, codes, decimal, flat_map, if◌then◌else◌}
+use Rattle.std.specs.Prelude.{ℕ, suc, ◌-◌, ◌==◌, nat_lt, List, [], ◌∷◌, ◌++◌, Option, Some, None, codes, decimal, flat_map, get_or, if◌then◌else◌}
 use Rattle.cov_expr.specs.Term.{Term}
 use Rattle.cov_ast.specs.Syntax.{Cert}
 use Rattle.cov_ast.specs.Syntax as by
@@ -20,17 +21,30 @@ label n = if n == 1 then codes "  hypotheses:  " else codes "               "
 abbrev pub indent : ℕ → List ℕ
 indent n = if nat_lt n 10 then codes " " else []
 
-abbrev pub hypothesis_line : Names → ℕ → Term → List ℕ
-hypothesis_line names n h = label n ++ indent n ++ decimal n ++ codes "  " ++ whole names h ++ codes "\n"
+-- what stands in front of the hypothesis of a number
+abbrev pub front_of : ℕ → List ℕ
+front_of n = label n ++ indent n ++ decimal n ++ codes "  "
+
+-- The end of a line, with a remark. Of an empty one nothing is shown.
+abbrev pub line_end : (remark : List ℕ) → List ℕ
+line_end [] = codes "\n"
+line_end (b ∷ bs) = codes "   (" ++ (b ∷ bs) ++ codes ")\n"
+
+-- the remark of a number, counted from 1; one that is missing is empty
+abbrev pub remark_of : (remarks : List (List ℕ)) → ℕ → List ℕ
+remark_of remarks n = get_or remarks (n - 1) []
+
+abbrev pub hypothesis_line : Names → ℕ → Term → (remark : List ℕ) → List ℕ
+hypothesis_line names n h remark = front_of n ++ whole names h ++ line_end remark
 
 -- a line for each, numbered from a number on
-abbrev pub lines_from : Names → ℕ → List Term → List ℕ
-lines_from names n [] = []
-lines_from names n (h ∷ hs) = hypothesis_line names n h ++ lines_from names (suc n) hs
+abbrev pub lines_from : Names → (remarks : List (List ℕ)) → ℕ → List Term → List ℕ
+lines_from names remarks n [] = []
+lines_from names remarks n (h ∷ hs) = hypothesis_line names n h (remark_of remarks n) ++ lines_from names remarks (suc n) hs
 
-abbrev pub hypothesis_lines : Names → List Term → List ℕ
-hypothesis_lines names [] = codes "  hypotheses:   none\n"
-hypothesis_lines names (h ∷ hs) = lines_from names 1 (h ∷ hs)
+abbrev pub hypothesis_lines : Names → (remarks : List (List ℕ)) → List Term → List ℕ
+hypothesis_lines names remarks [] = codes "  hypotheses:   none\n"
+hypothesis_lines names remarks (h ∷ hs) = lines_from names remarks 1 (h ∷ hs)
 
 -- The certificate ----------------------------------------------------------------------------------------------
 
@@ -80,6 +94,7 @@ goal_line names goal = codes "  goal:         " ++ whole names goal ++ codes "\n
 abbrev pub certificate_line : Names → List Term → Term → Option Cert → List ℕ
 certificate_line names hyps goal cert = codes "  certificate:  " ++ certificate names hyps goal cert ++ codes "\n"
 
--- what is told of an entailment with these hypotheses and this goal, for which this certificate is given, if one is
-abbrev pub told : Names → List Term → Term → Option Cert → List ℕ
-told names hyps goal cert = goal_line names goal ++ hypothesis_lines names hyps ++ certificate_line names hyps goal cert
+-- what is told of an entailment with these hypotheses, which have these remarks, and this goal, for which this certificate is given, if
+-- one is
+abbrev pub told : Names → List Term → (remarks : List (List ℕ)) → Term → Option Cert → List ℕ
+told names hyps remarks goal cert = goal_line names goal ++ hypothesis_lines names remarks hyps ++ certificate_line names hyps goal cert

@@ -1,0 +1,84 @@
+-- Where a hypothesis of an entailment comes from: the last step on the way to the statement that gives it.
+--
+-- The point before a statement has what the steps to it give, as far as that isn't forgotten on the way. A later step gives a
+-- predicate anew, so the last one counts.
+use Rattle.std.specs.Prelude.{ℕ, List, [], ◌∷◌, Option, Some, None, option_map, if◌then◌else◌}
+use Rattle.std.specs.Option.{option_or}
+use Rattle.cov_expr.specs.declared.expr.Op.TheVariants.{Eq}
+use Rattle.cov_expr.specs.Term.{Term, var, neg, bin}
+use Rattle.cov_expr.specs.Trees.{same}
+use Rattle.cov_ast.specs.Declarations.{lock_at}
+use Rattle.cov_ast.specs.Plain.{Plain}
+use Rattle.cov_ast.specs.Syntax.{State, Stm, skip, assign, lock, unlock, branch, loop, note, output}
+use Rattle.statement_paths.specs.Paths.{Step, passed, yes, no, head}
+use Rattle.hypothesis_origins.specs.declared.origin.Origin.{Origin}
+use Rattle.hypothesis_origins.specs.declared.origin.Source.{Source}
+use Rattle.hypothesis_origins.specs.declared.origin.Source.TheVariants as by
+
+-- What a step gives --------------------------------------------------------------------------------------------
+
+-- a predicate that a step gives, with what in the step does
+pub record Given : Type 0 where
+  pub source : Source
+  pub term : Term
+
+abbrev pub given : Source → Term → Given
+given source e = record { source = source; term = e }
+
+-- predicates that one source gives
+abbrev pub each : Source → List Term → List Given
+each source [] = []
+each source (e ∷ es) = given source e ∷ each source es
+
+-- the invariant of a lock, if it has one
+abbrev pub by_invariant : (l : ℕ) → Option Term → List Given
+by_invariant l None = []
+by_invariant l (Some e) = given (by.Invariant l) e ∷ []
+
+-- behind a loop its guard doesn't hold, and what the loop states does
+abbrev pub given_behind_loop : Term → State → List Given
+given_behind_loop e inv = given by.LoopLeft (neg e) ∷ each by.LoopState inv.preds
+
+-- what a statement gives to the point behind it
+abbrev pub given_behind : Plain → Stm → List Given
+given_behind p skip = []
+given_behind p (assign x e q retypes) = given by.Assigned (bin Eq (var x) e) ∷ []
+given_behind p (lock l) = by_invariant l (lock_at p l).inv
+given_behind p (unlock l) = []
+given_behind p (branch e a b join) = each by.Join join.preds
+given_behind p (loop e inv b) = given_behind_loop e inv
+given_behind p (note j) = each by.Noted j.preds
+given_behind p (output e) = []
+
+-- what a step gives to the point at its end
+abbrev pub given_by : Plain → Step → List Given
+given_by p (passed at s) = given_behind p s
+given_by p (yes at e) = given by.GuardHolds e ∷ []
+given_by p (no at e) = given by.GuardFails (neg e) ∷ []
+given_by p (head at inv) = each by.LoopState inv.preds
+
+-- The origin of a hypothesis -----------------------------------------------------------------------------------
+
+-- the source of the first that equals a hypothesis
+abbrev pub first_given : List Given → (hypothesis : Term) → Option Source
+first_given [] h = None
+first_given (g ∷ gs) h = if same g.term h then Some g.source else first_given gs h
+
+abbrev pub at_place : (at : ℕ) → Source → Origin
+at_place at source = record { source = source; at = at }
+
+-- the place of the statement that a step is about
+abbrev pub place_of : Step → ℕ
+place_of (passed at s) = at
+place_of (yes at e) = at
+place_of (no at e) = at
+place_of (head at inv) = at
+
+-- the origin in one step, if that gives the hypothesis
+abbrev pub origin_at : Plain → Step → (hypothesis : Term) → Option Origin
+origin_at p s h = option_map (at_place (place_of s)) (first_given (given_by p s) h)
+
+-- the origin behind steps: in the last of them that gives the hypothesis
+abbrev pub origin : Plain → List Step → (hypothesis : Term) → Option Origin
+origin p [] h = None
+origin p (s ∷ ss) h = option_or (origin p ss h) (origin_at p s h)

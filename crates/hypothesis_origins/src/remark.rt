@@ -1,0 +1,126 @@
+//! A few words on each hypothesis.
+
+ghost use Rattle.std.specs.Prelude.{◌≡◌, ◌++◌, IfOk, OnOk, decimal, map};
+ghost use Rattle.cov_expr.specs.View.{term};
+ghost use Rattle.cov_ast.specs.Declarations.{lock_at};
+ghost use Rattle.cov_ast.specs.Plain.{plain};
+ghost use Rattle.cov_ast.specs.View as view;
+ghost use Rattle.statement_paths.specs.Paths as paths;
+ghost use Rattle.hypothesis_origins.specs.Remarks as spec;
+
+use crate::origin::{Origin, Source, origin_of};
+use cov_ast::Program;
+use cov_expr::{Blob, Expr, List, NoMemory};
+use itoa::Buffer;
+use statement_paths::Step;
+use std::alloc::Global;
+use text_lines::position;
+
+/// A remark on each hypothesis of an entailment behind steps, in their order: its origin, with the line where that stands in the
+/// text of the program, or nothing where it has none. Where the last hypothesis is asked together with the goal, its remark
+/// says that alone.
+///
+/// `bytes` are the text of the program. It takes time in proportion to the hypotheses times the steps and the text.
+pub fn remarks(
+    alloc: Global,
+    p: &Program,
+    bytes: &[u8],
+    steps: &[Step<'_>],
+    hypotheses: &[Expr],
+    asked_with_goal: bool,
+) -> Result<List<Blob>, NoMemory>
+    ensures { IfOk result (λ made. made ≡ spec.remarks (plain (view.program p.now)) bytes.now (map paths.step steps.now) asked_with_goal (map term hypotheses.now)) }
+{
+    let mut made = List::new(alloc);
+    let count = hypotheses.len();
+    for (i, h) in hypotheses.iter().enumerate() {
+        let asked = asked_with_goal && i + 1 == count;
+        made.push(remark(alloc, p, bytes, steps, h, asked)?)?;
+    }
+    Ok(made)
+}
+
+/// The remark on a hypothesis behind steps, which may be asked together with the goal.
+fn remark(
+    alloc: Global,
+    p: &Program,
+    bytes: &[u8],
+    steps: &[Step<'_>],
+    hypothesis: &Expr,
+    asked: bool,
+) -> Result<Blob, NoMemory>
+    ensures { IfOk result (λ made. made ≡ spec.remark (plain (view.program p.now)) bytes.now (map paths.step steps.now) asked (term hypothesis.now)) }
+{
+    let mut text = List::new(alloc);
+    if asked {
+        text.extend_from_slice(b"asked with the goal")?;
+    } else {
+        add_any_origin(p, bytes, origin_of(p, steps, hypothesis), &mut text)?;
+    }
+    Ok(text)
+}
+
+/// Adds an origin that is there.
+fn add_any_origin(
+    p: &Program,
+    bytes: &[u8],
+    origin: Option<Origin>,
+    text: &mut Blob,
+) -> Result<(), NoMemory>
+    ensures { OnOk result (text.new ≡ text.old ++ spec.origin_remark (plain (view.program p.now)) bytes.now origin) }
+{
+    match origin {
+        Some(origin) => add_origin(p, bytes, origin, text),
+        None => Ok(()),
+    }
+}
+
+/// Adds what an origin is, and its line.
+fn add_origin(p: &Program, bytes: &[u8], origin: Origin, text: &mut Blob) -> Result<(), NoMemory>
+    ensures { OnOk result (text.new ≡ text.old ++ spec.origin_text (plain (view.program p.now)) bytes.now origin) }
+{
+    add_source(p, origin.source, text)?;
+    text.extend_from_slice(b", line ")?;
+    add_number(position(bytes, origin.at as usize).line, text)
+}
+
+/// Adds what gives a hypothesis.
+fn add_source(p: &Program, source: Source, text: &mut Blob) -> Result<(), NoMemory>
+    ensures { OnOk result (text.new ≡ text.old ++ spec.source_text (plain (view.program p.now)) source) }
+{
+    match source {
+        Source::Assigned => text.extend_from_slice(b"assignment"),
+        Source::Invariant(l) => add_invariant_of(p, l, text),
+        Source::Join => text.extend_from_slice(b"join"),
+        Source::LoopState => text.extend_from_slice(b"inv"),
+        Source::Noted => text.extend_from_slice(b"note"),
+        Source::LoopLeft | Source::GuardHolds | Source::GuardFails => {
+            text.extend_from_slice(b"guard")
+        }
+    }
+}
+
+/// Adds that it is the invariant of a lock.
+fn add_invariant_of(p: &Program, l: u32, text: &mut Blob) -> Result<(), NoMemory>
+    ensures { OnOk result (text.new ≡ text.old ++ spec.invariant_of (plain (view.program p.now)) l) }
+{
+    text.extend_from_slice(b"invariant of ")?;
+    add_lock_name(p, l, text)
+}
+
+/// Adds the name of a lock.
+fn add_lock_name(p: &Program, l: u32, text: &mut Blob) -> Result<(), NoMemory>
+    ensures { OnOk result (text.new ≡ text.old ++ (lock_at (plain (view.program p.now)) l).name) }
+{
+    match p.locks.as_slice().get(l as usize) {
+        Some(lock) => text.extend_from_slice(lock.name.text()),
+        None => Ok(()),
+    }
+}
+
+fn add_number(n: usize, text: &mut Blob) -> Result<(), NoMemory>
+    ensures { OnOk result (text.new ≡ text.old ++ decimal n) }
+{
+    let mut buffer = Buffer::new();
+    text.extend_from_slice(buffer.format(n).as_bytes())
+}
