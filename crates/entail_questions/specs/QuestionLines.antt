@@ -1,0 +1,86 @@
+-- What the entailments of a statement ask, in plain words.
+use Rattle.std.specs.Prelude.{ℕ, List, [], ◌++◌, codes, decimal, Option, Some, None}
+use Rattle.cov_ast.specs.Declarations.{lock_at, name_of}
+use Rattle.cov_ast.specs.Plain.{Plain, plain}
+use Rattle.cov_ast.specs.Syntax.{Program}
+use Rattle.entail_questions.specs.Questions.{asked}
+use Rattle.entail_questions.specs.declared.kinds.Asked.{Asked}
+use Rattle.entail_questions.specs.declared.kinds.End.{End}
+use Rattle.entail_questions.specs.declared.kinds.End.TheVariants as e
+use Rattle.entail_questions.specs.declared.kinds.Question.{Question}
+use Rattle.entail_questions.specs.declared.kinds.Question.TheVariants as q
+
+-- what stands in front of the name or of the number; all of it where there is none
+abbrev pub before : Question → List ℕ
+before q.Written = codes "the type behind `as` gives the type that the value has by its variables"
+before (q.Shown x) = codes "where "
+before (q.Controlled y) = codes "where "
+before (q.Retyped z) = codes "where the new type of "
+before (q.Invariant l) = codes "the invariant of "
+before (q.Freed x) = codes "where "
+before q.Guard = codes "the guard is public"
+before q.HeadGuard = codes "the guard is public at the head of the loop"
+before q.Printed = codes "the value is public"
+before (q.Predicate end i) = codes "predicate "
+before (q.TypeOf end z) = codes "where the type listed for "
+
+-- the name of the variable or of the lock, or the number of the predicate
+abbrev pub subject : Plain → Question → List ℕ
+subject p q.Written = []
+subject p (q.Shown x) = name_of p x
+subject p (q.Controlled y) = name_of p y
+subject p (q.Retyped z) = name_of p z
+subject p (q.Invariant l) = (lock_at p l).name
+subject p (q.Freed x) = name_of p x
+subject p q.Guard = []
+subject p q.HeadGuard = []
+subject p q.Printed = []
+subject p (q.Predicate end i) = decimal i
+subject p (q.TypeOf end z) = name_of p z
+
+-- where a predicate is to hold
+abbrev pub behind_number : End → List ℕ
+behind_number e.Here = codes " of the note holds"
+behind_number e.Entry = codes " of `inv` holds where the loop is entered"
+behind_number e.FirstBlock = codes " of `join` holds at the end of the first block"
+behind_number e.SecondBlock = codes " of `join` holds at the end of the `else` block"
+behind_number e.Body = codes " of `inv` holds at the end of the block"
+
+-- where a variable is to be public
+abbrev pub behind_type : End → List ℕ
+behind_type e.Here = codes " holds, that variable is public here"
+behind_type e.Entry = codes " holds, that variable is public where the loop is entered"
+behind_type e.FirstBlock = codes " holds, that variable is public at the end of the first block"
+behind_type e.SecondBlock = codes " holds, that variable is public at the end of the `else` block"
+behind_type e.Body = codes " holds, that variable is public at the end of the block"
+
+-- what stands behind the name or the number
+abbrev pub behind : Question → List ℕ
+behind q.Written = []
+behind (q.Shown x) = codes " is low, the value is public"
+behind (q.Controlled y) = codes " is low after the assignment, it is public before"
+behind (q.Retyped z) = codes " holds after the assignment, that variable is public before"
+behind (q.Invariant l) = codes " holds"
+behind (q.Freed x) = codes " is low, it is public, since the lock hides it no longer"
+behind q.Guard = []
+behind q.HeadGuard = []
+behind q.Printed = []
+behind (q.Predicate end i) = behind_number end
+behind (q.TypeOf end z) = behind_type end
+
+-- what is asked, as a sentence
+abbrev pub sentence : Plain → Question → List ℕ
+sentence p question = before question ++ subject p question ++ behind question
+
+-- which entailment it is, of how many
+abbrev pub numbers : (number of : ℕ) → List ℕ
+numbers number of = codes "  entailment " ++ decimal number ++ codes " of " ++ decimal of ++ codes " asks: "
+
+-- the line of a question, if there is one
+abbrev pub line_of : Plain → (number : ℕ) → Option Asked → List ℕ
+line_of p number None = []
+line_of p number (Some a) = numbers number a.of ++ sentence p a.question ++ codes "\n"
+
+-- the line of what the entailment with this number asks, of those of the statement at this place of a thread
+abbrev pub question_line : Program → (t place number : ℕ) → List ℕ
+question_line p t place number = line_of (plain p) number (asked p t place number)

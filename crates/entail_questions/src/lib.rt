@@ -1,0 +1,31 @@
+//! What an entailment of a statement asks: of which variable, of which lock, at the end of which block.
+//!
+//! - [`question`]: what the entailment with a number asks, of those of the statement at a place ([`Asked`], [`Question`], [`End`]).
+//! - [`add_question`]: the same as a line of text.
+//! - [`is_control`]: whether the class of some variable mentions another.
+//! - [`each_entailment_has_a_question`], [`held_locks_are_those_of_points`] and [`what_is_listed_is_asked`] have no body: their contracts are
+//!   laws, that this goes by the rules of types.
+//!
+//! | `src/` | `specs/` | what it has |
+//! |---|---|---|
+//! | `statements`, `assignments`, `states`, `hidden` | `Questions` | what the entailments of a statement ask, in their order |
+//! | `lines` | `QuestionLines` | the sentences |
+//! | `laws` | `OwnEntailments` | the entailments of a statement by the rules of types |
+#![tactic(auto)]
+
+mod asked;
+mod assignments;
+mod hidden;
+mod kinds;
+mod laws;
+mod lines;
+mod statements;
+mod states;
+
+pub use asked::question;
+pub use assignments::is_control;
+pub use kinds::{Asked, End, Question};
+pub use laws::{
+    each_entailment_has_a_question, held_locks_are_those_of_points, what_is_listed_is_asked,
+};
+pub use lines::add_question;
