@@ -1,1 +1,4 @@
 pub mod Asked
+pub mod GivenElsewhere
+pub mod Remarked
+pub mod RefusedEntailment

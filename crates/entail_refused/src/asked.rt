@@ -1,35 +1,41 @@
 //! What a refusal for want of a valid certificate asked.
 
-ghost use Rattle.std.specs.Prelude.{◌≡◌, ◌<◌, ◌++◌, IsTrue, OnOk, Some, length, map, option_map};
+ghost use Rattle.std.specs.Prelude.{◌≡◌, ◌<◌, ◌++◌, IsTrue, OnOk, Some, length};
 ghost use Rattle.cov_ast.specs.Obligations.{all_hold};
 ghost use Rattle.cov_ast.specs.View as view;
 ghost use Rattle.cov_ast.specs.WellFormed.{IsWellFormed};
 ghost use Rattle.mode_compat.specs.Compatible.{numbered};
 ghost use Rattle.mode_compat.specs.Declared.{declaration_obligations};
-ghost use Rattle.typing_rules.specs.ThreadEntailments.{thread_entailments, view_entail};
+ghost use Rattle.typing_rules.specs.ThreadEntailments.{entailment_among, thread_entailments, view_entail};
 ghost use Rattle.entail_refused.specs.Asked as spec;
 
+use crate::given::add_given;
+use crate::remarked::remarks_on;
 use cov_ast::{CheckFault, Detail, Program, Refusal, Rule, Stmt};
 use cov_expr::{Blob, NoMemory};
+use entail_questions::add_question;
 use entail_text::{add_told, cert_of, variable_names};
 use std::alloc::Global;
-use typing_rules::{Entail, entailments};
+use typing_rules::{Entail, entailment_at};
 use verify::check_declared;
 
-/// Adds what is told of the entailment for which a program is refused, and nothing where it is refused for another rule than V9.
+/// Adds what is told of the entailment for which a program is refused, and nothing where it is refused for another rule than V9. `bytes` are
+/// the text of the program.
 pub fn add_asked(
     alloc: Global,
     p: &Program,
+    bytes: &[u8],
     refusal: &Refusal,
     text: &mut Blob,
 ) -> Result<(), NoMemory>
     requires { IsWellFormed (view.program p.now) }
-    ensures { OnOk result (text.new ≡ text.old ++ spec.asked (view.program p.now) refusal.now.rule refusal.now.thread refusal.now.place refusal.now.detail) }
+    ensures { OnOk result (text.new ≡ text.old ++ spec.asked (view.program p.now) bytes.now refusal.now.rule refusal.now.thread refusal.now.place refusal.now.detail) }
 {
     match refusal.rule {
         Rule::V9 => add_unproved(
             alloc,
             p,
+            bytes,
             refusal.thread,
             refusal.place,
             refusal.detail,
@@ -43,16 +49,17 @@ pub fn add_asked(
 fn add_unproved(
     alloc: Global,
     p: &Program,
+    bytes: &[u8],
     thread: Option<u32>,
     place: u32,
     detail: Detail,
     text: &mut Blob,
 ) -> Result<(), NoMemory>
     requires { IsWellFormed (view.program p.now) }
-    ensures { OnOk result (text.new ≡ text.old ++ spec.unproved (view.program p.now) thread place detail) }
+    ensures { OnOk result (text.new ≡ text.old ++ spec.unproved (view.program p.now) bytes.now thread place detail) }
 {
     match (thread, detail) {
-        (Some(t), Detail::Number(n)) => add_entailment_of(alloc, p, t, place, n, text),
+        (Some(t), Detail::Number(n)) => add_entailment_of(alloc, p, bytes, t, place, n, text),
         _ => Ok(()),
     }
 }
@@ -61,16 +68,17 @@ fn add_unproved(
 fn add_entailment_of(
     alloc: Global,
     p: &Program,
+    bytes: &[u8],
     t: u32,
     place: u32,
     number: u32,
     text: &mut Blob,
 ) -> Result<(), NoMemory>
     requires { IsWellFormed (view.program p.now) }
-    ensures { OnOk result (text.new ≡ text.old ++ spec.asked_of (view.program p.now) t place number) }
+    ensures { OnOk result (text.new ≡ text.old ++ spec.asked_of (view.program p.now) bytes.now t place number) }
 {
     if (t as usize) < p.threads.len() {
-        add_of_thread(alloc, p, t, place, number, text)
+        add_of_thread(alloc, p, bytes, t, place, number, text)
     } else {
         Ok(())
     }
@@ -80,6 +88,7 @@ fn add_entailment_of(
 fn add_of_thread(
     alloc: Global,
     p: &Program,
+    bytes: &[u8],
     t: u32,
     place: u32,
     number: u32,
@@ -87,10 +96,10 @@ fn add_of_thread(
 ) -> Result<(), NoMemory>
     requires formed { IsWellFormed (view.program p.now) }
     requires thread { t < length p.now.threads }
-    ensures { OnOk result (text.new ≡ text.old ++ spec.asked_in (view.program p.now) t place number) }
+    ensures { OnOk result (text.new ≡ text.old ++ spec.asked_in (view.program p.now) bytes.now t place number) }
 {
     match check_declared(alloc, p) {
-        Ok(()) => add_entailment(alloc, p, t, place, number, text),
+        Ok(()) => add_entailment(alloc, p, bytes, t, place, number, text),
         Err(CheckFault::Refused(_)) => Ok(()),
         Err(CheckFault::NoMemory) => Err(NoMemory),
     }
@@ -100,6 +109,7 @@ fn add_of_thread(
 fn add_entailment(
     alloc: Global,
     p: &Program,
+    bytes: &[u8],
     t: u32,
     place: u32,
     number: u32,
@@ -108,48 +118,64 @@ fn add_entailment(
     requires formed { IsWellFormed (view.program p.now) }
     requires declared { IsTrue (all_hold (declaration_obligations (view.program p.now))) }
     requires thread { t < length p.now.threads }
-    ensures { OnOk result (text.new ≡ text.old ++ spec.told_of (view.program p.now) t (spec.entailment_at (thread_entailments (view.program p.now) t) place number)) }
+    ensures { OnOk result (text.new ≡ text.old ++ spec.told_of (view.program p.now) bytes.now t (entailment_among (thread_entailments (view.program p.now) t) place number)) }
 {
-    let listed = entailments(alloc, p, t)?;
-    match entailment_at(listed.as_slice(), place, number) {
-        Some(e) => add_found(alloc, p, t, e, text),
+    match entailment_at(alloc, p, t, place, number)? {
+        Some(e) => add_found(alloc, p, bytes, t, &e, text),
         None => Ok(()),
     }
 }
 
-/// Adds what is told of an entailment of a thread, with the certificate that the thread gives for it.
+/// Adds what is told of an entailment of a thread: what it asks, its goal and hypotheses, the certificate that the thread gives for it, and,
+/// where there is none, for which entailments of the statement it gives some.
 fn add_found(
     alloc: Global,
     p: &Program,
+    bytes: &[u8],
     t: u32,
     e: &Entail,
     text: &mut Blob,
 ) -> Result<(), NoMemory>
     requires formed { IsWellFormed (view.program p.now) }
     requires thread { t < length p.now.threads }
-    ensures { OnOk result (text.new ≡ text.old ++ spec.told_of (view.program p.now) t (Some (view_entail e.now))) }
+    ensures { OnOk result (text.new ≡ text.old ++ spec.told_of (view.program p.now) bytes.now t (Some (view_entail e.now))) }
+{
+    add_question(alloc, p, t, e.place, e.number, text)?;
+    add_lines(alloc, p, bytes, t, e, text)?;
+    add_given(alloc, p, t, e.place, e.number, text)
+}
+
+/// Adds the goal of an entailment of a thread, its hypotheses, and the certificate that the thread gives for it.
+fn add_lines(
+    alloc: Global,
+    p: &Program,
+    bytes: &[u8],
+    t: u32,
+    e: &Entail,
+    text: &mut Blob,
+) -> Result<(), NoMemory>
+    requires formed { IsWellFormed (view.program p.now) }
+    requires thread { t < length p.now.threads }
+    ensures { OnOk result (text.new ≡ text.old ++ spec.entailment_lines (view.program p.now) bytes.now t (view_entail e.now)) }
 {
     let names = variable_names(alloc, p)?;
     let cert = cert_of(body_of(p, t), e.place, e.number);
-    add_told(alloc, &names, &e.hyps, &e.goal, cert, text)
+    let remarks = remarks_on(alloc, p, bytes, t, e)?;
+    add_told(
+        alloc,
+        &names,
+        &e.hyps,
+        remarks.as_slice(),
+        &e.goal,
+        cert,
+        text,
+    )
 }
 
 /// The statements of a thread.
-fn body_of(p: &Program, t: u32) -> &[Stmt]
+pub fn body_of(p: &Program, t: u32) -> &[Stmt]
     requires { t < length p.now.threads }
     ensures { view.block result.now ≡ (numbered (view.program p.now) t).body }
 {
     p.threads.as_slice()[t as usize].body.as_slice()
-}
-
-/// The entailment with this number of the statement at this place.
-fn entailment_at(listed: &[Entail], place: u32, number: u32) -> Option<&Entail>
-    ensures { option_map (λ e. view_entail e.now) result ≡ spec.entailment_at (map view_entail listed.now) place number }
-{
-    for e in listed {
-        if e.place == place && e.number == number {
-            return Some(e);
-        }
-    }
-    None
 }

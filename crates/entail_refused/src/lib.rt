@@ -1,9 +1,18 @@
 //! What a refusal for want of a valid certificate asked (V9), in plain text.
 //!
-//! - [`add_asked`]: the goal and the hypotheses of the entailment for which a program is refused, and its certificate, as `entail_text`
-//!   tells of them. `specs/Asked.antt` says which entailment that is.
+//! - [`add_asked`]: of the entailment for which a program is refused what it asks (`entail_questions`), its goal, its hypotheses, each with
+//!   where it comes from (`hypothesis_origins`), and its certificate (`entail_text`).
+//! - [`refused_entailment_is_listed`] and [`refusal_is_told`], which are laws: there is always such an entailment, and it is the one
+//!   whose certificate isn't valid. `specs/RefusedEntailment.antt` says so.
+//!
+//! `specs/Asked.antt` says which entailment that is, `specs/Remarked.antt` behind which steps its hypotheses are sought, and
+//! `specs/GivenElsewhere.antt` for which other entailments certificates are told of where it has none.
 #![tactic(auto)]
 
 mod asked;
+mod given;
+mod laws;
+mod remarked;
 
 pub use asked::add_asked;
+pub use laws::{refusal_is_told, refused_entailment_is_listed};

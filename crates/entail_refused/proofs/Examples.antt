@@ -1,0 +1,77 @@
+-- A program that is refused for V9, and what is told of it, by computation.
+use Rattle.std.proofs.Common.{◌≡◌, [], ◌∷◌, Some, None, refl, codes, lit<, false, true}
+use Rattle.std.proofs.lemmas.Fmt.{decimal_digit}
+use Rattle.cov_expr.specs.Term.{const, var}
+use Rattle.cov_ast.specs.Declarations.{no_modes}
+use Rattle.cov_ast.specs.Obligations.{first_false}
+use Rattle.cov_ast.specs.Syntax.{Program, assign, calc, done, high, low, more}
+use Rattle.cov_ast.specs.declared.refusal.Detail.TheVariants.{Nothing, Number}
+use Rattle.cov_ast.specs.declared.refusal.Refusal.{Refusal}
+use Rattle.cov_ast.specs.declared.refusal.Rule.TheVariants.{V8, V9}
+use Rattle.typing_rules.specs.ThreadEntailments.{PlacedEntailment, thread_entailments}
+use Rattle.verify.specs.Accepted.{program_obligations}
+use Rattle.entail_refused.specs.Asked.{asked}
+use Rattle.entail_refused.specs.GivenElsewhere.{line_without}
+use Rattle.entail_refused.specs.RefusedEntailment.{has_valid_certificate}
+
+-- var a: low; var s: high; thread t { a := 0; a := s by { 1: calc }; }
+abbrev shows_secret : Program
+shows_secret = record {
+  version = 1;
+  vars = record { name = codes "a"; at = 4; class = low } ∷ record { name = codes "s"; at = 16; class = high } ∷ [];
+  locks = [];
+  threads =
+      record {
+        name = codes "t";
+        at = 32;
+        modes = no_modes;
+        body =
+            more 36 (assign 0 (const 0) None []) [] (
+            more 44 (assign 0 (var 1) None []) (record { number = 1; cert = calc } ∷ []) done);
+        end = 67;
+      }
+      ∷ [];
+}
+
+abbrev unproved_at_44 : Refusal
+unproved_at_44 = record { rule = V9; thread = Some 0; place = 44; detail = Number 1 }
+
+is_refused : first_false (program_obligations shows_secret) ≡ Some unproved_at_44
+is_refused = refl
+
+-- what follows at the first statement, and what doesn't at the second
+abbrev proved_zero : PlacedEntailment
+proved_zero = record { place = 36; number = 1; entailment = record { hyps = const 1 ∷ []; goal = const 1 } }
+
+abbrev unproved_secret : PlacedEntailment
+unproved_secret = record { place = 44; number = 1; entailment = record { hyps = const 1 ∷ []; goal = const 0 } }
+
+both_listed : thread_entailments shows_secret 0 ≡ proved_zero ∷ unproved_secret ∷ []
+both_listed = refl
+
+first_proved : has_valid_certificate shows_secret 0 proved_zero ≡ true
+first_proved = refl
+
+second_unproved : has_valid_certificate shows_secret 0 unproved_secret ≡ false
+second_unproved = refl
+
+told_of_second : asked shows_secret [] V9 (Some 0) 44 (Number 1)
+    ≡ codes "  entailment 1 of 1 asks: where a is low, the value is public\n  goal:         0\n  hypotheses:   1  1   (asked with the goal)\n  certificate:  given; fails at the root: calc (the goal there is 0)\n"
+told_of_second = simp (decimal_digit 0 (lit< tt), decimal_digit 1 (lit< tt))
+
+-- nothing of another rule, and of a thread that there isn't
+other_rule : asked shows_secret [] V8 (Some 0) 44 Nothing ≡ []
+other_rule = refl
+
+no_such_thread : asked shows_secret [] V9 (Some 1) 44 (Number 1) ≡ []
+no_such_thread = refl
+
+-- a certificate is given for another entailment, for this one, and for none
+given_for_others : line_without 2 (record { number = 1; cert = calc } ∷ record { number = 3; cert = calc } ∷ []) ≡ codes "  given for:    1 3\n"
+given_for_others = simp (decimal_digit 1 (lit< tt), decimal_digit 3 (lit< tt))
+
+given_for_this_one : line_without 3 (record { number = 1; cert = calc } ∷ record { number = 3; cert = calc } ∷ []) ≡ []
+given_for_this_one = refl
+
+given_for_none : line_without 1 [] ≡ []
+given_for_none = refl

@@ -1,0 +1,6 @@
+mod GivenProofs
+mod Asks
+mod OnceListed
+mod RefusedListed
+mod WholeProgram
+mod Examples
