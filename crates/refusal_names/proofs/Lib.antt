@@ -1,0 +1,4 @@
+pub mod OutsideLaws
+pub mod ReadLaws
+pub mod LineLaws
+mod Examples

@@ -1,0 +1,5 @@
+pub mod SpokenParts
+pub mod OutsideVariables
+pub mod StableSets
+pub mod NameLines
+pub mod RefusalNames

@@ -1,0 +1,133 @@
+-- What a rule that is broken is about, by name: a line of text for each of the rules V3, V4, V8, V12 and V15. Expressions are spelled
+-- canonically.
+use Rattle.std.specs.Prelude.{ℕ, suc, List, [], ◌∷◌, ◌++◌, Bool, true, Option, Some, None, codes, flat_map, if◌then◌else◌}
+use Rattle.cov_expr.specs.Term.{Term}
+use Rattle.cov_expr.specs.Trees.{occurrences, vars}
+use Rattle.cov_ast.specs.Declarations.{lock_at}
+use Rattle.cov_ast.specs.Plain.{Plain}
+use Rattle.cov_ast.specs.Syntax.{Lock, Stm, skip, assign, lock, unlock, branch, loop, note, output}
+use Rattle.cov_ast.specs.Tables.{has}
+use Rattle.cov_print.specs.Spelling.{Names, name, whole, expr}
+use Rattle.held_locks.specs.LocksHeld.{held_at_end}
+use Rattle.refusal_names.specs.OutsideVariables.{all_outside, first_with_outside, first_unstable_class}
+use Rattle.refusal_names.specs.SpokenParts.{predicates, types, untyped}
+
+-- V3: what others may write between two reads ------------------------------------------------------------------
+
+abbrev pub two_reads : Names → (x y : ℕ) → List ℕ
+two_reads names x y = codes "  others may write: " ++ name names x ++ codes ", " ++ name names y ++ codes "\n"
+
+-- a first occurrence that isn't stable, and the next of the rest, if there is one
+abbrev pub with_second : Names → (x : ℕ) → List ℕ → List ℕ
+with_second names x [] = []
+with_second names x (y ∷ rest) = two_reads names x y
+
+-- the first two of the occurrences that aren't stable, if there are two
+abbrev pub read_line : Names → List ℕ → List ℕ
+read_line names [] = []
+read_line names (x ∷ rest) = with_second names x rest
+
+abbrev pub reads_line : Names → (stable : List Bool) → Option Term → List ℕ
+reads_line names stable None = []
+reads_line names stable (Some e) = read_line names (all_outside stable (occurrences e))
+
+-- V12: a predicate that isn't over stable variables ------------------------------------------------------------
+
+abbrev pub predicate_line : Names → Option (Term × ℕ) → List ℕ
+predicate_line names None = []
+predicate_line names (Some (e, x)) =
+    codes "  the predicate `" ++ whole names e ++ codes "` has the variable " ++ name names x ++ codes ", which isn't stable here\n"
+
+abbrev pub predicates_line : Names → (stable : List Bool) → Stm → List ℕ
+predicates_line names stable s = predicate_line names (first_with_outside stable (predicates s))
+
+-- V4: a type that isn't over stable controls -------------------------------------------------------------------
+
+-- what a variable is, and why it may not be there
+abbrev pub part_word : (is_control : Bool) → List ℕ
+part_word is_control = if is_control then codes "control " else codes "variable "
+
+abbrev pub part_fault : (is_control : Bool) → List ℕ
+part_fault is_control = if is_control then codes ", which isn't stable here\n" else codes ", which is no control\n"
+
+abbrev pub type_line : Names → (controls : List Bool) → Option (Term × ℕ) → List ℕ
+type_line names controls None = []
+type_line names controls (Some (q, x)) =
+    codes "  the type `" ++ whole names q ++ codes "` has the " ++ part_word (has controls x) ++ name names x ++ part_fault (has controls x)
+
+-- a variable that is read, with a control of its class
+abbrev pub class_line : Names → (y c : ℕ) → List ℕ
+class_line names y c =
+    codes "  no type is written by `as`, and the class of " ++ name names y ++ codes " has the control " ++ name names c ++ codes ", which isn't stable here\n"
+
+-- where no type is written, such a variable; else a type
+abbrev pub class_or_type_line : Names → Option (ℕ × ℕ) → (type : List ℕ) → List ℕ
+class_or_type_line names None type = type
+class_or_type_line names (Some (y, c)) type = class_line names y c
+
+-- the first variable of a value without a type of its own whose class isn't over stable controls
+abbrev pub value_class : Plain → (stable controls : List Bool) → Option Term → Option (ℕ × ℕ)
+value_class p stable controls None = None
+value_class p stable controls (Some e) = first_unstable_class p stable controls (vars e)
+
+abbrev pub types_line : Plain → Names → (stable controls stable_controls : List Bool) → Stm → List ℕ
+types_line p names stable controls stable_controls s =
+    class_or_type_line names (value_class p stable controls (untyped s)) (type_line names controls (first_with_outside stable_controls (types s)))
+
+-- V8: which locks are held at two ends -------------------------------------------------------------------------
+
+-- the names of those that are held, from the lock of a number on
+abbrev pub held_names : (l : ℕ) → (held : List Bool) → List Lock → List (List ℕ)
+held_names l held [] = []
+held_names l held (k ∷ ks) = if has held l then k.name ∷ held_names (suc l) held ks else held_names (suc l) held ks
+
+abbrev pub listed_names : List (List ℕ) → List ℕ
+listed_names [] = codes "none"
+listed_names (n ∷ ns) = n ++ flat_map (λ m. codes ", " ++ m) ns
+
+abbrev pub held_text : List Lock → (held : List Bool) → List ℕ
+held_text locks held = listed_names (held_names 0 held locks)
+
+-- at the two ends of a branch, and at the start and the end of the block of a loop
+abbrev pub branch_ends : List Lock → (first second : List Bool) → List ℕ
+branch_ends locks first second =
+    codes "  held at the end of the first block: " ++ held_text locks first ++ codes "; at the end of the second: " ++ held_text locks second ++ codes "\n"
+
+abbrev pub loop_ends : List Lock → (start end : List Bool) → List ℕ
+loop_ends locks start end = codes "  held at the start of the block: " ++ held_text locks start ++ codes "; at its end: " ++ held_text locks end ++ codes "\n"
+
+-- of a statement, by the locks that are held in front of it
+abbrev pub ends_line : List Lock → (held : List Bool) → Stm → List ℕ
+ends_line locks held skip = []
+ends_line locks held (assign x e q retypes) = []
+ends_line locks held (lock l) = []
+ends_line locks held (unlock l) = []
+ends_line locks held (branch e a b join) = branch_ends locks (held_at_end a held) (held_at_end b held)
+ends_line locks held (loop e inv b) = loop_ends locks held (held_at_end b held)
+ends_line locks held (note j) = []
+ends_line locks held (output e) = []
+
+-- V15: the predicate that is one too many ----------------------------------------------------------------------
+
+abbrev pub invariant_line : Names → (lock_name : List ℕ) → Option Term → List ℕ
+invariant_line names lock_name None = []
+invariant_line names lock_name (Some e) = codes "  one too many is the invariant of " ++ lock_name ++ codes ": `" ++ whole names e ++ codes "`\n"
+
+abbrev pub lock_line : Names → Lock → List ℕ
+lock_line names l = invariant_line names l.name l.inv
+
+abbrev pub guard_line : Names → Term → List ℕ
+guard_line names e = codes "  one too many is the guard or its negation: `" ++ whole names e ++ codes "`\n"
+
+abbrev pub equation_line : Names → (x : ℕ) → Term → List ℕ
+equation_line names x e = codes "  one too many is the equation `" ++ name names x ++ codes " == " ++ expr names true e ++ codes "`\n"
+
+abbrev pub added_line : Plain → Names → Stm → List ℕ
+added_line p names skip = []
+added_line p names (assign x e q retypes) = equation_line names x e
+added_line p names (lock l) = lock_line names (lock_at p l)
+added_line p names (unlock l) = []
+added_line p names (branch e a b join) = guard_line names e
+added_line p names (loop e inv b) = guard_line names e
+added_line p names (note j) = []
+added_line p names (output e) = []

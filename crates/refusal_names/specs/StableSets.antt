@@ -1,0 +1,30 @@
+-- The sets of variables that rules ask for at a place of a thread: what is stable there, and what is a control.
+use Rattle.std.specs.Prelude.{ℕ, ◌&&◌, List, Bool, length}
+use Rattle.cov_ast.specs.Declarations.{is_control}
+use Rattle.cov_ast.specs.Plain.{Plain}
+use Rattle.cov_ast.specs.Syntax.{Stm, skip, assign, lock, unlock, branch, loop, note, output}
+use Rattle.cov_ast.specs.Tables.{table}
+use Rattle.held_locks.specs.LocksHeld.{held_at_end}
+use Rattle.mode_state.specs.Sets.{is_stable}
+
+abbrev pub controls : Plain → List Bool
+controls p = table (length p.vars) (is_control p)
+
+-- for a thread that holds these locks
+abbrev pub stable : Plain → (t : ℕ) → (held : List Bool) → List Bool
+stable p t held = table (length p.vars) (is_stable p t held)
+
+abbrev pub stable_controls : Plain → (t : ℕ) → (held : List Bool) → List Bool
+stable_controls p t held = table (length p.vars) (λ x. is_stable p t held x && is_control p x)
+
+-- The locks that are held where a statement states what holds, by those in front of it: of a branch, those at the end of its first
+-- block.
+abbrev pub held_where_stated : Stm → (held : List Bool) → List Bool
+held_where_stated skip held = held
+held_where_stated (assign x e q retypes) held = held
+held_where_stated (lock l) held = held
+held_where_stated (unlock l) held = held
+held_where_stated (branch e a b join) held = held_at_end a held
+held_where_stated (loop e inv b) held = held
+held_where_stated (note j) held = held
+held_where_stated (output e) held = held

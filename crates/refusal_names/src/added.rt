@@ -1,0 +1,80 @@
+ghost use Rattle.std.specs.Prelude.{◌≡◌, ◌++◌, OnOk, Some, option_map};
+ghost use Rattle.cov_ast.specs.Declarations.{lock_at};
+ghost use Rattle.cov_ast.specs.Plain.{plain};
+ghost use Rattle.cov_ast.specs.View as view;
+ghost use Rattle.cov_expr.specs.View.{term};
+ghost use Rattle.refusal_names.specs.NameLines as spec;
+
+use crate::reads::add_variable;
+use cov_ast::{LockDecl, NameTable, Program, StmtKind};
+use cov_expr::{Blob, Expr, Name, NoMemory};
+use cov_print::add_expr;
+
+/// Adds the predicate that a statement adds to a point.
+pub fn add_added(
+    p: &Program,
+    names: &NameTable,
+    kind: &StmtKind,
+    text: &mut Blob,
+) -> Result<(), NoMemory>
+    ensures { OnOk result (text.new ≡ text.old ++ spec.added_line (plain (view.program p.now)) names.now (view.kind kind.now)) }
+{
+    match kind {
+        StmtKind::Assign(x, e, _, _) => add_equation(names, *x, e, text),
+        StmtKind::Lock(l) => add_lock(p, names, *l, text),
+        StmtKind::If(e, _, _, _) => add_guard(names, e, text),
+        StmtKind::While(e, _, _) => add_guard(names, e, text),
+        StmtKind::Skip | StmtKind::Unlock(_) | StmtKind::Note(_) | StmtKind::Output(_) => Ok(()),
+    }
+}
+
+/// Adds the line of the equation of an assignment.
+fn add_equation(names: &NameTable, x: u32, e: &Expr, text: &mut Blob) -> Result<(), NoMemory>
+    ensures { OnOk result (text.new ≡ text.old ++ spec.equation_line names.now x (term e.now)) }
+{
+    text.extend_from_slice(b"  one too many is the equation `")?;
+    add_variable(names, x, text)?;
+    text.extend_from_slice(b" == ")?;
+    add_expr(names, true, e, text)?;
+    text.extend_from_slice(b"`\n")
+}
+
+/// Adds the line of the invariant of a lock, if it has one.
+fn add_lock(p: &Program, names: &NameTable, l: u32, text: &mut Blob) -> Result<(), NoMemory>
+    ensures { OnOk result (text.new ≡ text.old ++ spec.lock_line names.now (lock_at (plain (view.program p.now)) l)) }
+{
+    match p.locks.as_slice().get(l as usize) {
+        Some(lock) => add_invariant_of(names, lock, text),
+        None => Ok(()),
+    }
+}
+
+/// Adds the line of the invariant of a lock that is there.
+fn add_invariant_of(names: &NameTable, lock: &LockDecl, text: &mut Blob) -> Result<(), NoMemory>
+    ensures { OnOk result (text.new ≡ text.old ++ spec.lock_line names.now (view.lock lock.now)) }
+{
+    match &lock.inv {
+        Some(e) => add_invariant(names, lock.name, e, text),
+        None => Ok(()),
+    }
+}
+
+/// Adds the line of an invariant.
+fn add_invariant(names: &NameTable, lock: Name, e: &Expr, text: &mut Blob) -> Result<(), NoMemory>
+    ensures { OnOk result (text.new ≡ text.old ++ spec.invariant_line names.now lock (Some (term e.now))) }
+{
+    text.extend_from_slice(b"  one too many is the invariant of ")?;
+    text.extend_from_slice(lock.text())?;
+    text.extend_from_slice(b": `")?;
+    add_expr(names, false, e, text)?;
+    text.extend_from_slice(b"`\n")
+}
+
+/// Adds the line of a guard.
+fn add_guard(names: &NameTable, e: &Expr, text: &mut Blob) -> Result<(), NoMemory>
+    ensures { OnOk result (text.new ≡ text.old ++ spec.guard_line names.now (term e.now)) }
+{
+    text.extend_from_slice(b"  one too many is the guard or its negation: `")?;
+    add_expr(names, false, e, text)?;
+    text.extend_from_slice(b"`\n")
+}

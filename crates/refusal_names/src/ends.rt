@@ -1,0 +1,120 @@
+ghost use Rattle.std.specs.Prelude.{◌≡◌, ◌++◌, ◌≤◌, IfOk, OnOk, codes, length, map};
+ghost use Rattle.cov_ast.specs.View as view;
+ghost use Rattle.refusal_names.specs.NameLines as spec;
+
+use cov_ast::{LockDecl, StmtKind};
+use cov_expr::{Blob, List, Name, NoMemory};
+use held_locks::pass_block;
+use mode_state::ModeState;
+use std::alloc::Global;
+
+/// Adds which locks are held at the two ends of a branch, or at the start and the end of the block of a loop, by those that are held in
+/// front of it.
+pub fn add_ends(
+    alloc: Global,
+    locks: &[LockDecl],
+    modes: ModeState,
+    kind: &StmtKind,
+    text: &mut Blob,
+) -> Result<(), NoMemory>
+    requires { length locks.now ≤ 64 }
+    ensures { OnOk result (text.new ≡ text.old ++ spec.ends_line (map view.lock locks.now) modes.held (view.kind kind.now)) }
+{
+    match kind {
+        StmtKind::If(_, a, b, _) => {
+            let mut first = modes.copy(alloc)?;
+            let mut second = modes;
+            pass_block(a.as_slice(), &mut first);
+            pass_block(b.as_slice(), &mut second);
+            add_branch_ends(alloc, locks, &first, &second, text)
+        }
+        StmtKind::While(_, _, b) => {
+            let mut end = modes.copy(alloc)?;
+            pass_block(b.as_slice(), &mut end);
+            add_loop_ends(alloc, locks, &modes, &end, text)
+        }
+        StmtKind::Skip | StmtKind::Lock(_) | StmtKind::Unlock(_) => Ok(()),
+        StmtKind::Assign(_, _, _, _) | StmtKind::Note(_) | StmtKind::Output(_) => Ok(()),
+    }
+}
+
+/// Adds which locks are held at the two ends of a branch.
+fn add_branch_ends(
+    alloc: Global,
+    locks: &[LockDecl],
+    first: &ModeState,
+    second: &ModeState,
+    text: &mut Blob,
+) -> Result<(), NoMemory>
+    requires { length locks.now ≤ 64 }
+    ensures { OnOk result (text.new ≡ text.old ++ spec.branch_ends (map view.lock locks.now) (first.now).held (second.now).held) }
+{
+    text.extend_from_slice(b"  held at the end of the first block: ")?;
+    add_held(alloc, locks, first, text)?;
+    text.extend_from_slice(b"; at the end of the second: ")?;
+    add_held(alloc, locks, second, text)?;
+    text.extend_from_slice(b"\n")
+}
+
+/// Adds which locks are held at the start and at the end of the block of a loop.
+fn add_loop_ends(
+    alloc: Global,
+    locks: &[LockDecl],
+    start: &ModeState,
+    end: &ModeState,
+    text: &mut Blob,
+) -> Result<(), NoMemory>
+    requires { length locks.now ≤ 64 }
+    ensures { OnOk result (text.new ≡ text.old ++ spec.loop_ends (map view.lock locks.now) (start.now).held (end.now).held) }
+{
+    text.extend_from_slice(b"  held at the start of the block: ")?;
+    add_held(alloc, locks, start, text)?;
+    text.extend_from_slice(b"; at its end: ")?;
+    add_held(alloc, locks, end, text)?;
+    text.extend_from_slice(b"\n")
+}
+
+/// Adds the names of the locks that are held.
+fn add_held(
+    alloc: Global,
+    locks: &[LockDecl],
+    modes: &ModeState,
+    text: &mut Blob,
+) -> Result<(), NoMemory>
+    requires { length locks.now ≤ 64 }
+    ensures { OnOk result (text.new ≡ text.old ++ spec.held_text (map view.lock locks.now) (modes.now).held) }
+{
+    let names = held_names(alloc, locks, modes)?;
+    add_listed(names.as_slice(), text)
+}
+
+/// The names of the locks that are held, in the order of their declarations.
+fn held_names(alloc: Global, locks: &[LockDecl], modes: &ModeState) -> Result<List<Name>, NoMemory>
+    requires { length locks.now ≤ 64 }
+    ensures { IfOk result (λ made. made ≡ spec.held_names 0 (modes.now).held (map view.lock locks.now)) }
+{
+    let mut names = List::new(alloc);
+    for (number, lock) in locks.iter().enumerate() {
+        if modes.holds(number as u32) {
+            names.push(lock.name)?;
+        }
+    }
+    Ok(names)
+}
+
+/// Adds names with commas between, or that there are none.
+fn add_listed(names: &[Name], text: &mut Blob) -> Result<(), NoMemory>
+    ensures { OnOk result (text.new ≡ text.old ++ spec.listed_names names.now) }
+{
+    match names {
+        [] => text.extend_from_slice(b"none"),
+        [first, rest @ ..] => {
+            text.extend_from_slice(first.text())?;
+            for name in rest {
+                text.extend_from_slice(b", ")?;
+                text.extend_from_slice(name.text())?;
+            }
+            Ok(())
+        }
+    }
+}

@@ -1,0 +1,24 @@
+//! What a refusal is about, by name, where its rule shows no names: a line of text.
+//!
+//! - [`add_names`]: the line for V3, V4, V8, V12 and V15.
+//!
+//! | `src/` | `specs/` | what it has |
+//! |---|---|---|
+//! | `refused` | `RefusalNames` | the line of a refusal |
+//! | `reads`, `types`, `predicates`, `ends`, `added` | `NameLines` | the line of V3, V4, V12, V8 and V15 |
+//! | `outside` | `OutsideVariables` | variables outside of a set |
+//! | `sets` | `StableSets` | what is stable at a place, and what is a control |
+//!
+//! `specs/SpokenParts.antt` says of which expressions of a statement rules speak.
+#![tactic(auto)]
+
+mod added;
+mod ends;
+mod outside;
+mod predicates;
+mod reads;
+mod refused;
+mod sets;
+mod types;
+
+pub use refused::add_names;

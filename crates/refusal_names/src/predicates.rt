@@ -1,0 +1,51 @@
+ghost use Rattle.std.specs.Prelude.{◌≡◌, ◌++◌, OnOk, Some, option_map};
+ghost use Rattle.cov_ast.specs.View as view;
+ghost use Rattle.cov_expr.specs.View.{term};
+ghost use Rattle.refusal_names.specs.NameLines as spec;
+ghost use Rattle.refusal_names.specs.OutsideVariables.{first_with_outside};
+ghost use Rattle.refusal_names.specs.SpokenParts as parts;
+
+use crate::outside::first_expr;
+use crate::reads::add_variable;
+use cov_ast::{NameTable, NumberSet, StmtKind};
+use cov_expr::{Blob, Expr, NoMemory};
+use cov_print::add_expr;
+
+/// Adds the first predicate that a statement states and that isn't over stable variables.
+pub fn add_predicates(
+    names: &NameTable,
+    stable: &NumberSet,
+    kind: &StmtKind,
+    text: &mut Blob,
+) -> Result<(), NoMemory>
+    ensures { OnOk result (text.new ≡ text.old ++ spec.predicates_line names.now stable.now (view.kind kind.now)) }
+{
+    match first_predicate(kind, stable) {
+        Some((e, x)) => add_predicate(names, e, x, text),
+        None => Ok(()),
+    }
+}
+
+/// The first predicate of a statement that has a variable outside of a set, with the first such variable.
+fn first_predicate<'p>(kind: &'p StmtKind, set: &NumberSet) -> Option<(&'p Expr, u32)>
+    ensures { option_map (λ f. (term f.0.now, f.1)) result ≡ first_with_outside set.now (parts.predicates (view.kind kind.now)) }
+{
+    match kind {
+        StmtKind::If(_, _, _, join) => first_expr(join.preds.as_slice(), set),
+        StmtKind::While(_, inv, _) => first_expr(inv.preds.as_slice(), set),
+        StmtKind::Note(j) => first_expr(j.preds.as_slice(), set),
+        StmtKind::Skip | StmtKind::Lock(_) | StmtKind::Unlock(_) => None,
+        StmtKind::Assign(_, _, _, _) | StmtKind::Output(_) => None,
+    }
+}
+
+/// Adds the line of a predicate with a variable that isn't stable.
+fn add_predicate(names: &NameTable, e: &Expr, x: u32, text: &mut Blob) -> Result<(), NoMemory>
+    ensures { OnOk result (text.new ≡ text.old ++ spec.predicate_line names.now (Some (term e.now, x))) }
+{
+    text.extend_from_slice(b"  the predicate `")?;
+    add_expr(names, false, e, text)?;
+    text.extend_from_slice(b"` has the variable ")?;
+    add_variable(names, x, text)?;
+    text.extend_from_slice(b", which isn't stable here\n")
+}

@@ -1,0 +1,206 @@
+ghost use Rattle.std.specs.Prelude.{◌≡◌, ◌<◌, ◌++◌, ℕ, List, Bool, OnOk, length, option_map};
+ghost use Rattle.cov_ast.specs.Plain.{plain};
+ghost use Rattle.cov_ast.specs.View as view;
+ghost use Rattle.cov_ast.specs.WellFormed.{IsWellFormed};
+ghost use Rattle.held_locks.specs.LocksHeld.{held_along, none_held};
+ghost use Rattle.mode_compat.specs.Compatible.{numbered};
+ghost use Rattle.mode_state.specs.Sets.{modes_at};
+ghost use Rattle.statement_paths.specs.Paths.{way, way_to};
+ghost use Rattle.refusal_names.specs.NameLines as lines;
+ghost use Rattle.refusal_names.specs.RefusalNames as spec;
+ghost use Rattle.refusal_names.specs.SpokenParts.{evaluated};
+ghost use Rattle.refusal_names.specs.StableSets as sets;
+
+use crate::added::add_added;
+use crate::ends::add_ends;
+use crate::predicates::add_predicates;
+use crate::reads::add_reads;
+use crate::sets::{known_at, pass_to_state, stable_set};
+use crate::types::add_types;
+use cov_ast::{NameTable, Program, Refusal, Rule, Stmt, StmtKind};
+use cov_expr::{Blob, NoMemory};
+use entail_text::variable_names;
+use held_locks::modes_along;
+use mode_state::ModeState;
+use statement_paths::{Way, way_to};
+use std::alloc::Global;
+
+/// Adds a line of what a refusal is about, by name. Nothing is added where the rule shows its names itself, where it isn't one of
+/// V3, V4, V8, V12 and V15, and where no statement of the thread stands at the place.
+pub fn add_names(
+    alloc: Global,
+    p: &Program,
+    refusal: &Refusal,
+    text: &mut Blob,
+) -> Result<(), NoMemory>
+    requires { IsWellFormed (view.program p.now) }
+    ensures { OnOk result (text.new ≡ text.old ++ spec.refusal_names (view.program p.now) refusal.now.rule refusal.now.thread refusal.now.place) }
+{
+    match refusal.thread {
+        Some(t) => add_at(alloc, p, t, refusal.rule, refusal.place, text),
+        None => Ok(()),
+    }
+}
+
+/// Adds the line of the statement at a place, where there is that thread.
+fn add_at(
+    alloc: Global,
+    p: &Program,
+    t: u32,
+    rule: Rule,
+    place: u32,
+    text: &mut Blob,
+) -> Result<(), NoMemory>
+    requires { IsWellFormed (view.program p.now) }
+    ensures { OnOk result (text.new ≡ text.old ++ spec.line_at (view.program p.now) t rule place) }
+{
+    if (t as usize) < p.threads.len() {
+        add_in_thread(alloc, p, t, rule, place, text)
+    } else {
+        Ok(())
+    }
+}
+
+/// Adds the line of the statement at a place of a thread, if one is there.
+fn add_in_thread(
+    alloc: Global,
+    p: &Program,
+    t: u32,
+    rule: Rule,
+    place: u32,
+    text: &mut Blob,
+) -> Result<(), NoMemory>
+    requires formed { IsWellFormed (view.program p.now) }
+    requires thread { t < length p.now.threads }
+    ensures { OnOk result (text.new ≡ text.old ++ spec.line_of_way (view.program p.now) t rule (way_to (numbered (view.program p.now) t).body place)) }
+{
+    let found = way_to(alloc, body_of(p, t), place)?;
+    add_of_any(alloc, p, t, rule, &found, text)
+}
+
+/// Adds the line of the statement at the end of a way, if there is one.
+fn add_of_any(
+    alloc: Global,
+    p: &Program,
+    t: u32,
+    rule: Rule,
+    found: &Option<Way<'_>>,
+    text: &mut Blob,
+) -> Result<(), NoMemory>
+    requires formed { IsWellFormed (view.program p.now) }
+    requires thread { t < length p.now.threads }
+    ensures { OnOk result (text.new ≡ text.old ++ spec.line_of_way (view.program p.now) t rule (option_map way found.now)) }
+{
+    match found {
+        Some(found) => add_of_way(alloc, p, t, rule, found, text),
+        None => Ok(()),
+    }
+}
+
+/// Adds the line of the statement at the end of a way.
+fn add_of_way(
+    alloc: Global,
+    p: &Program,
+    t: u32,
+    rule: Rule,
+    found: &Way<'_>,
+    text: &mut Blob,
+) -> Result<(), NoMemory>
+    requires formed { IsWellFormed (view.program p.now) }
+    requires thread { t < length p.now.threads }
+    ensures { let w = way found.now in
+        OnOk result (text.new ≡ text.old ++ spec.line_of (view.program p.now) t rule (held_along w.steps (none_held (plain (view.program p.now)))) w.stm) }
+{
+    let modes = modes_along(alloc, p, t, found.steps.as_slice())?;
+    add_line(alloc, p, t, rule, modes, &found.stmt.kind, text)
+}
+
+/// Adds the line of a statement, by the modes in front of it.
+fn add_line(
+    alloc: Global,
+    p: &Program,
+    t: u32,
+    rule: Rule,
+    modes: ModeState,
+    kind: &StmtKind,
+    text: &mut Blob,
+) -> Result<(), NoMemory>
+    requires formed { IsWellFormed (view.program p.now) }
+    requires modes { modes ≡ modes_at (plain (view.program p.now)) t modes.held }
+    ensures { OnOk result (text.new ≡ text.old ++ spec.line_of (view.program p.now) t rule modes.held (view.kind kind.now)) }
+{
+    let names = variable_names(alloc, p)?;
+    match rule {
+        Rule::V3 => add_unstable_reads(alloc, p, &names, &modes, kind, text),
+        Rule::V4 => add_bad_type(alloc, p, &names, modes, kind, text),
+        Rule::V8 => add_ends(alloc, p.locks.as_slice(), modes, kind, text),
+        Rule::V12 => add_bad_predicate(alloc, p, &names, modes, kind, text),
+        Rule::V15 => add_added(p, &names, kind, text),
+        _ => Ok(()),
+    }
+}
+
+/// Adds what others may write between two reads of a statement.
+fn add_unstable_reads(
+    alloc: Global,
+    p: &Program,
+    names: &NameTable,
+    modes: &ModeState,
+    kind: &StmtKind,
+    text: &mut Blob,
+) -> Result<(), NoMemory>
+    requires { IsWellFormed (view.program p.now) }
+    ensures { (t : ℕ) (held : List Bool) → modes.now ≡ modes_at (plain (view.program p.now)) t held
+        → OnOk result (text.new ≡ text.old ++ lines.reads_line names.now (sets.stable (plain (view.program p.now)) t held) (evaluated (view.kind kind.now))) }
+{
+    let stable = stable_set(alloc, p, modes)?;
+    add_reads(alloc, names, &stable, kind, text)
+}
+
+/// Adds the first predicate that a statement states and that isn't over stable variables.
+fn add_bad_predicate(
+    alloc: Global,
+    p: &Program,
+    names: &NameTable,
+    modes: ModeState,
+    kind: &StmtKind,
+    text: &mut Blob,
+) -> Result<(), NoMemory>
+    requires { IsWellFormed (view.program p.now) }
+    ensures { (t : ℕ) (held : List Bool) → modes ≡ modes_at (plain (view.program p.now)) t held
+        → OnOk result (text.new ≡ text.old ++ lines.predicates_line names.now
+        (sets.stable (plain (view.program p.now)) t (sets.held_where_stated (view.kind kind.now) held)) (view.kind kind.now)) }
+{
+    let mut there = modes;
+    pass_to_state(kind, &mut there);
+    let stable = stable_set(alloc, p, &there)?;
+    add_predicates(names, &stable, kind, text)
+}
+
+/// Adds the first type of a statement that isn't over stable controls.
+fn add_bad_type(
+    alloc: Global,
+    p: &Program,
+    names: &NameTable,
+    modes: ModeState,
+    kind: &StmtKind,
+    text: &mut Blob,
+) -> Result<(), NoMemory>
+    requires { IsWellFormed (view.program p.now) }
+    ensures { (t : ℕ) (held : List Bool) → modes ≡ modes_at (plain (view.program p.now)) t held
+        → OnOk result (let q = plain (view.program p.now) in let there = sets.held_where_stated (view.kind kind.now) held in
+        text.new ≡ text.old ++ lines.types_line q names.now (sets.stable q t there) (sets.controls q) (sets.stable_controls q t there) (view.kind kind.now)) }
+{
+    let mut there = modes;
+    pass_to_state(kind, &mut there);
+    let known = known_at(alloc, p, &there)?;
+    add_types(alloc, p, names, &known, kind, text)
+}
+
+/// The statements of a thread.
+fn body_of(p: &Program, t: u32) -> &[Stmt]
+    requires { t < length p.now.threads }
+    ensures { view.block result.now ≡ (numbered (view.program p.now) t).body }
+{
+    p.threads.as_slice()[t as usize].body.as_slice()
+}

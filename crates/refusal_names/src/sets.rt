@@ -1,0 +1,109 @@
+ghost use Rattle.std.specs.Prelude.{◌≡◌, ◌<◌, ◌&&◌, ℕ, List, Bool, IfOk, length};
+ghost use Rattle.cov_ast.specs.Declarations as declared;
+ghost use Rattle.cov_ast.specs.Plain.{Plain, plain};
+ghost use Rattle.cov_ast.specs.View as view;
+ghost use Rattle.cov_ast.specs.WellFormed.{IsWellFormed};
+ghost use Rattle.mode_state.specs.Sets.{is_stable, modes_at};
+ghost use Rattle.refusal_names.specs.StableSets as spec;
+
+use cov_ast::{NumberSet, Program, StmtKind};
+use cov_expr::{List, NoMemory};
+use entail_questions::is_control;
+use held_locks::pass_block;
+use mode_state::ModeState;
+use std::alloc::Global;
+
+/// The variables that are asked for where types are judged.
+#[derive(Drop)]
+pub struct Known {
+    pub stable: NumberSet,
+    pub controls: NumberSet,
+    pub stable_controls: NumberSet,
+}
+
+/// What is known of the variables of a program while a thread holds some locks.
+pub fn known_at(alloc: Global, p: &Program, modes: &ModeState) -> Result<Known, NoMemory>
+    requires { IsWellFormed (view.program p.now) }
+    ensures controls { IfOk result (λ made. made.controls ≡ spec.controls (plain (view.program p.now))) }
+    ensures stable { IfOk result (λ made. (t : ℕ) (held : List Bool) → modes.now ≡ modes_at (plain (view.program p.now)) t held
+        → made.stable ≡ spec.stable (plain (view.program p.now)) t held) }
+    ensures stable_controls { IfOk result (λ made. (t : ℕ) (held : List Bool) → modes.now ≡ modes_at (plain (view.program p.now)) t held
+        → made.stable_controls ≡ spec.stable_controls (plain (view.program p.now)) t held) }
+{
+    let stable = stable_set(alloc, p, modes)?;
+    let controls = control_set(alloc, p)?;
+    let stable_controls = stable_control_set(alloc, p, modes, &controls)?;
+    Ok(Known {
+        stable,
+        controls,
+        stable_controls,
+    })
+}
+
+/// The variables that no other thread writes while a thread holds some locks.
+pub fn stable_set(alloc: Global, p: &Program, modes: &ModeState) -> Result<NumberSet, NoMemory>
+    requires { IsWellFormed (view.program p.now) }
+    ensures { IfOk result (λ made. (t : ℕ) (held : List Bool) → modes.now ≡ modes_at (plain (view.program p.now)) t held
+        → made ≡ spec.stable (plain (view.program p.now)) t held) }
+{
+    let mut marks = List::new(alloc);
+    for x in 0..p.vars.len() as u32 {
+        marks.push(modes.stable(x))?;
+    }
+    Ok(NumberSet::from_marks(marks))
+}
+
+/// Those of them that are controls.
+fn stable_control_set(
+    alloc: Global,
+    p: &Program,
+    modes: &ModeState,
+    controls: &NumberSet,
+) -> Result<NumberSet, NoMemory>
+    requires formed { IsWellFormed (view.program p.now) }
+    requires controls { controls.now ≡ spec.controls (plain (view.program p.now)) }
+    ensures { IfOk result (λ made. (t : ℕ) (held : List Bool) → modes.now ≡ modes_at (plain (view.program p.now)) t held
+        → made ≡ spec.stable_controls (plain (view.program p.now)) t held) }
+{
+    let mut marks = List::new(alloc);
+    for x in 0..p.vars.len() as u32 {
+        marks.push(is_stable_control(modes, controls, x))?;
+    }
+    Ok(NumberSet::from_marks(marks))
+}
+
+/// Whether a variable is stable and a control.
+fn is_stable_control(modes: &ModeState, controls: &NumberSet, x: u32) -> bool
+    ensures { (p : Plain) (t : ℕ) (held : List Bool) → modes.now ≡ modes_at p t held → controls.now ≡ spec.controls p → x < length p.vars
+        → result ≡ (is_stable p t held x && declared.is_control p x) }
+{
+    modes.stable(x) && controls.has(x)
+}
+
+/// The variables that classes mention. It takes time in proportion to the classes, for each variable.
+fn control_set(alloc: Global, p: &Program) -> Result<NumberSet, NoMemory>
+    requires { IsWellFormed (view.program p.now) }
+    ensures { IfOk result (λ made. made ≡ spec.controls (plain (view.program p.now))) }
+{
+    let mut marks = List::new(alloc);
+    for x in 0..p.vars.len() as u32 {
+        marks.push(is_control(p, x))?;
+    }
+    Ok(NumberSet::from_marks(marks))
+}
+
+/// Goes on from the front of a statement to where it states what holds: of a branch, to the end of its first block.
+pub fn pass_to_state(kind: &StmtKind, modes: &mut ModeState)
+    ensures { modes.new ≡ record modes.old { held = spec.held_where_stated (view.kind kind.now) (modes.old).held } }
+{
+    match kind {
+        StmtKind::If(_, a, _, _) => pass_block(a.as_slice(), modes),
+        StmtKind::Skip
+        | StmtKind::Assign(_, _, _, _)
+        | StmtKind::Lock(_)
+        | StmtKind::Unlock(_)
+        | StmtKind::While(_, _, _)
+        | StmtKind::Note(_)
+        | StmtKind::Output(_) => {}
+    }
+}

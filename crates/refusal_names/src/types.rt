@@ -1,0 +1,139 @@
+ghost use Rattle.std.specs.Prelude.{◌≡◌, ◌++◌, IfOk, OnOk, Some, option_map};
+ghost use Rattle.cov_ast.specs.Plain.{plain};
+ghost use Rattle.cov_ast.specs.View as view;
+ghost use Rattle.cov_expr.specs.View.{term};
+ghost use Rattle.refusal_names.specs.NameLines as spec;
+ghost use Rattle.refusal_names.specs.OutsideVariables.{first_with_outside};
+ghost use Rattle.refusal_names.specs.SpokenParts as parts;
+
+use crate::outside::{first_listed, first_unstable_class, first_written};
+use crate::reads::add_variable;
+use crate::sets::Known;
+use cov_ast::{NameTable, NumberSet, Program, StmtKind};
+use cov_expr::{Blob, Expr, NoMemory, vars};
+use cov_print::add_expr;
+use std::alloc::Global;
+
+/// Adds the first type of a statement that isn't over stable controls, or for a value without a type of its own the class that isn't.
+pub fn add_types(
+    alloc: Global,
+    p: &Program,
+    names: &NameTable,
+    known: &Known,
+    kind: &StmtKind,
+    text: &mut Blob,
+) -> Result<(), NoMemory>
+    ensures { OnOk result (text.new ≡ text.old
+        ++ spec.types_line (plain (view.program p.now)) names.now known.now.stable known.now.controls known.now.stable_controls (view.kind kind.now)) }
+{
+    match value_class(alloc, p, known, kind)? {
+        Some((y, control)) => add_class(names, y, control, text),
+        None => add_first_type(names, known, kind, text),
+    }
+}
+
+/// The first variable of a value without a type of its own whose class isn't over stable controls, with the control.
+fn value_class(
+    alloc: Global,
+    p: &Program,
+    known: &Known,
+    kind: &StmtKind,
+) -> Result<Option<(u32, u32)>, NoMemory>
+    ensures { IfOk result (λ found. found ≡ spec.value_class (plain (view.program p.now)) known.now.stable known.now.controls (parts.untyped (view.kind kind.now))) }
+{
+    match untyped(kind) {
+        Some(e) => {
+            let variables = vars(alloc, e)?;
+            Ok(first_unstable_class(p, &known.stable, &known.controls, variables.as_slice()))
+        }
+        None => Ok(None),
+    }
+}
+
+/// The value of an assignment for which no type is written.
+fn untyped(kind: &StmtKind) -> Option<&Expr>
+    ensures { option_map (λ e. term e.now) result ≡ parts.untyped (view.kind kind.now) }
+{
+    match kind {
+        StmtKind::Assign(_, e, None, _) => Some(e),
+        _ => None,
+    }
+}
+
+/// Adds the line of a class with a control that isn't stable.
+fn add_class(names: &NameTable, y: u32, control: u32, text: &mut Blob) -> Result<(), NoMemory>
+    ensures { OnOk result (text.new ≡ text.old ++ spec.class_line names.now y control) }
+{
+    text.extend_from_slice(b"  no type is written by `as`, and the class of ")?;
+    add_variable(names, y, text)?;
+    text.extend_from_slice(b" has the control ")?;
+    add_variable(names, control, text)?;
+    text.extend_from_slice(b", which isn't stable here\n")
+}
+
+/// Adds the first type that isn't over stable controls, if there is one.
+fn add_first_type(
+    names: &NameTable,
+    known: &Known,
+    kind: &StmtKind,
+    text: &mut Blob,
+) -> Result<(), NoMemory>
+    ensures { OnOk result (text.new ≡ text.old ++ spec.type_line names.now known.now.controls (first_with_outside known.now.stable_controls (parts.types (view.kind kind.now)))) }
+{
+    match first_type(kind, &known.stable_controls) {
+        Some((q, x)) => add_type(names, &known.controls, q, x, text),
+        None => Ok(()),
+    }
+}
+
+/// The first type of a statement that has a variable outside of a set, with the first such variable.
+fn first_type<'p>(kind: &'p StmtKind, set: &NumberSet) -> Option<(&'p Expr, u32)>
+    ensures { option_map (λ f. (term f.0.now, f.1)) result ≡ first_with_outside set.now (parts.types (view.kind kind.now)) }
+{
+    match kind {
+        StmtKind::Assign(_, _, written, retypes) => {
+            first_written(written, retypes.as_slice(), set)
+        }
+        StmtKind::If(_, _, _, join) => first_listed(join.types.as_slice(), set),
+        StmtKind::While(_, inv, _) => first_listed(inv.types.as_slice(), set),
+        StmtKind::Note(j) => first_listed(j.types.as_slice(), set),
+        StmtKind::Skip | StmtKind::Lock(_) | StmtKind::Unlock(_) | StmtKind::Output(_) => None,
+    }
+}
+
+/// Adds the line of a type with a variable that may not be there.
+fn add_type(
+    names: &NameTable,
+    controls: &NumberSet,
+    q: &Expr,
+    x: u32,
+    text: &mut Blob,
+) -> Result<(), NoMemory>
+    ensures { OnOk result (text.new ≡ text.old ++ spec.type_line names.now controls.now (Some (term q.now, x))) }
+{
+    let control = controls.has(x);
+    text.extend_from_slice(b"  the type `")?;
+    add_expr(names, false, q, text)?;
+    text.extend_from_slice(b"` has the ")?;
+    text.extend_from_slice(part_word(control))?;
+    add_variable(names, x, text)?;
+    text.extend_from_slice(part_fault(control))
+}
+
+/// What a variable is.
+fn part_word(control: bool) -> &'static [u8]
+    ensures { result.now ≡ spec.part_word control }
+{
+    if control { b"control " } else { b"variable " }
+}
+
+/// Why a variable may not be in a type.
+fn part_fault(control: bool) -> &'static [u8]
+    ensures { result.now ≡ spec.part_fault control }
+{
+    if control {
+        b", which isn't stable here\n"
+    } else {
+        b", which is no control\n"
+    }
+}
