@@ -1,0 +1,4 @@
+pub mod FrontLaws
+pub mod FollowLaws
+pub mod LanguageLaws
+mod Examples

@@ -1,0 +1,3 @@
+pub mod ExpectedTokens
+pub mod ExpectedLines
+pub mod Inside
