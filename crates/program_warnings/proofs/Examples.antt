@@ -8,8 +8,9 @@ use Rattle.cov_ast.specs.Declarations.{no_modes}
 use Rattle.cov_ast.specs.Plain.{assign, lock, unlock, branch, loop, output, Cmds, none, next, Plain}
 use Rattle.cov_ast.specs.Syntax.{low, high, Class, Var, Lock}
 use Rattle.program_warnings.specs.HiddenText.{at_front, of_text}
-use Rattle.program_warnings.specs.Unused.{is_false, of_program, warned}
-use Rattle.program_warnings.specs.Warnings.{warnings}
+use Rattle.program_warnings.specs.NeverReached.{of_block}
+use Rattle.program_warnings.specs.Unused.{is_false, warned}
+use Rattle.program_warnings.specs.Warnings.{of_program, warnings}
 use Rattle.program_warnings.specs.declared.warning.Cause.TheVariants as c
 
 -- Programs -----------------------------------------------------------------------------------------------------
@@ -63,6 +64,50 @@ outputs_are_reads = refl
 nothing_is_used : of_program (program None none)
     ≡ warned 4 (c.NeverRead (97 ∷ [])) ∷ warned 4 (c.NeverWritten (97 ∷ [])) ∷ warned 16 (c.NeverRead (115 ∷ [])) ∷ warned 16 (c.NeverWritten (115 ∷ [])) ∷ []
 nothing_is_used = refl
+
+-- Statements that no run comes to ------------------------------------------------------------------------------
+
+abbrev a_store : ℕ → Cmds → Cmds
+a_store at rest = next at (assign 0 (const 1)) rest
+
+-- if 2 < 1 { a := 1; a := 1; } else { a := 1; } a := 1;: the first of two in the block that is never run
+the_first_block : of_block false (next 60 (branch (bin Lt (const 2) (const 1)) (a_store 70 (a_store 80 none)) (a_store 90 none)) (a_store 100 none)) ≡ warned 70 c.NeverReached ∷ []
+the_first_block = refl
+
+-- if 2 { a := 1; } else { a := 1; }
+the_second_block : of_block false (next 60 (branch (const 2) (a_store 70 none) (a_store 90 none)) none) ≡ warned 90 c.NeverReached ∷ []
+the_second_block = refl
+
+-- if 2 { a := 1; } else { }: nothing stands there
+an_empty_block : of_block false (next 60 (branch (const 2) (a_store 70 none) none) none) ≡ []
+an_empty_block = refl
+
+-- if a == a { } else { a := 1; }: no guard with a variable, whatever its value
+an_open_guard : of_block false (next 60 (branch (bin Eq (var 0) (var 0)) none (a_store 70 none)) none) ≡ []
+an_open_guard = refl
+
+-- while 0 { a := 1; } a := 1;: the loop is left at once
+a_loop_without_a_turn : of_block false (next 60 (loop (const 0) (a_store 70 none)) (a_store 80 none)) ≡ warned 70 c.NeverReached ∷ []
+a_loop_without_a_turn = refl
+
+-- while 1 { a := 1; } a := 1; a := 1;: the loop is never left
+behind_an_endless_loop : of_block false (next 60 (loop (const 1) (a_store 70 none)) (a_store 80 (a_store 90 none))) ≡ warned 80 c.NeverReached ∷ []
+behind_an_endless_loop = refl
+
+-- while s { while 1 { } } a := 1;: the outer loop may be left, before its block is run
+behind_a_loop_around_it : of_block false (next 60 (loop (var 1) (next 70 (loop (const 1) none) none)) (a_store 80 none)) ≡ []
+behind_a_loop_around_it = refl
+
+-- if 0 { while 1 { if 1 { } else { a := 1; } } a := 1; }: a block that is never run is looked at as another
+in_a_block_that_is_never_run :
+    of_block false (next 60 (branch (const 0) (next 70 (loop (const 1) (next 80 (branch (const 1) none (a_store 90 none)) none)) (a_store 95 none)) none) none)
+    ≡ warned 70 c.NeverReached ∷ warned 90 c.NeverReached ∷ warned 95 c.NeverReached ∷ []
+in_a_block_that_is_never_run = refl
+
+-- in a program they stand behind what is warned of its declarations
+behind_the_declarations : of_program (program (Some (const 0)) (next 60 (loop (const 0) (next 70 (assign 1 (var 0)) none)) none))
+    ≡ warned 4 (c.NeverWritten (97 ∷ [])) ∷ warned 16 (c.NeverRead (115 ∷ [])) ∷ warned 30 (c.FalseInvariant (108 ∷ [])) ∷ warned 70 c.NeverReached ∷ []
+behind_the_declarations = refl
 
 -- Texts --------------------------------------------------------------------------------------------------------
 

@@ -7,7 +7,7 @@ use Rattle.cov_ast.specs.Tables.{table, with_all}
 use Rattle.cov_ast.proofs.TableLaws.{with_all_none}
 use Rattle.cov_expr.specs.Trees.{occurrences}
 use Rattle.program_warnings.specs.Inside.{stm_reads, block_reads, stm_writes, block_writes}
-use Rattle.program_warnings.specs.Uses.{read_in, written_in, is_read, is_written}
+use Rattle.program_warnings.specs.StatementUses.{read_in, written_in, is_read, is_written}
 
 mutual
   stm_read : (c : Stm) (at : ℕ) (xs : List ℕ) (r : Cmds) → xs ≡ read_in r → stm_reads c ++ xs ≡ read_in (plain_stm c at r)

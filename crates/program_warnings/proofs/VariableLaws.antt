@@ -6,7 +6,7 @@ use Rattle.cov_ast.specs.View as view
 use Rattle.cov_ast.specs.declared.decl.VarDecl.{VarDecl}
 use Rattle.program_warnings.specs.Unused.{of_use, of_variables}
 use Rattle.program_warnings.specs.declared.warning.Warning.{Warning}
-use Rattle.program_warnings.specs.Uses.{is_read, is_written}
+use Rattle.program_warnings.specs.StatementUses.{is_read, is_written}
 
 pub next_variable : (p : Plain) (vs : List VarDecl) (x : ℕ) (v : VarDecl) → x < length vs → v ≡ get_or vs x v
     → of_variables p x (map view.var (drop x vs)) ≡ of_use (view.var v) (is_read p x) (is_written p x) ++ of_variables p (x + 1) (map view.var (drop (x + 1) vs))

@@ -1,10 +1,10 @@
--- What is warned of in a program: variables that no statement reads or writes, and invariants that hold nowhere.
+-- What is warned of in declarations: variables that no statement reads or writes, and invariants that hold nowhere.
 use Rattle.std.specs.Prelude.{ℕ, ◌+◌, ◌==◌, ◌&&◌, List, [], ◌∷◌, ◌++◌, flat_map, Bool, false, if◌then◌else◌, Option, Some, None}
 use Rattle.cov_expr.specs.Term.{Term, value}
 use Rattle.cov_expr.specs.Trees.{is_closed}
 use Rattle.cov_ast.specs.Plain.{Plain}
 use Rattle.cov_ast.specs.Syntax.{Var, Lock}
-use Rattle.program_warnings.specs.Uses.{is_read, is_written}
+use Rattle.program_warnings.specs.StatementUses.{is_read, is_written}
 use Rattle.program_warnings.specs.declared.warning.Warning.{Warning}
 use Rattle.program_warnings.specs.declared.warning.Cause.{Cause}
 use Rattle.program_warnings.specs.declared.warning.Cause.TheVariants as c
@@ -39,8 +39,8 @@ is_false (Some e) = is_closed_false e
 abbrev pub of_lock : Lock → List Warning
 of_lock l = if is_false l.inv then warned l.at (c.FalseInvariant l.name) ∷ [] else []
 
--- Programs -----------------------------------------------------------------------------------------------------
+-- Declarations -------------------------------------------------------------------------------------------------
 
--- what is warned of a program, in the order of its declarations
-abbrev pub of_program : Plain → List Warning
-of_program p = of_variables p 0 p.vars ++ flat_map of_lock p.locks
+-- what is warned of the declarations of a program, in their order
+abbrev pub of_declarations : Plain → List Warning
+of_declarations p = of_variables p 0 p.vars ++ flat_map of_lock p.locks

@@ -1,9 +1,14 @@
 -- What is warned of in a program and its text.
-use Rattle.std.specs.Prelude.{ℕ, nat_lt, List, [], ◌∷◌, ◌++◌, if◌then◌else◌}
+use Rattle.std.specs.Prelude.{ℕ, nat_lt, List, [], ◌∷◌, ◌++◌, flat_map, if◌then◌else◌}
 use Rattle.cov_ast.specs.Plain.{Plain}
 use Rattle.program_warnings.specs.HiddenText.{of_text}
-use Rattle.program_warnings.specs.Unused.{of_program}
+use Rattle.program_warnings.specs.NeverReached.{of_thread}
+use Rattle.program_warnings.specs.Unused.{of_declarations}
 use Rattle.program_warnings.specs.declared.warning.Warning.{Warning}
+
+-- what is warned of in a program: in its declarations, and then in the statements of its threads
+abbrev pub of_program : Plain → List Warning
+of_program p = of_declarations p ++ flat_map of_thread p.threads
 
 -- of warnings in order, those in front of a place, and the rest
 abbrev pub before : (place : ℕ) → List Warning → List Warning

@@ -2,18 +2,21 @@
 //!
 //! - [`warnings`]: what is warned of, each at its place ([`Warning`], [`Cause`]), in the order of the places.
 //! - [`no_start_meets`] has no body: where the invariant of a lock is warned of, no two memories are fit to start from.
+//! - [`no_run_comes_to`] has none either: where a statement is warned of as never reached, its thread comes to it in no run.
 //!
-//! `specs/Uses.antt` says what statements read and write, `specs/Unused.antt` what is warned of in a program,
-//! `specs/HiddenText.antt` what is warned of in bytes, and `specs/Warnings.antt` puts both together.
+//! `specs/StatementUses.antt` says what statements read and write, `specs/Unused.antt` what is warned of in declarations,
+//! `specs/NeverReached.antt` what is warned of in statements, `specs/HiddenText.antt` what is warned of in bytes, and
+//! `specs/Warnings.antt` puts them together.
 #![tactic(auto)]
 
 mod hidden;
 mod laws;
 mod merged;
+mod unreached;
 mod unused;
 mod uses;
 mod warning;
 
-pub use laws::no_start_meets;
+pub use laws::{no_run_comes_to, no_start_meets};
 pub use merged::warnings;
 pub use warning::{Cause, Warning};

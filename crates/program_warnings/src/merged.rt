@@ -5,7 +5,8 @@ ghost use Rattle.cov_expr.specs.declared.limits.TheConstants.{MOST_BYTES};
 ghost use Rattle.program_warnings.specs.Warnings as spec;
 
 use crate::hidden::of_text;
-use crate::unused::of_program;
+use crate::unreached::add_threads;
+use crate::unused::of_declarations;
 use crate::warning::Warning;
 use cov_ast::Program;
 use cov_expr::{List, NoMemory};
@@ -19,6 +20,15 @@ pub fn warnings(alloc: Global, program: &Program, bytes: &[u8]) -> Result<List<W
     let first = of_program(alloc, program)?;
     let second = of_text(alloc, bytes)?;
     merged(alloc, first.as_slice(), second.as_slice())
+}
+
+/// What is warned of in a program, in the order of its text.
+fn of_program(alloc: Global, program: &Program) -> Result<List<Warning>, NoMemory>
+    ensures { IfOk result (λ found. found ≡ spec.of_program (plain (view.program program.now))) }
+{
+    let mut found = of_declarations(alloc, program)?;
+    add_threads(program.threads.as_slice(), &mut found)?;
+    Ok(found)
 }
 
 /// The warnings of two lists, each in the order of the places, in that order.

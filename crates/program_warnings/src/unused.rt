@@ -4,7 +4,7 @@ ghost use Rattle.cov_ast.specs.Tables.{table};
 ghost use Rattle.cov_ast.specs.View as view;
 ghost use Rattle.cov_expr.specs.View.{term};
 ghost use Rattle.program_warnings.specs.Unused as spec;
-ghost use Rattle.program_warnings.specs.Uses.{is_read, is_written};
+ghost use Rattle.program_warnings.specs.StatementUses.{is_read, is_written};
 
 use crate::uses::{UseSets, uses};
 use crate::warning::{Cause, Warning};
@@ -12,9 +12,9 @@ use cov_ast::{LockDecl, Program, VarDecl};
 use cov_expr::{Expr, List, NoMemory, closed, eval};
 use std::alloc::Global;
 
-/// What is warned of in a program, in the order of its declarations.
-pub fn of_program(alloc: Global, program: &Program) -> Result<List<Warning>, NoMemory>
-    ensures { IfOk result (λ found. found ≡ spec.of_program (plain (view.program program.now))) }
+/// What is warned of in the declarations of a program, in their order.
+pub fn of_declarations(alloc: Global, program: &Program) -> Result<List<Warning>, NoMemory>
+    ensures { IfOk result (λ found. found ≡ spec.of_declarations (plain (view.program program.now))) }
 {
     let uses = uses(alloc, program)?;
     let mut found = List::new(alloc);
@@ -92,7 +92,7 @@ fn is_false(inv: &Option<Expr>) -> bool
 
 /// Whether an expression is 0 without a look at memory.
 #[tactic(auto, using(crate::proofs::ClosedLaws::closed_in_range))]
-fn is_closed_false(e: &Expr) -> bool
+pub fn is_closed_false(e: &Expr) -> bool
     ensures { result ≡ spec.is_closed_false (term e.now) }
 {
     closed(e) && eval(e, &[]) == 0

@@ -5,7 +5,7 @@ ghost use Rattle.cov_ast.specs.View as view;
 ghost use Rattle.cov_expr.specs.Trees.{occurrences};
 ghost use Rattle.cov_expr.specs.View.{term};
 ghost use Rattle.program_warnings.specs.Inside.{block_reads, block_writes, stm_reads, stm_writes};
-ghost use Rattle.program_warnings.specs.Uses.{is_read, is_written};
+ghost use Rattle.program_warnings.specs.StatementUses.{is_read, is_written};
 
 use cov_ast::{NumberSet, Program, Stmt, StmtKind, ThreadDecl};
 use cov_expr::{Expr, NoMemory};

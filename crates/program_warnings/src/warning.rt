@@ -9,6 +9,8 @@ pub enum Cause {
     NeverRead(Name),
     /// No statement writes this variable.
     NeverWritten(Name),
+    /// No run comes to this statement: the guard before it has the same value in every memory.
+    NeverReached,
     /// A carriage return that no line feed follows.
     LoneReturn,
     /// This control character, other than tab, line feed and carriage return.
@@ -22,7 +24,7 @@ pub enum Cause {
 }
 
 /// A warning, with the byte offset of what it is about. Of a lock or a variable that is the offset of the name where it is
-/// declared.
+/// declared, of a statement that of its first token.
 #[derive(Clone, Copy, Debug, PartialEq, Eq)]
 pub struct Warning {
     pub place: u32,

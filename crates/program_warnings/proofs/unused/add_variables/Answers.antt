@@ -4,7 +4,7 @@ use Rattle.cov_ast.specs.Plain.{plain}
 use Rattle.cov_ast.specs.Tables.{has}
 use Rattle.cov_ast.specs.View as view
 use Rattle.program_warnings.specs.Unused.{of_variables}
-use Rattle.program_warnings.specs.Uses.{is_read, is_written}
+use Rattle.program_warnings.specs.StatementUses.{is_read, is_written}
 use Rattle.program_warnings.proofs.VariableLaws.{variables_go_on}
 use Rattle.program_warnings.proofs.unused.add_variables.Goals as goal
 
