@@ -7,7 +7,7 @@ use Rattle.cov_expr.specs.declared.limits.TheConstants.{MOST_BYTES}
 use Rattle.cov_io.specs.Shelves.{File, Shelved, held}
 use Rattle.flow_model.specs.Agreement.{AreFitStarts}
 use Rattle.policy_class.specs.Resolved.{resolved}
-use Rattle.top_call.specs.Big.{first_start, second_start}
+use Rattle.top_call.specs.BigReplies.{first_start, second_start}
 use Rattle.top_call.specs.Check.{IsAcceptedText, meaning, obligations, verdict_by}
 use Rattle.top_call.specs.Commands.{Command, check, compile, fmt, migrate, run, run_code, run_until, pair, pair_code, big, nothing}
 use Rattle.top_call.specs.Files.{Reads}

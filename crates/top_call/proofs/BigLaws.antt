@@ -20,7 +20,7 @@ use Rattle.policy_class.specs.Resolved.{lock_id, resolved, resolved_thread, reso
 use Rattle.risc_machine.specs.declared.parts.Parts.{Parts}
 use Rattle.schedule_replay.specs.Replays.{AgreeThroughout, IsFirstStepApart}
 use Rattle.schedule_replay.specs.declared.replays.Found.{Found}
-use Rattle.top_call.specs.Big.{AllRunTogether, RunsAll, SumsUp, start_with}
+use Rattle.top_call.specs.BigReplies.{AllRunTogether, RunsAll, SumsUp, start_with}
 use Rattle.top_call.specs.Check.{IsAcceptedText, meaning}
 use Rattle.top_call.specs.Codes.{code_of}
 use Rattle.top_call.specs.Inside.{IsCodeOf, IsNamed}

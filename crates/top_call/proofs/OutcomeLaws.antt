@@ -12,7 +12,7 @@ use Rattle.compiled_code.specs.GoodCode.{IsGoodCode}
 use Rattle.cov_text.specs.Text.{program_of}
 use Rattle.flow_model.specs.Secure.{IsSecure}
 use Rattle.policy_class.specs.Resolved.{resolved}
-use Rattle.top_call.specs.Big.{first_start, second_start}
+use Rattle.top_call.specs.BigReplies.{first_start, second_start}
 use Rattle.top_call.specs.Check.{Judges, IsAcceptedText, AreNamesInOrder, meaning}
 use Rattle.top_call.specs.Codes.{Compiles, RepliesListing, code_of}
 use Rattle.top_call.specs.Commands.{Command, check, compile, fmt, migrate, run, run_code, run_until, pair, pair_code, big, nothing}

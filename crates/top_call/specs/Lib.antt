@@ -9,7 +9,7 @@ pub mod Format
 pub mod Runs
 pub mod Pairs
 pub mod Codes
-pub mod Big
+pub mod BigReplies
 pub mod Programs
 pub mod Texts
 pub mod Files

@@ -6,7 +6,7 @@ use Rattle.cov_expr.specs.Term.{Term}
 use Rattle.cov_expr.specs.declared.limits.TheConstants.{MOST_BYTES}
 use Rattle.cov_gen.specs.Big as gen
 use Rattle.flow_model.specs.Agreement.{AreFitStarts}
-use Rattle.top_call.specs.Big.{SumsUp, first_start, second_start}
+use Rattle.top_call.specs.BigReplies.{SumsUp, first_start, second_start}
 use Rattle.top_call.specs.Check.{Judges, IsAcceptedText, meaning}
 use Rattle.top_call.specs.Codes.{Compiles, RunsCode, PairsCode}
 use Rattle.top_call.specs.Commands.{Command, check, compile, fmt, migrate, run, run_code, run_until, pair, pair_code, big, nothing}

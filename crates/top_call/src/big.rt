@@ -14,7 +14,7 @@ ghost use Rattle.schedule_replay.specs.CodeReplays.{CodeAgreesThroughout, Declar
 ghost use Rattle.schedule_replay.specs.Replays.{AgreeThroughout};
 ghost use Rattle.schedule_replay.specs.Schedules.{most_entries};
 ghost use Rattle.source_machine.specs.SourceMachine.{run_of};
-ghost use Rattle.top_call.specs.Big as spec;
+ghost use Rattle.top_call.specs.BigReplies as spec;
 ghost use Rattle.top_call.specs.Codes.{code_start};
 ghost use Rattle.top_call.specs.Commands as asked;
 ghost use Rattle.top_call.specs.AnswerViews.{Gets, Stops, seen};

@@ -15,7 +15,7 @@
 //! | `call` | | `covern`, with all its promises |
 //! | `commands` | `Commands`, `Outcome` | which command the words ask for; the plan of each, in one row |
 //! | | `Plans`, `Asks` | plans: which files are read one behind the other, and what is replied then; which calls they make |
-//! | `check`, `compile`, `fmt`, `migrate`, `run`, `run_code`, `run_until`, `pair`, `pair_code`, `big` | `Check`, `Format`, `Runs`, `Pairs`, `Codes`, `Big` | a module for each command: what it replies to what its files spell |
+//! | `check`, `compile`, `fmt`, `migrate`, `run`, `run_code`, `run_until`, `pair`, `pair_code`, `big` | `Check`, `Format`, `Runs`, `Pairs`, `Codes`, `BigReplies` | a module for each command: what it replies to what its files spell |
 //! | `codes` | `Codes` | the verdict on a program, the code of an accepted one, and its machine |
 //! | `files`, `inputs`, `expressions` | `Files`, `Programs`, `Texts`, `Inputs`, `Expressions` | how a file is fetched and read, as a program, a start or a schedule, and a word as an expression, and what is replied where it isn't |
 //! | `answers` | `Replies`, `AnswerViews` | what a call can answer, and the status of each answer; an answer of the code as the reply that it is |

@@ -5,7 +5,7 @@ use Rattle.cov_ast.specs.Syntax.{Parsed}
 use Rattle.cov_ast.specs.View as view
 use Rattle.cov_gen.specs.Big as gen
 use Rattle.flow_model.specs.Agreement.{AreFitStarts}
-use Rattle.top_call.specs.Big.{SumsUp, first_start, second_start}
+use Rattle.top_call.specs.BigReplies.{SumsUp, first_start, second_start}
 use Rattle.top_call.specs.Check.{IsAcceptedText, meaning}
 use Rattle.top_call.specs.Commands.{big}
 use Rattle.top_call.specs.Inputs.{IsScheduleText, IsScheduleFault}

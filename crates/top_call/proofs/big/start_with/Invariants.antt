@@ -1,6 +1,6 @@
 use Rattle.std.proofs.Common.{◌≡◌, ◌++◌, drop, map}
 use Rattle.cov_ast.specs.View as view
-use Rattle.top_call.specs.Big.{start_with}
+use Rattle.top_call.specs.BigReplies.{start_with}
 use Rattle.top_call.proofs.big.start_with.Given as goal
 
 -- the words that stand, and those of what is left, are all of them

@@ -5,7 +5,7 @@ use Rattle.cov_ast.specs.WellFormed.{IsWellFormed}
 use Rattle.cov_expr.specs.Words.{IsMemory, IsSchedule}
 use Rattle.flow_model.specs.Secure.{IsSecure}
 use Rattle.policy_class.specs.Resolved.{resolved}
-use Rattle.top_call.specs.Big.{RunsAll, SumsUp, first_start, second_start}
+use Rattle.top_call.specs.BigReplies.{RunsAll, SumsUp, first_start, second_start}
 use Rattle.top_call.specs.Codes.{code_of}
 use Rattle.top_call.specs.AnswerViews.{Gets, seen}
 use Rattle.top_call.proofs.BigLaws.{as_many_threads, as_many_variables, start_is_memory, sum_replied}
