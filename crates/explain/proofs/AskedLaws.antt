@@ -1,11 +1,10 @@
 -- What was asked of bytes that are refused.
-use Rattle.std.proofs.Common.{◌≡◌, ℕ, List, [], false, Option, Some, None, inl, inr, sym, ap, ◌∙◌}
+use Rattle.std.proofs.Common.{◌≡◌, ℕ, List, [], ◌++◌, false, Option, Some, None, inl, inr, refl, sym, ap, subst, ◌∙◌}
 use Rattle.cov_ast.specs.Obligations.{Obligation, all_hold, first_false}
 use Rattle.cov_ast.specs.Syntax.{Parsed, Program}
 use Rattle.cov_ast.specs.declared.refusal.Refusal.{Refusal}
 use Rattle.cov_ast.proofs.ObligationLaws.{none_refused}
-use Rattle.entail_refused.specs.Asked.{asked}
-use Rattle.explain.specs.Tellings.{asked_lines}
+use Rattle.explain.specs.Tellings.{Adds, asked_lines, refusal_lines}
 use Rattle.policy_class.specs.Resolved.{name_obligations, resolved}
 use Rattle.std.proofs.lemmas.Bool.{cases_Bool, cond-true, cond-false}
 use Rattle.top_call.specs.Programs.{SpellsProgram}
@@ -28,11 +27,18 @@ not_all es refusal first =
     ]
 
 -- what was asked where the names of a text are in order, and where they aren't
-pub named_lines : (p : Parsed) (q : Program) (refusal : Refusal) → first_false (name_obligations p) ≡ None → q ≡ resolved p
-    → asked_lines p refusal ≡ asked q refusal.rule refusal.thread refusal.place refusal.detail
-named_lines p q refusal named is =
+pub named_lines : (p : Parsed) (q : Program) (bytes : List ℕ) (refusal : Refusal) → first_false (name_obligations p) ≡ None → q ≡ resolved p
+    → asked_lines p bytes refusal ≡ refusal_lines q bytes refusal
+named_lines p q bytes refusal named is =
     cond-true (all_hold (name_obligations p)) _ [] (none_refused (name_obligations p) named)
-    ∙ ap (λ r. asked r refusal.rule refusal.thread refusal.place refusal.detail) (sym is)
+    ∙ ap (λ r. refusal_lines r bytes refusal) (sym is)
 
-pub unnamed_lines : (p : Parsed) (refusal first : Refusal) → first_false (name_obligations p) ≡ Some first → asked_lines p refusal ≡ []
-unnamed_lines p refusal first is = cond-false (all_hold (name_obligations p)) _ [] (not_all (name_obligations p) first is)
+pub unnamed_lines : (p : Parsed) (bytes : List ℕ) (refusal first : Refusal) → first_false (name_obligations p) ≡ Some first → asked_lines p bytes refusal ≡ []
+unnamed_lines p bytes refusal first is = cond-false (all_hold (name_obligations p)) _ [] (not_all (name_obligations p) first is)
+
+-- what was added is what is told beside the explanation of the reply that they are refused
+pub adds_asked : (name bytes : List ℕ) (reply : Reply) (refusal : Refusal) (thread : Option (List ℕ)) → reply ≡ refused refusal thread → (old new : List ℕ)
+    → (p : Parsed) × SpellsProgram bytes p × (new ≡ old ++ asked_lines p bytes refusal) → (more : List ℕ) × Adds name bytes reply more × (new ≡ old ++ more)
+adds_asked name bytes reply refusal thread is old new (p, spells, same) =
+    let lines = asked_lines p bytes refusal in
+    (lines, subst (λ r. Adds name bytes r lines) (sym is) (p, spells, refl), same)

@@ -1,26 +1,45 @@
--- All that is told of the bytes of a file: the explanation of what `check` replies to them; then, where they are refused since a
--- certificate isn't valid, what was asked, and where they are accepted, what is warned of in them and in the program that they spell.
+-- All that is told of the bytes of a file: the explanation of what `check` replies to them; then, where they are malformed by a token, what
+-- could stand at its place, where they are refused, what the refusal is about, and where they are accepted, what is warned of in them
+-- and in the program that they spell.
 use Rattle.std.specs.Prelude.{◌≡◌, ℕ, List, [], ◌++◌, if◌then◌else◌}
 use Rattle.cov_ast.specs.Obligations.{all_hold}
-use Rattle.cov_ast.specs.Syntax.{Parsed}
+use Rattle.cov_ast.specs.Syntax.{Parsed, Program}
 use Rattle.cov_ast.specs.declared.refusal.Refusal.{Refusal}
 use Rattle.entail_refused.specs.Asked.{asked}
+use Rattle.expected_tokens.specs.ExpectedLines.{expected_line}
+use Rattle.expected_tokens.specs.ExpectedTokens.{expected}
 use Rattle.policy_class.specs.Resolved.{name_obligations, resolved}
 use Rattle.program_warnings.specs.Warnings.{warnings}
+use Rattle.refusal_names.specs.RefusalNames.{refusal_names}
 use Rattle.explain.specs.Explanations.{explanation}
 use Rattle.explain.specs.WarningSentences.{warning_lines}
 use Rattle.top_call.specs.Check.{meaning}
 use Rattle.top_call.specs.Programs.{SpellsProgram}
-use Rattle.top_call.specs.Replies.{Reply, accepted, refused}
+use Rattle.top_call.specs.Replies.{Reply, accepted, malformed, refused}
+use Rattle.top_call.specs.declared.answers.Fault.{Fault}
+use Rattle.top_call.specs.declared.answers.Fault.TheVariants as f
+use Rattle.top_call.specs.declared.answers.FaultKind.TheVariants as k
 
--- what was asked in the program that a text stands for, if its names are in order
-abbrev pub asked_lines : Parsed → Refusal → List ℕ
-asked_lines p refusal = if all_hold (name_obligations p) then asked (resolved p) refusal.rule refusal.thread refusal.place refusal.detail else []
+-- what a refusal of a program is about: by name, and where a certificate isn't valid, what was asked; the bytes are those of its text
+abbrev pub refusal_lines : Program → (bytes : List ℕ) → Refusal → List ℕ
+refusal_lines p bytes refusal =
+    refusal_names p refusal.rule refusal.thread refusal.place ++ asked p bytes refusal.rule refusal.thread refusal.place refusal.detail
 
--- What is told of bytes to which `check` replies so, beside the explanation: of refused ones, what was asked in the program that they
--- spell; of accepted ones, what is warned of in that program and in the bytes themselves; of others, nothing.
+-- the same in the program that a text stands for, if its names are in order
+abbrev pub asked_lines : Parsed → (bytes : List ℕ) → Refusal → List ℕ
+asked_lines p bytes refusal = if all_hold (name_obligations p) then refusal_lines (resolved p) bytes refusal else []
+
+-- what could stand at the place of a token with which no program goes on; nothing where another fault is the first
+abbrev pub stand_lines : (bytes : List ℕ) → Fault → List ℕ
+stand_lines bytes (f.Text k.Token at) = expected_line (expected bytes at)
+stand_lines bytes fault = []
+
+-- What is told of bytes to which `check` replies so, beside the explanation: of malformed ones, what could stand at the place of a token;
+-- of refused ones, what the refusal is about in the program that they spell; of accepted ones, what is warned of in that program and in
+-- the bytes themselves; of others, nothing.
 abbrev pub Adds : (name bytes : List ℕ) → Reply → (text : List ℕ) → Type 0
-Adds name bytes (refused refusal thread) text = (p : Parsed) × SpellsProgram bytes p × (text ≡ asked_lines p refusal)
+Adds name bytes (malformed file fault) text = text ≡ stand_lines bytes fault
+Adds name bytes (refused refusal thread) text = (p : Parsed) × SpellsProgram bytes p × (text ≡ asked_lines p bytes refusal)
 Adds name bytes (accepted threads statements entailments) text =
     (p : Parsed) × SpellsProgram bytes p × (text ≡ warning_lines name bytes (warnings (meaning p) bytes))
 Adds name bytes reply text = text ≡ []

@@ -10,6 +10,7 @@ abbrev pub front : Cause → List ℕ
 front (c.FalseInvariant l) = codes "the invariant of the lock "
 front (c.NeverRead x) = codes "no statement reads the variable "
 front (c.NeverWritten x) = codes "no statement writes the variable "
+front c.NeverReached = codes "no run comes to this statement: the guard before it has the same value in every memory, and what is checked here says nothing of any run"
 front c.LoneReturn = codes "here is a carriage return that no line feed follows: an editor may show the end of a line, and the line goes on"
 front (c.Control b) = codes "here is the control character "
 front c.Direction = codes "here is a character that turns the direction of text: an editor may show the line in another order"
@@ -21,6 +22,7 @@ abbrev pub named : Cause → List ℕ
 named (c.FalseInvariant l) = l
 named (c.NeverRead x) = x
 named (c.NeverWritten x) = x
+named c.NeverReached = []
 named c.LoneReturn = []
 named (c.Control b) = decimal b
 named c.Direction = []
@@ -32,6 +34,7 @@ abbrev pub rest : Cause → List ℕ
 rest (c.FalseInvariant l) = codes " holds in no memory: no start meets it, and the verdict says nothing of any run"
 rest (c.NeverRead x) = codes ": it is in no value that is assigned, in no guard and in no output (types, invariants, notes and certificates don't count)"
 rest (c.NeverWritten x) = codes ": none assigns it"
+rest c.NeverReached = []
 rest c.LoneReturn = []
 rest (c.Control b) = codes ", which an editor may not show"
 rest c.Direction = []

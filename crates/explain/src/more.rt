@@ -1,17 +1,18 @@
 ghost use Rattle.std.specs.Prelude.{◌≡◌, ◌≤◌, ◌++◌, ℕ, List, length, OnOk};
 ghost use Rattle.cov_expr.specs.declared.limits.TheConstants.{MOST_BYTES};
-ghost use Rattle.explain.specs.Tellings.{Adds};
+ghost use Rattle.explain.specs.Tellings.{Adds, stand_lines};
 ghost use Rattle.top_call.specs.AnswerViews.{seen};
 ghost use Rattle.top_call.specs.Texts.{ChecksBytes};
 
 use crate::asked::add_asked;
 use crate::warnings::add_warnings;
 use cov_expr::{Blob, NoMemory};
+use expected_tokens::add_expected;
 use std::alloc::Global;
-use top_call::Answer;
+use top_call::{Answer, Fault, FaultKind};
 
-/// Adds what is told of bytes that `check` answers so, beside the explanation: of refused ones what was asked, of accepted ones what is
-/// warned of. Both are read from the bytes anew.
+/// Adds what is told of bytes that `check` answers so, beside the explanation: of malformed ones what could stand at the place of a token,
+/// of refused ones what was asked, of accepted ones what is warned of. All are read from the bytes anew.
 pub fn add_more(
     alloc: Global,
     name: &str,
@@ -24,8 +25,25 @@ pub fn add_more(
     ensures { OnOk result ((more : List ℕ) × Adds name.now bytes.now (seen answer.now) more × (text.new ≡ text.old ++ more)) }
 {
     match answer {
+        Answer::Malformed(_, fault) => add_stand_lines(alloc, bytes, fault, text),
         Answer::Refused(refusal, _) => add_asked(alloc, bytes, refusal, text),
         Answer::Accepted(_) => add_warnings(alloc, name, bytes, text),
+        _ => Ok(()),
+    }
+}
+
+/// Adds what could stand at the place of a fault, if that is a token with which no program goes on.
+fn add_stand_lines(
+    alloc: Global,
+    bytes: &[u8],
+    fault: &Fault,
+    text: &mut Blob,
+) -> Result<(), NoMemory>
+    requires { length bytes.now ≤ MOST_BYTES }
+    ensures { OnOk result (text.new ≡ text.old ++ stand_lines bytes.now fault.now) }
+{
+    match fault {
+        Fault::Text(FaultKind::Token, at) => add_expected(alloc, bytes, *at, text),
         _ => Ok(()),
     }
 }

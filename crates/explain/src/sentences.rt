@@ -23,7 +23,7 @@ fn add_named(cause: &Cause, text: &mut Blob) -> Result<(), NoMemory>
         Cause::NeverRead(x) | Cause::NeverWritten(x) => text.extend_from_slice(x.text()),
         Cause::Control(byte) => add_number(*byte as usize, text),
         Cause::More(n) => add_number(*n, text),
-        Cause::LoneReturn | Cause::Direction | Cause::Separator => Ok(()),
+        Cause::NeverReached | Cause::LoneReturn | Cause::Direction | Cause::Separator => Ok(()),
     }
 }
 
@@ -35,6 +35,8 @@ fn front(cause: &Cause) -> &'static str
         Cause::FalseInvariant(_) => "the invariant of the lock ",
         Cause::NeverRead(_) => "no statement reads the variable ",
         Cause::NeverWritten(_) => "no statement writes the variable ",
+        Cause::NeverReached =>
+            "no run comes to this statement: the guard before it has the same value in every memory, and what is checked here says nothing of any run",
         Cause::LoneReturn =>
             "here is a carriage return that no line feed follows: an editor may show the end of a line, and the line goes on",
         Cause::Control(_) => "here is the control character ",
@@ -59,6 +61,6 @@ fn rest(cause: &Cause) -> &'static str
         Cause::Control(_) => ", which an editor may not show",
         Cause::More(_) =>
             " more carriage returns, control characters and characters like these that an editor may show as another text",
-        Cause::LoneReturn | Cause::Direction | Cause::Separator => "",
+        Cause::NeverReached | Cause::LoneReturn | Cause::Direction | Cause::Separator => "",
     }
 }

@@ -7,11 +7,11 @@ use Rattle.explain.proofs.asked.add_asked_in.Goals as goal
 
 pub returns-in-Ok : goal.returns-in-Ok
 returns-in-Ok c =
-    let same = named_lines (view.parsed c.args.parsed) (view.program c.in-Ok.program) c.args.refusal.now c.in-Ok.ensures.names c.in-Ok.ensures.program in
-    subst (λ lines. OnOk c.add_asked.result (c.add_asked.new.text ≡ c.args.text.now ++ lines)) (sym same) c.add_asked.ensures
+    let same = named_lines (view.parsed c.args.parsed) (view.program c.in-Ok.program) c.args.bytes.now c.args.refusal.now c.in-Ok.ensures.names c.in-Ok.ensures.program in
+    subst (λ lines. OnOk c.add_lines.result (c.add_lines.new.text ≡ c.args.text.now ++ lines)) (sym same) c.add_lines.ensures
 
 pub returns-in-Err-Refused : goal.returns-in-Err-Refused
 returns-in-Err-Refused c =
     let p = view.parsed c.args.parsed in
     let first = subst (λ fault. Decides (name_obligations p) (Err fault)) c.in-Err-Refused.field-0-is c.in-Err-Refused.ensures.names in
-    sym (append-nil c.args.text.now) ∙ ap (λ lines. c.args.text.now ++ lines) (sym (unnamed_lines p c.args.refusal.now c.in-Err-Refused.field-0-0 first))
+    sym (append-nil c.args.text.now) ∙ ap (λ lines. c.args.text.now ++ lines) (sym (unnamed_lines p c.args.bytes.now c.args.refusal.now c.in-Err-Refused.field-0-0 first))

@@ -1,7 +1,8 @@
-use Rattle.std.proofs.Common.{subst}
+use Rattle.std.proofs.Common.{ap, subst}
+use Rattle.std.proofs.lemmas.Result.{on_ok_weaker}
 use Rattle.top_call.specs.AnswerViews.{seen}
 use Rattle.top_call.specs.Texts.{ChecksBytes}
-use Rattle.explain.proofs.AskedLaws.{refused_bytes}
+use Rattle.explain.proofs.AskedLaws.{adds_asked, refused_bytes}
 use Rattle.explain.proofs.WarningLaws.{accepted_bytes}
 use Rattle.explain.proofs.more.add_more.Goals as goal
 
@@ -15,3 +16,10 @@ add_warnings-requires-clause-accepted c =
     let t = c.in-Accepted.field-0 in
     accepted_bytes c.args.name.now c.args.bytes.now t.threads t.statements t.entailments
     (subst (λ a. ChecksBytes c.args.name.now c.args.bytes.now (seen a)) c.in-Accepted.is c.requires.checked)
+
+pub returns-in-Refused : goal.returns-in-Refused
+returns-in-Refused c =
+    on_ok_weaker c.add_asked.result
+    (adds_asked c.args.name.now c.args.bytes.now (seen c.args.answer.now) c.in-Refused.refusal c.in-Refused.field-1 (ap seen c.in-Refused.is) c.args.text.now
+    c.add_asked.new.text)
+    c.add_asked.ensures
