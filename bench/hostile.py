@@ -15,7 +15,8 @@ The parts are
 - `limits`: deep, wide and long files, with the time and the memory that each takes, as a table;
 - `memory`: commands in more and more room for addresses: they answer whole, or with status 6 and nothing;
 - `allocations`: each request for memory of each command is refused in turn, where there is cc: the same;
-- `explanations`: N mutated programs by EXPLAINS: the first line and the status are those of `check`, with the line and the column in front, and V9 shows what was asked.
+- `explanations`: N mutated programs by EXPLAINS: the first line and the status are those of `check`, with the line and the column in front, V9 shows what was asked,
+  and a wrong token what could stand at its place.
 
 A text that takes more than ten seconds is told, and so is a process that a signal ends. The status is 1 where something is told. With all parts it
 takes an hour or so on one processor, and some ten minutes with `--count 10000`.
@@ -655,8 +656,9 @@ def some_explanations(order):
             due, answer = explained(text, ended(program, ["check", "p"], folder)), ended(explains, ["p"], folder)
             shown += b"\n  goal:         " in answer[0]
             first = answer[0][:answer[0].find(b"\n") + 1]
-            asked = b" refused V9 " in first
-            if (first, answer[1]) != due or asked != all(word in answer[0] for word in (b"\n  goal:         ", b"\n  hypotheses:  ", b"\n  certificate:  ")):
+            asked, wrong = b" refused V9 " in first, b" malformed p: token at " in first
+            if (first, answer[1]) != due or wrong != (b"\n  here could stand: " in answer[0]) \
+                    or asked != all(word in answer[0] for word in (b"\n  goal:         ", b"\n  hypotheses:  ", b"\n  certificate:  ")):
                 found.append((text, answer, due))
     return BATCH, shown, found
 
