@@ -1,0 +1,41 @@
+//! Parts of a text: names of a program's variables and locks, and numbers.
+//!
+//! Each function adds its part to a text and leaves what stands there. A number that no declaration has adds nothing.
+#![tactic(auto)]
+
+ghost use Rattle.std.specs.Prelude.{◌≡◌, ◌++◌, OnOk, decimal};
+ghost use Rattle.cov_ast.specs.Declarations.{lock_at, name_of};
+ghost use Rattle.cov_ast.specs.Plain.{plain};
+ghost use Rattle.cov_ast.specs.View as view;
+
+use cov_ast::Program;
+use cov_expr::{Blob, NoMemory};
+use itoa::Buffer;
+
+/// Adds the name of a variable.
+pub fn add_variable_name(p: &Program, x: u32, text: &mut Blob) -> Result<(), NoMemory>
+    ensures { OnOk result (text.new ≡ text.old ++ name_of (plain (view.program p.now)) x) }
+{
+    match p.vars.as_slice().get(x as usize) {
+        Some(var) => text.extend_from_slice(var.name.text()),
+        None => Ok(()),
+    }
+}
+
+/// Adds the name of a lock.
+pub fn add_lock_name(p: &Program, l: u32, text: &mut Blob) -> Result<(), NoMemory>
+    ensures { OnOk result (text.new ≡ text.old ++ (lock_at (plain (view.program p.now)) l).name) }
+{
+    match p.locks.as_slice().get(l as usize) {
+        Some(lock) => text.extend_from_slice(lock.name.text()),
+        None => Ok(()),
+    }
+}
+
+/// Adds a number in decimal.
+pub fn add_number(n: usize, text: &mut Blob) -> Result<(), NoMemory>
+    ensures { OnOk result (text.new ≡ text.old ++ decimal n) }
+{
+    let mut buffer = Buffer::new();
+    text.extend_from_slice(buffer.format(n).as_bytes())
+}
