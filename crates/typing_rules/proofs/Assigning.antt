@@ -12,7 +12,7 @@ use Rattle.typing_rules.specs.Entailments.{Entailment, assign_entailments}
 use Rattle.typing_rules.specs.Inside.Keeping.{are_others}
 use Rattle.typing_rules.specs.Inside.Passing.{Stops}
 use Rattle.typing_rules.specs.Inside.Walking.{Walks, last_parts, value_parts}
-use Rattle.typing_rules.specs.ThreadEntailments.{PlacedEntailment, placed_from, stm_entailments}
+use Rattle.typing_rules.specs.ThreadEntailments.{PlacedEntailment, stm_entailments}
 use Rattle.typing_rules.specs.ThreadObligations.{few_preds, flat, numbers, proved, small_terms, stm_parts}
 use Rattle.typing_rules.specs.declared.entail.Entail.{Entail}
 use Rattle.typing_rules.specs.declared.purpose.Purpose.{Purpose}

@@ -1,7 +1,6 @@
 -- Obligations of a statement the last of which are about entailments and the numbers of proofs.
-use Rattle.std.proofs.Common.{◌≡◌, ℕ, suc, ◌&&◌, List, [], ◌∷◌, ◌++◌, length, map, Bool, true, refl, sym, ap, ◌∙◌, subst, arith, append_assoc, Some, None, Result, Ok, Err}
-use Rattle.std.specs.List.{list_all}
-use Rattle.std.proofs.lemmas.List.{append-nil, map-append}
+use Rattle.std.proofs.Common.{◌≡◌, ℕ, suc, List, [], ◌∷◌, ◌++◌, length, map, take, true, refl, sym, ap, ◌∙◌, subst, arith, append_assoc, Some, None, Err}
+use Rattle.std.proofs.lemmas.List.{append-nil, length-map, take-map, take_at}
 use Rattle.cov_ast.specs.Obligations.{Decides, Obligation, first_false}
 use Rattle.cov_ast.specs.Plain.{Plain}
 use Rattle.cov_ast.specs.Syntax.{Proof}
@@ -89,23 +88,30 @@ nothing_kept (Collect wanted) front rest others silent a r h =
     ap (wanted_among wanted) (reached_no_more front rest [] a (others_stop front r (ap first_false (sym looked) ∙ h)) (others_counted front others))
     ∙ no_entailments (Collect wanted) front
 
+-- what was added is cut off again
+pub cut_back : (start old new : List Entail) (added : List PlacedEntailment) (mark : ℕ) → length start ≡ mark → map view_entail old ≡ map view_entail start ++ added
+    → new ≡ take mark old → map view_entail new ≡ map view_entail start
+cut_back start old new added mark is grown cut =
+    ap (map view_entail) cut ∙ sym (take-map view_entail mark old) ∙ ap (take mark) grown
+    ∙ take_at (map view_entail start) added mark (length-map start view_entail ∙ is)
+
 -- Obligations that aren't about certificates, that entailments and points are small, and what is about certificates.
 module _ (u : Purpose) (p : Plain) (t at : ℕ) (proofs : List Proof) (n : ℕ) (gs : List Entailment) (points : List Point) (asked rest : List Obligation) (others : are_others asked ≡ true) where
   abbrev whole : List Obligation
   whole = asked ++ (small_terms p t at gs points ++ rest)
 
-  module _ (tried : Tried) (tries : Tries u at proofs n gs tried) (held : first_false (looked_at u whole) ≡ None) where
-    pub all_tried : (tried.count ≡ length gs) × (map view_entail tried.copies ≡ kept_for u (placed_from at n gs))
+  module _ (k0 k1 : List Entail) (tried : Tried) (tries : Tries u at proofs n gs k0 k1 tried) (held : first_false (looked_at u whole) ≡ None) where
+    pub all_tried : (tried.count ≡ length gs) × (tries.added ≡ kept_for u (placed_from at n gs))
     all_tried =
         let sizes = small_terms p t at gs points in
         let behind = append_none asked (looked_at u (sizes ++ rest)) (ap first_false (sym (looked_front u asked (sizes ++ rest) others)) ∙ held) in
         let small = append_none sizes (looked_at u rest) (ap first_false (sym (looked_front u sizes rest refl)) ∙ behind.1) in
-        let decided = tried_decided u p t at proofs n gs points tried tries small.0 in
+        let decided = tried_decided u p t at proofs n gs points k0 k1 tried tries small.0 in
         (decided.0, decided.2)
 
     -- each is counted, and what is wanted of them is kept
-    pub concludes : entailment_count rest ≡ length gs → (k0 k1 : List Entail) → k1 ≡ k0 ++ tried.copies → Passes u whole (placed_from at n gs) k0 k1
-    concludes counted k0 k1 kept =
+    pub concludes : entailment_count rest ≡ length gs → Passes u whole (placed_from at n gs) k0 k1
+    concludes counted =
         let sizes = small_terms p t at gs points in
         let none : entailment_count sizes ≡ 0 = refl in
         let is : entailment_count whole ≡ length (placed_from at n gs) = omega (
@@ -118,18 +124,18 @@ module _ (u : Purpose) (p : Plain) (t at : ℕ) (proofs : List Proof) (n : ℕ) 
           placed_length at n gs,
         ) in (
           held,
-          adds_all u whole (placed_from at n gs) k0 k1 held is
-              (ap (map view_entail) kept ∙ map-append view_entail k0 tried.copies ∙ ap (λ l. map view_entail k0 ++ l) all_tried.1),
+          adds_all u whole (placed_from at n gs) k0 k1 held is (tries.grown ∙ ap (λ l. map view_entail k0 ++ l) all_tried.1),
         )
 
-  pub last_stops : ((w : Wanted) → looked_at (Collect w) rest ≡ []) → (k : List Entail) (fault : CheckFault) → Decides (looked_at u whole) (Err fault)
-      → Stops u whole (placed_from at n gs) k k fault
-  last_stops silent k (Refused r) h =
+  -- where one doesn't hold, what was added is dropped
+  pub last_stops : ((w : Wanted) → looked_at (Collect w) rest ≡ []) → (k k1 : List Entail) → map view_entail k1 ≡ map view_entail k → (fault : CheckFault)
+      → Decides (looked_at u whole) (Err fault) → Stops u whole (placed_from at n gs) k k1 fault
+  last_stops silent k k1 same (Refused r) h =
       let sizes = small_terms p t at gs points in
       let is = append_assoc asked sizes rest in (
         h,
-        adds_none u whole (placed_from at n gs) k
+        same ∙ adds_none u whole (placed_from at n gs) k
             (subst (λ o. kept_for u (reached_entailments o (placed_from at n gs)) ≡ []) is
             (nothing_kept u (asked ++ sizes) rest (others-append asked sizes others refl) silent (placed_from at n gs) r (ap (λ o. first_false (looked_at u o)) is ∙ h))),
       )
-  last_stops silent k NoMemory h = tt
+  last_stops silent k k1 same NoMemory h = tt

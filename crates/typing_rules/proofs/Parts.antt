@@ -1,5 +1,5 @@
 -- The verdict on the parts of a rule, and on entailments that are tried in two batches.
-use Rattle.std.proofs.Common.{◌≡◌, ℕ, suc, ◌+◌, ◌&&◌, List, [], ◌∷◌, ◌++◌, length, map, Bool, true, false, cond, refl, sym, ap, ◌∙◌, subst, arith, append_assoc, Some, None, Result, Err}
+use Rattle.std.proofs.Common.{◌≡◌, ℕ, suc, ◌+◌, ◌&&◌, List, [], ◌∷◌, ◌++◌, length, Bool, true, false, cond, refl, sym, ap, ◌∙◌, subst, arith, append_assoc, Some, None, Result, Err}
 use Rattle.std.specs.List.{list_all}
 use Rattle.std.proofs.lemmas.Bool.{and_parts}
 use Rattle.std.proofs.lemmas.List.{append-nil}
@@ -10,14 +10,15 @@ use Rattle.cov_ast.specs.declared.refusal.CheckFault.{CheckFault}
 use Rattle.cov_ast.specs.declared.refusal.Refusal.{Refusal}
 use Rattle.cov_ast.specs.declared.refusal.Rule.TheVariants.{V16}
 use Rattle.cov_ast.specs.declared.refusal.Detail.TheVariants.{Nothing}
-use Rattle.cov_ast.proofs.ObligationLaws.{append_decided, append_held, append_refused}
+use Rattle.cov_ast.proofs.ObligationLaws.{append_decided, append_refused}
 use Rattle.typing_rules.specs.Entailments.{Entailment, is_small_entailment}
 use Rattle.typing_state.specs.Point.{Point, has_small_types}
-use Rattle.typing_rules.specs.ThreadObligations.{obligation, flat, numbers, proved, small_terms}
+use Rattle.typing_rules.specs.ThreadObligations.{obligation, flat, proved, small_terms}
 use Rattle.typing_rules.specs.Inside.Keeping.{kept_for}
 use Rattle.typing_rules.specs.Inside.Walking.{Tries, unproved_for}
-use Rattle.typing_rules.specs.ThreadEntailments.{placed_from, view_entail}
+use Rattle.typing_rules.specs.ThreadEntailments.{placed_from}
 use Rattle.typing_rules.specs.declared.purpose.Purpose.{Purpose}
+use Rattle.typing_rules.specs.declared.entail.Entail.{Entail}
 use Rattle.typing_rules.specs.declared.entailments_tried.Tried.{Tried}
 
 -- The verdict on parts --------------------------------------------------------------------------------------------
@@ -43,11 +44,6 @@ parts_decided ess fss r e h = subst (λ b. Decides b r) (sym (flat-append ess fs
 pub part_refused : (ess : List (List Obligation)) (es : List Obligation) (fss : List (List Obligation)) (fault : CheckFault) → first_false (flat ess) ≡ None
     → Decides es (Err fault) → Decides (flat (ess ++ es ∷ fss)) (Err fault)
 part_refused ess es fss fault e h = parts_decided ess (es ∷ fss) (Err fault) e (append_refused es (flat fss) fault h)
-
--- one more part that holds
-pub part_held : (ess : List (List Obligation)) (es : List Obligation) → first_false (flat ess) ≡ None → first_false es ≡ None → first_false (flat (ess ++ es ∷ [])) ≡ None
-part_held ess es h k =
-    ap first_false (flat-append ess (es ∷ [])) ∙ append_held (flat ess) (es ++ []) h ∙ ap first_false (append-nil es) ∙ k
 
 some_none : (r : Refusal) → Some r ≡ None → ⊥
 some_none r h = cc
@@ -77,9 +73,9 @@ proved-append p t at proofs n (g ∷ gs) hs =
     (proved-append p t at proofs (suc n) gs hs ∙ ap (λ m. proved p t at proofs (suc n) gs ++ proved p t at proofs m hs) e)
 
 -- where entailments and the types after them are small, what came of the entailments is known
-pub tried_decided : (u : Purpose) (p : Plain) (t at : ℕ) (proofs : List Proof) (n : ℕ) (gs : List Entailment) (points : List Point) (tried : Tried)
-    → Tries u at proofs n gs tried → first_false (small_terms p t at gs points) ≡ None
-    → (tried.count ≡ length gs) × (tried.unproved ≡ unproved_for u proofs n gs) × (map view_entail tried.copies ≡ kept_for u (placed_from at n gs))
-tried_decided u p t at proofs n gs points tried h sizes =
+pub tried_decided : (u : Purpose) (p : Plain) (t at : ℕ) (proofs : List Proof) (n : ℕ) (gs : List Entailment) (points : List Point) (k0 k1 : List Entail) (tried : Tried)
+    → (h : Tries u at proofs n gs k0 k1 tried) → first_false (small_terms p t at gs points) ≡ None
+    → (tried.count ≡ length gs) × (tried.unproved ≡ unproved_for u proofs n gs) × (h.added ≡ kept_for u (placed_from at n gs))
+tried_decided u p t at proofs n gs points k0 k1 tried h sizes =
     let small = list_all is_small_entailment gs && list_all has_small_types points in
     h.decided (h.small ∙ (and_parts (list_all is_small_entailment gs) (list_all has_small_types points) (held_is p t at small sizes)).0)

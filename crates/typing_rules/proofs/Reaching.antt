@@ -1,7 +1,6 @@
 -- How far obligations are reached, and which entailments that leaves.
 use Rattle.std.proofs.Common.{◌≡◌, ℕ, suc, ◌+◌, ◌≤◌, List, [], ◌∷◌, ◌++◌, length, map, take, Bool, true, false, not, ◌&&◌, ◌||◌, cond, refl, sym, ap, ◌∙◌, arith, append_assoc, Some, None, Result, Ok, Err}
 use Rattle.std.specs.Prelude.{filter}
-use Rattle.std.specs.List.{list_all}
 use Rattle.std.proofs.Math.Bool.{or-true}
 use Rattle.std.proofs.Math.Seq.{take-append-add}
 use Rattle.std.proofs.lemmas.Bool.{and_parts, not-true}
@@ -32,7 +31,7 @@ use Rattle.typing_rules.proofs.KeptLaws.{kept-append, kept_none}
 
 -- Obligations that are passed --------------------------------------------------------------------------------------
 
-pub held_passed : (es : List Obligation) → first_false es ≡ None → are_passed es ≡ true
+held_passed : (es : List Obligation) → first_false es ≡ None → are_passed es ≡ true
 held_passed [] h = refl
 held_passed (e ∷ es) h = go (held_passed es) e.holds h
   where
@@ -42,7 +41,7 @@ held_passed (e ∷ es) h = go (held_passed es) e.holds h
     go rest false h = cc
 
 -- the same of those that aren't about certificates
-pub others_held : (es : List Obligation) → first_false (filter is_other es) ≡ None → are_passed es ≡ true
+others_held : (es : List Obligation) → first_false (filter is_other es) ≡ None → are_passed es ≡ true
 others_held [] h = refl
 others_held (e ∷ es) h = go (others_held es) (is_about_certificates e.refusal.rule) h
   where
@@ -110,7 +109,7 @@ others_counted (e ∷ es) h =
 
 -- How far they are reached ------------------------------------------------------------------------------------------
 
-pub reached_passed : (a b : List Obligation) → are_passed a ≡ true → reached (a ++ b) ≡ a ++ reached b
+reached_passed : (a b : List Obligation) → are_passed a ≡ true → reached (a ++ b) ≡ a ++ reached b
 reached_passed [] b h = refl
 reached_passed (e ∷ es) b h =
     let parts = and_parts (is_passed e) (are_passed es) h in
@@ -138,7 +137,7 @@ reached_few (e ∷ es) = go (reached_few es) (is_passed e)
 
 -- Entailments that are reached ---------------------------------------------------------------------------------------
 
-pub all_reached : (o : List Obligation) (a : List PlacedEntailment) → are_passed o ≡ true → entailment_count o ≡ length a → reached_entailments o a ≡ a
+all_reached : (o : List Obligation) (a : List PlacedEntailment) → are_passed o ≡ true → entailment_count o ≡ length a → reached_entailments o a ≡ a
 all_reached o a h is = ap (λ es. take (entailment_count es) a) (reached_all o h) ∙ take_all (entailment_count o) a (omega (arith, is))
 
 reached_then : (o1 o2 : List Obligation) (a1 a2 : List PlacedEntailment) → are_passed o1 ≡ true → entailment_count o1 ≡ length a1
@@ -204,11 +203,11 @@ module _ (u : Purpose) (o1 o2 : List Obligation) (a1 a2 : List PlacedEntailment)
       ∙ append_assoc (map view_entail k0) (kept_for u a1) (kept_for u rest)
       ∙ ap (λ l. map view_entail k0 ++ l) (sym (kept-append u a1 rest) ∙ ap (kept_for u) (sym (reached_then o1 o2 a1 a2 passed is)))
 
-  pub passes_then : (k0 k1 k2 : List Entail) → Passes u o1 a1 k0 k1 → Passes u o2 a2 k1 k2 → Passes u (o1 ++ o2) (a1 ++ a2) k0 k2
+  passes_then : (k0 k1 k2 : List Entail) → Passes u o1 a1 k0 k1 → Passes u o2 a2 k1 k2 → Passes u (o1 ++ o2) (a1 ++ a2) k0 k2
   passes_then k0 k1 k2 h k =
       (ap first_false (looked-append u o1 o2) ∙ append_held (looked_at u o1) (looked_at u o2) h.0 ∙ k.0, adds_then k0 k1 k2 h k.1)
 
-  pub stops_then : (k0 k1 k2 : List Entail) (fault : CheckFault) → Passes u o1 a1 k0 k1 → Stops u o2 a2 k1 k2 fault → Stops u (o1 ++ o2) (a1 ++ a2) k0 k2 fault
+  stops_then : (k0 k1 k2 : List Entail) (fault : CheckFault) → Passes u o1 a1 k0 k1 → Stops u o2 a2 k1 k2 fault → Stops u (o1 ++ o2) (a1 ++ a2) k0 k2 fault
   stops_then k0 k1 k2 (Refused r) h k =
       (ap first_false (looked-append u o1 o2) ∙ append_held (looked_at u o1) (looked_at u o2) h.0 ∙ k.0, adds_then k0 k1 k2 h k.1)
   stops_then k0 k1 k2 NoMemory h k = tt

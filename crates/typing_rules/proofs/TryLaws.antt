@@ -3,7 +3,7 @@ use Rattle.std.proofs.Common.{◌≡◌, ℕ, suc, ◌+◌, ◌<◌, ◌≤◌, 
 use Rattle.std.specs.List.{list_all}
 use Rattle.std.specs.Option.{option_or}
 use Rattle.std.specs.Prelude.{IfOk}
-use Rattle.std.proofs.lemmas.List.{at_drop_all, at_drop_more}
+use Rattle.std.proofs.lemmas.List.{append-nil, at_drop_all, at_drop_more}
 use Rattle.std.proofs.lemmas.List.Folds.{list_all-append}
 use Rattle.cov_expr.specs.declared.list.NoMemory.{NoMemory}
 use Rattle.cov_expr.specs.Term.{Term}
@@ -19,6 +19,7 @@ use Rattle.typing_state.specs.Point as spec
 use Rattle.typing_state.specs.declared.point.Point.{Point}
 use Rattle.typing_rules.specs.declared.asked.Entailment as rust
 use Rattle.entail_cert.specs.declared.held.Held.{Held}
+use Rattle.typing_rules.specs.declared.entail.Entail.{Entail}
 use Rattle.typing_rules.specs.declared.entailments_tried.Tried.{Tried}
 use Rattle.typing_rules.specs.declared.walk.Walk.{Walk}
 use Rattle.entail_cert.specs.HeldTerms.{held_term}
@@ -72,13 +73,13 @@ module _ (p : Plain) (t at : ℕ) (proofs : List Proof) where
       elim (is_proved proofs n g) as (λ v. cond v (first_false (proved p t at proofs (suc n) gs)) (Some (refusal n)) ≡ option_map refusal (cond v (first_unproved proofs (suc n) gs) (Some n)))
       [ true ↦ unproved_is (suc n) gs | false ↦ refl ]
 
-  pub unproved_refused : (n : ℕ) (gs : List Entailment) (m : ℕ) (fault : CheckFault) → Some m ≡ first_unproved proofs n gs
+  unproved_refused : (n : ℕ) (gs : List Entailment) (m : ℕ) (fault : CheckFault) → Some m ≡ first_unproved proofs n gs
       → fault ≡ Refused (obligation p t at V9 (Number m) false).refusal → Decides (proved p t at proofs n gs) (Err fault)
   unfolding refusal
   unproved_refused n gs m fault first is =
       subst (λ f. Decides (proved p t at proofs n gs) (Err f)) (sym is) (unproved_is n gs ∙ ap (option_map refusal) (sym first))
 
-  pub unproved_none : (n : ℕ) (gs : List Entailment) → None ≡ first_unproved proofs n gs → first_false (proved p t at proofs n gs) ≡ None
+  unproved_none : (n : ℕ) (gs : List Entailment) → None ≡ first_unproved proofs n gs → first_false (proved p t at proofs n gs) ≡ None
   unproved_none n gs first = unproved_is n gs ∙ ap (option_map refusal) (sym first)
 
 some_number : (m : ℕ) → Some m ≡ None → ⊥
@@ -96,7 +97,7 @@ unproved_for_refused Judge p t at proofs n gs m fault h is = unproved_refused p 
 unproved_for_refused (Collect wanted) p t at proofs n gs m fault h is = absurd (some_number m h)
 
 module _ (proofs : List Proof) where
-  pub unproved-append : (n : ℕ) (gs hs : List Entailment)
+  unproved-append : (n : ℕ) (gs hs : List Entailment)
       → first_unproved proofs n (gs ++ hs) ≡ option_or (first_unproved proofs n gs) (first_unproved proofs (n + length gs) hs)
   unproved-append n [] hs = let e : n ≡ n + 0 = omega arith in ap (λ m. first_unproved proofs m hs) e
   unproved-append n (g ∷ gs) hs =
@@ -133,41 +134,48 @@ module _ (proofs : List Proof) where
   unproved_end preds n xs i whole past kept = sym (at_drop_all (λ ys. first_unproved proofs n (entailments_of preds ys)) xs i past) ∙ kept
 
 -- what is tried of entailments is tried of the same in other words
-pub tried_same : (w : Walk) (at : ℕ) (kept : Point) (proofs : List Proof) (n : ℕ) (f g : spec.Point → List Entailment) (result : Result Tried NoMemory) → Wherever w kept (λ a. f a ≡ g a)
-    → IfOk result (λ tried. Wherever w kept (λ a. Tries w.purpose at proofs n (f a) tried)) → IfOk result (λ tried. Wherever w kept (λ a. Tries w.purpose at proofs n (g a) tried))
-tried_same w at kept proofs n f g (Ok tried) same h = λ a k. subst (λ gs. Tries w.purpose at proofs n gs tried) (same a k) (h a k)
-tried_same w at kept proofs n f g (Err e) same h = tt
+pub tried_same : (w : Walk) (at : ℕ) (kept : Point) (proofs : List Proof) (n : ℕ) (f g : spec.Point → List Entailment) (k0 k1 : List Entail) (result : Result Tried NoMemory)
+    → Wherever w kept (λ a. f a ≡ g a) → IfOk result (λ tried. Wherever w kept (λ a. Tries w.purpose at proofs n (f a) k0 k1 tried))
+    → IfOk result (λ tried. Wherever w kept (λ a. Tries w.purpose at proofs n (g a) k0 k1 tried))
+tried_same w at kept proofs n f g k0 k1 (Ok tried) same h = λ a k. subst (λ gs. Tries w.purpose at proofs n gs k0 k1 tried) (same a k) (h a k)
+tried_same w at kept proofs n f g k0 k1 (Err e) same h = tt
 
-pub tried_listed : (w : Walk) (at : ℕ) (kept : Point) (proofs : List Proof) (n : ℕ) (made : Option (List rust.Entailment)) (g : spec.Point → List Entailment) (result : Result Tried NoMemory)
-    → Wherever w kept (λ a. AreListed a.preds (g a) made)
-    → IfOk result (λ tried. Wherever w kept (λ a. (gs : List Entailment) → AreListed a.preds gs made → Tries w.purpose at proofs n gs tried))
-    → IfOk result (λ tried. Wherever w kept (λ a. Tries w.purpose at proofs n (g a) tried))
-tried_listed w at kept proofs n made g (Ok tried) listed h = λ a k. h a k (g a) (listed a k)
-tried_listed w at kept proofs n made g (Err e) listed h = tt
+pub tried_listed : (w : Walk) (at : ℕ) (kept : Point) (proofs : List Proof) (n : ℕ) (made : Option (List rust.Entailment)) (g : spec.Point → List Entailment) (k0 k1 : List Entail)
+    (result : Result Tried NoMemory) → Wherever w kept (λ a. AreListed a.preds (g a) made)
+    → IfOk result (λ tried. Wherever w kept (λ a. (gs : List Entailment) → AreListed a.preds gs made → Tries w.purpose at proofs n gs k0 k1 tried))
+    → IfOk result (λ tried. Wherever w kept (λ a. Tries w.purpose at proofs n (g a) k0 k1 tried))
+tried_listed w at kept proofs n made g k0 k1 (Ok tried) listed h = λ a k. h a k (g a) (listed a k)
+tried_listed w at kept proofs n made g k0 k1 (Err e) listed h = tt
 
 -- What came of no entailments, of some of which one is large, and of small ones ----------------------------------------
 
-pub tries_none : (u : Purpose) (at : ℕ) (proofs : List Proof) (n : ℕ) (tried : Tried) → tried.count ≡ 0 → tried.small ≡ true → tried.unproved ≡ None → tried.copies ≡ []
-    → Tries u at proofs n [] tried
-tries_none Judge at proofs n tried count small unproved copies =
-    record { few = omega (arith, count); small = small; decided = λ _. (count, unproved, ap (map view_entail) copies) }
-tries_none (Collect wanted) at proofs n tried count small unproved copies =
-    record { few = omega (arith, count); small = small; decided = λ _. (count, unproved, ap (map view_entail) copies) }
+-- nothing is added
+stays : (k : List Entail) → map view_entail k ≡ map view_entail k ++ []
+stays k = sym (append-nil (map view_entail k))
 
-pub tries_large : (u : Purpose) (at : ℕ) (proofs : List Proof) (n : ℕ) (gs : List Entailment) (tried : Tried) → tried.count ≡ 0 → tried.small ≡ false
-    → list_all is_small_entailment gs ≡ false → Tries u at proofs n gs tried
-tries_large u at proofs n gs tried count small large =
-    record { few = omega (arith, count); small = small ∙ sym large; decided = λ e. absurd (false≢true (sym small ∙ e)) }
+pub tries_none : (u : Purpose) (at : ℕ) (proofs : List Proof) (n : ℕ) (k : List Entail) (tried : Tried) → tried.count ≡ 0 → tried.small ≡ true → tried.unproved ≡ None
+    → Tries u at proofs n [] k k tried
+tries_none Judge at proofs n k tried count small unproved =
+    record { few = omega (arith, count); small = small; added = []; grown = stays k; decided = λ _. (count, unproved, refl) }
+tries_none (Collect wanted) at proofs n k tried count small unproved =
+    record { few = omega (arith, count); small = small; added = []; grown = stays k; decided = λ _. (count, unproved, refl) }
+
+pub tries_large : (u : Purpose) (at : ℕ) (proofs : List Proof) (n : ℕ) (gs : List Entailment) (k : List Entail) (tried : Tried) → tried.count ≡ 0 → tried.small ≡ false
+    → list_all is_small_entailment gs ≡ false → Tries u at proofs n gs k k tried
+tries_large u at proofs n gs k tried count small large =
+    record { few = omega (arith, count); small = small ∙ sym large; added = []; grown = stays k; decided = λ e. absurd (false≢true (sym small ∙ e)) }
 
 module _ (at : ℕ) (proofs : List Proof) (n : ℕ) (gs : List Entailment) (tried : Tried) (count : tried.count ≡ length gs) (small : tried.small ≡ list_all is_small_entailment gs) where
   few : tried.count ≤ length gs
   few = omega (arith, count)
 
-  pub tries_judged : (u : Purpose) → u ≡ Judge → tried.unproved ≡ first_unproved proofs n gs → tried.copies ≡ [] → Tries u at proofs n gs tried
-  tries_judged u is unproved copies =
-      subst (λ v. Tries v at proofs n gs tried) (sym is) (record { few = few; small = small; decided = λ _. (count, unproved, ap (map view_entail) copies) })
+  pub tries_judged : (u : Purpose) (k : List Entail) → u ≡ Judge → tried.unproved ≡ first_unproved proofs n gs → Tries u at proofs n gs k k tried
+  tries_judged u k is unproved =
+      subst (λ v. Tries v at proofs n gs k k tried) (sym is)
+      (record { few = few; small = small; added = []; grown = stays k; decided = λ _. (count, unproved, refl) })
 
-  pub tries_collected : (u : Purpose) (wanted : Wanted) → u ≡ Collect wanted → tried.unproved ≡ None → map view_entail tried.copies ≡ wanted_among wanted (placed_from at n gs)
-      → Tries u at proofs n gs tried
-  tries_collected u wanted is unproved copies =
-      subst (λ v. Tries v at proofs n gs tried) (sym is) (record { few = few; small = small; decided = λ _. (count, unproved, copies) })
+  pub tries_collected : (u : Purpose) (wanted : Wanted) (k0 k1 : List Entail) → u ≡ Collect wanted → tried.unproved ≡ None
+      → map view_entail k1 ≡ map view_entail k0 ++ wanted_among wanted (placed_from at n gs) → Tries u at proofs n gs k0 k1 tried
+  tries_collected u wanted k0 k1 is unproved grown =
+      subst (λ v. Tries v at proofs n gs k0 k1 tried) (sym is)
+      (record { few = few; small = small; added = wanted_among wanted (placed_from at n gs); grown = grown; decided = λ _. (count, unproved, refl) })

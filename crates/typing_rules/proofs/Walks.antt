@@ -3,7 +3,7 @@ use Rattle.std.proofs.Common.{◌≡◌, ℕ, ◌+◌, ◌≤◌, List, [], map,
 use Rattle.cov_expr.specs.View.{term}
 use Rattle.cov_expr.specs.declared.expr.Expr.{Expr}
 use Rattle.cov_ast.specs.Plain.{Plain}
-use Rattle.cov_ast.specs.Syntax.{Proof, Stm, skip, assign, lock, unlock, branch, loop, note, output, Block, done, more}
+use Rattle.cov_ast.specs.Syntax.{Proof, Stm, skip, assign, lock, branch, loop, output, Block, done, more}
 use Rattle.cov_ast.specs.View as view
 use Rattle.cov_ast.specs.declared.refusal.CheckFault.{CheckFault}
 use Rattle.cov_ast.specs.declared.state.State.{State}
@@ -99,14 +99,8 @@ assign_is x e q rs = ap view.kind (sym (kinds.rolls-Assign x e q rs)) ∙ fold-r
 pub lock_is : (l : ℕ) → view.kind (kinds.Lock l) ≡ lock l
 lock_is l = ap view.kind (sym (kinds.rolls-Lock l)) ∙ fold-roll-StmtKind _ _ view.kind_step view.stmt_step (StmtKind-F.Lock l)
 
-pub unlock_is : (l : ℕ) → view.kind (kinds.Unlock l) ≡ unlock l
-unlock_is l = ap view.kind (sym (kinds.rolls-Unlock l)) ∙ fold-roll-StmtKind _ _ view.kind_step view.stmt_step (StmtKind-F.Unlock l)
-
 pub loop_is : (e : Expr) (j : State) (b : List Stmt) → view.kind (kinds.While e j b) ≡ loop (term e) (view.state j) (view.block b)
 loop_is e j b = ap view.kind (sym (kinds.rolls-While e j b)) ∙ fold-roll-StmtKind _ _ view.kind_step view.stmt_step (StmtKind-F.While e j b)
-
-pub note_is : (j : State) → view.kind (kinds.Note j) ≡ note (view.state j)
-note_is j = ap view.kind (sym (kinds.rolls-Note j)) ∙ fold-roll-StmtKind _ _ view.kind_step view.stmt_step (StmtKind-F.Note j)
 
 pub output_is : (e : Expr) → view.kind (kinds.Output e) ≡ output (term e)
 output_is e = ap view.kind (sym (kinds.rolls-Output e)) ∙ fold-roll-StmtKind _ _ view.kind_step view.stmt_step (StmtKind-F.Output e)

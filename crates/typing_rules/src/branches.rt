@@ -17,7 +17,7 @@ ghost use Rattle.typing_rules.specs.ThreadObligations.{flat, same_locks, state_o
 ghost use Rattle.typing_rules.specs.Inside.Walking.{Guards, GuardsAt, IsWalk, Stands, Tries, Walks, Wherever, first_parts, fork_parts, head_parts, join_parts, plain_of, starts_of, turn_parts};
 
 use crate::certificates::require_proved;
-use crate::entail::{Entail, add_all};
+use crate::entail::{Entail, cut};
 use crate::entailments_tried::Tried;
 use crate::evaluation::check_guard;
 use crate::locks::check_same_locks;
@@ -45,16 +45,9 @@ impl Walk<'_> {
             (flat (fork_parts (plain_of self.now) self.now.thread at (map view.proof proofs.now) a (term e.now) (starts_of self.now a (term e.now))))
             (guard_follows (plain_of self.now) self.now.thread a (term e.now) ∷ []) a (term e.now) kept.old kept.new result) }
     {
+        let mark = kept.len();
         let evaluated = check_guard(self.program, self.site(at), point.modes(), e);
-        self.guard(
-            at,
-            e,
-            proofs,
-            point,
-            evaluated,
-            Tried::none(self.alloc),
-            kept,
-        )
+        self.guard(at, e, proofs, point, evaluated, Tried::none(), mark, kept)
     }
 
     /// Checks what is asked before the block of a loop.
@@ -78,12 +71,21 @@ impl Walk<'_> {
             (state_follows a (view.state inv.now) ++ guard_follows (plain_of self.now) self.now.thread (meet (plain_of self.now) self.now.thread a (view.state inv.now)) (term e.now) ∷ [])
             (meet (plain_of self.now) self.now.thread a (view.state inv.now)) (term e.now) kept.old kept.new result) }
     {
-        let (p, site) = (self.program, self.site(at));
+        let (p, site, mark) = (self.program, self.site(at), kept.len());
         let stated = check_state(p, site, &point, inv);
         let evaluated = check_guard(p, site, point.modes(), e);
-        let entered = self.try_state(at, &point, inv, proofs, 1)?;
+        let entered = self.try_state(at, &point, inv, proofs, 1, kept)?;
         let top = point.meet(self.alloc, p, inv)?;
-        self.guard(at, e, proofs, top, both(stated, evaluated), entered, kept)
+        self.guard(
+            at,
+            e,
+            proofs,
+            top,
+            both(stated, evaluated),
+            entered,
+            mark,
+            kept,
+        )
     }
 
     /// Checks what is asked of a guard, behind what is asked before it.
@@ -95,23 +97,24 @@ impl Walk<'_> {
         point: Point,
         before: Result<(), CheckFault>,
         entered: Tried,
+        mark: usize,
         kept: &mut List<Entail>,
     ) -> Result<Guarded, CheckFault>
         requires guard { HasVarsBelow (term e.now) (length self.now.program.now.vars) }
         requires point { Stands self.now point }
         requires few { entered.count < 4294967294 }
-        ensures { Wherever self.now point (λ a. (front : List Obligation) → (gs : List Entailment)
-            → are_others front ≡ true → Decides front before → Tries self.now.purpose at (map view.proof proofs.now) 1 gs entered
+        ensures { Wherever self.now point (λ a. (front : List Obligation) → (gs : List Entailment) → (start : List Entail)
+            → are_others front ≡ true → Decides front before → length start ≡ mark → Tries self.now.purpose at (map view.proof proofs.now) 1 gs start kept.old entered
             → GuardsAt self.now at
             (front ++ flat (first_parts (plain_of self.now) self.now.thread at (map view.proof proofs.now)
             (gs ++ guard_follows (plain_of self.now) self.now.thread a (term e.now) ∷ []) (starts_of self.now a (term e.now))))
-            (gs ++ guard_follows (plain_of self.now) self.now.thread a (term e.now) ∷ []) a (term e.now) kept.old kept.new result) }
+            (gs ++ guard_follows (plain_of self.now) self.now.thread a (term e.now) ∷ []) a (term e.now) start kept.new result) }
     {
-        let tried = self.try_guard(at, &point, e, proofs, 1 + entered.count)?;
-        let all = entered.and(tried)?;
+        let tried = self.try_guard(at, &point, e, proofs, 1 + entered.count, kept)?;
+        let all = entered.and(tried);
         let holds = self.holding(e, &point)?;
         let fails = self.failing(e, point)?;
-        self.guarded(at, before, all, holds, fails, kept)
+        self.guarded(at, before, all, holds, fails, mark, kept)
     }
 
     /// The point where a guard holds.
@@ -134,7 +137,7 @@ impl Walk<'_> {
         point.with(self.alloc, &negation)
     }
 
-    /// The points after a guard, if each obligation before it holds.
+    /// The points after a guard, if each obligation before it holds. Else what is kept is cut back to the first so many.
     fn guarded(
         &self,
         at: u32,
@@ -142,27 +145,27 @@ impl Walk<'_> {
         tried: Tried,
         holds: Point,
         fails: Point,
+        mark: usize,
         kept: &mut List<Entail>,
     ) -> Result<Guarded, CheckFault>
-        ensures { Wherever self.now holds (λ a. Wherever self.now fails (λ b. (front : List Obligation) → (proofs : List syntax.Proof) → (gs : List Entailment)
-            → are_others front ≡ true → Decides front before → Tries self.now.purpose at proofs 1 gs tried
+        ensures { Wherever self.now holds (λ a. Wherever self.now fails (λ b. (front : List Obligation) → (proofs : List syntax.Proof) → (gs : List Entailment) → (start : List Entail)
+            → are_others front ≡ true → Decides front before → length start ≡ mark → Tries self.now.purpose at proofs 1 gs start kept.old tried
             → Guards self.now.purpose (plain_of self.now) self.now.thread (front ++ flat (first_parts (plain_of self.now) self.now.thread at proofs gs (a ∷ b ∷ [])))
-            (placed_from at 1 gs) a b (length gs) kept.old kept.new result)) }
+            (placed_from at 1 gs) a b (length gs) start kept.new result)) }
     {
         let few = check_both_few_preds(self.program, self.site(at), &holds, &fails);
         let small = require_small(self.program, self.site(at), tried.small);
         let proved = require_proved(self.site(at), tried.unproved);
-        let Tried { count, copies, .. } = tried;
         match both(before, both(few, both(small, proved))) {
-            Ok(()) => {
-                add_all(kept, copies)?;
-                Ok(Guarded {
-                    holds,
-                    fails,
-                    count,
-                })
+            Ok(()) => Ok(Guarded {
+                holds,
+                fails,
+                count: tried.count,
+            }),
+            Err(fault) => {
+                cut(kept, mark);
+                Err(fault)
             }
-            Err(fault) => Err(fault),
         }
     }
 
@@ -190,12 +193,12 @@ impl Walk<'_> {
             (before + (yes.entailments + no.entailments) + length (state_follows a (view.state join.now) ++ state_follows b (view.state join.now)))
             kept.old kept.new result)) }
     {
-        let inside = yes.entailments + no.entailments;
+        let (inside, mark) = (yes.entailments + no.entailments, kept.len());
         let (yes, no) = (yes.point, no.point);
         let met = self.check_ends(at, join, &yes, &no);
-        let tried = self.try_both(at, &yes, &no, join, proofs, 1 + before)?;
+        let tried = self.try_both(at, &yes, &no, join, proofs, 1 + before, kept)?;
         let after = yes.meet(self.alloc, self.program, join)?;
-        self.conclude(at, proofs, before, inside, met, tried, after, kept)
+        self.conclude(at, proofs, before, inside, met, tried, after, mark, kept)
     }
 
     /// The ends of two blocks hold the same locks, and a state may stand behind the first (V8, V12, V14, V4).
@@ -226,16 +229,17 @@ impl Walk<'_> {
         join: &State,
         proofs: &[Proof],
         from: u32,
+        kept: &mut List<Entail>,
     ) -> Result<Tried, NoMemory>
         requires yes { Stands self.now yes.now }
         requires no { Stands self.now no.now }
         requires few { from + 2 * state_size (view.state join.now) < 2 ^ 32 }
         ensures { IfOk result (λ tried. Wherever self.now yes.now (λ a. Wherever self.now no.now (λ b.
-            Tries self.now.purpose at (map view.proof proofs.now) from (state_follows a (view.state join.now) ++ state_follows b (view.state join.now)) tried))) }
+            Tries self.now.purpose at (map view.proof proofs.now) from (state_follows a (view.state join.now) ++ state_follows b (view.state join.now)) kept.old kept.new tried))) }
     {
-        let first = self.try_state(at, yes, join, proofs, from)?;
-        let second = self.try_state(at, no, join, proofs, from + first.count)?;
-        first.and(second)
+        let first = self.try_state(at, yes, join, proofs, from, kept)?;
+        let second = self.try_state(at, no, join, proofs, from + first.count, kept)?;
+        Ok(first.and(second))
     }
 
     /// Checks what is asked after the block of a loop.
@@ -259,9 +263,20 @@ impl Walk<'_> {
             b (before + end.entailments + length (state_follows a (view.state inv.now))) kept.old kept.new result)) }
     {
         let Walked { point, entailments } = end;
+        let mark = kept.len();
         let same = check_same_locks(self.program, self.site(at), point.modes(), after.modes());
-        let tried = self.try_state(at, &point, inv, proofs, 1 + before)?;
-        self.conclude(at, proofs, before, entailments, same, tried, after, kept)
+        let tried = self.try_state(at, &point, inv, proofs, 1 + before, kept)?;
+        self.conclude(
+            at,
+            proofs,
+            before,
+            entailments,
+            same,
+            tried,
+            after,
+            mark,
+            kept,
+        )
     }
 }
 

@@ -1,6 +1,6 @@
 //! Entailments as they are handed out: copies, with their place and number.
 
-ghost use Rattle.std.specs.Prelude.{◌≡◌, ◌<◌, ◌+◌, ◌^◌, ◌++◌, [], ◌∷◌, ℕ, length, map, IfOk, OnOk};
+ghost use Rattle.std.specs.Prelude.{◌≡◌, ◌<◌, ◌+◌, ◌^◌, ◌++◌, [], ◌∷◌, ℕ, length, map, take, IfOk, OnOk};
 ghost use Rattle.cov_expr.specs.View.{term};
 ghost use Rattle.cov_ast.specs.Plain.{Plain};
 ghost use Rattle.typing_rules.specs.Inside.Keeping.{wanted_among};
@@ -28,26 +28,26 @@ pub struct Entail {
     pub goal: Expr,
 }
 
-/// Copies of entailments at a point, numbered from a number on: of those that are wanted.
-pub fn copies_of(
+/// Adds copies of entailments at a point, numbered from a number on, to others: of those that are wanted.
+pub fn add_copies(
     alloc: Global,
     site: Site,
     point: &Point,
     from: u32,
     entailments: &[Entailment<'_>],
     wanted: Wanted,
-) -> Result<List<Entail>, NoMemory>
+    kept: &mut List<Entail>,
+) -> Result<(), NoMemory>
     requires { from + length entailments.now < 2 ^ 32 }
-    ensures { IfOk result (λ copies. (p : Plain) → (t : ℕ) → AtPoint p t point.now (λ a.
-        map view_entail copies ≡ wanted_among wanted (placed_from site.place from (entailments_of a.preds entailments.now)))) }
+    ensures { OnOk result ((p : Plain) → (t : ℕ) → AtPoint p t point.now (λ a.
+        map view_entail kept.new ≡ map view_entail kept.old ++ wanted_among wanted (placed_from site.place from (entailments_of a.preds entailments.now)))) }
 {
-    let mut copies = List::new(alloc);
     let mut number = from;
     for entailment in entailments {
-        add_copy(alloc, site, point, number, entailment, wanted, &mut copies)?;
+        add_copy(alloc, site, point, number, entailment, wanted, kept)?;
         number += 1;
     }
-    Ok(copies)
+    Ok(())
 }
 
 /// Adds a copy of an entailment at a point to others, if it is wanted.
@@ -124,13 +124,11 @@ fn copied_all(alloc: Global, exprs: &[Expr]) -> Result<List<Expr>, NoMemory>
     Ok(made)
 }
 
-/// Moves entailments behind others.
-pub fn add_all(kept: &mut List<Entail>, mut copies: List<Entail>) -> Result<(), NoMemory>
-    ensures { OnOk result (kept.new ≡ kept.old ++ copies) }
+/// Drops the entailments behind the first so many.
+pub fn cut(kept: &mut List<Entail>, mark: usize)
+    ensures { kept.new ≡ take mark kept.old }
 {
-    copies.as_mut_slice().reverse();
-    while let Some(next) = copies.pop() {
-        kept.push(next)?;
+    while kept.len() > mark {
+        let _ = kept.pop();
     }
-    Ok(())
 }

@@ -24,7 +24,7 @@ use crate::asked::{
     written_entailments,
 };
 use crate::certificates::{are_small, check_numbers, first_unproved, require_proved};
-use crate::entail::{Entail, add_all, copies_of};
+use crate::entail::{Entail, add_copies, cut};
 use crate::entailments_of_assignments::shown_entailment;
 use crate::purpose::Purpose;
 use crate::site::Site;
@@ -32,12 +32,11 @@ use crate::sizes::require_small;
 use crate::walk::{Walk, Walked, both};
 use cov_ast::{CheckFault, Proof, Retype, State};
 use cov_expr::{Expr, List, NoMemory};
-use std::alloc::Global;
 use std::slice::from_ref;
 use typing_state::Point;
 
 /// How many entailments there were, and what came of them. Large ones aren't tried.
-#[derive(Drop)]
+#[derive(Clone, Copy)]
 pub struct Tried {
     /// How many there are, if they are small.
     pub count: u32,
@@ -45,54 +44,46 @@ pub struct Tried {
     pub small: bool,
     /// The number of the first without a valid certificate, if they are small and there is one that the walk looks at.
     pub unproved: Option<u32>,
-    /// Copies of those that the walk keeps, if they are small.
-    pub copies: List<Entail>,
 }
 
 impl Tried {
     /// What came of no entailments.
-    pub fn none(alloc: Global) -> Tried
-        ensures tried { (u : Purpose) → (at : ℕ) → (proofs : List syntax.Proof) → (n : ℕ) → Tries u at proofs n [] result }
+    pub fn none() -> Tried
+        ensures tried { (u : Purpose) → (at : ℕ) → (proofs : List syntax.Proof) → (n : ℕ) → (kept : List Entail) → Tries u at proofs n [] kept kept result }
         ensures empty { result.count ≡ 0 }
     {
         Tried {
             count: 0,
             small: true,
             unproved: None,
-            copies: List::new(alloc),
         }
     }
 
     /// What came of entailments one of which is large.
-    fn large(alloc: Global) -> Tried
-        ensures { (u : Purpose) → (at : ℕ) → (proofs : List syntax.Proof) → (n : ℕ) → (gs : List spec.Entailment) → list_all spec.is_small_entailment gs ≡ false
-            → Tries u at proofs n gs result }
+    fn large() -> Tried
+        ensures { (u : Purpose) → (at : ℕ) → (proofs : List syntax.Proof) → (n : ℕ) → (gs : List spec.Entailment) → (kept : List Entail)
+            → list_all spec.is_small_entailment gs ≡ false → Tries u at proofs n gs kept kept result }
     {
         Tried {
             count: 0,
             small: false,
             unproved: None,
-            copies: List::new(alloc),
         }
     }
 
     /// What came of these entailments and then of others.
-    pub fn and(self, next: Tried) -> Result<Tried, NoMemory>
+    pub fn and(self, next: Tried) -> Tried
         requires { self.count + next.count < 2 ^ 32 }
-        ensures { IfOk result (λ all. (u : Purpose) → (at : ℕ) → (proofs : List syntax.Proof) → (n : ℕ) → (gs hs : List spec.Entailment) → Tries u at proofs n gs self
-            → Tries u at proofs (n + self.count) hs next → Tries u at proofs n (gs ++ hs) all) }
+        ensures { (u : Purpose) → (at : ℕ) → (proofs : List syntax.Proof) → (n : ℕ) → (gs hs : List spec.Entailment) → (a b c : List Entail) → Tries u at proofs n gs a b self
+            → Tries u at proofs (n + self.count) hs b c next → Tries u at proofs n (gs ++ hs) a c result }
     {
         let small = self.small && next.small;
         let unproved = self.unproved.or(next.unproved);
-        let count = self.count + next.count;
-        let Tried { mut copies, .. } = self;
-        add_all(&mut copies, next.copies)?;
-        Ok(Tried {
-            count,
+        Tried {
+            count: self.count + next.count,
             small,
             unproved,
-            copies,
-        })
+        }
     }
 }
 
@@ -105,14 +96,15 @@ impl Walk<'_> {
         s: &State,
         proofs: &[Proof],
         from: u32,
+        kept: &mut List<Entail>,
     ) -> Result<Tried, NoMemory>
         requires point { Stands self.now point.now }
         requires few { from + state_size (view.state s.now) < 2 ^ 32 }
         ensures { IfOk result (λ tried. Wherever self.now point.now (λ a.
-            Tries self.now.purpose at (map view.proof proofs.now) from (spec.state_follows a (view.state s.now)) tried)) }
+            Tries self.now.purpose at (map view.proof proofs.now) from (spec.state_follows a (view.state s.now)) kept.old kept.new tried)) }
     {
         let entailments = state_entailments(self.alloc, point, s)?;
-        self.try_entailments(at, point, proofs, from, entailments.as_slice())
+        self.try_entailments(at, point, proofs, from, entailments.as_slice(), kept)
     }
 
     /// Tries what is asked of a guard.
@@ -123,15 +115,16 @@ impl Walk<'_> {
         e: &Expr,
         proofs: &[Proof],
         from: u32,
+        kept: &mut List<Entail>,
     ) -> Result<Tried, NoMemory>
         requires point { Stands self.now point.now }
         requires guard { HasVarsBelow (term e.now) (length self.now.program.now.vars) }
         requires few { from + 1 < 2 ^ 32 }
         ensures { IfOk result (λ tried. Wherever self.now point.now (λ a.
-            Tries self.now.purpose at (map view.proof proofs.now) from (spec.guard_follows (plain_of self.now) self.now.thread a (term e.now) ∷ []) tried)) }
+            Tries self.now.purpose at (map view.proof proofs.now) from (spec.guard_follows (plain_of self.now) self.now.thread a (term e.now) ∷ []) kept.old kept.new tried)) }
     {
         let entailments = guard_entailments(self.alloc, self.program, point, e)?;
-        self.try_listed(at, point, proofs, from, &entailments)
+        self.try_listed(at, point, proofs, from, &entailments, kept)
     }
 
     /// Tries what is asked of an assignment of a value of a type, which is the written one, if there is one.
@@ -145,6 +138,7 @@ impl Walk<'_> {
         q: &Expr,
         retypes: &[Retype],
         proofs: &[Proof],
+        kept: &mut List<Entail>,
     ) -> Result<Tried, NoMemory>
         requires walk { IsWalk self.now }
         requires point { Stands self.now point.now }
@@ -154,16 +148,16 @@ impl Walk<'_> {
         requires small { stm_size (syntax.assign x (term e.now) (option_map term written.now) (map view.retype retypes.now)) < most_size }
         ensures { IfOk result (λ tried. Wherever self.now point.now (λ a.
             Tries self.now.purpose at (map view.proof proofs.now) 1
-            (spec.assign_entailments (plain_of self.now) self.now.thread a x (term e.now) (option_map term written.now) (map view.retype retypes.now)) tried)) }
+            (spec.assign_entailments (plain_of self.now) self.now.thread a x (term e.now) (option_map term written.now) (map view.retype retypes.now)) kept.old kept.new tried)) }
     {
         let (alloc, p) = (self.alloc, self.program);
         let written = written_entailments(alloc, p, point, e, written, q)?;
-        let first = self.try_listed(at, point, proofs, 1, &written)?;
-        let shown = self.try_shown(at, point, x, q, proofs, 1 + first.count)?;
-        let before = first.and(shown)?;
+        let first = self.try_listed(at, point, proofs, 1, &written, kept)?;
+        let shown = self.try_shown(at, point, x, q, proofs, 1 + first.count, kept)?;
+        let before = first.and(shown);
         let changed = changed_entailments(alloc, p, point, x, e, retypes)?;
-        let last = self.try_listed(at, point, proofs, 1 + before.count, &changed)?;
-        before.and(last)
+        let last = self.try_listed(at, point, proofs, 1 + before.count, &changed, kept)?;
+        Ok(before.and(last))
     }
 
     /// Tries what is asked of an assigned value that may be seen. It makes no list.
@@ -175,11 +169,12 @@ impl Walk<'_> {
         q: &Expr,
         proofs: &[Proof],
         from: u32,
+        kept: &mut List<Entail>,
     ) -> Result<Tried, NoMemory>
         requires variable { x < length self.now.program.now.vars }
         requires few { from + 1 < 2 ^ 32 }
         ensures { IfOk result (λ tried. Wherever self.now point.now (λ a.
-            Tries self.now.purpose at (map view.proof proofs.now) from (spec.shown_value (plain_of self.now) self.now.thread a x (term q.now)) tried)) }
+            Tries self.now.purpose at (map view.proof proofs.now) from (spec.shown_value (plain_of self.now) self.now.thread a x (term q.now)) kept.old kept.new tried)) }
     {
         match shown_entailment(self.program, point, x, q) {
             Some(entailment) => self.try_entailments(
@@ -188,8 +183,9 @@ impl Walk<'_> {
                 proofs,
                 from,
                 from_ref(&entailment),
+                kept,
             ),
-            None => Ok(Tried::none(self.alloc)),
+            None => Ok(Tried::none()),
         }
     }
 
@@ -200,15 +196,16 @@ impl Walk<'_> {
         point: &Point,
         l: u32,
         proofs: &[Proof],
+        kept: &mut List<Entail>,
     ) -> Result<Tried, NoMemory>
         requires walk { IsWalk self.now }
         requires point { Stands self.now point.now }
         requires lock { l < length self.now.program.now.locks }
         ensures { IfOk result (λ tried. Wherever self.now point.now (λ a.
-            Tries self.now.purpose at (map view.proof proofs.now) 1 (spec.unlock_entailments (plain_of self.now) self.now.thread a l) tried)) }
+            Tries self.now.purpose at (map view.proof proofs.now) 1 (spec.unlock_entailments (plain_of self.now) self.now.thread a l) kept.old kept.new tried)) }
     {
         let entailments = unlock_entailments(self.alloc, self.program, point, l)?;
-        self.try_entailments(at, point, proofs, 1, entailments.as_slice())
+        self.try_entailments(at, point, proofs, 1, entailments.as_slice(), kept)
     }
 
     /// Tries entailments, of which there may be none where one is too large to be built.
@@ -219,10 +216,11 @@ impl Walk<'_> {
         proofs: &[Proof],
         from: u32,
         entailments: &Option<List<Entailment<'_>>>,
+        kept: &mut List<Entail>,
     ) -> Result<Tried, NoMemory>
         requires { MatchOption entailments.now (Unit {0}) (λ made. from + length made < 2 ^ 32) }
         ensures { IfOk result (λ tried. Wherever self.now point.now (λ a. (gs : List spec.Entailment) → AreListed a.preds gs entailments.now
-            → Tries self.now.purpose at (map view.proof proofs.now) from gs tried)) }
+            → Tries self.now.purpose at (map view.proof proofs.now) from gs kept.old kept.new tried)) }
     {
         match entailments {
             Some(entailments) => self.try_entailments(
@@ -231,8 +229,9 @@ impl Walk<'_> {
                 proofs,
                 from,
                 entailments.as_slice(),
+                kept,
             ),
-            None => Ok(Tried::large(self.alloc)),
+            None => Ok(Tried::large()),
         }
     }
 
@@ -244,18 +243,19 @@ impl Walk<'_> {
         proofs: &[Proof],
         from: u32,
         entailments: &[Entailment<'_>],
+        kept: &mut List<Entail>,
     ) -> Result<Tried, NoMemory>
         requires { from + length entailments.now < 2 ^ 32 }
         ensures { IfOk result (λ tried. Wherever self.now point.now (λ a.
-            Tries self.now.purpose at (map view.proof proofs.now) from (entailments_of a.preds entailments.now) tried)) }
+            Tries self.now.purpose at (map view.proof proofs.now) from (entailments_of a.preds entailments.now) kept.old kept.new tried)) }
     {
         if !are_small(point, entailments) {
-            return Ok(Tried::large(self.alloc));
+            return Ok(Tried::large());
         }
-        self.try_small(at, point, proofs, from, entailments)
+        self.try_small(at, point, proofs, from, entailments, kept)
     }
 
-    /// Tries entailments that are small, or makes copies of them where the walk collects them.
+    /// Tries entailments that are small, or adds copies of them to others where the walk collects them.
     fn try_small(
         &self,
         at: u32,
@@ -263,10 +263,11 @@ impl Walk<'_> {
         proofs: &[Proof],
         from: u32,
         entailments: &[Entailment<'_>],
+        kept: &mut List<Entail>,
     ) -> Result<Tried, NoMemory>
         requires { from + length entailments.now < 2 ^ 32 }
         ensures { IfOk result (λ tried. Wherever self.now point.now (λ a. list_all spec.is_small_entailment (entailments_of a.preds entailments.now) ≡ true
-            → Tries self.now.purpose at (map view.proof proofs.now) from (entailments_of a.preds entailments.now) tried)) }
+            → Tries self.now.purpose at (map view.proof proofs.now) from (entailments_of a.preds entailments.now) kept.old kept.new tried)) }
     {
         let alloc = self.alloc;
         let count = entailments.len() as u32;
@@ -277,23 +278,22 @@ impl Walk<'_> {
                     count,
                     small: true,
                     unproved,
-                    copies: List::new(alloc),
                 })
             }
             Purpose::Collect(wanted) => {
-                let copies = copies_of(alloc, self.site(at), point, from, entailments, wanted)?;
+                add_copies(alloc, self.site(at), point, from, entailments, wanted, kept)?;
                 Ok(Tried {
                     count,
                     small: true,
                     unproved: None,
-                    copies,
                 })
             }
         }
     }
 
-    /// The point after a statement whose last entailments were tried, if each of its obligations holds, and then the copies are kept.
-    /// So many entailments came before in the statement itself, and so many in its blocks.
+    /// The point after a statement whose last entailments were tried, if each of its obligations holds. Else the copies of these entailments
+    /// are dropped: the first so many of what is kept stay. So many entailments came before in the statement itself, and so many in its
+    /// blocks.
     pub fn conclude(
         &self,
         at: u32,
@@ -303,26 +303,27 @@ impl Walk<'_> {
         front: Result<(), CheckFault>,
         tried: Tried,
         after: Point,
+        mark: usize,
         kept: &mut List<Entail>,
     ) -> Result<Walked, CheckFault>
         requires few { inside < 2 ^ 32 }
-        ensures { Wherever self.now after (λ b. (asked : List Obligation) → (gs : List spec.Entailment) → (count counted : ℕ) → are_others asked ≡ true → Decides asked front
-            → Tries self.now.purpose at (map view.proof proofs.now) (suc before) gs tried → before + length gs ≡ count → before + inside + length gs ≡ counted
+        ensures { Wherever self.now after (λ b. (asked : List Obligation) → (gs : List spec.Entailment) → (start : List Entail) → (count counted : ℕ) → are_others asked ≡ true
+            → Decides asked front → length start ≡ mark → Tries self.now.purpose at (map view.proof proofs.now) (suc before) gs start kept.old tried
+            → before + length gs ≡ count → before + inside + length gs ≡ counted
             → Walks self.now.purpose (plain_of self.now) self.now.thread
             (asked ++ flat (last_parts (plain_of self.now) self.now.thread at (map view.proof proofs.now) (suc before) count gs (b ∷ [])))
-            (placed_from at (suc before) gs) b counted kept.old kept.new result) }
+            (placed_from at (suc before) gs) b counted start kept.new result) }
     {
-        let last = self.check_last(at, proofs, before, &tried, after.has_small_types());
-        let Tried { count, copies, .. } = tried;
+        let last = self.check_last(at, proofs, before, tried, after.has_small_types());
         match both(front, last) {
-            Ok(()) => {
-                add_all(kept, copies)?;
-                Ok(Walked {
-                    point: after,
-                    entailments: u64::from(before) + inside + u64::from(count),
-                })
+            Ok(()) => Ok(Walked {
+                point: after,
+                entailments: u64::from(before) + inside + u64::from(tried.count),
+            }),
+            Err(fault) => {
+                cut(kept, mark);
+                Err(fault)
             }
-            Err(fault) => Err(fault),
         }
     }
 
@@ -333,10 +334,11 @@ impl Walk<'_> {
         at: u32,
         proofs: &[Proof],
         before: u32,
-        tried: &Tried,
+        tried: Tried,
         types: bool,
     ) -> Result<(), CheckFault>
-        ensures { (gs : List spec.Entailment) → (points : List typing.Point) → (count : ℕ) → Tries self.now.purpose at (map view.proof proofs.now) (suc before) gs tried.now
+        ensures { (gs : List spec.Entailment) → (points : List typing.Point) → (count : ℕ) → (a b : List Entail)
+            → Tries self.now.purpose at (map view.proof proofs.now) (suc before) gs a b tried
             → types ≡ list_all has_small_types points → before + length gs ≡ count
             → Decides (looked_at self.now.purpose
             (flat (last_parts (plain_of self.now) self.now.thread at (map view.proof proofs.now) (suc before) count gs points))) result }

@@ -63,9 +63,10 @@ impl Walk<'_> {
         let p = self.program;
         let held = point.modes().holds(l);
         let taken = require_at(self.site(at), held, Rule::V7, Detail::One(lock_name(p, l)));
-        let tried = self.try_unlock(at, &point, l, proofs)?;
+        let mark = kept.len();
+        let tried = self.try_unlock(at, &point, l, proofs, kept)?;
         let after = point.after_unlock(self.alloc, p, l)?;
-        self.conclude(at, proofs, 0, 0, taken, tried, after, kept)
+        self.conclude(at, proofs, 0, 0, taken, tried, after, mark, kept)
     }
 
     /// Checks a note.
@@ -83,9 +84,10 @@ impl Walk<'_> {
         ensures { WalksStm self.now at (syntax.note (view.state j.now)) (map view.proof proofs.now) point kept.old kept.new result }
     {
         let stated = check_state(self.program, self.site(at), &point, j);
-        let tried = self.try_state(at, &point, j, proofs, 1)?;
+        let mark = kept.len();
+        let tried = self.try_state(at, &point, j, proofs, 1, kept)?;
         let after = point.noted(self.alloc, j)?;
-        self.conclude(at, proofs, 0, 0, stated, tried, after, kept)
+        self.conclude(at, proofs, 0, 0, stated, tried, after, mark, kept)
     }
 
     /// Checks an output.
@@ -102,8 +104,9 @@ impl Walk<'_> {
         ensures { WalksStm self.now at (syntax.output (term e.now)) (map view.proof proofs.now) point kept.old kept.new result }
     {
         let evaluated = check_guard(self.program, self.site(at), point.modes(), e);
-        let tried = self.try_guard(at, &point, e, proofs, 1)?;
-        self.conclude(at, proofs, 0, 0, evaluated, tried, point, kept)
+        let mark = kept.len();
+        let tried = self.try_guard(at, &point, e, proofs, 1, kept)?;
+        self.conclude(at, proofs, 0, 0, evaluated, tried, point, mark, kept)
     }
 
     /// Checks an assignment.
@@ -132,10 +135,11 @@ impl Walk<'_> {
         if let Err(fault) = self.check_value(at, x, e, &q, items, &point) {
             return Err(fault);
         }
-        let tried = self.try_assign(at, &point, x, e, written, &q, items, proofs)?;
+        let mark = kept.len();
+        let tried = self.try_assign(at, &point, x, e, written, &q, items, proofs, kept)?;
         let after = point.after_assign(self.alloc, self.program, x, e, q, retypes)?;
         let few = check_few_preds(self.program, self.site(at), &after);
-        self.conclude(at, proofs, 0, 0, few, tried, after, kept)
+        self.conclude(at, proofs, 0, 0, few, tried, after, mark, kept)
     }
 
     /// Checks what is asked before a value of a type is assigned.

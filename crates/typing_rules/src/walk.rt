@@ -79,7 +79,7 @@ impl Walk<'_> {
         }
     }
 
-    /// Checks the statements of a block, from a point on.
+    /// Checks the statements of a block, from a point on. Copies of entailments that the walk keeps are added to others.
     #[cycle(walk)]
     pub fn block(
         &self,

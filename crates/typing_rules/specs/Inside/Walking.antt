@@ -103,12 +103,14 @@ unproved_for Judge proofs n gs = first_unproved proofs n gs
 unproved_for (Collect wanted) proofs n gs = None
 
 -- What came of entailments of the statement at a place that are numbered from a number on: whether they are small, and, if so, how
--- many there are, which has no valid certificate, and copies of those that the walk keeps.
-pub record Tries (u : Purpose) (at : ℕ) (proofs : List Proof) (n : ℕ) (gs : List Entailment) (tried : Tried) : Type 0 where
+-- many there are, which has no valid certificate, and that copies of those that the walk keeps are all that was added to others.
+pub record Tries (u : Purpose) (at : ℕ) (proofs : List Proof) (n : ℕ) (gs : List Entailment) (before after : List Entail) (tried : Tried) : Type 0 where
   pub few : tried.count ≤ length gs
   pub small : tried.small ≡ list_all is_small_entailment gs
+  pub added : List PlacedEntailment
+  pub grown : map view_entail after ≡ map view_entail before ++ added
   pub decided : tried.small ≡ true
-      → (tried.count ≡ length gs) × (tried.unproved ≡ unproved_for u proofs n gs) × (map view_entail tried.copies ≡ kept_for u (placed_from at n gs))
+      → (tried.count ≡ length gs) × (tried.unproved ≡ unproved_for u proofs n gs) × (added ≡ kept_for u (placed_from at n gs))
 
 -- Parts of branches and loops ------------------------------------------------------------------------------------
 

@@ -3,4 +3,4 @@ use Rattle.typing_rules.proofs.TryLaws.{tries_large}
 use Rattle.typing_rules.proofs.entailments_tried.Tried.large.Goals as goal
 
 pub returns : goal.returns
-returns c u at proofs n gs large = tries_large u at proofs n gs _ refl refl large
+returns c u at proofs n gs k large = tries_large u at proofs n gs k _ refl refl large

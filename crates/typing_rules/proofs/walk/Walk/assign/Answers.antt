@@ -80,4 +80,4 @@ returns c a k =
     let count = entailment_count (flat (stm_parts p t (syntax.assign x e written rs) at proofs a)) in
     let counted : 0 + 0 + length gs ≡ count = (let none : 0 + 0 + length gs ≡ length gs = omega arith in none) ∙ sym (count_assign p t at proofs a x e written rs) in
     value_walks w.purpose p t at proofs a x e written rs count c.args.kept.now c.conclude.new.kept c.conclude.result first_held
-    (c.conclude.ensures after keeps few gs (length gs) count refl few_ok tries (zero-add (length gs)) counted)
+    (c.conclude.ensures after keeps few gs c.args.kept.now (length gs) count refl few_ok (sym c.len-mark.ensures) tries (zero-add (length gs)) counted)

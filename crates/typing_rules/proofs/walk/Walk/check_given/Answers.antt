@@ -1,4 +1,4 @@
-use Rattle.std.proofs.Common.{ap, map, sym, subst, None, ◌≡◌, ◌∙◌}
+use Rattle.std.proofs.Common.{ap, map, sym, subst, None, ◌≡◌}
 use Rattle.cov_ast.specs.Obligations.{Decides, first_false}
 use Rattle.cov_ast.specs.View as view
 use Rattle.typing_rules.specs.Inside.Keeping.{looked_at}

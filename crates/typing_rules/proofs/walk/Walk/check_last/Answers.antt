@@ -17,11 +17,11 @@ use Rattle.typing_rules.proofs.walk.Walk.check_last.Goals as goal
 use Rattle.typing_rules.proofs.walk.Walk.check_last.Goals.{then-tried, else-tried}
 
 pub returns-in-Ok-require_proved : goal.returns-in-Ok-require_proved
-returns-in-Ok-require_proved c gs points count h types sum =
+returns-in-Ok-require_proved c gs points count k0 k1 h types sum =
     let w = c.args.self.now in
     let p = plain_of w in
     let proofs = map view.proof c.args.proofs.now in
-    let tried = c.args.tried.now in
+    let tried = c.args.tried in
     let u = w.purpose in
     let small = list_all is_small_entailment gs && list_all has_small_types points in
     let asked : c.if-tried.require_small ≡ (tried.small && c.args.types) = elim c.if-tried.branch [
@@ -31,7 +31,7 @@ returns-in-Ok-require_proved c gs points count h types sum =
     let is : c.if-tried.require_small ≡ small = asked ∙ (λ i. h.small i && types i) in
     let sizes : first_false (small_terms p w.thread c.args.at gs points) ≡ None =
     subst (λ b. first_false (obligation p w.thread c.args.at V16 Nothing b ∷ []) ≡ None) is (rw c.site-site.ensures at c.in-Ok.ensures) in
-    let decided = tried_decided u p w.thread c.args.at proofs (suc c.args.before) gs points tried h sizes in
+    let decided = tried_decided u p w.thread c.args.at proofs (suc c.args.before) gs points k0 k1 tried h sizes in
     let entailments = proved p w.thread c.args.at proofs (suc c.args.before) gs in
     let last = numbers p w.thread c.args.at count proofs in
     let small_ones = small_terms p w.thread c.args.at gs points in
@@ -42,11 +42,11 @@ returns-in-Ok-require_proved c gs points count h types sum =
     (rw c.site-site.ensures at c.check_given.ensures))))
 
 pub returns-in-Err-require_proved : goal.returns-in-Err-require_proved
-returns-in-Err-require_proved c gs points count h types sum =
+returns-in-Err-require_proved c gs points count k0 k1 h types sum =
     let w = c.args.self.now in
     let p = plain_of w in
     let proofs = map view.proof c.args.proofs.now in
-    let tried = c.args.tried.now in
+    let tried = c.args.tried in
     let u = w.purpose in
     let small = list_all is_small_entailment gs && list_all has_small_types points in
     let asked : c.if-tried.require_small ≡ (tried.small && c.args.types) = elim c.if-tried.branch [
@@ -56,7 +56,7 @@ returns-in-Err-require_proved c gs points count h types sum =
     let is : c.if-tried.require_small ≡ small = asked ∙ (λ i. h.small i && types i) in
     let sizes : first_false (small_terms p w.thread c.args.at gs points) ≡ None =
     subst (λ b. first_false (obligation p w.thread c.args.at V16 Nothing b ∷ []) ≡ None) is (rw c.site-site.ensures at c.in-Ok.ensures) in
-    let decided = tried_decided u p w.thread c.args.at proofs (suc c.args.before) gs points tried h sizes in
+    let decided = tried_decided u p w.thread c.args.at proofs (suc c.args.before) gs points k0 k1 tried h sizes in
     let entailments = proved p w.thread c.args.at proofs (suc c.args.before) gs in
     let last = numbers p w.thread c.args.at count proofs in
     let fault = c.in-Err-require_proved.fault in

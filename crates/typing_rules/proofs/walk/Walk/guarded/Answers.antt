@@ -1,4 +1,4 @@
-use Rattle.std.proofs.Common.{◌≡◌, [], ◌∷◌, ◌++◌, length, refl, sym, ap, ◌∙◌, append_assoc, subst, Ok, Err}
+use Rattle.std.proofs.Common.{[], ◌∷◌, ◌++◌, refl, sym, ap, ◌∙◌, append_assoc, subst, Ok, Err}
 use Rattle.std.specs.List.{list_all}
 use Rattle.std.proofs.Math.Bool.{and-true}
 use Rattle.std.proofs.lemmas.List.{append-nil}
@@ -11,13 +11,13 @@ use Rattle.typing_rules.specs.Inside.Passing.{Passes, Stops}
 use Rattle.typing_rules.specs.Inside.Walking.{plain_of}
 use Rattle.typing_rules.specs.ThreadEntailments.{placed_from}
 use Rattle.typing_rules.specs.ThreadObligations.{obligation, few_preds, proved, small_terms}
-use Rattle.typing_rules.proofs.Concluding.{all_tried, asked_counted, asked_silent, concludes, last_stops, looked_front}
+use Rattle.typing_rules.proofs.Concluding.{all_tried, asked_counted, asked_silent, concludes, cut_back, last_stops, looked_front}
 use Rattle.typing_rules.proofs.Parts.{held_is}
 use Rattle.typing_rules.proofs.Reaching.{others-append}
 use Rattle.typing_rules.proofs.walk.Walk.guarded.Goals as goal
 
-pub returns-in_ok-add_all-in-Ok : goal.returns-in_ok-add_all-in-Ok
-returns-in_ok-add_all-in-Ok c a k b kb front proofs gs others before tries =
+pub returns-in-Ok : goal.returns-in-Ok
+returns-in-Ok c a k b kb front proofs gs start others before marked tries =
     let w = c.args.self.now in
     let p = plain_of w in
     let t = w.thread in
@@ -39,16 +39,16 @@ returns-in_ok-add_all-in-Ok c a k b kb front proofs gs others before tries =
     (λ _. c.both-2.ensures few (small ++ looked_at u asked) few_ok (λ _. c.both.ensures small (looked_at u asked) small_ok proved_ok)) in
     let looked = looked_front u first (small ++ asked) first_others ∙ ap (λ o. first ++ o) (looked_front u small asked refl) ∙ append_assoc front few (small ++ looked_at u asked) in
     let held = subst (λ o. Decides o (Ok tt)) (sym looked) (subst (λ r. Decides (front ++ (few ++ (small ++ looked_at u asked))) r) c.in-Ok.is verdict) in
-    let all = all_tried u p t at proofs 1 gs [] first asked first_others c.args.tried tries held in (
-      subst (λ o. Passes u o (placed_from at 1 gs) c.args.kept.now c.add_all.new.kept) (append_assoc front few (small ++ asked))
-          (concludes u p t at proofs 1 gs [] first asked first_others c.args.tried tries held (asked_counted p t at proofs 1 gs) c.args.kept.now c.add_all.new.kept c.in_ok-add_all-in-Ok.ensures),
+    let all = all_tried u p t at proofs 1 gs [] first asked first_others start c.args.kept.now c.args.tried tries held in (
+      subst (λ o. Passes u o (placed_from at 1 gs) start c.args.kept.now) (append_assoc front few (small ++ asked))
+          (concludes u p t at proofs 1 gs [] first asked first_others start c.args.kept.now c.args.tried tries held (asked_counted p t at proofs 1 gs)),
       k,
       kb,
       all.0,
     )
 
 pub returns-in-Err : goal.returns-in-Err
-returns-in-Err c a k b kb front proofs gs others before tries =
+returns-in-Err c a k b kb front proofs gs start others before marked tries =
     let w = c.args.self.now in
     let p = plain_of w in
     let t = w.thread in
@@ -69,6 +69,7 @@ returns-in-Err c a k b kb front proofs gs others before tries =
     let verdict = c.both-3.ensures front (few ++ (small ++ looked_at u asked)) before
     (λ _. c.both-2.ensures few (small ++ looked_at u asked) few_ok (λ _. c.both.ensures small (looked_at u asked) small_ok proved_ok)) in
     let looked = looked_front u first (small ++ asked) first_others ∙ ap (λ o. first ++ o) (looked_front u small asked refl) ∙ append_assoc front few (small ++ looked_at u asked) in
-    subst (λ o. Stops u o (placed_from at 1 gs) c.args.kept.now c.args.kept.now c.in-Err.fault) (append_assoc front few (small ++ asked))
-    (last_stops u p t at proofs 1 gs [] first asked first_others (λ wanted. asked_silent p t at wanted proofs 1 gs) c.args.kept.now c.in-Err.fault
+    subst (λ o. Stops u o (placed_from at 1 gs) start c.cut.new.kept c.in-Err.fault) (append_assoc front few (small ++ asked))
+    (last_stops u p t at proofs 1 gs [] first asked first_others (λ wanted. asked_silent p t at wanted proofs 1 gs) start c.cut.new.kept
+    (cut_back start c.args.kept.now c.cut.new.kept tries.added c.args.mark marked tries.grown c.cut.ensures) c.in-Err.fault
     (subst (λ o. Decides o (Err c.in-Err.fault)) (sym looked) (subst (λ r. Decides (front ++ (few ++ (small ++ looked_at u asked))) r) c.in-Err.is verdict)))

@@ -1,4 +1,4 @@
-use Rattle.std.proofs.Common.{[], ◌∷◌, ◌++◌, map, length, arith, append_assoc, subst}
+use Rattle.std.proofs.Common.{[], ◌∷◌, ◌++◌, map, length, sym, arith, append_assoc, subst}
 use Rattle.cov_expr.specs.View.{term}
 use Rattle.cov_ast.specs.View as view
 use Rattle.typing_state.specs.After.{meet}
@@ -47,5 +47,5 @@ returns c a k =
     let evaluated = (rw c.site-site.ensures at c.check_guard-evaluated.ensures) a.held (c.modes.ensures p t a k) in
     let rest = flat (first_parts p t at proofs (gs ++ hs) (starts_of w top e)) in
     subst (λ es. GuardsAt w at es (gs ++ hs) top e c.args.kept.now c.guard.new.kept c.guard.result) (append_assoc first second rest)
-    (c.guard.ensures top (c.in_ok-top.ensures t a k) (first ++ second) gs (others-append first second (others_state p t at a.held j) (others_guard p t at a.held e))
-    (c.both.ensures first second stated (λ _. evaluated)) (c.in_ok-entered.ensures a k))
+    (c.guard.ensures top (c.in_ok-top.ensures t a k) (first ++ second) gs c.args.kept.now (others-append first second (others_state p t at a.held j) (others_guard p t at a.held e))
+    (c.both.ensures first second stated (λ _. evaluated)) (sym c.len-mark.ensures) (c.in_ok-entered.ensures a k))

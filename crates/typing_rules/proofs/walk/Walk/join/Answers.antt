@@ -1,4 +1,4 @@
-use Rattle.std.proofs.Common.{◌≡◌, [], ◌∷◌, ◌++◌, ◌+◌, suc, map, length, refl, arith, append_assoc, subst}
+use Rattle.std.proofs.Common.{◌≡◌, [], ◌∷◌, ◌++◌, ◌+◌, sym, suc, map, length, refl, arith, append_assoc, subst}
 use Rattle.cov_ast.specs.View as view
 use Rattle.typing_state.specs.After.{meet}
 use Rattle.typing_rules.specs.Entailments.{state_follows}
@@ -21,7 +21,7 @@ returns c a k b kb =
     let gs = state_follows a j ++ state_follows b j in
     let count = before + length gs in
     let n : 1 + before ≡ suc before = omega arith in
-    let tries = subst (λ n. Tries w.purpose at proofs n gs c.in_ok-tried.tried) n (c.in_ok-tried.ensures a k b kb) in
+    let tries = subst (λ n. Tries w.purpose at proofs n gs c.args.kept.now c.try_both.new.kept c.in_ok-tried.tried) n (c.in_ok-tried.ensures a k b kb) in
     let after = meet p t a j in
     let keeps = c.in_ok-after.ensures t a k in
     let same = same_locks p t at a.held b.held in
@@ -29,4 +29,4 @@ returns c a k b kb =
     let counted = before + (c.args.yes.entailments + c.args.no.entailments) + length gs in
     subst (λ es. Walks w.purpose p t es (placed_from at (suc before) gs) after counted c.args.kept.now c.conclude.new.kept c.conclude.result)
     (append_assoc same stated (flat (last_parts p t at proofs (suc before) count gs (after ∷ []))))
-    (c.conclude.ensures after keeps (same ++ stated) gs count counted (others-append same stated refl (others_state p t at a.held j)) (c.check_ends-met.ensures a k b kb) tries refl refl)
+    (c.conclude.ensures after keeps (same ++ stated) gs c.args.kept.now count counted (others-append same stated refl (others_state p t at a.held j)) (c.check_ends-met.ensures a k b kb) (sym c.len-mark.ensures) tries refl refl)

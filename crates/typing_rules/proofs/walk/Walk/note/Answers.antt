@@ -26,5 +26,5 @@ returns c a k =
     let stated : Decides first c.check_state-stated.result = (rw c.site.ensures at c.check_state-stated.ensures) a k in
     let counted : 0 + 0 + length gs ≡ entailment_count (first ++ flat (last_parts p t at proofs 1 (length gs) gs (after ∷ []))) =
     (let none : 0 + 0 + length gs ≡ length gs = omega arith in none) ∙ sym (count_note p t at proofs a j) in
-    c.conclude.ensures after keeps first gs (length gs) (entailment_count (first ++ flat (last_parts p t at proofs 1 (length gs) gs (after ∷ []))))
-    (others_state p t at a.held j) stated tries (zero-add (length gs)) counted
+    c.conclude.ensures after keeps first gs c.args.kept.now (length gs) (entailment_count (first ++ flat (last_parts p t at proofs 1 (length gs) gs (after ∷ []))))
+    (others_state p t at a.held j) stated (sym c.len-mark.ensures) tries (zero-add (length gs)) counted

@@ -23,5 +23,5 @@ returns c a k =
     let evaluated = (rw c.site.ensures at c.check_guard-evaluated.ensures) a.held (c.modes.ensures p t a k) in
     let counted : 0 + 0 + length gs ≡ entailment_count (first ++ flat (last_parts p t at proofs 1 (length gs) gs (a ∷ []))) =
     (let none : 0 + 0 + length gs ≡ length gs = omega arith in none) ∙ sym (count_output p t at proofs a e) in
-    c.conclude.ensures a k first gs (length gs) (entailment_count (first ++ flat (last_parts p t at proofs 1 (length gs) gs (a ∷ []))))
-    (others_guard p t at a.held e) evaluated tries (zero-add (length gs)) counted
+    c.conclude.ensures a k first gs c.args.kept.now (length gs) (entailment_count (first ++ flat (last_parts p t at proofs 1 (length gs) gs (a ∷ []))))
+    (others_guard p t at a.held e) evaluated (sym c.len-mark.ensures) tries (zero-add (length gs)) counted

@@ -1,6 +1,5 @@
 use Rattle.std.proofs.Common.{◌≡◌, ◌+◌, ◌<◌, ◌++◌, ◌∙◌, ℕ, List, length, map, ap, arith, append_assoc, option_map, subst, sym, Option, Some, None, MatchOption}
 use Rattle.std.proofs.lemmas.List.{length-append, length-map}
-use Rattle.std.proofs.lemmas.Result.{IfOk-weaker}
 use Rattle.cov_expr.specs.Term.{Term}
 use Rattle.cov_expr.specs.View.{term}
 use Rattle.cov_ast.specs.Syntax.{assign}
@@ -85,8 +84,8 @@ try_shown-requires-clause-few c =
     let one = c.in_ok-first.ensures a k (first w a c.args.x e q rs) (c.in_ok-written.ensures w.thread a k typed) in
     omega (arith, one.few, few w a c.args.x e q rs c.requires.walk (term c.args.q.now) typed c.requires.small)
 
-pub and-requires : goal.and-requires
-and-requires c =
+pub and-before-requires : goal.and-before-requires
+and-before-requires c =
     let w = c.args.self.now in
     let a = c.requires.point.at in
     let k = c.requires.point.keeps in
@@ -108,7 +107,8 @@ overflow_add-before c =
     let typed = c.requires.typed a k in
     let v = term c.args.q.now in
     let one = c.in_ok-first.ensures a k (first w a c.args.x e q rs) (c.in_ok-written.ensures w.thread a k typed) in
-    let both = c.in_ok-before.ensures w.purpose c.args.at (map view.proof c.args.proofs.now) 1 (first w a c.args.x e q rs) (shown w a c.args.x e q rs v) one (c.in_ok-shown.ensures a k) in
+    let both = c.and-before.ensures w.purpose c.args.at (map view.proof c.args.proofs.now) 1 (first w a c.args.x e q rs) (shown w a c.args.x e q rs v) c.args.kept.now c.try_listed.new.kept
+    c.try_shown.new.kept one (c.in_ok-shown.ensures a k) in
     omega (arith, both.few, length-append (first w a c.args.x e q rs) (shown w a c.args.x e q rs v), few w a c.args.x e q rs c.requires.walk v typed c.requires.small)
 
 pub try_listed-requires-2 : goal.try_listed-requires-2
@@ -122,12 +122,13 @@ try_listed-requires-2 c =
     let typed = c.requires.typed a k in
     let v = term c.args.q.now in
     let one = c.in_ok-first.ensures a k (first w a c.args.x e q rs) (c.in_ok-written.ensures w.thread a k typed) in
-    let both = c.in_ok-before.ensures w.purpose c.args.at (map view.proof c.args.proofs.now) 1 (first w a c.args.x e q rs) (shown w a c.args.x e q rs v) one (c.in_ok-shown.ensures a k) in
-    few_made a.preds (changed w a c.args.x e q rs) (1 + c.in_ok-before.before.count) 4294967296 c.in_ok-changed.changed (c.in_ok-changed.ensures w.thread a k)
+    let both = c.and-before.ensures w.purpose c.args.at (map view.proof c.args.proofs.now) 1 (first w a c.args.x e q rs) (shown w a c.args.x e q rs v) c.args.kept.now c.try_listed.new.kept
+    c.try_shown.new.kept one (c.in_ok-shown.ensures a k) in
+    few_made a.preds (changed w a c.args.x e q rs) (1 + c.and-before.result.count) 4294967296 c.in_ok-changed.changed (c.in_ok-changed.ensures w.thread a k)
     (omega (arith, both.few, length-append (first w a c.args.x e q rs) (shown w a c.args.x e q rs v), few w a c.args.x e q rs c.requires.walk v typed c.requires.small))
 
-pub and-requires-2 : goal.and-requires-2
-and-requires-2 c =
+pub and-requires : goal.and-requires
+and-requires c =
     let w = c.args.self.now in
     let a = c.requires.point.at in
     let k = c.requires.point.keeps in
@@ -137,7 +138,8 @@ and-requires-2 c =
     let typed = c.requires.typed a k in
     let v = term c.args.q.now in
     let one = c.in_ok-first.ensures a k (first w a c.args.x e q rs) (c.in_ok-written.ensures w.thread a k typed) in
-    let both = c.in_ok-before.ensures w.purpose c.args.at (map view.proof c.args.proofs.now) 1 (first w a c.args.x e q rs) (shown w a c.args.x e q rs v) one (c.in_ok-shown.ensures a k) in
+    let both = c.and-before.ensures w.purpose c.args.at (map view.proof c.args.proofs.now) 1 (first w a c.args.x e q rs) (shown w a c.args.x e q rs v) c.args.kept.now c.try_listed.new.kept
+    c.try_shown.new.kept one (c.in_ok-shown.ensures a k) in
     let last = c.in_ok-last.ensures a k (changed w a c.args.x e q rs) (c.in_ok-changed.ensures w.thread a k) in
     omega (arith, both.few, last.few, length-append (first w a c.args.x e q rs) (shown w a c.args.x e q rs v), few w a c.args.x e q rs c.requires.walk v typed c.requires.small)
 
@@ -152,14 +154,15 @@ returns c =
     let rs = map view.retype c.args.retypes.now in
     let proofs = map view.proof c.args.proofs.now in
     let v = term c.args.q.now in
-    IfOk-weaker c.and-2.result _ _ (λ all h a k.
+    λ a k.
     let typed = c.requires.typed a k in
     let before = first w a x e q rs ++ shown w a x e q rs v in
     let controlled = controlled_values p t a x e in
     let retyped = map (retype_follows p t a x e) rs in
     let one = c.in_ok-first.ensures a k (first w a x e q rs) (c.in_ok-written.ensures t a k typed) in
-    let both = c.in_ok-before.ensures w.purpose c.args.at proofs 1 (first w a x e q rs) (shown w a x e q rs v) one (c.in_ok-shown.ensures a k) in
+    let both = c.and-before.ensures w.purpose c.args.at proofs 1 (first w a x e q rs) (shown w a x e q rs v) c.args.kept.now c.try_listed.new.kept c.try_shown.new.kept one
+    (c.in_ok-shown.ensures a k) in
     let last = c.in_ok-last.ensures a k (changed w a x e q rs) (c.in_ok-changed.ensures t a k) in
-    subst (λ gs. Tries w.purpose c.args.at proofs 1 gs all)
+    subst (λ gs. Tries w.purpose c.args.at proofs 1 gs c.args.kept.now c.try_listed-2.new.kept c.and.result)
     (sym (append_assoc before controlled retyped) ∙ ap (λ u. first w a x e q rs ++ shown w a x e q rs u ++ controlled ++ retyped) typed)
-    (h w.purpose c.args.at proofs 1 before (controlled ++ retyped) both last)) c.and-2.ensures
+    (c.and.ensures w.purpose c.args.at proofs 1 before (controlled ++ retyped) c.args.kept.now c.try_shown.new.kept c.try_listed-2.new.kept both last)

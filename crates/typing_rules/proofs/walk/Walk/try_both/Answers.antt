@@ -1,5 +1,4 @@
 use Rattle.std.proofs.Common.{map, arith}
-use Rattle.std.proofs.lemmas.Result.{IfOk-weaker}
 use Rattle.cov_ast.specs.View as view
 use Rattle.typing_rules.specs.Entailments.{state_follows}
 use Rattle.typing_rules.proofs.Bounds.{few_entailments_state}
@@ -32,5 +31,6 @@ and-requires c =
 pub returns : goal.returns
 returns c =
     let j = view.state c.args.join.now in
-    IfOk-weaker c.and.result _ _ (λ all h a k b kb.
-    h c.args.self.now.purpose c.args.at (map view.proof c.args.proofs.now) c.args.from (state_follows a j) (state_follows b j) (c.in_ok-first.ensures a k) (c.in_ok-second.ensures b kb)) c.and.ensures
+    λ a k b kb.
+    c.and.ensures c.args.self.now.purpose c.args.at (map view.proof c.args.proofs.now) c.args.from (state_follows a j) (state_follows b j) c.args.kept.now c.try_state.new.kept
+    c.try_state-2.new.kept (c.in_ok-first.ensures a k) (c.in_ok-second.ensures b kb)

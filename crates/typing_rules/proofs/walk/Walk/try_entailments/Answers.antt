@@ -8,7 +8,7 @@ use Rattle.typing_rules.proofs.walk.Walk.try_entailments.Goals as goal
 pub returns-then-not-are_small : goal.returns-then-not-are_small
 returns-then-not-are_small c a k =
     let w = c.args.self.now in
-    c.large.ensures w.purpose c.args.at (map view.proof c.args.proofs.now) c.args.from (entailments_of a.preds c.args.entailments.now)
+    c.large.ensures w.purpose c.args.at (map view.proof c.args.proofs.now) c.args.from (entailments_of a.preds c.args.entailments.now) c.args.kept.now
     (sym (c.are_small.ensures (plain_of w) w.thread a k) ∙ c.if-not-are_small.true)
 
 pub returns : goal.returns

@@ -10,4 +10,4 @@ pub returns : goal.returns
 returns c =
     let w = c.args.self.now in
     tried_listed w c.args.at c.args.point.now (map view.proof c.args.proofs.now) c.args.from c.in_ok-entailments.entailments (λ a. guard_follows (plain_of w) w.thread a (term c.args.e.now) ∷ [])
-    c.try_listed.result (λ a k. c.in_ok-entailments.ensures w.thread a k) c.try_listed.ensures
+    c.args.kept.now c.try_listed.new.kept c.try_listed.result (λ a k. c.in_ok-entailments.ensures w.thread a k) c.try_listed.ensures

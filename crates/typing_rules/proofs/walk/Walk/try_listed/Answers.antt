@@ -5,4 +5,4 @@ use Rattle.typing_rules.proofs.walk.Walk.try_listed.Goals as goal
 
 pub returns-in-None : goal.returns-in-None
 returns-in-None c a k gs listed =
-    c.large.ensures c.args.self.now.purpose c.args.at (map view.proof c.args.proofs.now) c.args.from gs (subst (AreListed a.preds gs) c.in-None.is listed)
+    c.large.ensures c.args.self.now.purpose c.args.at (map view.proof c.args.proofs.now) c.args.from gs c.args.kept.now (subst (AreListed a.preds gs) c.in-None.is listed)

@@ -7,4 +7,5 @@ pub returns-in-None : goal.returns-in-None
 returns-in-None c a k =
     let proofs = map view.proof c.args.proofs.now in
     let none = rw c.in-None.is at (c.shown_entailment.ensures c.args.self.now.thread a k) in
-    subst (λ gs. Tries c.args.self.now.purpose c.args.at proofs c.args.from gs c.none.result) none (c.none.ensures.tried c.args.self.now.purpose c.args.at proofs c.args.from)
+    subst (λ gs. Tries c.args.self.now.purpose c.args.at proofs c.args.from gs c.args.kept.now c.args.kept.now c.none.result) none
+    (c.none.ensures.tried c.args.self.now.purpose c.args.at proofs c.args.from c.args.kept.now)

@@ -25,4 +25,4 @@ pub returns : goal.returns
 returns c =
     let w = c.args.self.now in
     tried_same w c.args.at c.args.point.now (map view.proof c.args.proofs.now) c.args.from (λ a. entailments_of a.preds c.as_slice.result.now) (λ a. state_follows a (view.state c.args.s.now))
-    c.try_entailments.result (λ a k. ap (entailments_of a.preds) c.as_slice.ensures ∙ c.in_ok-entailments.ensures (plain_of w) w.thread a k) c.try_entailments.ensures
+    c.args.kept.now c.try_entailments.new.kept c.try_entailments.result (λ a k. ap (entailments_of a.preds) c.as_slice.ensures ∙ c.in_ok-entailments.ensures (plain_of w) w.thread a k) c.try_entailments.ensures

@@ -26,4 +26,4 @@ pub returns : goal.returns
 returns c =
     let w = c.args.self.now in
     tried_same w c.args.at c.args.point.now (map view.proof c.args.proofs.now) 1 (λ a. entailments_of a.preds c.as_slice.result.now) (λ a. unlock_entailments (plain_of w) w.thread a c.args.l)
-    c.try_entailments.result (λ a k. ap (entailments_of a.preds) c.as_slice.ensures ∙ c.in_ok-entailments.ensures w.thread a k) c.try_entailments.ensures
+    c.args.kept.now c.try_entailments.new.kept c.try_entailments.result (λ a k. ap (entailments_of a.preds) c.as_slice.ensures ∙ c.in_ok-entailments.ensures w.thread a k) c.try_entailments.ensures

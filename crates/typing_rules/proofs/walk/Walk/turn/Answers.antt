@@ -1,8 +1,8 @@
-use Rattle.std.proofs.Common.{◌≡◌, [], ◌∷◌, ◌++◌, ◌+◌, suc, map, length, refl, sym, ◌∙◌, arith, subst}
+use Rattle.std.proofs.Common.{◌≡◌, ◌+◌, suc, map, length, refl, sym, arith, subst}
 use Rattle.cov_ast.specs.View as view
 use Rattle.typing_rules.specs.Entailments.{state_follows}
-use Rattle.typing_rules.specs.ThreadObligations.{flat, same_locks}
-use Rattle.typing_rules.specs.Inside.Walking.{Tries, last_parts, plain_of}
+use Rattle.typing_rules.specs.ThreadObligations.{same_locks}
+use Rattle.typing_rules.specs.Inside.Walking.{Tries, plain_of}
 use Rattle.typing_rules.proofs.walk.Walk.turn.Goals as goal
 
 pub returns : goal.returns
@@ -16,7 +16,7 @@ returns c a k b kb =
     let gs = state_follows a (view.state c.args.inv.now) in
     let count = before + length gs in
     let n : 1 + before ≡ suc before = omega arith in
-    let tries = subst (λ n. Tries w.purpose at proofs n gs c.in_ok-tried.tried) n (c.in_ok-tried.ensures a k) in
+    let tries = subst (λ n. Tries w.purpose at proofs n gs c.args.kept.now c.try_state.new.kept c.in_ok-tried.tried) n (c.in_ok-tried.ensures a k) in
     let same = same_locks p t at a.held b.held in
     let same_ok = (rw c.site.ensures at c.check_same_locks-same.ensures) a.held (c.modes.ensures p t a k) b.held (c.modes-2.ensures p t b kb) in
-    c.conclude.ensures b kb same gs count (before + c.args.end.entailments + length gs) refl same_ok tries refl refl
+    c.conclude.ensures b kb same gs c.args.kept.now count (before + c.args.end.entailments + length gs) refl same_ok (sym c.len-mark.ensures) tries refl refl

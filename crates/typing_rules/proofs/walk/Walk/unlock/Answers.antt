@@ -32,5 +32,5 @@ returns c a k =
     (rw c.site.ensures at c.require_at-taken.ensures)) in
     let counted : 0 + 0 + length gs ≡ entailment_count (first ++ flat (last_parts p t at proofs 1 (length gs) gs (after ∷ []))) =
     (let none : 0 + 0 + length gs ≡ length gs = omega arith in none) ∙ sym (count_unlock p t at proofs a l) in
-    c.conclude.ensures after keeps first gs (length gs) (entailment_count (first ++ flat (last_parts p t at proofs 1 (length gs) gs (after ∷ []))))
-    refl taken tries (zero-add (length gs)) counted
+    c.conclude.ensures after keeps first gs c.args.kept.now (length gs) (entailment_count (first ++ flat (last_parts p t at proofs 1 (length gs) gs (after ∷ []))))
+    refl taken (sym c.len-mark.ensures) tries (zero-add (length gs)) counted

@@ -9,7 +9,7 @@ use Rattle.typing_rules.specs.declared.entail.Entail.{Entail}
 use Rattle.typing_rules.specs.declared.purpose.Purpose.TheVariants.{Collect}
 use Rattle.typing_rules.specs.declared.purpose.Wanted.{Wanted}
 use Rattle.typing_rules.proofs.KeptLaws.{kept-append}
-use Rattle.typing_rules.proofs.entail.copies_of.Goals as goal
+use Rattle.typing_rules.proofs.entail.add_copies.Goals as goal
 
 module _ (place : ℕ) (preds : List Term) (wanted : Wanted) (old : List Entail) (n : ℕ) (xs : List rust.Entailment) (i : ℕ) (whole : List PlacedEntailment)
     (kept : map view_entail old ++ wanted_among wanted (placed_from place n (entailments_of preds (drop i xs))) ≡ whole) where
@@ -39,7 +39,7 @@ loop-entailment-init c =
     let xs = c.args.entailments.now in
     record {
       counted = omega arith;
-      kept = λ p t a kept. ap (λ es. map view_entail es ++ wanted_among c.args.wanted (placed_from place c.args.from (entailments_of a.preds xs))) c.new-copies.ensures;
+      kept = λ p t a kept. refl;
     }
 
 pub loop-entailment-preserved : goal.loop-entailment-preserved
@@ -50,7 +50,7 @@ loop-entailment-preserved c =
     record {
       counted = omega (arith, l.invariant.counted);
       kept = λ p t a kept.
-          copies_more place a.preds c.args.wanted l.copies l.number xs l.entailment-index (wanted_among c.args.wanted (placed_from place c.args.from (entailments_of a.preds xs)))
+          copies_more place a.preds c.args.wanted l.kept l.number xs l.entailment-index (map view_entail c.args.kept.now ++ wanted_among c.args.wanted (placed_from place c.args.from (entailments_of a.preds xs)))
           (l.invariant.kept p t a kept) c.add_copy.new.copies c.entailment-item.result c.loop-entailment-test.true c.entailment-item.is
           (c.in_ok-add_copy.ensures p t a kept);
     }
@@ -60,5 +60,5 @@ returns c p t a kept =
     let l = c.loop-entailment in
     let place = c.args.site.place in
     let xs = c.args.entailments.now in
-    copies_all place a.preds c.args.wanted l.copies l.number xs l.entailment-index (wanted_among c.args.wanted (placed_from place c.args.from (entailments_of a.preds xs)))
+    copies_all place a.preds c.args.wanted l.kept l.number xs l.entailment-index (map view_entail c.args.kept.now ++ wanted_among c.args.wanted (placed_from place c.args.from (entailments_of a.preds xs)))
     (l.invariant.kept p t a kept) c.loop-entailment-test.false
