@@ -7,7 +7,9 @@ use Rattle.cov_expr.specs.declared.expr.Op.TheVariants.{Eq, Le, Either}
 use Rattle.cov_ast.specs.Syntax as s
 use Rattle.entail_text.specs.Given.{cert_of}
 use Rattle.entail_text.specs.Nodes.{node, node_at}
+use Rattle.entail_text.specs.Dropped.{dropped_line}
 use Rattle.entail_text.specs.EntailmentLines.{told, place_of, indent}
+use Rattle.entail_text.specs.OtherCertificates.{first_valid}
 
 abbrev names : List (List ℕ)
 names = codes "flight" ∷ codes "head" ∷ []
@@ -93,3 +95,16 @@ not_given = refl
 
 no_statement : cert_of body 1 1 ≡ None
 no_statement = refl
+
+-- What is dropped, and what other certificates would show --------------------------------------------------------
+
+second_dropped : dropped_line (codes "inv") (bin Le (var 0) (const 2) ∷ []) hyps ≡ codes "  dropped here: 2 (hypotheses that the inv doesn't list)\n"
+second_dropped = simp (decimal_digit 2 (lit< tt))
+
+-- of one without variables nothing is said
+none_dropped : dropped_line (codes "join") (bin Le (var 0) (const 2) ∷ []) (const 1 ∷ bin Le (var 0) (const 2) ∷ []) ≡ []
+none_dropped = refl
+
+-- the second of two certificates, which is given for 7
+second_shows : first_valid (record { number = 3; cert = s.hyp 2 } ∷ record { number = 7; cert = s.hyp 1 } ∷ []) (var 1 ∷ var 0 ∷ []) (var 1) ≡ Some 7
+second_shows = refl

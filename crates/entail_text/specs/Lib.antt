@@ -3,3 +3,5 @@ pub mod Nodes
 pub mod EntailmentLines
 pub mod VariableNames
 pub mod Inside
+pub mod Dropped
+pub mod OtherCertificates

@@ -4,6 +4,8 @@
 //! - [`failing_node_is_there`] has no body: its contract is a law, that the node of which the text tells is there and fails.
 //! - [`variable_names`]: the names with which it spells expressions of a program.
 //! - [`cert_of`]: the certificate that a thread gives for an entailment.
+//! - [`add_other`]: which certificate that is given for another entailment would show this one.
+//! - [`add_dropped`]: the hypotheses that the state which is to be met doesn't list. [`has_same`]: whether a list has an expression.
 //!
 //! | `src/` | `specs/` | what it has |
 //! |---|---|---|
@@ -11,15 +13,21 @@
 //! | `node` | `Nodes` | the hypotheses and the goal of each node of a certificate |
 //! | `names` | `VariableNames` | the names of variables, by their ids |
 //! | `given` | `Given` | the certificate of a number at a place |
+//! | `other` | `OtherCertificates` | the certificates of other numbers |
+//! | `dropped` | `Dropped` | the hypotheses that a state drops |
 #![tactic(auto)]
 
+mod dropped;
 mod given;
 mod laws;
 mod names;
 mod node;
+mod other;
 mod told;
 
+pub use dropped::{add_dropped, has_same};
 pub use given::cert_of;
 pub use laws::failing_node_is_there;
 pub use names::variable_names;
+pub use other::add_other;
 pub use told::add_told;

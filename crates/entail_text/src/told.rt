@@ -15,8 +15,8 @@ use cov_ast::{Cert, NameTable};
 use cov_expr::{Blob, Expr, List, NoMemory};
 use cov_print::{add_expr, add_front};
 use entail_cert::{CertFault, check_cert};
-use itoa::Buffer;
 use std::alloc::Global;
+use text_parts::add_number;
 
 /// Adds what is told of an entailment: its goal, its hypotheses, each with its number and its remark, and whether a certificate is given
 /// for it; of one that isn't valid the first node that fails, with the goal there and the hypotheses that the node names. Each line begins
@@ -131,13 +131,6 @@ fn indent(number: usize) -> &'static str
     ensures { result.now ≡ spec.indent number }
 {
     if number < 10 { " " } else { "" }
-}
-
-fn add_number(n: usize, text: &mut Blob) -> Result<(), NoMemory>
-    ensures { OnOk result (text.new ≡ text.old ++ decimal n) }
-{
-    let mut buffer = Buffer::new();
-    text.extend_from_slice(buffer.format(n).as_bytes())
 }
 
 /// Adds the line of the certificate.
