@@ -1,0 +1,3 @@
+pub mod TypeOrigins
+pub mod AskedVariables
+pub mod TypeLines

@@ -1,0 +1,155 @@
+-- A line for each variable whose type makes up a goal: where its type comes from.
+use Rattle.std.specs.Prelude.{ℕ, List, [], ◌∷◌, ◌++◌, Bool, true, false, codes, decimal, length, if◌then◌else◌, Option, Some, None}
+use Rattle.cov_ast.specs.Declarations.{is_control, lock_at, name_of}
+use Rattle.cov_ast.specs.Plain.{Plain}
+use Rattle.cov_ast.specs.Syntax.{Stm}
+use Rattle.cov_ast.specs.Tables.{has, table}
+use Rattle.entail_questions.specs.declared.kinds.Question.{Question}
+use Rattle.held_locks.specs.LocksHeld.{held_along, none_held}
+use Rattle.mode_state.specs.Sets.{is_hidden, is_stable}
+use Rattle.statement_paths.specs.Paths.{Step}
+use Rattle.text_lines.specs.Lines.{line}
+use Rattle.type_origins.specs.AskedVariables.{variables_of}
+use Rattle.type_origins.specs.TypeOrigins.{history, locks_over}
+use Rattle.type_origins.specs.declared.known.Known.{Known}
+use Rattle.type_origins.specs.declared.origin.By.{By}
+use Rattle.type_origins.specs.declared.origin.By.TheVariants as by
+use Rattle.type_origins.specs.declared.origin.Change.{Change}
+use Rattle.type_origins.specs.declared.origin.Change.TheVariants as change
+use Rattle.type_origins.specs.declared.origin.History.{History}
+use Rattle.type_origins.specs.declared.origin.Later.{Later}
+use Rattle.type_origins.specs.declared.origin.Origin.{Origin}
+use Rattle.type_origins.specs.declared.origin.Source.{Source}
+use Rattle.type_origins.specs.declared.origin.Source.TheVariants as source
+
+-- What is known of the variables at a point --------------------------------------------------------------------
+
+-- the set of the controls
+abbrev pub controls : Plain → List Bool
+controls p = table (length p.vars) (is_control p)
+
+-- for a thread that holds these locks: the set of what no other thread writes, and of what none reads either
+abbrev pub stable : Plain → (t : ℕ) → (held : List Bool) → List Bool
+stable p t held = table (length p.vars) (is_stable p t held)
+
+abbrev pub hidden : Plain → (t : ℕ) → (held : List Bool) → List Bool
+hidden p t held = table (length p.vars) (is_hidden p t held)
+
+abbrev pub known_at : Plain → (t : ℕ) → (held : List Bool) → Known
+known_at p t held = record { controls = controls p; stable = stable p t held; hidden = hidden p t held }
+
+-- behind steps from the start of a thread
+abbrev pub known_behind : Plain → (t : ℕ) → List Step → Known
+known_behind p t steps = known_at p t (held_along steps (none_held p))
+
+-- The words on an origin ---------------------------------------------------------------------------------------
+
+-- what lists types, or doesn't
+abbrev pub list_word : By → List ℕ
+list_word by.Join = codes "join"
+list_word by.LoopState = codes "inv"
+list_word by.Noted = codes "note"
+list_word by.Retype = codes "retype"
+
+abbrev pub listed_text : By → List ℕ
+listed_text by.Join = codes "listed by the join"
+listed_text by.LoopState = codes "listed by the inv"
+listed_text by.Noted = codes "listed by the note"
+listed_text by.Retype = codes "from the retype"
+
+-- the type of what isn't listed: nothing is known of a variable that no other thread may read, and of each other one its class
+abbrev pub default_text : (hidden : Bool) → List ℕ
+default_text true = codes "0, since the "
+default_text false = codes "its class, since the "
+
+abbrev pub taken_text : Plain → (l : ℕ) → List ℕ
+taken_text p l = codes "its class, from the lock " ++ (lock_at p l).name
+
+abbrev pub unlisted_text : (hidden : Bool) → By → List ℕ
+unlisted_text hidden by = default_text hidden ++ list_word by
+
+-- what sets a type, in front of the line of it
+abbrev pub source_text : Plain → (hidden : Bool) → Source → List ℕ
+source_text p hidden source.Stored = codes "from the assignment"
+source_text p hidden (source.Taken l) = taken_text p l
+source_text p hidden (source.Listed by) = listed_text by
+source_text p hidden (source.Unlisted by) = unlisted_text hidden by
+
+-- what stands behind the line of it
+abbrev pub source_end : Source → List ℕ
+source_end source.Stored = []
+source_end (source.Taken l) = []
+source_end (source.Listed by) = []
+source_end (source.Unlisted by) = codes ", doesn't list it"
+
+-- the line of a place of the program's text
+abbrev pub place_text : (bytes : List ℕ) → (at : ℕ) → List ℕ
+place_text bytes at = codes ", line " ++ decimal (line bytes at)
+
+abbrev pub set_text : Plain → (bytes : List ℕ) → (hidden : Bool) → Origin → List ℕ
+set_text p bytes hidden o = source_text p hidden o.source ++ place_text bytes o.at ++ source_end o.source
+
+-- where a type comes from; where no step sets it, from the start
+abbrev pub origin_text : Plain → (bytes : List ℕ) → (hidden : Bool) → Option Origin → List ℕ
+origin_text p bytes hidden None = codes "its class, from the start of the thread"
+origin_text p bytes hidden (Some o) = set_text p bytes hidden o
+
+-- The words on a later change ----------------------------------------------------------------------------------
+
+-- the control that is stored to, or the lock that is given back
+abbrev pub change_subject : Plain → Change → List ℕ
+change_subject p (change.ControlStored x) = name_of p x
+change_subject p (change.Returned l) = (lock_at p l).name
+
+abbrev pub change_word : Change → List ℕ
+change_word (change.ControlStored x) = codes " is stored to"
+change_word (change.Returned l) = codes " is given back"
+
+-- a change, in front of the line of it
+abbrev pub change_text : Plain → Change → List ℕ
+change_text p c = codes "; then " ++ change_subject p c ++ change_word c
+
+-- what stands behind the line of it
+abbrev pub change_end : Change → List ℕ
+change_end (change.ControlStored x) = codes ", which forgets a type that mentions it"
+change_end (change.Returned l) = codes ", which forgets a type that mentions what it protects"
+
+abbrev pub forgotten_text : Plain → (bytes : List ℕ) → Later → List ℕ
+forgotten_text p bytes c = change_text p c.change ++ place_text bytes c.at ++ change_end c.change
+
+-- what may have forgotten a type since, if something may
+abbrev pub later_text : Plain → (bytes : List ℕ) → Option Later → List ℕ
+later_text p bytes None = []
+later_text p bytes (Some c) = forgotten_text p bytes c
+
+-- Lines --------------------------------------------------------------------------------------------------------
+
+abbrev pub history_text : Plain → (bytes : List ℕ) → (hidden : Bool) → History → List ℕ
+history_text p bytes hidden h = origin_text p bytes hidden h.origin ++ later_text p bytes h.later
+
+-- what stands in front of the words on a variable
+abbrev pub label : Plain → (z : ℕ) → List ℕ
+label p z = codes "  type of " ++ name_of p z ++ codes ":  "
+
+module _ (p : Plain) (bytes : List ℕ) (steps : List Step) (known : Known) where
+  -- of a variable that is tracked
+  abbrev pub tracked_text : (z : ℕ) → List ℕ
+  tracked_text z = history_text p bytes (has known.hidden z) (history known.controls (locks_over p z) z steps)
+
+  -- where the type of a variable behind steps comes from
+  abbrev pub type_text : (z : ℕ) → List ℕ
+  type_text z =
+      if has known.controls z then codes "1, as that of every control" else
+      (if has known.stable z then tracked_text z else codes "its class, since others may write it here")
+
+  abbrev pub type_line : (z : ℕ) → List ℕ
+  type_line z = label p z ++ type_text z ++ codes "\n"
+
+  abbrev pub lines_of : List ℕ → List ℕ
+  lines_of [] = []
+  lines_of (z ∷ zs) = type_line z ++ lines_of zs
+
+-- The lines on the variables whose types make up the goal of what is asked of a statement. The steps are those of a thread to the
+-- point of which is asked.
+abbrev pub type_lines : Plain → (t : ℕ) → (bytes : List ℕ) → List Step → Question → Stm → List ℕ
+type_lines p t bytes steps question s = lines_of p bytes steps (known_behind p t steps) (variables_of question s)

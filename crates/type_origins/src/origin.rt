@@ -1,0 +1,58 @@
+//! What a type comes from, and what may have forgotten it since.
+
+/// What lists a type of a variable, or doesn't.
+#[derive(Clone, Copy, Debug, PartialEq, Eq)]
+pub enum By {
+    /// The join of a branch that is passed.
+    Join,
+    /// The `inv` of a loop that is passed, or at whose head the way is.
+    LoopState,
+    /// A note.
+    Noted,
+    /// The new types behind an assignment to a control.
+    Retype,
+}
+
+/// What sets the type of a variable.
+#[derive(Clone, Copy, Debug, PartialEq, Eq)]
+pub enum Source {
+    /// An assignment to the variable: the type of the value.
+    Stored,
+    /// This lock, which the variable is under and which is taken: the variable's class.
+    Taken(u32),
+    /// The type that is listed there.
+    Listed(By),
+    /// What sets every type, and lists none of the variable: what is known of it without more.
+    Unlisted(By),
+}
+
+/// Where a type comes from: what sets it, and the byte offset of the statement that does.
+#[derive(Clone, Copy, Debug, PartialEq, Eq)]
+pub struct Origin {
+    pub source: Source,
+    pub at: u32,
+}
+
+/// What may forget a type.
+#[derive(Clone, Copy, Debug, PartialEq, Eq)]
+pub enum Change {
+    /// This control is stored to: a type that mentions it is forgotten.
+    ControlStored(u32),
+    /// This lock is given back: a type that mentions what isn't stable any longer is forgotten.
+    Returned(u32),
+}
+
+/// What may have forgotten a type since it was set, and the byte offset of the statement.
+#[derive(Clone, Copy, Debug, PartialEq, Eq)]
+pub struct Later {
+    pub change: Change,
+    pub at: u32,
+}
+
+/// Where the type of a variable comes from, and the last that may have forgotten it since. A type without an origin is from the start of
+/// the thread.
+#[derive(Clone, Copy, Debug, PartialEq, Eq)]
+pub struct History {
+    pub origin: Option<Origin>,
+    pub later: Option<Later>,
+}

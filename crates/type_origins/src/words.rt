@@ -1,0 +1,71 @@
+//! The words on an origin, and on a later change.
+
+ghost use Rattle.std.specs.Prelude.{◌≡◌};
+ghost use Rattle.type_origins.specs.TypeLines as spec;
+
+use crate::origin::{By, Change, Source};
+
+/// What lists types, or doesn't.
+pub fn list_word(by: By) -> &'static str
+    ensures { result.now ≡ spec.list_word by }
+{
+    match by {
+        By::Join => "join",
+        By::LoopState => "inv",
+        By::Noted => "note",
+        By::Retype => "retype",
+    }
+}
+
+/// That a type is listed there.
+pub fn listed_text(by: By) -> &'static str
+    ensures { result.now ≡ spec.listed_text by }
+{
+    match by {
+        By::Join => "listed by the join",
+        By::LoopState => "listed by the inv",
+        By::Noted => "listed by the note",
+        By::Retype => "from the retype",
+    }
+}
+
+/// The type of what isn't listed.
+pub fn default_text(hidden: bool) -> &'static str
+    ensures { result.now ≡ spec.default_text hidden }
+{
+    if hidden {
+        "0, since the "
+    } else {
+        "its class, since the "
+    }
+}
+
+/// What stands behind the line of what sets a type.
+pub fn source_end(source: Source) -> &'static str
+    ensures { result.now ≡ spec.source_end source }
+{
+    match source {
+        Source::Stored | Source::Taken(_) | Source::Listed(_) => "",
+        Source::Unlisted(_) => ", doesn't list it",
+    }
+}
+
+/// What is done that may forget a type.
+pub fn change_word(change: Change) -> &'static str
+    ensures { result.now ≡ spec.change_word change }
+{
+    match change {
+        Change::ControlStored(_) => " is stored to",
+        Change::Returned(_) => " is given back",
+    }
+}
+
+/// What stands behind the line of a later change.
+pub fn change_end(change: Change) -> &'static str
+    ensures { result.now ≡ spec.change_end change }
+{
+    match change {
+        Change::ControlStored(_) => ", which forgets a type that mentions it",
+        Change::Returned(_) => ", which forgets a type that mentions what it protects",
+    }
+}
