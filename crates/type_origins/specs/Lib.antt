@@ -1,3 +1,4 @@
 pub mod TypeOrigins
 pub mod AskedVariables
 pub mod TypeLines
+pub mod TypesFromOrigins

@@ -10,6 +10,7 @@ use Rattle.cov_ast.specs.Declarations.{lists}
 use Rattle.cov_ast.specs.Plain.{Plain}
 use Rattle.cov_ast.specs.Syntax.{State, Stm, skip, assign, lock, unlock, branch, loop, note, output}
 use Rattle.cov_ast.specs.Tables.{has}
+use Rattle.hypothesis_origins.specs.Origins.{place_of}
 use Rattle.statement_paths.specs.Paths.{Step, passed, yes, no, head}
 use Rattle.type_origins.specs.declared.origin.By.{By}
 use Rattle.type_origins.specs.declared.origin.By.TheVariants as by
@@ -27,13 +28,6 @@ is_listed types z = list_any (λ r. r.0 == z) types
 -- the set of the locks that a variable is under
 abbrev pub locks_over : Plain → (z : ℕ) → List Bool
 locks_over p z = map (λ l. lists l z) p.locks
-
--- the place of the statement that a step is about
-abbrev pub place_of : Step → ℕ
-place_of (passed at s) = at
-place_of (yes at e) = at
-place_of (no at e) = at
-place_of (head at inv) = at
 
 -- What a step does to the type of a variable --------------------------------------------------------------------
 

@@ -3,21 +3,25 @@
 //! - [`add_type_lines`]: a line for each variable whose type makes up the goal of what is asked of a statement.
 //! - [`history_of`], with [`locks_over`]: the last step on the way to a point that sets the type of a variable ([`Origin`], [`Source`]),
 //!   and the last after it that may forget it ([`Later`], [`Change`]).
+//! - [`types_are_from_their_origins`] has no body: its contract is a law, that this goes by the rules of types.
 //!
 //! | `src/` | `specs/` | what it has |
 //! |---|---|---|
 //! | `origin`, `steps` | `TypeOrigins` | what a step does to the type of a variable, and which steps count |
 //! | `asked` | `AskedVariables` | whose types make up a goal |
 //! | `known`, `lines`, `words` | `TypeLines` | the lines, by what is known of the variables at the point |
+//! | `laws` | `TypesFromOrigins` | what a history says of the type at a point |
 #![tactic(auto)]
 
 mod asked;
 mod known;
+mod laws;
 mod lines;
 mod origin;
 mod steps;
 mod words;
 
+pub use laws::types_are_from_their_origins;
 pub use lines::add_type_lines;
 pub use origin::{By, Change, History, Later, Origin, Source};
 pub use steps::{history_of, locks_over};

@@ -4,6 +4,7 @@ ghost use Rattle.std.specs.Prelude.{◌≡◌, ◌∷◌, IfOk, Some, None, map}
 ghost use Rattle.cov_expr.specs.View.{term};
 ghost use Rattle.cov_ast.specs.Plain.{plain};
 ghost use Rattle.cov_ast.specs.View as view;
+ghost use Rattle.hypothesis_origins.specs.Origins.{place_of};
 ghost use Rattle.statement_paths.specs.Paths as paths;
 ghost use Rattle.type_origins.specs.TypeOrigins as spec;
 
@@ -47,7 +48,7 @@ fn after_step(
 
 /// The place of the statement that a step is about.
 fn place_of(step: &Step<'_>) -> u32
-    ensures { result ≡ spec.place_of (paths.step step.now) }
+    ensures { result ≡ place_of (paths.step step.now) }
 {
     match step {
         Step::Passed(stmt) => stmt.at,
