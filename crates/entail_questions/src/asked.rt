@@ -56,7 +56,7 @@ fn index_of(number: u32) -> Option<usize>
 }
 
 /// The statements of a thread.
-fn body_of(p: &Program, t: u32) -> &[Stmt]
+pub fn body_of(p: &Program, t: u32) -> &[Stmt]
     requires { t < length p.now.threads }
     ensures { view.block result.now ≡ (numbered (view.program p.now) t).body }
 {

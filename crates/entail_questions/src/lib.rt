@@ -2,6 +2,7 @@
 //!
 //! - [`question`]: what the entailment with a number asks, of those of the statement at a place ([`Asked`], [`Question`], [`End`]).
 //! - [`add_question`]: the same as a line of text.
+//! - [`body_of`]: the statements of a thread.
 //! - [`is_control`]: whether the class of some variable mentions another.
 //! - [`each_entailment_has_a_question`], [`held_locks_are_those_of_points`] and [`what_is_listed_is_asked`] have no body: their contracts are
 //!   laws, that this goes by the rules of types.
@@ -22,7 +23,7 @@ mod lines;
 mod statements;
 mod states;
 
-pub use asked::question;
+pub use asked::{body_of, question};
 pub use assignments::is_control;
 pub use kinds::{Asked, End, Question};
 pub use laws::{

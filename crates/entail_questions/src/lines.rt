@@ -1,7 +1,6 @@
 //! What is asked, as a line of text.
 
-ghost use Rattle.std.specs.Prelude.{◌≡◌, ◌<◌, ◌++◌, OnOk, Some, decimal, length};
-ghost use Rattle.cov_ast.specs.Declarations.{lock_at, name_of};
+ghost use Rattle.std.specs.Prelude.{◌≡◌, ◌<◌, ◌++◌, OnOk, Some, length};
 ghost use Rattle.cov_ast.specs.Plain.{plain};
 ghost use Rattle.cov_ast.specs.View as view;
 ghost use Rattle.cov_ast.specs.WellFormed.{IsWellFormed};
@@ -11,8 +10,8 @@ use crate::asked::question;
 use crate::kinds::{Asked, End, Question};
 use cov_ast::Program;
 use cov_expr::{Blob, NoMemory};
-use itoa::Buffer;
 use std::alloc::Global;
+use text_parts::{add_lock_name, add_number, add_variable_name};
 
 /// Adds a line that says what the entailment with a number, counted from 1, asks, of those of the statement at a place of a thread, and
 /// how many these are. Nothing is added where there is no such statement or entailment.
@@ -70,40 +69,12 @@ fn add_subject(p: &Program, question: Question, text: &mut Blob) -> Result<(), N
     match question {
         Question::Written | Question::Guard | Question::HeadGuard | Question::Printed => Ok(()),
         Question::Shown(x) | Question::Controlled(x) | Question::Retyped(x) => {
-            add_variable(p, x, text)
+            add_variable_name(p, x, text)
         }
-        Question::Freed(x) | Question::TypeOf(_, x) => add_variable(p, x, text),
-        Question::Invariant(l) => add_lock(p, l, text),
+        Question::Freed(x) | Question::TypeOf(_, x) => add_variable_name(p, x, text),
+        Question::Invariant(l) => add_lock_name(p, l, text),
         Question::Predicate(_, i) => add_number(i, text),
     }
-}
-
-/// Adds the name of a variable.
-fn add_variable(p: &Program, x: u32, text: &mut Blob) -> Result<(), NoMemory>
-    ensures { OnOk result (text.new ≡ text.old ++ name_of (plain (view.program p.now)) x) }
-{
-    match p.vars.as_slice().get(x as usize) {
-        Some(var) => text.extend_from_slice(var.name.text()),
-        None => Ok(()),
-    }
-}
-
-/// Adds the name of a lock.
-fn add_lock(p: &Program, l: u32, text: &mut Blob) -> Result<(), NoMemory>
-    ensures { OnOk result (text.new ≡ text.old ++ (lock_at (plain (view.program p.now)) l).name) }
-{
-    match p.locks.as_slice().get(l as usize) {
-        Some(lock) => text.extend_from_slice(lock.name.text()),
-        None => Ok(()),
-    }
-}
-
-/// Adds a number in decimal.
-fn add_number(n: usize, text: &mut Blob) -> Result<(), NoMemory>
-    ensures { OnOk result (text.new ≡ text.old ++ decimal n) }
-{
-    let mut buffer = Buffer::new();
-    text.extend_from_slice(buffer.format(n).as_bytes())
 }
 
 /// What stands in front of the name or of the number; all of it where there is none.

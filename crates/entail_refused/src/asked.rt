@@ -4,16 +4,15 @@ ghost use Rattle.std.specs.Prelude.{◌≡◌, ◌<◌, ◌++◌, IsTrue, OnOk, 
 ghost use Rattle.cov_ast.specs.Obligations.{all_hold};
 ghost use Rattle.cov_ast.specs.View as view;
 ghost use Rattle.cov_ast.specs.WellFormed.{IsWellFormed};
-ghost use Rattle.mode_compat.specs.Compatible.{numbered};
 ghost use Rattle.mode_compat.specs.Declared.{declaration_obligations};
 ghost use Rattle.typing_rules.specs.ThreadEntailments.{entailment_among, thread_entailments, view_entail};
 ghost use Rattle.entail_refused.specs.Asked as spec;
 
 use crate::given::add_given;
 use crate::remarked::remarks_on;
-use cov_ast::{CheckFault, Detail, Program, Refusal, Rule, Stmt};
+use cov_ast::{CheckFault, Detail, Program, Refusal, Rule};
 use cov_expr::{Blob, NoMemory};
-use entail_questions::add_question;
+use entail_questions::{add_question, body_of};
 use entail_text::{add_told, cert_of, variable_names};
 use std::alloc::Global;
 use typing_rules::{Entail, entailment_at};
@@ -170,12 +169,4 @@ fn add_lines(
         cert,
         text,
     )
-}
-
-/// The statements of a thread.
-pub fn body_of(p: &Program, t: u32) -> &[Stmt]
-    requires { t < length p.now.threads }
-    ensures { view.block result.now ≡ (numbered (view.program p.now) t).body }
-{
-    p.threads.as_slice()[t as usize].body.as_slice()
 }

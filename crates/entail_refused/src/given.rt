@@ -1,15 +1,15 @@
 //! For which entailments of a statement certificates are given.
 
-ghost use Rattle.std.specs.Prelude.{◌≡◌, ◌<◌, ◌++◌, OnOk, decimal, flat_map, length, map};
+ghost use Rattle.std.specs.Prelude.{◌≡◌, ◌<◌, ◌++◌, OnOk, flat_map, length, map};
 ghost use Rattle.cov_ast.specs.View as view;
 ghost use Rattle.entail_refused.specs.GivenElsewhere as spec;
 
-use crate::asked::body_of;
 use cov_ast::{Program, Proof};
 use cov_expr::{Blob, NoMemory};
-use itoa::Buffer;
+use entail_questions::body_of;
 use statement_paths::way_to;
 use std::alloc::Global;
+use text_parts::add_number;
 
 /// Adds for which entailments of the statement at a place of a thread certificates are given, where none is given for a number.
 /// Nothing is added where one is, or the statement gives none.
@@ -71,15 +71,7 @@ fn add_each(proofs: &[Proof], text: &mut Blob) -> Result<(), NoMemory>
 {
     for proof in proofs {
         text.extend_from_slice(b" ")?;
-        add_number(proof.number, text)?;
+        add_number(proof.number as usize, text)?;
     }
     Ok(())
-}
-
-/// Adds a number in decimal.
-fn add_number(n: u32, text: &mut Blob) -> Result<(), NoMemory>
-    ensures { OnOk result (text.new ≡ text.old ++ decimal n) }
-{
-    let mut buffer = Buffer::new();
-    text.extend_from_slice(buffer.format(n).as_bytes())
 }

@@ -10,10 +10,9 @@ ghost use Rattle.statement_paths.specs.Paths as paths;
 ghost use Rattle.typing_rules.specs.ThreadEntailments.{view_entail};
 ghost use Rattle.entail_refused.specs.Remarked as spec;
 
-use crate::asked::body_of;
 use cov_ast::{Program, StmtKind};
 use cov_expr::{Blob, List, NoMemory};
-use entail_questions::{Asked, End, Question, question};
+use entail_questions::{Asked, End, Question, body_of, question};
 use statement_paths::{
     Step, Way, add_to_body_end, add_to_first_end, add_to_head, add_to_second_end, way_to,
 };

@@ -1,4 +1,4 @@
-ghost use Rattle.std.specs.Prelude.{◌≡◌, ◌++◌, OnOk, Some, decimal};
+ghost use Rattle.std.specs.Prelude.{◌≡◌, ◌++◌, OnOk, Some};
 ghost use Rattle.explain.specs.Explanations as spec;
 ghost use Rattle.top_call.specs.AnswerViews.{seen};
 ghost use Rattle.top_call.specs.Reports.{report_of};
@@ -6,9 +6,9 @@ ghost use Rattle.top_call.specs.Reports.{report_of};
 use crate::faults::add_fault_sentence;
 use crate::rules::add_sentence;
 use cov_expr::{Blob, List, NoMemory};
-use itoa::Buffer;
 use std::alloc::Global;
 use text_lines::{add_excerpt, halves, position};
+use text_parts::add_number;
 use top_call::{Answer, Fault, report};
 
 /// Adds what is told of the bytes of a file that are answered so by `check`.
@@ -84,14 +84,6 @@ pub fn add_where(name: &str, bytes: &[u8], place: usize, text: &mut Blob) -> Res
     text.extend_from_slice(b":")?;
     add_number(position.column, text)?;
     text.extend_from_slice(b": ")
-}
-
-/// Adds a number in decimal.
-pub fn add_number(n: usize, text: &mut Blob) -> Result<(), NoMemory>
-    ensures { OnOk result (text.new ≡ text.old ++ decimal n) }
-{
-    let mut buffer = Buffer::new();
-    text.extend_from_slice(buffer.format(n).as_bytes())
 }
 
 /// Adds the report of `check`.

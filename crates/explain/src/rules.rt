@@ -3,7 +3,7 @@ ghost use Rattle.explain.specs.RuleSentences as spec;
 
 use cov_ast::{Detail, Rule};
 use cov_expr::{Blob, NoMemory};
-use itoa::Buffer;
+use text_parts::add_number;
 
 /// Adds the sentence of a rule that is broken, with what its refusal shows.
 pub fn add_sentence(rule: Rule, detail: &Detail, text: &mut Blob) -> Result<(), NoMemory>
@@ -33,10 +33,7 @@ fn add_shown(rule: Rule, detail: &Detail, text: &mut Blob) -> Result<(), NoMemor
             text.extend_from_slice(beyond(rule).as_bytes())?;
             text.extend_from_slice(z.text())
         }
-        Detail::Number(n) => {
-            let mut buffer = Buffer::new();
-            text.extend_from_slice(buffer.format(*n).as_bytes())
-        }
+        Detail::Number(n) => add_number(*n as usize, text),
     }
 }
 

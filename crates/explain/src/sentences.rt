@@ -1,9 +1,9 @@
 ghost use Rattle.std.specs.Prelude.{◌≡◌, ◌++◌, OnOk};
 ghost use Rattle.explain.specs.WarningSentences as spec;
 
-use crate::explanation::add_number;
 use cov_expr::{Blob, NoMemory};
 use program_warnings::Cause;
+use text_parts::add_number;
 
 /// Adds the sentence of a warning.
 pub fn add_cause_sentence(cause: &Cause, text: &mut Blob) -> Result<(), NoMemory>

@@ -2,6 +2,7 @@
 //!
 //! - [`origin_of`]: the last step on the way to a statement that gives a hypothesis ([`Origin`], [`Source`]).
 //! - [`remarks`]: a few words on each hypothesis of an entailment, with the line of its origin.
+//! - [`add_origin`]: the words on one origin.
 //! - [`predicates_have_origins`] has no body: its contract is a law, that each predicate of a point is given by a step to it.
 //!
 //! | `src/` | `specs/` | what it has |
@@ -17,4 +18,4 @@ mod remark;
 
 pub use laws::predicates_have_origins;
 pub use origin::{Origin, Source, origin_of};
-pub use remark::remarks;
+pub use remark::{add_origin, remarks};

@@ -1,8 +1,7 @@
 //! A few words on each hypothesis.
 
-ghost use Rattle.std.specs.Prelude.{◌≡◌, ◌++◌, IfOk, OnOk, decimal, map};
+ghost use Rattle.std.specs.Prelude.{◌≡◌, ◌++◌, IfOk, OnOk, map};
 ghost use Rattle.cov_expr.specs.View.{term};
-ghost use Rattle.cov_ast.specs.Declarations.{lock_at};
 ghost use Rattle.cov_ast.specs.Plain.{plain};
 ghost use Rattle.cov_ast.specs.View as view;
 ghost use Rattle.statement_paths.specs.Paths as paths;
@@ -11,10 +10,10 @@ ghost use Rattle.hypothesis_origins.specs.Remarks as spec;
 use crate::origin::{Origin, Source, origin_of};
 use cov_ast::Program;
 use cov_expr::{Blob, Expr, List, NoMemory};
-use itoa::Buffer;
 use statement_paths::Step;
 use std::alloc::Global;
 use text_lines::position;
+use text_parts::{add_lock_name, add_number};
 
 /// A remark on each hypothesis of an entailment behind steps, in their order: its origin, with the line where that stands in the
 /// text of the program, or nothing where it has none. Where the last hypothesis is asked together with the goal, its remark
@@ -75,8 +74,13 @@ fn add_any_origin(
     }
 }
 
-/// Adds what an origin is, and its line.
-fn add_origin(p: &Program, bytes: &[u8], origin: Origin, text: &mut Blob) -> Result<(), NoMemory>
+/// Adds what an origin is, and the line of it in the text of the program, which is `bytes`.
+pub fn add_origin(
+    p: &Program,
+    bytes: &[u8],
+    origin: Origin,
+    text: &mut Blob,
+) -> Result<(), NoMemory>
     ensures { OnOk result (text.new ≡ text.old ++ spec.origin_text (plain (view.program p.now)) bytes.now origin) }
 {
     add_source(p, origin.source, text)?;
@@ -106,21 +110,4 @@ fn add_invariant_of(p: &Program, l: u32, text: &mut Blob) -> Result<(), NoMemory
 {
     text.extend_from_slice(b"invariant of ")?;
     add_lock_name(p, l, text)
-}
-
-/// Adds the name of a lock.
-fn add_lock_name(p: &Program, l: u32, text: &mut Blob) -> Result<(), NoMemory>
-    ensures { OnOk result (text.new ≡ text.old ++ (lock_at (plain (view.program p.now)) l).name) }
-{
-    match p.locks.as_slice().get(l as usize) {
-        Some(lock) => text.extend_from_slice(lock.name.text()),
-        None => Ok(()),
-    }
-}
-
-fn add_number(n: usize, text: &mut Blob) -> Result<(), NoMemory>
-    ensures { OnOk result (text.new ≡ text.old ++ decimal n) }
-{
-    let mut buffer = Buffer::new();
-    text.extend_from_slice(buffer.format(n).as_bytes())
 }
