@@ -1,0 +1,11 @@
+use Rattle.std.proofs.Common.{◌≡◌, drop, map}
+use Rattle.cov_expr.specs.View.{term}
+use Rattle.left_out_predicates.specs.GivenViews.{given}
+use Rattle.left_out_predicates.specs.LeftOut.{seen, with_each}
+use Rattle.left_out_predicates.proofs.found.add_each.Given as goal
+
+-- what was found so far, and with the rest, is what is found of all
+abbrev pub invariant-loop-one : goal.invariant-loop-one
+invariant-loop-one l =
+    with_each (map term l.hypotheses) l.kept l.at l.state (map given (drop l.one-index l.all)) (map seen l.found)
+    ≡ with_each (map term l.hypotheses) l.kept l.at l.state (map given l.all) (map seen l.fn.found)

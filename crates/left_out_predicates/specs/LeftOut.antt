@@ -1,0 +1,149 @@
+-- The predicates that would be known at a point, had the state of a branch, of a loop or of a note on the way to it listed them.
+--
+-- A state forgets each predicate that it doesn't list. One that a step in front of the state gives, and that nothing changes on the way
+-- to the point, could have been listed, and would then be a hypothesis there.
+use Rattle.std.specs.Prelude.{ℕ, ◌&&◌, nat_lt, List, [], ◌∷◌, ◌++◌, length, map, set, Bool, false, not, if◌then◌else◌, Option, Some, None}
+use Rattle.std.specs.Option.{option_or}
+use Rattle.cov_expr.specs.Term.{Term}
+use Rattle.cov_expr.specs.Trees.{has_term, is_closed}
+use Rattle.cov_expr.specs.View.{term}
+use Rattle.cov_ast.specs.Declarations.{lock_at}
+use Rattle.cov_ast.specs.Plain.{Plain}
+use Rattle.cov_ast.specs.Syntax.{Lock, Stm, skip, assign, lock, unlock, branch, loop, note, output}
+use Rattle.cov_ast.specs.Tables.{has, table}
+use Rattle.hypothesis_origins.specs.Origins.{Given, at_place, given_by, place_of}
+use Rattle.hypothesis_origins.specs.declared.origin.Origin.{Origin}
+use Rattle.mode_state.specs.Sets.{is_stable}
+use Rattle.statement_paths.specs.Paths.{Step, passed, yes, no, head}
+use Rattle.typing_state.specs.Terms.{each_variable}
+use Rattle.left_out_predicates.specs.declared.found.LeftOut as declared
+use Rattle.left_out_predicates.specs.declared.found.TheConstants.{MOST_FOUND}
+use Rattle.left_out_predicates.specs.declared.states.StateAt.{StateAt}
+use Rattle.left_out_predicates.specs.declared.states.StateKind.{StateKind}
+use Rattle.left_out_predicates.specs.declared.states.StateKind.TheVariants.{Join, Inv, Note}
+
+-- What a step touches ------------------------------------------------------------------------------------------
+
+-- a set without some numbers
+abbrev pub without_all : List Bool → List ℕ → List Bool
+without_all marks [] = marks
+without_all marks (x ∷ xs) = without_all (set marks x false) xs
+
+-- a set without the variables of a lock
+abbrev pub without_listed : Lock → List Bool → List Bool
+without_listed l marks = without_all (without_all marks l.nowrite) l.hide
+
+-- What a statement that is passed leaves of a set of variables: an assignment touches its variable, and a lock that is taken or freed all
+-- that are under it.
+abbrev pub untouched_past : Plain → Stm → List Bool → List Bool
+untouched_past p skip marks = marks
+untouched_past p (assign x e q retypes) marks = set marks x false
+untouched_past p (lock l) marks = without_listed (lock_at p l) marks
+untouched_past p (unlock l) marks = without_listed (lock_at p l) marks
+untouched_past p (branch e a b join) marks = marks
+untouched_past p (loop e inv b) marks = marks
+untouched_past p (note j) marks = marks
+untouched_past p (output e) marks = marks
+
+abbrev pub untouched_by : Plain → Step → List Bool → List Bool
+untouched_by p (passed at s) marks = untouched_past p s marks
+untouched_by p (yes at e) marks = marks
+untouched_by p (no at e) marks = marks
+untouched_by p (head at inv) marks = marks
+
+-- States on the way --------------------------------------------------------------------------------------------
+
+abbrev pub state_at : StateKind → (at : ℕ) → StateAt
+state_at kind at = record { kind = kind; at = at }
+
+-- the state of a statement that is passed, if it has one
+abbrev pub state_past : (at : ℕ) → Stm → Option StateAt
+state_past at skip = None
+state_past at (assign x e q retypes) = None
+state_past at (lock l) = None
+state_past at (unlock l) = None
+state_past at (branch e a b join) = Some (state_at Join at)
+state_past at (loop e inv b) = Some (state_at Inv at)
+state_past at (note j) = Some (state_at Note at)
+state_past at (output e) = None
+
+-- the state of a step, if it has one
+abbrev pub state_of : Step → Option StateAt
+state_of (passed at s) = state_past at s
+state_of (yes at e) = None
+state_of (no at e) = None
+state_of (head at inv) = Some (state_at Inv at)
+
+-- What is left out ---------------------------------------------------------------------------------------------
+
+-- a predicate that was left out, with what gives it, and the first state behind that, which doesn't list it
+pub record LeftOut : Type 0 where
+  pub term : Term
+  pub origin : Origin
+  pub state : StateAt
+
+abbrev pub left_out_at : (at : ℕ) → StateAt → Given → LeftOut
+left_out_at at state g = record { term = g.term; origin = at_place at g.source; state = state }
+
+-- What is known of steps to a point.
+pub record Behind : Type 0 where
+  -- the variables that are stable at the point and that none of the steps touches
+  pub kept : List Bool
+  -- the first state
+  pub state : Option StateAt
+  -- what was left out, found from the point back
+  pub found : List LeftOut
+
+-- at the point itself, where these variables are stable
+abbrev pub at_point : (stable : List Bool) → Behind
+at_point stable = record { kept = stable; state = None; found = [] }
+
+-- of a point with these hypotheses
+module _ (hypotheses : List Term) where
+  -- Whether a predicate was left out in front of steps that keep these variables: it has a variable, each is kept, and it is neither a
+  -- hypothesis nor found already. Of more than a few the others aren't shown.
+  abbrev pub is_left_out : (kept : List Bool) → (found : List LeftOut) → Term → Bool
+  is_left_out kept found e =
+      nat_lt (length found) MOST_FOUND && not (is_closed e) && each_variable (has kept) e && not (has_term hypotheses e) && not (has_term (map (λ o. o.term) found) e)
+
+  -- what was found, and a predicate that the step at a place gives, if it was left out
+  abbrev pub with_given : (kept : List Bool) → (at : ℕ) → StateAt → Given → (found : List LeftOut) → List LeftOut
+  with_given kept at state g found = if is_left_out kept found g.term then found ++ left_out_at at state g ∷ [] else found
+
+  abbrev pub with_each : (kept : List Bool) → (at : ℕ) → StateAt → List Given → (found : List LeftOut) → List LeftOut
+  with_each kept at state [] found = found
+  with_each kept at state (g ∷ gs) found = with_each kept at state gs (with_given kept at state g found)
+
+-- of a point of a program with these hypotheses
+module _ (p : Plain) (hypotheses : List Term) where
+  -- what was found, and what a step gives that a state behind it left out; where no state comes behind it, nothing was
+  abbrev pub with_step : (kept : List Bool) → Step → Option StateAt → (found : List LeftOut) → List LeftOut
+  with_step kept s None found = found
+  with_step kept s (Some state) found = with_each hypotheses kept (place_of s) state (given_by p s) found
+
+  -- with one step more in front
+  abbrev pub in_front : Step → Behind → Behind
+  in_front s b = record {
+    kept = untouched_by p s b.kept;
+    state = option_or (state_of s) b.state;
+    found = with_step b.kept s b.state b.found;
+  }
+
+  abbrev pub behind : (stable : List Bool) → List Step → Behind
+  behind stable [] = at_point stable
+  behind stable (s ∷ ss) = in_front s (behind stable ss)
+
+  -- what was left out on the way to a point with these hypotheses, where these variables are stable
+  abbrev pub left_out : (stable : List Bool) → List Step → List LeftOut
+  left_out stable ss = (behind stable ss).found
+
+-- What is stable -----------------------------------------------------------------------------------------------
+
+-- for a thread that holds these locks
+abbrev pub stable_where : Plain → (t : ℕ) → (held : List Bool) → List Bool
+stable_where p t held = table (length p.vars) (is_stable p t held)
+
+-- What the code has --------------------------------------------------------------------------------------------
+
+abbrev pub seen : declared.LeftOut → LeftOut
+seen o = record { term = term o.term; origin = o.origin; state = o.state }

@@ -1,0 +1,3 @@
+pub mod GivenViews
+pub mod LeftOut
+pub mod LeftOutLines

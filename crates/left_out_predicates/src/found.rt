@@ -1,0 +1,165 @@
+//! What a state left out.
+
+ghost use Rattle.std.specs.Prelude.{◌≡◌, OnOk, map};
+ghost use Rattle.cov_expr.specs.Trees.{has_term};
+ghost use Rattle.cov_expr.specs.View.{term};
+ghost use Rattle.cov_ast.specs.Plain.{plain};
+ghost use Rattle.cov_ast.specs.Tables.{has};
+ghost use Rattle.cov_ast.specs.View as view;
+ghost use Rattle.hypothesis_origins.specs.Origins as origins;
+ghost use Rattle.statement_paths.specs.Paths as paths;
+ghost use Rattle.typing_state.specs.Terms.{each_variable};
+ghost use Rattle.left_out_predicates.specs.GivenViews.{given};
+ghost use Rattle.left_out_predicates.specs.LeftOut as spec;
+
+use crate::given::{Given, given_by};
+use crate::states::StateAt;
+use cov_ast::{NumberSet, Program};
+use cov_expr::{Expr, List, NoMemory, closed, copy, same};
+use hypothesis_origins::Origin;
+use statement_paths::Step;
+use std::alloc::Global;
+
+/// How many predicates are shown at most.
+pub const MOST_FOUND: usize = 8;
+
+/// A predicate that was left out, with what gives it, and the first state behind that, which doesn't list it.
+#[derive(Drop)]
+pub struct LeftOut {
+    pub term: Expr,
+    pub origin: Origin,
+    pub state: StateAt,
+}
+
+/// Adds what a step gives that the first state behind it left out, if there is such a state. `kept` are the variables that the steps behind
+/// it keep.
+pub fn add_of_step(
+    alloc: Global,
+    p: &Program,
+    hypotheses: &[Expr],
+    kept: &NumberSet,
+    step: &Step<'_>,
+    state: Option<StateAt>,
+    found: &mut List<LeftOut>,
+) -> Result<(), NoMemory>
+    ensures { OnOk result (map spec.seen found.new ≡ spec.with_step (plain (view.program p.now)) (map term hypotheses.now) kept.now (paths.step step.now) state (map spec.seen found.old)) }
+{
+    match state {
+        Some(state) => {
+            let all = given_by(alloc, p, step)?;
+            add_each(
+                alloc,
+                hypotheses,
+                kept,
+                place_of(step),
+                state,
+                all.as_slice(),
+                found,
+            )
+        }
+        None => Ok(()),
+    }
+}
+
+/// The place of the statement that a step is about.
+fn place_of(step: &Step<'_>) -> u32
+    ensures { result ≡ origins.place_of (paths.step step.now) }
+{
+    match step {
+        Step::Passed(stmt) => stmt.at,
+        Step::Yes(at, _) | Step::No(at, _) => *at,
+        Step::Head(at, _) => *at,
+    }
+}
+
+/// Adds those of some predicates that a state left out.
+fn add_each(
+    alloc: Global,
+    hypotheses: &[Expr],
+    kept: &NumberSet,
+    at: u32,
+    state: StateAt,
+    all: &[Given],
+    found: &mut List<LeftOut>,
+) -> Result<(), NoMemory>
+    ensures { OnOk result (map spec.seen found.new ≡ spec.with_each (map term hypotheses.now) kept.now at state (map given all.now) (map spec.seen found.old)) }
+{
+    for one in all {
+        add_given(alloc, hypotheses, kept, at, state, one, found)?;
+    }
+    Ok(())
+}
+
+/// Adds a predicate, if a state left it out.
+fn add_given(
+    alloc: Global,
+    hypotheses: &[Expr],
+    kept: &NumberSet,
+    at: u32,
+    state: StateAt,
+    one: &Given,
+    found: &mut List<LeftOut>,
+) -> Result<(), NoMemory>
+    ensures { OnOk result (map spec.seen found.new ≡ spec.with_given (map term hypotheses.now) kept.now at state (given one.now) (map spec.seen found.old)) }
+{
+    if is_left_out(hypotheses, kept, found.as_slice(), &one.term) {
+        let term = copy(alloc, &one.term)?;
+        let origin = Origin {
+            source: one.source,
+            at,
+        };
+        found.push(LeftOut {
+            term,
+            origin,
+            state,
+        })?;
+    }
+    Ok(())
+}
+
+/// Whether a predicate was left out in front of steps that keep some variables.
+fn is_left_out(hypotheses: &[Expr], kept: &NumberSet, found: &[LeftOut], e: &Expr) -> bool
+    ensures { result ≡ spec.is_left_out (map term hypotheses.now) kept.now (map spec.seen found.now) (term e.now) }
+{
+    found.len() < MOST_FOUND
+        && !closed(e)
+        && is_over(kept, e)
+        && !has_same(hypotheses, e)
+        && !is_found(found, e)
+}
+
+/// Whether each variable of an expression is in a set.
+fn is_over(set: &NumberSet, e: &Expr) -> bool
+    ensures { result ≡ each_variable (has set.now) (term e.now) }
+{
+    match e {
+        Expr::Const(_) => true,
+        Expr::Var(x) => set.has(*x),
+        Expr::Not(a) => is_over(set, a),
+        Expr::Bin(_, a, b) => is_over(set, a) && is_over(set, b),
+    }
+}
+
+/// Whether an expression is one of some.
+fn has_same(all: &[Expr], e: &Expr) -> bool
+    ensures { result ≡ has_term (map term all.now) (term e.now) }
+{
+    for one in all {
+        if same(one, e) {
+            return true;
+        }
+    }
+    false
+}
+
+/// Whether a predicate was found already.
+fn is_found(found: &[LeftOut], e: &Expr) -> bool
+    ensures { result ≡ has_term (map (λ o. o.term) (map spec.seen found.now)) (term e.now) }
+{
+    for one in found {
+        if same(&one.term, e) {
+            return true;
+        }
+    }
+    false
+}
