@@ -23,7 +23,7 @@ use Rattle.top_call.specs.declared.answers.FaultKind.TheVariants as k
 -- what a refusal of a program is about: by name, and where a certificate isn't valid, what was asked; the bytes are those of its text
 abbrev pub refusal_lines : Program → (bytes : List ℕ) → Refusal → List ℕ
 refusal_lines p bytes refusal =
-    refusal_names p refusal.rule refusal.thread refusal.place ++ asked p bytes refusal.rule refusal.thread refusal.place refusal.detail
+    refusal_names p bytes refusal.rule refusal.thread refusal.place refusal.detail ++ asked p bytes refusal.rule refusal.thread refusal.place refusal.detail
 
 -- the same in the program that a text stands for, if its names are in order
 abbrev pub asked_lines : Parsed → (bytes : List ℕ) → Refusal → List ℕ

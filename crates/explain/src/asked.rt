@@ -15,7 +15,7 @@ use policy_class::resolve;
 use refusal_names::add_names;
 use std::alloc::Global;
 
-/// Adds what a refusal of bytes is about: of V3, V4, V8, V12 and V15 names, of V9 the entailment, of other rules nothing.
+/// Adds what a refusal of bytes is about: of W9, V3, V4, V8, V12, V15 and V16 names, of V9 the entailment, of other rules nothing.
 pub fn add_asked(
     alloc: Global,
     bytes: &[u8],
@@ -62,6 +62,6 @@ fn add_lines(
     requires { IsWellFormed (view.program program.now) }
     ensures { OnOk result (text.new ≡ text.old ++ spec.refusal_lines (view.program program.now) bytes.now refusal.now) }
 {
-    add_names(alloc, program, refusal, text)?;
+    add_names(alloc, program, bytes, refusal, text)?;
     entail_refused::add_asked(alloc, program, bytes, refusal, text)
 }

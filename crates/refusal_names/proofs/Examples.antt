@@ -1,10 +1,13 @@
 -- Small statements, and the lines of refusals of them, by computation.
-use Rattle.std.proofs.Common.{◌≡◌, List, [], ◌∷◌, Some, None, codes, refl}
+use Rattle.std.proofs.Common.{◌≡◌, ℕ, zero, suc, List, [], ◌∷◌, Option, Some, None, codes, refl, lit<}
+use Rattle.std.proofs.lemmas.Fmt.{decimal_digit}
 use Rattle.cov_expr.specs.declared.expr.Op.TheVariants.{Add}
 use Rattle.cov_expr.specs.Term.{Term, const, var, bin}
 use Rattle.cov_ast.specs.Syntax as s
-use Rattle.cov_ast.specs.declared.refusal.Rule.TheVariants.{V3, V4, V8, V9, V12, V15}
-use Rattle.refusal_names.specs.RefusalNames.{refusal_names}
+use Rattle.cov_ast.specs.declared.refusal.Detail.TheVariants.{Nothing, Three}
+use Rattle.cov_ast.specs.declared.refusal.Rule.{Rule}
+use Rattle.cov_ast.specs.declared.refusal.Rule.TheVariants.{V3, V4, V8, V9, V12, V15, V16, W8, W9}
+use Rattle.refusal_names.specs.RefusalNames as spec
 
 -- a is plain low and the control of b; c is high. The lock l hides a and b, the lock m writes c alone.
 abbrev variables : List s.Var
@@ -32,6 +35,10 @@ behind_lock stm = with_body (s.more 80 (s.lock 0) [] (s.more 90 stm [] s.done))
 
 abbrev alone : s.Stm → s.Program
 alone stm = with_body (s.more 90 stm [] s.done)
+
+-- a refusal by a rule of statements, which shows no names
+abbrev refusal_names : s.Program → Rule → (thread : Option ℕ) → (place : ℕ) → List ℕ
+refusal_names p rule thread place = spec.refusal_names p (codes "first\nsecond\n") rule thread place Nothing
 
 -- V3: what isn't stable where nothing is held, and with l; the same variable twice
 two_reads : refusal_names (alone (s.output (bin Add (var 0) (bin Add (var 1) (var 2))))) V3 (Some 0) 90 ≡ codes "  others may write: a, b\n"
@@ -98,3 +105,79 @@ no_such_thread = refl
 
 no_thread : refusal_names (alone (s.output (bin Add (var 0) (var 1)))) V3 None 90 ≡ []
 no_thread = refl
+
+-- V16: an equation on the way, a class and a type with the value of a control, and the type of a value. The sums have 2,047 nodes, 511 and 999.
+abbrev doubled : (n : ℕ) → Term → Term
+doubled zero e = e
+doubled (suc n) e = bin Add (doubled n e) (doubled n e)
+
+abbrev longer : (n : ℕ) → Term → Term
+longer zero e = e
+longer (suc n) e = bin Add e (longer n e)
+
+abbrev behind_assignment : Term → s.Stm → s.Program
+behind_assignment e stm = with_body (s.more 6 (s.assign 2 e None []) [] (s.more 90 stm [] s.done))
+
+an_equation_on_the_way : refusal_names (behind_assignment (longer 499 (var 2)) (s.output (var 2))) V16 (Some 0) 90
+    ≡ codes "  the equation of the assignment in line 2 has more than 1,000 nodes\n"
+an_equation_on_the_way = simp (decimal_digit 2 (lit< tt))
+
+a_smaller_equation : refusal_names (behind_assignment (doubled 8 (var 2)) (s.output (var 2))) V16 (Some 0) 90
+    ≡ codes "  the type of the value, by those of its variables, has more than 1,000 nodes\n"
+a_smaller_equation = refl
+
+a_class : refusal_names (alone (s.assign 0 (doubled 10 (var 2)) None [])) V16 (Some 0) 90
+    ≡ codes "  the class of b, with the value for a, has more than 1,000 nodes\n"
+a_class = refl
+
+-- the lock hides b, so that nothing is asked of its class
+a_type : refusal_names (behind_lock (s.assign 0 (doubled 8 (var 2)) None ((1, doubled 2 (var 0)) ∷ []))) V16 (Some 0) 90
+    ≡ codes "  the type by `retype` of b, with the value for a, has more than 1,000 nodes\n"
+a_type = refl
+
+a_note : refusal_names (behind_lock (s.note (stated (var 1)))) V16 (Some 0) 90 ≡ []
+a_note = refl
+
+-- W9: t assumes that a and b aren't written, and that b and c are left alone; v guarantees not to write b and c
+abbrev assuming : s.Modes
+assuming = record { assume_nowrite = 0 ∷ 1 ∷ []; assume_hide = 2 ∷ 1 ∷ []; guarantee_nowrite = []; guarantee_hide = [] }
+
+abbrev guaranteeing : s.Modes
+guaranteeing = record { assume_nowrite = []; assume_hide = []; guarantee_nowrite = 1 ∷ 2 ∷ []; guarantee_hide = [] }
+
+abbrev two_threads : s.Program
+two_threads = record {
+  version = 1;
+  vars = variables;
+  locks = locks;
+  threads = record { name = codes "t"; at = 70; modes = assuming; body = s.done; end = 75 } ∷ record { name = codes "v"; at = 3; modes = guaranteeing; body = s.done; end = 99 } ∷ [];
+}
+
+abbrev w9 : (variable : List ℕ) → List ℕ
+w9 x = spec.refusal_names two_threads (codes "a\nb\nc\n") W9 None 70 (Three (codes "t") (codes "v") x)
+
+nowrite_is_missing : w9 (codes "a") ≡ codes "  thread v stands in line 2 and needs `guarantee nowrite a`\n"
+nowrite_is_missing = simp (decimal_digit 2 (lit< tt))
+
+-- both are assumed, and one is guaranteed
+hide_is_missing : w9 (codes "b") ≡ codes "  thread v stands in line 2 and needs `guarantee hide b`\n"
+hide_is_missing = simp (decimal_digit 2 (lit< tt))
+
+hide_alone_is_missing : w9 (codes "c") ≡ codes "  thread v stands in line 2 and needs `guarantee hide c`\n"
+hide_alone_is_missing = simp (decimal_digit 2 (lit< tt))
+
+-- no such variable, no such thread, nothing that is assumed, a thread by itself, another rule of declarations
+no_variable : w9 (codes "d") ≡ []
+no_variable = refl
+
+no_other : spec.refusal_names two_threads [] W9 None 70 (Three (codes "t") (codes "u") (codes "a")) ≡ []
+no_other = refl
+
+nothing_assumed : spec.refusal_names two_threads [] W9 None 3 (Three (codes "v") (codes "t") (codes "a")) ≡ []
+nothing_assumed = refl
+
+itself : spec.refusal_names two_threads [] W9 None 70 (Three (codes "t") (codes "t") (codes "a")) ≡ []
+itself = refl
+
+a_rule_of_declarations : spec.refusal_names two_threads [] W8 None 70 (Three (codes "t") (codes "v") (codes "a")) ≡ []
+a_rule_of_declarations = refl

@@ -1,4 +1,5 @@
 pub mod OutsideLaws
 pub mod ReadLaws
 pub mod LineLaws
+pub mod ThreadLaws
 mod Examples

@@ -2,4 +2,6 @@ pub mod SpokenParts
 pub mod OutsideVariables
 pub mod StableSets
 pub mod NameLines
+pub mod MissingGuarantees
+pub mod LargeTerms
 pub mod RefusalNames

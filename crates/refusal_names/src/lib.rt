@@ -1,19 +1,23 @@
-//! What a refusal is about, by name, where its rule shows no names: a line of text.
+//! What a refusal is about, by name, where its rule shows no names, or not where they stand: a line of text.
 //!
-//! - [`add_names`]: the line for V3, V4, V8, V12 and V15.
+//! - [`add_names`]: the line for W9, V3, V4, V8, V12, V15 and V16.
 //!
 //! | `src/` | `specs/` | what it has |
 //! |---|---|---|
 //! | `refused` | `RefusalNames` | the line of a refusal |
 //! | `reads`, `types`, `predicates`, `ends`, `added` | `NameLines` | the line of V3, V4, V12, V8 and V15 |
+//! | `guarantees` | `MissingGuarantees` | the line of W9 |
+//! | `large` | `LargeTerms` | the line of V16 |
 //! | `outside` | `OutsideVariables` | variables outside of a set |
-//! | `sets` | `StableSets` | what is stable at a place, and what is a control |
+//! | `sets` | `StableSets` | what is stable and what is hidden at a place, and what is a control |
 //!
 //! `specs/SpokenParts.antt` says of which expressions of a statement rules speak.
 #![tactic(auto)]
 
 mod added;
 mod ends;
+mod guarantees;
+mod large;
 mod outside;
 mod predicates;
 mod reads;

@@ -1,11 +1,12 @@
-ghost use Rattle.std.specs.Prelude.{◌≡◌, ◌<◌, ◌++◌, ℕ, List, Bool, OnOk, length, option_map};
+ghost use Rattle.std.specs.Prelude.{◌≡◌, ◌<◌, ◌++◌, ℕ, List, Bool, OnOk, length, map, option_map};
 ghost use Rattle.cov_ast.specs.Plain.{plain};
 ghost use Rattle.cov_ast.specs.View as view;
 ghost use Rattle.cov_ast.specs.WellFormed.{IsWellFormed};
 ghost use Rattle.held_locks.specs.LocksHeld.{held_along, none_held};
 ghost use Rattle.mode_compat.specs.Compatible.{numbered};
 ghost use Rattle.mode_state.specs.Sets.{modes_at};
-ghost use Rattle.statement_paths.specs.Paths.{way, way_to};
+ghost use Rattle.statement_paths.specs.Paths.{step, way, way_to};
+ghost use Rattle.refusal_names.specs.LargeTerms.{large_line};
 ghost use Rattle.refusal_names.specs.NameLines as lines;
 ghost use Rattle.refusal_names.specs.RefusalNames as spec;
 ghost use Rattle.refusal_names.specs.SpokenParts.{evaluated};
@@ -13,32 +14,55 @@ ghost use Rattle.refusal_names.specs.StableSets as sets;
 
 use crate::added::add_added;
 use crate::ends::add_ends;
+use crate::guarantees::add_guarantee;
+use crate::large::add_large;
 use crate::predicates::add_predicates;
 use crate::reads::add_reads;
-use crate::sets::{known_at, pass_to_state, stable_set};
+use crate::sets::{hidden_set, known_at, pass_to_state, stable_set};
 use crate::types::add_types;
-use cov_ast::{NameTable, Program, Refusal, Rule, Stmt, StmtKind};
+use cov_ast::{Detail, NameTable, Program, Refusal, Rule, Stmt, StmtKind};
 use cov_expr::{Blob, NoMemory};
 use entail_text::variable_names;
 use held_locks::modes_along;
 use mode_state::ModeState;
-use statement_paths::{Way, way_to};
+use statement_paths::{Step, Way, way_to};
 use std::alloc::Global;
 
 /// Adds a line of what a refusal is about, by name. Nothing is added where the rule shows its names itself, where it isn't one of
-/// V3, V4, V8, V12 and V15, and where no statement of the thread stands at the place.
+/// W9, V3, V4, V8, V12, V15 and V16, and where no statement of the thread stands at the place. `bytes` are the text of the program.
 pub fn add_names(
     alloc: Global,
     p: &Program,
+    bytes: &[u8],
     refusal: &Refusal,
     text: &mut Blob,
 ) -> Result<(), NoMemory>
     requires { IsWellFormed (view.program p.now) }
-    ensures { OnOk result (text.new ≡ text.old ++ spec.refusal_names (view.program p.now) refusal.now.rule refusal.now.thread refusal.now.place) }
+    ensures { OnOk result (text.new ≡ text.old ++ spec.refusal_names (view.program p.now) bytes.now refusal.now.rule refusal.now.thread refusal.now.place refusal.now.detail) }
 {
     match refusal.thread {
-        Some(t) => add_at(alloc, p, t, refusal.rule, refusal.place, text),
-        None => Ok(()),
+        Some(t) => add_at(alloc, p, bytes, t, refusal.rule, refusal.place, text),
+        None => add_of_declarations(alloc, p, bytes, refusal.rule, refusal.detail, text),
+    }
+}
+
+/// Adds the line of a refusal of declarations, by the names that it shows.
+fn add_of_declarations(
+    alloc: Global,
+    p: &Program,
+    bytes: &[u8],
+    rule: Rule,
+    detail: Detail,
+    text: &mut Blob,
+) -> Result<(), NoMemory>
+    requires { IsWellFormed (view.program p.now) }
+    ensures { OnOk result (text.new ≡ text.old ++ spec.line_of_declarations (view.program p.now) bytes.now rule detail) }
+{
+    match (rule, detail) {
+        (Rule::W9, Detail::Three(assuming, other, variable)) => {
+            add_guarantee(alloc, p, bytes, assuming, other, variable, text)
+        }
+        _ => Ok(()),
     }
 }
 
@@ -46,16 +70,17 @@ pub fn add_names(
 fn add_at(
     alloc: Global,
     p: &Program,
+    bytes: &[u8],
     t: u32,
     rule: Rule,
     place: u32,
     text: &mut Blob,
 ) -> Result<(), NoMemory>
     requires { IsWellFormed (view.program p.now) }
-    ensures { OnOk result (text.new ≡ text.old ++ spec.line_at (view.program p.now) t rule place) }
+    ensures { OnOk result (text.new ≡ text.old ++ spec.line_at (view.program p.now) bytes.now t rule place) }
 {
     if (t as usize) < p.threads.len() {
-        add_in_thread(alloc, p, t, rule, place, text)
+        add_in_thread(alloc, p, bytes, t, rule, place, text)
     } else {
         Ok(())
     }
@@ -65,6 +90,7 @@ fn add_at(
 fn add_in_thread(
     alloc: Global,
     p: &Program,
+    bytes: &[u8],
     t: u32,
     rule: Rule,
     place: u32,
@@ -72,16 +98,17 @@ fn add_in_thread(
 ) -> Result<(), NoMemory>
     requires formed { IsWellFormed (view.program p.now) }
     requires thread { t < length p.now.threads }
-    ensures { OnOk result (text.new ≡ text.old ++ spec.line_of_way (view.program p.now) t rule (way_to (numbered (view.program p.now) t).body place)) }
+    ensures { OnOk result (text.new ≡ text.old ++ spec.line_of_way (view.program p.now) bytes.now t rule (way_to (numbered (view.program p.now) t).body place)) }
 {
     let found = way_to(alloc, body_of(p, t), place)?;
-    add_of_any(alloc, p, t, rule, &found, text)
+    add_of_any(alloc, p, bytes, t, rule, &found, text)
 }
 
 /// Adds the line of the statement at the end of a way, if there is one.
 fn add_of_any(
     alloc: Global,
     p: &Program,
+    bytes: &[u8],
     t: u32,
     rule: Rule,
     found: &Option<Way<'_>>,
@@ -89,10 +116,10 @@ fn add_of_any(
 ) -> Result<(), NoMemory>
     requires formed { IsWellFormed (view.program p.now) }
     requires thread { t < length p.now.threads }
-    ensures { OnOk result (text.new ≡ text.old ++ spec.line_of_way (view.program p.now) t rule (option_map way found.now)) }
+    ensures { OnOk result (text.new ≡ text.old ++ spec.line_of_way (view.program p.now) bytes.now t rule (option_map way found.now)) }
 {
     match found {
-        Some(found) => add_of_way(alloc, p, t, rule, found, text),
+        Some(found) => add_of_way(alloc, p, bytes, t, rule, found, text),
         None => Ok(()),
     }
 }
@@ -101,6 +128,7 @@ fn add_of_any(
 fn add_of_way(
     alloc: Global,
     p: &Program,
+    bytes: &[u8],
     t: u32,
     rule: Rule,
     found: &Way<'_>,
@@ -109,25 +137,37 @@ fn add_of_way(
     requires formed { IsWellFormed (view.program p.now) }
     requires thread { t < length p.now.threads }
     ensures { let w = way found.now in
-        OnOk result (text.new ≡ text.old ++ spec.line_of (view.program p.now) t rule (held_along w.steps (none_held (plain (view.program p.now)))) w.stm) }
+        OnOk result (text.new ≡ text.old ++ spec.line_of (view.program p.now) bytes.now t rule w.steps (held_along w.steps (none_held (plain (view.program p.now)))) w.stm) }
 {
     let modes = modes_along(alloc, p, t, found.steps.as_slice())?;
-    add_line(alloc, p, t, rule, modes, &found.stmt.kind, text)
+    add_line(
+        alloc,
+        p,
+        bytes,
+        t,
+        rule,
+        found.steps.as_slice(),
+        modes,
+        &found.stmt.kind,
+        text,
+    )
 }
 
 /// Adds the line of a statement, by the modes in front of it.
 fn add_line(
     alloc: Global,
     p: &Program,
+    bytes: &[u8],
     t: u32,
     rule: Rule,
+    steps: &[Step<'_>],
     modes: ModeState,
     kind: &StmtKind,
     text: &mut Blob,
 ) -> Result<(), NoMemory>
     requires formed { IsWellFormed (view.program p.now) }
     requires modes { modes ≡ modes_at (plain (view.program p.now)) t modes.held }
-    ensures { OnOk result (text.new ≡ text.old ++ spec.line_of (view.program p.now) t rule modes.held (view.kind kind.now)) }
+    ensures { OnOk result (text.new ≡ text.old ++ spec.line_of (view.program p.now) bytes.now t rule (map step steps.now) modes.held (view.kind kind.now)) }
 {
     let names = variable_names(alloc, p)?;
     match rule {
@@ -136,6 +176,7 @@ fn add_line(
         Rule::V8 => add_ends(alloc, p.locks.as_slice(), modes, kind, text),
         Rule::V12 => add_bad_predicate(alloc, p, &names, modes, kind, text),
         Rule::V15 => add_added(p, &names, kind, text),
+        Rule::V16 => add_too_large(alloc, p, &names, bytes, steps, &modes, kind, text),
         _ => Ok(()),
     }
 }
@@ -195,6 +236,26 @@ fn add_bad_type(
     pass_to_state(kind, &mut there);
     let known = known_at(alloc, p, &there)?;
     add_types(alloc, p, names, &known, kind, text)
+}
+
+/// Adds what of a statement is too large, or of the way to it.
+fn add_too_large(
+    alloc: Global,
+    p: &Program,
+    names: &NameTable,
+    bytes: &[u8],
+    steps: &[Step<'_>],
+    modes: &ModeState,
+    kind: &StmtKind,
+    text: &mut Blob,
+) -> Result<(), NoMemory>
+    requires { IsWellFormed (view.program p.now) }
+    ensures { (t : ℕ) (held : List Bool) → modes.now ≡ modes_at (plain (view.program p.now)) t held
+        → OnOk result (text.new ≡ text.old
+        ++ large_line (view.program p.now).vars names.now bytes.now (sets.hidden (plain (view.program p.now)) t held) (map step steps.now) (view.kind kind.now)) }
+{
+    let hidden = hidden_set(alloc, p, modes)?;
+    add_large(p.vars.as_slice(), names, bytes, &hidden, steps, kind, text)
 }
 
 /// The statements of a thread.

@@ -53,7 +53,20 @@ pub fn stable_set(alloc: Global, p: &Program, modes: &ModeState) -> Result<Numbe
     Ok(NumberSet::from_marks(marks))
 }
 
-/// Those of them that are controls.
+/// The variables that no other thread reads or writes while a thread holds some locks.
+pub fn hidden_set(alloc: Global, p: &Program, modes: &ModeState) -> Result<NumberSet, NoMemory>
+    requires { IsWellFormed (view.program p.now) }
+    ensures { IfOk result (λ made. (t : ℕ) (held : List Bool) → modes.now ≡ modes_at (plain (view.program p.now)) t held
+        → made ≡ spec.hidden (plain (view.program p.now)) t held) }
+{
+    let mut marks = List::new(alloc);
+    for x in 0..p.vars.len() as u32 {
+        marks.push(modes.hidden(x))?;
+    }
+    Ok(NumberSet::from_marks(marks))
+}
+
+/// Those of the stable ones that are controls.
 fn stable_control_set(
     alloc: Global,
     p: &Program,

@@ -1,0 +1,224 @@
+ghost use Rattle.std.specs.Prelude.{◌≡◌, ◌+◌, ◌<◌, ◌≤◌, [], ◌++◌, MatchOption, OnOk, Some, length, map, option_map};
+ghost use Rattle.cov_expr.specs.Trees as tree;
+ghost use Rattle.cov_expr.specs.View.{term};
+ghost use Rattle.cov_ast.specs.Plain.{class_term};
+ghost use Rattle.cov_ast.specs.View as view;
+ghost use Rattle.refusal_names.specs.LargeTerms as spec;
+ghost use Rattle.statement_paths.specs.Paths.{step};
+
+use crate::guarantees::add_line_of;
+use crate::reads::add_variable;
+use cov_ast::{Class, NameTable, NumberSet, Retype, Stmt, StmtKind, VarDecl};
+use cov_expr::{Blob, Expr, MOST_NODES, NoMemory, mentions, nodes_at_most, nodes_left};
+use statement_paths::Step;
+
+/// What is made on the way: its place, and words for it.
+type Made = (u32, &'static [u8]);
+
+/// Adds what of a statement is too large, or of the way to it.
+pub fn add_large(
+    vars: &[VarDecl],
+    names: &NameTable,
+    bytes: &[u8],
+    hidden: &NumberSet,
+    steps: &[Step<'_>],
+    kind: &StmtKind,
+    text: &mut Blob,
+) -> Result<(), NoMemory>
+    requires { length vars.now ≤ 256 }
+    ensures { OnOk result (text.new ≡ text.old
+        ++ spec.large_line (map view.var vars.now) names.now bytes.now hidden.now (map step steps.now) (view.kind kind.now)) }
+{
+    match kind {
+        StmtKind::Assign(x, e, _, retypes) => match large_class(vars, hidden, *x, e) {
+            Some(y) => add_class(names, *x, y, text),
+            None => match large_retype(retypes.as_slice(), *x, e) {
+                Some(y) => add_retype(names, *x, y, text),
+                None => add_made_or_value(bytes, steps, text),
+            },
+        },
+        StmtKind::Output(_) => add_made_or_value(bytes, steps, text),
+        StmtKind::Unlock(_) | StmtKind::If(..) | StmtKind::While(..) | StmtKind::Note(_) => {
+            add_made_or(bytes, last_made(steps), b"", text)
+        }
+        StmtKind::Skip | StmtKind::Lock(_) => Ok(()),
+    }
+}
+
+/// The first variable that isn't hidden and whose class is too large with a value in the place of another variable.
+fn large_class(vars: &[VarDecl], hidden: &NumberSet, x: u32, value: &Expr) -> Option<u32>
+    requires { length vars.now ≤ 256 }
+    ensures { result ≡ spec.large_class hidden.now x (term value.now) 0 (map view.var vars.now) }
+{
+    for (y, var) in vars.iter().enumerate() {
+        if !hidden.has_index(y) && is_large_class(&var.class, x, value) {
+            return Some(y as u32);
+        }
+    }
+    None
+}
+
+/// Whether a class mentions a variable, and is too large with a value in its place.
+fn is_large_class(class: &Class, x: u32, value: &Expr) -> bool
+    ensures { result ≡ spec.is_large_with x (term value.now) (class_term (view.class class.now)) }
+{
+    match class {
+        Class::Low | Class::High => false,
+        Class::When(e) => is_large_with(e, x, value),
+    }
+}
+
+/// The first variable that is given a type which is too large with a value in the place of another variable.
+fn large_retype(retypes: &[Retype], x: u32, value: &Expr) -> Option<u32>
+    ensures { result ≡ spec.large_retype x (term value.now) (map view.retype retypes.now) }
+{
+    for retype in retypes {
+        if is_large_with(&retype.class, x, value) {
+            return Some(retype.var);
+        }
+    }
+    None
+}
+
+/// Whether an expression mentions a variable, and is too large with a value in its place.
+fn is_large_with(e: &Expr, x: u32, value: &Expr) -> bool
+    ensures { result ≡ spec.is_large_with x (term value.now) (term e.now) }
+{
+    mentions(e, x) && subst_nodes_left(e, x, value, MOST_NODES).is_none()
+}
+
+/// How many nodes of a budget are left by the expression with a part in the place of each occurrence of a variable, or
+/// nothing where it has more.
+fn subst_nodes_left(e: &Expr, x: u32, part: &Expr, budget: u32) -> Option<u32>
+    ensures { MatchOption result (budget < tree.nodes (tree.subst (term e.now) x (term part.now)))
+        (λ left. left + tree.nodes (tree.subst (term e.now) x (term part.now)) ≡ budget) }
+{
+    match e {
+        Expr::Var(y) if *y == x => nodes_left(part, budget),
+        Expr::Const(_) | Expr::Var(_) => budget.checked_sub(1),
+        Expr::Not(a) => subst_nodes_left(a, x, part, budget.checked_sub(1)?),
+        Expr::Bin(_, a, b) => {
+            let left = subst_nodes_left(a, x, part, budget.checked_sub(1)?)?;
+            subst_nodes_left(b, x, part, left)
+        }
+    }
+}
+
+/// The last that steps make and that is too large.
+fn last_made(steps: &[Step<'_>]) -> Option<Made>
+    ensures { option_map (λ m. (m.0, m.1.now)) result ≡ spec.last_made (map step steps.now) }
+{
+    let mut last = None;
+    for next in steps {
+        if let Some(made) = made_by(next) {
+            last = Some(made);
+        }
+    }
+    last
+}
+
+/// What a step makes that is too large.
+fn made_by(next: &Step<'_>) -> Option<Made>
+    ensures { option_map (λ m. (m.0, m.1.now)) result ≡ spec.made_by (step next.now) }
+{
+    match next {
+        Step::Passed(stmt) => made_behind(stmt),
+        Step::No(at, guard) => large_negation(*at, guard),
+        Step::Yes(..) | Step::Head(..) => None,
+    }
+}
+
+/// What a statement that is passed makes that is too large.
+fn made_behind(stmt: &Stmt) -> Option<Made>
+    ensures { option_map (λ m. (m.0, m.1.now)) result ≡ spec.made_behind stmt.now.at (view.kind stmt.now.kind) }
+{
+    match &stmt.kind {
+        StmtKind::Assign(x, value, _, _) => large_equation(stmt.at, *x, value),
+        StmtKind::While(guard, _, _) => large_negation(stmt.at, guard),
+        StmtKind::Skip | StmtKind::Lock(_) | StmtKind::Unlock(_) | StmtKind::If(..) => None,
+        StmtKind::Note(_) | StmtKind::Output(_) => None,
+    }
+}
+
+/// The equation of an assignment, where it is too large: whatever the variable, it has two nodes more than the value.
+fn large_equation(at: u32, _x: u32, value: &Expr) -> Option<Made>
+    ensures { option_map (λ m. (m.0, m.1.now)) result ≡ spec.large_equation at _x (term value.now) }
+{
+    if nodes_at_most(value, MOST_NODES - 2) {
+        None
+    } else {
+        Some((at, b"equation of the assignment"))
+    }
+}
+
+/// The negation of a guard, where it is too large: it has one node more than the guard.
+fn large_negation(at: u32, guard: &Expr) -> Option<Made>
+    ensures { option_map (λ m. (m.0, m.1.now)) result ≡ spec.large_negation at (term guard.now) }
+{
+    if nodes_at_most(guard, MOST_NODES - 1) {
+        None
+    } else {
+        Some((at, b"negation of the guard"))
+    }
+}
+
+/// Adds what steps make that is too large, or that it is the type of a value.
+fn add_made_or_value(bytes: &[u8], steps: &[Step<'_>], text: &mut Blob) -> Result<(), NoMemory>
+    ensures { OnOk result (text.new ≡ text.old ++ spec.made_or bytes.now (spec.last_made (map step steps.now)) spec.value_text) }
+{
+    let later = b"  the type of the value, by those of its variables, has more than 1,000 nodes\n";
+    add_made_or(bytes, last_made(steps), later, text)
+}
+
+/// Adds what is made on the way, or something else where there is nothing.
+fn add_made_or(
+    bytes: &[u8],
+    made: Option<Made>,
+    later: &[u8],
+    text: &mut Blob,
+) -> Result<(), NoMemory>
+    ensures { OnOk result (text.new ≡ text.old ++ spec.made_or bytes.now (option_map (λ m. (m.0, m.1.now)) made.entry) later.now) }
+{
+    match made {
+        Some((at, words)) => add_made(bytes, at, words, text),
+        None => text.extend_from_slice(later),
+    }
+}
+
+/// Adds what is made at a place.
+fn add_made(bytes: &[u8], at: u32, words: &[u8], text: &mut Blob) -> Result<(), NoMemory>
+    ensures { OnOk result (text.new ≡ text.old ++ spec.made_or bytes.now (Some (at, words.now)) []) }
+{
+    text.extend_from_slice(b"  the ")?;
+    text.extend_from_slice(words)?;
+    text.extend_from_slice(b" in line ")?;
+    add_line_of(bytes, at, text)?;
+    text.extend_from_slice(b" has more than 1,000 nodes\n")
+}
+
+/// Adds that the class of a variable is too large.
+fn add_class(names: &NameTable, x: u32, y: u32, text: &mut Blob) -> Result<(), NoMemory>
+    ensures { OnOk result (text.new ≡ text.old ++ spec.class_text names.now x y) }
+{
+    text.extend_from_slice(b"  the class of ")?;
+    add_variable(names, y, text)?;
+    add_with_value(names, x, text)
+}
+
+/// Adds that the type which a variable is given is too large.
+fn add_retype(names: &NameTable, x: u32, y: u32, text: &mut Blob) -> Result<(), NoMemory>
+    ensures { OnOk result (text.new ≡ text.old ++ spec.retype_text names.now x y) }
+{
+    text.extend_from_slice(b"  the type by `retype` of ")?;
+    add_variable(names, y, text)?;
+    add_with_value(names, x, text)
+}
+
+/// Adds in the place of which variable a value stands.
+fn add_with_value(names: &NameTable, x: u32, text: &mut Blob) -> Result<(), NoMemory>
+    ensures { OnOk result (text.new ≡ text.old ++ spec.with_value names.now x) }
+{
+    text.extend_from_slice(b", with the value for ")?;
+    add_variable(names, x, text)?;
+    text.extend_from_slice(b", has more than 1,000 nodes\n")
+}
