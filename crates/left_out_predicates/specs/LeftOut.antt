@@ -4,8 +4,9 @@
 -- to the point, could have been listed, and would then be a hypothesis there.
 use Rattle.std.specs.Prelude.{ℕ, ◌&&◌, nat_lt, List, [], ◌∷◌, ◌++◌, length, map, set, Bool, false, not, if◌then◌else◌, Option, Some, None}
 use Rattle.std.specs.Option.{option_or}
-use Rattle.cov_expr.specs.Term.{Term}
-use Rattle.cov_expr.specs.Trees.{has_term, is_closed}
+use Rattle.cov_expr.specs.declared.expr.Op.TheVariants.{Eq}
+use Rattle.cov_expr.specs.Term.{Term, const, var, neg, bin}
+use Rattle.cov_expr.specs.Trees.{has_term, is_closed, mentions}
 use Rattle.cov_expr.specs.View.{term}
 use Rattle.cov_ast.specs.Declarations.{lock_at}
 use Rattle.cov_ast.specs.Plain.{Plain}
@@ -98,13 +99,24 @@ pub record Behind : Type 0 where
 abbrev pub at_point : (stable : List Bool) → Behind
 at_point stable = record { kept = stable; state = None; found = [] }
 
+-- An equation that gives a variable a value over itself, as `x == x + 1` behind `x := x + 1`, is never known.
+abbrev pub is_own_value : Term → (value : Term) → Bool
+is_own_value (const k) e = false
+is_own_value (var x) e = mentions e x
+is_own_value (neg a) e = false
+is_own_value (bin op a b) e = false
+
+abbrev pub is_own : Term → Bool
+is_own (bin Eq a b) = is_own_value a b
+is_own e = false
+
 -- of a point with these hypotheses
 module _ (hypotheses : List Term) where
   -- Whether a predicate was left out in front of steps that keep these variables: it has a variable, each is kept, and it is neither a
   -- hypothesis nor found already. Of more than a few the others aren't shown.
   abbrev pub is_left_out : (kept : List Bool) → (found : List LeftOut) → Term → Bool
   is_left_out kept found e =
-      nat_lt (length found) MOST_FOUND && not (is_closed e) && each_variable (has kept) e && not (has_term hypotheses e) && not (has_term (map (λ o. o.term) found) e)
+      nat_lt (length found) MOST_FOUND && not (is_closed e) && not (is_own e) && each_variable (has kept) e && not (has_term hypotheses e) && not (has_term (map (λ o. o.term) found) e)
 
   -- what was found, and a predicate that the step at a place gives, if it was left out
   abbrev pub with_given : (kept : List Bool) → (at : ℕ) → StateAt → Given → (found : List LeftOut) → List LeftOut

@@ -15,7 +15,8 @@ ghost use Rattle.left_out_predicates.specs.LeftOut as spec;
 use crate::given::{Given, given_by};
 use crate::states::StateAt;
 use cov_ast::{NumberSet, Program};
-use cov_expr::{Expr, List, NoMemory, closed, copy, same};
+use cov_expr::{Expr, List, NoMemory, Op, closed, copy, mentions, same};
+use entail_text::has_same;
 use hypothesis_origins::Origin;
 use statement_paths::Step;
 use std::alloc::Global;
@@ -123,6 +124,7 @@ fn is_left_out(hypotheses: &[Expr], kept: &NumberSet, found: &[LeftOut], e: &Exp
 {
     found.len() < MOST_FOUND
         && !closed(e)
+        && !is_own(e)
         && is_over(kept, e)
         && !has_same(hypotheses, e)
         && !is_found(found, e)
@@ -140,16 +142,24 @@ fn is_over(set: &NumberSet, e: &Expr) -> bool
     }
 }
 
-/// Whether an expression is one of some.
-fn has_same(all: &[Expr], e: &Expr) -> bool
-    ensures { result ≡ has_term (map term all.now) (term e.now) }
+/// Whether an expression is an equation that gives a variable a value over itself.
+fn is_own(e: &Expr) -> bool
+    ensures { result ≡ spec.is_own (term e.now) }
 {
-    for one in all {
-        if same(one, e) {
-            return true;
-        }
+    match e {
+        Expr::Bin(Op::Eq, a, b) => is_own_value(a, b),
+        Expr::Const(_) | Expr::Var(_) | Expr::Not(_) | Expr::Bin(..) => false,
     }
-    false
+}
+
+/// Whether an expression is a variable that a value mentions.
+fn is_own_value(e: &Expr, value: &Expr) -> bool
+    ensures { result ≡ spec.is_own_value (term e.now) (term value.now) }
+{
+    match e {
+        Expr::Var(x) => mentions(value, *x),
+        Expr::Const(_) | Expr::Not(_) | Expr::Bin(..) => false,
+    }
 }
 
 /// Whether a predicate was found already.

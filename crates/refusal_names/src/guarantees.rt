@@ -10,9 +10,9 @@ use crate::reads::add_variable;
 use cov_ast::{Modes, NameTable, Program, ThreadDecl};
 use cov_expr::{Blob, Name, NoMemory};
 use entail_text::variable_names;
-use itoa::Buffer;
 use std::alloc::Global;
 use text_lines::position;
+use text_parts::add_number;
 
 /// Adds where the thread stands that doesn't guarantee what another assumes of a variable, and which guarantee it lacks, by their names.
 pub fn add_guarantee(
@@ -155,9 +155,7 @@ fn add_stands(bytes: &[u8], t: &ThreadDecl, text: &mut Blob) -> Result<(), NoMem
 pub fn add_line_of(bytes: &[u8], place: u32, text: &mut Blob) -> Result<(), NoMemory>
     ensures { OnOk result (text.new ≡ text.old ++ decimal (line bytes.now place)) }
 {
-    let mut buffer = Buffer::new();
-    let line = position(bytes, place as usize).line;
-    text.extend_from_slice(buffer.format(line).as_bytes())
+    add_number(position(bytes, place as usize).line, text)
 }
 
 /// Adds which guarantee a thread needs.

@@ -20,8 +20,9 @@ use crate::predicates::add_predicates;
 use crate::reads::add_reads;
 use crate::sets::{hidden_set, known_at, pass_to_state, stable_set};
 use crate::types::add_types;
-use cov_ast::{Detail, NameTable, Program, Refusal, Rule, Stmt, StmtKind};
+use cov_ast::{Detail, NameTable, Program, Refusal, Rule, StmtKind};
 use cov_expr::{Blob, NoMemory};
+use entail_questions::body_of;
 use entail_text::variable_names;
 use held_locks::modes_along;
 use mode_state::ModeState;
@@ -256,12 +257,4 @@ fn add_too_large(
 {
     let hidden = hidden_set(alloc, p, modes)?;
     add_large(p.vars.as_slice(), names, bytes, &hidden, steps, kind, text)
-}
-
-/// The statements of a thread.
-fn body_of(p: &Program, t: u32) -> &[Stmt]
-    requires { t < length p.now.threads }
-    ensures { view.block result.now ≡ (numbered (view.program p.now) t).body }
-{
-    p.threads.as_slice()[t as usize].body.as_slice()
 }
