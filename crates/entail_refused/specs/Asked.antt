@@ -1,7 +1,8 @@
 -- What is told of the entailment for which a program is refused: what it asks, its goal, its hypotheses by number, each with where it
--- comes from, and its certificate.
+-- comes from, and its certificate; then where the types of the goal come from, and what would be a hypothesis, had a state listed it.
 use Rattle.std.specs.Prelude.{ℕ, nat_lt, List, [], ◌++◌, length, if◌then◌else◌, Option, Some, None}
 use Rattle.cov_ast.specs.Obligations.{all_hold}
+use Rattle.cov_ast.specs.Plain.{plain}
 use Rattle.cov_ast.specs.Syntax.{Program}
 use Rattle.cov_ast.specs.declared.refusal.Rule.{Rule}
 use Rattle.cov_ast.specs.declared.refusal.Rule.TheVariants.{V9}
@@ -14,21 +15,28 @@ use Rattle.entail_text.specs.VariableNames.{variable_names}
 use Rattle.mode_compat.specs.Compatible.{numbered}
 use Rattle.mode_compat.specs.Declared.{declaration_obligations}
 use Rattle.typing_rules.specs.ThreadEntailments.{PlacedEntailment, entailment_among, thread_entailments}
+use Rattle.entail_refused.specs.Further.{further_lines}
 use Rattle.entail_refused.specs.GivenElsewhere.{given_line}
 use Rattle.entail_refused.specs.Remarked.{remarks_on}
+use Rattle.entail_refused.specs.Sites.{Site, site_of}
 
 -- the text of the program is that of its places
 module _ (p : Program) (bytes : List ℕ) where
   -- its goal, its hypotheses, each with where it comes from, and the certificate that the thread gives for it
-  abbrev pub entailment_lines : (t : ℕ) → PlacedEntailment → List ℕ
-  entailment_lines t g =
-      told (variable_names p.vars) g.entailment.hyps (remarks_on p bytes t g) g.entailment.goal (cert_of (numbered p t).body g.place g.number)
+  abbrev pub entailment_lines : (t : ℕ) → Option Site → PlacedEntailment → List ℕ
+  entailment_lines t site g =
+      told (variable_names p.vars) g.entailment.hyps (remarks_on (plain p) bytes site g.entailment.hyps) g.entailment.goal (cert_of (numbered p t).body g.place g.number)
 
-  -- what is told of an entailment of a thread: what it asks, its lines, and, where no certificate is given for it, for which entailments
-  -- of the statement some are
+  -- what is told of an entailment that is asked there
+  abbrev pub told_at : (t : ℕ) → Option Site → PlacedEntailment → List ℕ
+  told_at t site g =
+      question_line p t g.place g.number ++ entailment_lines t site g ++ given_line p t g.place g.number ++ further_lines p t bytes site g.entailment.hyps
+
+  -- What is told of an entailment of a thread: what it asks, its lines, where no certificate is given for it, for which entailments
+  -- of the statement some are, and what is told of the point.
   abbrev pub told_of : (t : ℕ) → Option PlacedEntailment → List ℕ
   told_of t None = []
-  told_of t (Some g) = question_line p t g.place g.number ++ entailment_lines t g ++ given_line p t g.place g.number
+  told_of t (Some g) = told_at t (site_of p t g.place g.number) g
 
   -- the entailment of a number at a place, of a program whose declarations keep the rules
   abbrev pub asked_in : (t place number : ℕ) → List ℕ

@@ -1,3 +1,5 @@
+pub mod Sites
+pub mod Further
 pub mod Asked
 pub mod GivenElsewhere
 pub mod Remarked

@@ -1,15 +1,18 @@
 //! What a refusal for want of a valid certificate asked.
 
-ghost use Rattle.std.specs.Prelude.{◌≡◌, ◌<◌, ◌++◌, IsTrue, OnOk, Some, length};
+ghost use Rattle.std.specs.Prelude.{◌≡◌, ◌<◌, ◌++◌, IsTrue, OnOk, Some, length, option_map};
 ghost use Rattle.cov_ast.specs.Obligations.{all_hold};
 ghost use Rattle.cov_ast.specs.View as view;
 ghost use Rattle.cov_ast.specs.WellFormed.{IsWellFormed};
 ghost use Rattle.mode_compat.specs.Declared.{declaration_obligations};
 ghost use Rattle.typing_rules.specs.ThreadEntailments.{entailment_among, thread_entailments, view_entail};
 ghost use Rattle.entail_refused.specs.Asked as spec;
+ghost use Rattle.entail_refused.specs.Sites as sites;
 
+use crate::further::add_further;
 use crate::given::add_given;
 use crate::remarked::remarks_on;
+use crate::site::{Site, site_of};
 use cov_ast::{CheckFault, Detail, Program, Refusal, Rule};
 use cov_expr::{Blob, NoMemory};
 use entail_questions::{add_question, body_of};
@@ -125,8 +128,8 @@ fn add_entailment(
     }
 }
 
-/// Adds what is told of an entailment of a thread: what it asks, its goal and hypotheses, the certificate that the thread gives for it, and,
-/// where there is none, for which entailments of the statement it gives some.
+/// Adds what is told of an entailment of a thread: what it asks, its goal and hypotheses, the certificate that the thread gives for it,
+/// where there is none, for which entailments of the statement it gives some, and what is told of the point of which it asks.
 fn add_found(
     alloc: Global,
     p: &Program,
@@ -139,9 +142,11 @@ fn add_found(
     requires thread { t < length p.now.threads }
     ensures { OnOk result (text.new ≡ text.old ++ spec.told_of (view.program p.now) bytes.now t (Some (view_entail e.now))) }
 {
+    let site = site_of(alloc, p, t, e.place, e.number)?;
     add_question(alloc, p, t, e.place, e.number, text)?;
-    add_lines(alloc, p, bytes, t, e, text)?;
-    add_given(alloc, p, t, e.place, e.number, text)
+    add_lines(alloc, p, bytes, t, &site, e, text)?;
+    add_given(alloc, p, t, e.place, e.number, text)?;
+    add_further(alloc, p, t, bytes, &site, e.hyps.as_slice(), text)
 }
 
 /// Adds the goal of an entailment of a thread, its hypotheses, and the certificate that the thread gives for it.
@@ -150,16 +155,17 @@ fn add_lines(
     p: &Program,
     bytes: &[u8],
     t: u32,
+    site: &Option<Site<'_>>,
     e: &Entail,
     text: &mut Blob,
 ) -> Result<(), NoMemory>
     requires formed { IsWellFormed (view.program p.now) }
     requires thread { t < length p.now.threads }
-    ensures { OnOk result (text.new ≡ text.old ++ spec.entailment_lines (view.program p.now) bytes.now t (view_entail e.now)) }
+    ensures { OnOk result (text.new ≡ text.old ++ spec.entailment_lines (view.program p.now) bytes.now t (option_map sites.site site.now) (view_entail e.now)) }
 {
     let names = variable_names(alloc, p)?;
     let cert = cert_of(body_of(p, t), e.place, e.number);
-    let remarks = remarks_on(alloc, p, bytes, t, e)?;
+    let remarks = remarks_on(alloc, p, bytes, site, e.hyps.as_slice())?;
     add_told(
         alloc,
         &names,

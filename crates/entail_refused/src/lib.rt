@@ -1,18 +1,22 @@
 //! What a refusal for want of a valid certificate asked (V9), in plain text.
 //!
 //! - [`add_asked`]: of the entailment for which a program is refused what it asks (`entail_questions`), its goal, its hypotheses, each with
-//!   where it comes from (`hypothesis_origins`), and its certificate (`entail_text`).
+//!   where it comes from (`hypothesis_origins`), and its certificate (`entail_text`); then where the types come from that make up the goal
+//!   (`type_origins`), and what would be a hypothesis, had a state listed it (`left_out_predicates`).
 //! - [`refused_entailment_is_listed`] and [`refusal_is_told`], which are laws: there is always such an entailment, and it is the one
 //!   whose certificate isn't valid. `specs/RefusedEntailment.antt` says so.
 //!
-//! `specs/Asked.antt` says which entailment that is, `specs/Remarked.antt` behind which steps its hypotheses are sought, and
+//! `specs/Asked.antt` says which entailment that is, `specs/Sites.antt` the point of which it asks and the steps to it, by
+//! which its hypotheses, types and what was left out are sought, and
 //! `specs/GivenElsewhere.antt` for which other entailments certificates are told of where it has none.
 #![tactic(auto)]
 
 mod asked;
+mod further;
 mod given;
 mod laws;
 mod remarked;
+mod site;
 
 pub use asked::add_asked;
 pub use laws::{refusal_is_told, refused_entailment_is_listed};
