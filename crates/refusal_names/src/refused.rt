@@ -1,11 +1,11 @@
-ghost use Rattle.std.specs.Prelude.{◌≡◌, ◌<◌, ◌++◌, ℕ, List, Bool, OnOk, length, map, option_map};
+ghost use Rattle.std.specs.Prelude.{◌≡◌, ◌<◌, ◌++◌, ℕ, List, Bool, OnOk, length, option_map};
 ghost use Rattle.cov_ast.specs.Plain.{plain};
 ghost use Rattle.cov_ast.specs.View as view;
 ghost use Rattle.cov_ast.specs.WellFormed.{IsWellFormed};
 ghost use Rattle.held_locks.specs.LocksHeld.{held_along, none_held};
 ghost use Rattle.mode_compat.specs.Compatible.{numbered};
 ghost use Rattle.mode_state.specs.Sets.{modes_at};
-ghost use Rattle.statement_paths.specs.Paths.{step, way, way_to};
+ghost use Rattle.statement_paths.specs.Paths.{way, way_to};
 ghost use Rattle.refusal_names.specs.LargeTerms.{large_line};
 ghost use Rattle.refusal_names.specs.NameLines as lines;
 ghost use Rattle.refusal_names.specs.RefusalNames as spec;
@@ -26,7 +26,7 @@ use entail_questions::body_of;
 use entail_text::variable_names;
 use held_locks::modes_along;
 use mode_state::ModeState;
-use statement_paths::{Step, Way, way_to};
+use statement_paths::{Way, way_to};
 use std::alloc::Global;
 
 /// Adds a line of what a refusal is about, by name. Nothing is added where the rule shows its names itself, where it isn't one of
@@ -141,43 +141,34 @@ fn add_of_way(
         OnOk result (text.new ≡ text.old ++ spec.line_of (view.program p.now) bytes.now t rule w.steps (held_along w.steps (none_held (plain (view.program p.now)))) w.stm) }
 {
     let modes = modes_along(alloc, p, t, found.steps.as_slice())?;
-    add_line(
-        alloc,
-        p,
-        bytes,
-        t,
-        rule,
-        found.steps.as_slice(),
-        modes,
-        &found.stmt.kind,
-        text,
-    )
+    add_line(alloc, p, bytes, t, rule, modes, found, text)
 }
 
-/// Adds the line of a statement, by the modes in front of it.
+/// Adds the line of the statement at the end of a way, by the modes in front of it.
 fn add_line(
     alloc: Global,
     p: &Program,
     bytes: &[u8],
     t: u32,
     rule: Rule,
-    steps: &[Step<'_>],
     modes: ModeState,
-    kind: &StmtKind,
+    found: &Way<'_>,
     text: &mut Blob,
 ) -> Result<(), NoMemory>
     requires formed { IsWellFormed (view.program p.now) }
     requires modes { modes ≡ modes_at (plain (view.program p.now)) t modes.held }
-    ensures { OnOk result (text.new ≡ text.old ++ spec.line_of (view.program p.now) bytes.now t rule (map step steps.now) modes.held (view.kind kind.now)) }
+    ensures { let w = way found.now in
+        OnOk result (text.new ≡ text.old ++ spec.line_of (view.program p.now) bytes.now t rule w.steps modes.held w.stm) }
 {
     let names = variable_names(alloc, p)?;
+    let kind = &found.stmt.kind;
     match rule {
         Rule::V3 => add_unstable_reads(alloc, p, &names, &modes, kind, text),
         Rule::V4 => add_bad_type(alloc, p, &names, modes, kind, text),
         Rule::V8 => add_ends(alloc, p.locks.as_slice(), modes, kind, text),
         Rule::V12 => add_bad_predicate(alloc, p, &names, modes, kind, text),
         Rule::V15 => add_added(p, &names, kind, text),
-        Rule::V16 => add_too_large(alloc, p, &names, bytes, steps, &modes, kind, text),
+        Rule::V16 => add_too_large(alloc, p, &names, bytes, &modes, found, text),
         _ => Ok(()),
     }
 }
@@ -245,16 +236,16 @@ fn add_too_large(
     p: &Program,
     names: &NameTable,
     bytes: &[u8],
-    steps: &[Step<'_>],
     modes: &ModeState,
-    kind: &StmtKind,
+    found: &Way<'_>,
     text: &mut Blob,
 ) -> Result<(), NoMemory>
     requires { IsWellFormed (view.program p.now) }
     ensures { (t : ℕ) (held : List Bool) → modes.now ≡ modes_at (plain (view.program p.now)) t held
-        → OnOk result (text.new ≡ text.old
-        ++ large_line (view.program p.now).vars names.now bytes.now (sets.hidden (plain (view.program p.now)) t held) (map step steps.now) (view.kind kind.now)) }
+        → OnOk result (let w = way found.now in
+        text.new ≡ text.old ++ large_line (view.program p.now).vars names.now bytes.now (sets.hidden (plain (view.program p.now)) t held) w.steps w.stm) }
 {
     let hidden = hidden_set(alloc, p, modes)?;
+    let (steps, kind) = (found.steps.as_slice(), &found.stmt.kind);
     add_large(p.vars.as_slice(), names, bytes, &hidden, steps, kind, text)
 }
