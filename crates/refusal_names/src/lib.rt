@@ -1,6 +1,8 @@
 //! What a refusal is about, by name, where its rule shows no names, or not where they stand: a line of text.
 //!
 //! - [`add_names`]: the line for W9, V3, V4, V8, V12, V15 and V16.
+//! - [`missing_guarantee_is_told`] and [`unmet_assumption_is_missing`] have no body: their contracts are laws, that the line of W9 tells of
+//!   the threads that have the names, and that there is one.
 //!
 //! | `src/` | `specs/` | what it has |
 //! |---|---|---|
@@ -8,6 +10,7 @@
 //! | `reads`, `types`, `predicates`, `ends`, `added` | `NameLines` | the line of V3, V4, V12, V8 and V15 |
 //! | `guarantees` | `MissingGuarantees` | the line of W9 |
 //! | `large` | `LargeTerms` | the line of V16 |
+//! | `laws` | | laws of the line of W9 |
 //! | `outside` | `OutsideVariables` | variables outside of a set |
 //! | `sets` | `StableSets` | what is stable and what is hidden at a place, and what is a control |
 //!
@@ -18,6 +21,7 @@ mod added;
 mod ends;
 mod guarantees;
 mod large;
+mod laws;
 mod outside;
 mod predicates;
 mod reads;
@@ -25,4 +29,5 @@ mod refused;
 mod sets;
 mod types;
 
+pub use laws::{missing_guarantee_is_told, unmet_assumption_is_missing};
 pub use refused::add_names;
