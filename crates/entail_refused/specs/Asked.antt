@@ -16,7 +16,7 @@ use Rattle.mode_compat.specs.Compatible.{numbered}
 use Rattle.mode_compat.specs.Declared.{declaration_obligations}
 use Rattle.typing_rules.specs.ThreadEntailments.{PlacedEntailment, entailment_among, thread_entailments}
 use Rattle.entail_refused.specs.Further.{further_lines}
-use Rattle.entail_refused.specs.GivenElsewhere.{given_line}
+use Rattle.entail_refused.specs.GivenElsewhere.{given_lines}
 use Rattle.entail_refused.specs.Remarked.{remarks_on}
 use Rattle.entail_refused.specs.Sites.{Site, site_of}
 
@@ -30,7 +30,7 @@ module _ (p : Program) (bytes : List ℕ) where
   -- what is told of an entailment that is asked there
   abbrev pub told_at : (t : ℕ) → Option Site → PlacedEntailment → List ℕ
   told_at t site g =
-      question_line p t g.place g.number ++ entailment_lines t site g ++ given_line p t g.place g.number ++ further_lines p t bytes site g.entailment.hyps
+      question_line p t g.place g.number ++ entailment_lines t site g ++ given_lines p t g ++ further_lines p t bytes site g.entailment.hyps
 
   -- What is told of an entailment of a thread: what it asks, its lines, where no certificate is given for it, for which entailments
   -- of the statement some are, and what is told of the point.

@@ -1,15 +1,40 @@
 -- What is told of the point of which an entailment asks, beside its hypotheses.
-use Rattle.std.specs.Prelude.{ℕ, List, [], ◌++◌, Option, Some, None}
+use Rattle.std.specs.Prelude.{ℕ, ◌-◌, List, [], ◌++◌, length, take, codes, Option, Some, None}
 use Rattle.cov_expr.specs.Term.{Term}
 use Rattle.cov_ast.specs.Plain.{plain}
-use Rattle.cov_ast.specs.Syntax.{Program}
+use Rattle.cov_ast.specs.Syntax.{Program, Stm, branch, loop, note}
+use Rattle.entail_questions.specs.declared.kinds.Question.{Question}
+use Rattle.entail_questions.specs.declared.kinds.Question.TheVariants as q
+use Rattle.entail_text.specs.Dropped.{dropped_line}
 use Rattle.left_out_predicates.specs.LeftOutLines.{left_out_lines}
 use Rattle.type_origins.specs.TypeLines.{type_lines}
 use Rattle.entail_refused.specs.Sites.{Site}
 
--- where the types come from that make up the goal, and what would be among the hypotheses, had a state listed it
+-- What the state drops that is asked of -------------------------------------------------------------------------
+
+-- the predicates of the state of a statement, with the word for it, if it has one
+abbrev pub state_of : Stm → Option (List ℕ × List Term)
+state_of (branch e a b join) = Some (codes "join", join.preds)
+state_of (loop e inv b) = Some (codes "inv", inv.preds)
+state_of (note j) = Some (codes "note", j.preds)
+state_of s = None
+
+abbrev pub dropped_by : Option (List ℕ × List Term) → (hypotheses : List Term) → List ℕ
+dropped_by None hypotheses = []
+dropped_by (Some s) hypotheses = dropped_line s.0 s.1 hypotheses
+
+-- Where something of a state is asked, which hypotheses it drops. The last of those of a type is the type, and no predicate.
+abbrev pub dropped_at : Question → Stm → (hypotheses : List Term) → List ℕ
+dropped_at (q.Predicate end i) s hypotheses = dropped_by (state_of s) hypotheses
+dropped_at (q.TypeOf end z) s hypotheses = dropped_by (state_of s) (take (length hypotheses - 1) hypotheses)
+dropped_at question s hypotheses = []
+
+-- All that is told -----------------------------------------------------------------------------------------------
+
+-- where the types come from that make up the goal, which hypotheses are dropped, and what would be among them, had a state listed it
 abbrev pub further_at : Program → (t : ℕ) → (bytes : List ℕ) → Site → (hypotheses : List Term) → List ℕ
-further_at p t bytes s hypotheses = type_lines (plain p) t bytes s.steps s.question s.stm ++ left_out_lines p t bytes s.steps hypotheses
+further_at p t bytes s hypotheses =
+    type_lines (plain p) t bytes s.steps s.question s.stm ++ dropped_at s.question s.stm hypotheses ++ left_out_lines p t bytes s.steps hypotheses
 
 -- nothing where it isn't known where that is
 abbrev pub further_lines : Program → (t : ℕ) → (bytes : List ℕ) → Option Site → (hypotheses : List Term) → List ℕ

@@ -1,9 +1,11 @@
--- For which entailments of a statement certificates are given, where none is given for one of them.
+-- For which entailments of a statement certificates are given, where none is given for one of them, and which of them would show it.
 use Rattle.std.specs.Prelude.{ℕ, ◌==◌, List, [], ◌∷◌, ◌++◌, Bool, codes, decimal, flat_map, if◌then◌else◌, Option, Some, None}
 use Rattle.std.specs.List.{list_any}
 use Rattle.cov_ast.specs.Syntax.{Program, Proof}
+use Rattle.entail_text.specs.OtherCertificates.{other_line}
 use Rattle.mode_compat.specs.Compatible.{numbered}
 use Rattle.statement_paths.specs.Paths.{Way, way_to}
+use Rattle.typing_rules.specs.ThreadEntailments.{PlacedEntailment}
 
 -- whether one is given for a number
 abbrev pub is_given : List Proof → (number : ℕ) → Bool
@@ -21,11 +23,15 @@ numbers_line (q ∷ qs) = codes "  given for:   " ++ flat_map number_text (q ∷
 abbrev pub line_without : (number : ℕ) → List Proof → List ℕ
 line_without number proofs = if is_given proofs number then [] else numbers_line proofs
 
--- of the statement at the end of a way, if there is one
-abbrev pub line_behind : Option Way → (number : ℕ) → List ℕ
-line_behind None number = []
-line_behind (Some w) number = line_without number w.proofs
+-- of an entailment of a statement with these proofs: that line, and the certificate that would show it, if one does
+abbrev pub lines_of : List Proof → PlacedEntailment → List ℕ
+lines_of proofs g = line_without g.number proofs ++ other_line proofs g.entailment.hyps g.entailment.goal
 
--- of the statement at a place of a thread
-abbrev pub given_line : Program → (t place number : ℕ) → List ℕ
-given_line p t place number = line_behind (way_to (numbered p t).body place) number
+-- of the statement at the end of a way, if there is one
+abbrev pub lines_behind : Option Way → PlacedEntailment → List ℕ
+lines_behind None g = []
+lines_behind (Some w) g = lines_of w.proofs g
+
+-- of the statement of an entailment of a thread
+abbrev pub given_lines : Program → (t : ℕ) → PlacedEntailment → List ℕ
+given_lines p t g = lines_behind (way_to (numbered p t).body g.place) g

@@ -145,7 +145,7 @@ fn add_found(
     let site = site_of(alloc, p, t, e.place, e.number)?;
     add_question(alloc, p, t, e.place, e.number, text)?;
     add_lines(alloc, p, bytes, t, &site, e, text)?;
-    add_given(alloc, p, t, e.place, e.number, text)?;
+    add_given(alloc, p, t, e, text)?;
     add_further(alloc, p, t, bytes, &site, e.hyps.as_slice(), text)
 }
 

@@ -7,6 +7,7 @@ ghost use Rattle.cov_ast.specs.WellFormed.{IsWellFormed};
 ghost use Rattle.entail_refused.specs.Further as spec;
 ghost use Rattle.entail_refused.specs.Sites as sites;
 
+use crate::dropped::add_dropped_at;
 use crate::site::Site;
 use cov_ast::Program;
 use cov_expr::{Blob, Expr, NoMemory};
@@ -14,8 +15,8 @@ use left_out_predicates::add_left_out;
 use std::alloc::Global;
 use type_origins::add_type_lines;
 
-/// Adds where the types come from that make up the goal of an entailment of a thread, and which predicates would be among its hypotheses,
-/// had a state listed them. Nothing is added where it isn't known where the entailment is asked. `bytes` are the text of the program.
+/// Adds where the types come from that make up the goal of an entailment of a thread, which hypotheses the state drops that is asked of, and
+/// which predicates would be among them, had a state listed them. Nothing is added where it isn't known where the entailment is asked. `bytes` are the text of the program.
 pub fn add_further(
     alloc: Global,
     p: &Program,
@@ -51,5 +52,6 @@ fn add_further_at(
 {
     let steps = site.steps.as_slice();
     add_type_lines(alloc, p, t, bytes, steps, site.question, site.kind, text)?;
+    add_dropped_at(alloc, site.question, site.kind, hypotheses, text)?;
     add_left_out(alloc, p, t, bytes, steps, hypotheses, text)
 }

@@ -2,32 +2,47 @@
 
 ghost use Rattle.std.specs.Prelude.{◌≡◌, ◌<◌, ◌++◌, OnOk, flat_map, length, map};
 ghost use Rattle.cov_ast.specs.View as view;
+ghost use Rattle.typing_rules.specs.ThreadEntailments.{view_entail};
 ghost use Rattle.entail_refused.specs.GivenElsewhere as spec;
 
 use cov_ast::{Program, Proof};
 use cov_expr::{Blob, NoMemory};
 use entail_questions::body_of;
+use entail_text::add_other;
 use statement_paths::way_to;
 use std::alloc::Global;
 use text_parts::add_number;
+use typing_rules::Entail;
 
-/// Adds for which entailments of the statement at a place of a thread certificates are given, where none is given for a number.
-/// Nothing is added where one is, or the statement gives none.
+/// Adds what the statement of an entailment of a thread gives for others: for which certificates are given, where none is given for this one,
+/// and which of these would show it. Nothing is added where the statement gives none.
 pub fn add_given(
     alloc: Global,
     p: &Program,
     t: u32,
-    place: u32,
-    number: u32,
+    e: &Entail,
     text: &mut Blob,
 ) -> Result<(), NoMemory>
     requires thread { t < length p.now.threads }
-    ensures { OnOk result (text.new ≡ text.old ++ spec.given_line (view.program p.now) t place number) }
+    ensures { OnOk result (text.new ≡ text.old ++ spec.given_lines (view.program p.now) t (view_entail e.now)) }
 {
-    match way_to(alloc, body_of(p, t), place)? {
-        Some(way) => add_without(way.stmt.proofs.as_slice(), number, text),
+    match way_to(alloc, body_of(p, t), e.place)? {
+        Some(way) => add_of_proofs(alloc, way.stmt.proofs.as_slice(), e, text),
         None => Ok(()),
     }
+}
+
+/// The same of a statement with these proofs.
+fn add_of_proofs(
+    alloc: Global,
+    proofs: &[Proof],
+    e: &Entail,
+    text: &mut Blob,
+) -> Result<(), NoMemory>
+    ensures { OnOk result (text.new ≡ text.old ++ spec.lines_of (map view.proof proofs.now) (view_entail e.now)) }
+{
+    add_without(proofs, e.number, text)?;
+    add_other(alloc, proofs, &e.hyps, &e.goal, text)
 }
 
 /// Adds the numbers of certificates, where none has a number.

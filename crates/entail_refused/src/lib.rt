@@ -2,16 +2,17 @@
 //!
 //! - [`add_asked`]: of the entailment for which a program is refused what it asks (`entail_questions`), its goal, its hypotheses, each with
 //!   where it comes from (`hypothesis_origins`), and its certificate (`entail_text`); then where the types come from that make up the goal
-//!   (`type_origins`), and what would be a hypothesis, had a state listed it (`left_out_predicates`).
+//!   (`type_origins`), which hypotheses the state drops that is asked of, and what would be a hypothesis, had a state listed it (`left_out_predicates`).
 //! - [`refused_entailment_is_listed`] and [`refusal_is_told`], which are laws: there is always such an entailment, and it is the one
 //!   whose certificate isn't valid. `specs/RefusedEntailment.antt` says so.
 //!
 //! `specs/Asked.antt` says which entailment that is, `specs/Sites.antt` the point of which it asks and the steps to it, by
 //! which its hypotheses, types and what was left out are sought, and
-//! `specs/GivenElsewhere.antt` for which other entailments certificates are told of where it has none.
+//! `specs/GivenElsewhere.antt` which certificates of other entailments are told of.
 #![tactic(auto)]
 
 mod asked;
+mod dropped;
 mod further;
 mod given;
 mod laws;

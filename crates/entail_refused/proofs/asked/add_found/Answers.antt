@@ -6,7 +6,7 @@ use Rattle.entail_questions.specs.QuestionLines.{question_line}
 use Rattle.typing_rules.specs.ThreadEntailments.{view_entail}
 use Rattle.entail_refused.specs.Asked.{entailment_lines}
 use Rattle.entail_refused.specs.Further.{further_lines}
-use Rattle.entail_refused.specs.GivenElsewhere.{given_line}
+use Rattle.entail_refused.specs.GivenElsewhere.{given_lines}
 use Rattle.entail_refused.specs.Sites.{site_of}
 use Rattle.entail_refused.proofs.asked.add_found.Goals as goal
 
@@ -20,7 +20,7 @@ returns c =
     let site = site_of p t e.place e.number in
     let question = question_line p t e.place e.number in
     let lines = entailment_lines p bytes t site (view_entail e) in
-    let given = given_line p t e.place e.number in
+    let given = given_lines p t (view_entail e) in
     let further = further_lines p t bytes site (map term e.hyps) in
     let asked = (rw c.in_ok-site.ensures at c.in_ok-add_lines.ensures) ∙ ap (λ s. s ++ lines) c.in_ok-add_question.ensures ∙ append_assoc old question lines in
     let all = c.in_ok-add_given.ensures ∙ ap (λ s. s ++ given) asked ∙ append_assoc old (question ++ lines) given in

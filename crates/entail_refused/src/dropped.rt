@@ -1,0 +1,67 @@
+//! Hypotheses that the state drops which is asked of.
+
+ghost use Rattle.std.specs.Prelude.{◌≡◌, ◌++◌, ◌-◌, length, map, take, OnOk};
+ghost use Rattle.cov_expr.specs.View.{term};
+ghost use Rattle.cov_ast.specs.View as view;
+ghost use Rattle.entail_refused.specs.Further as spec;
+
+use cov_ast::StmtKind;
+use cov_expr::{Blob, Expr, NoMemory};
+use entail_questions::Question;
+use entail_text::add_dropped;
+use std::alloc::Global;
+
+/// Adds which hypotheses the state of a statement drops, where something of that state is asked.
+pub fn add_dropped_at(
+    alloc: Global,
+    question: Question,
+    kind: &StmtKind,
+    hypotheses: &[Expr],
+    text: &mut Blob,
+) -> Result<(), NoMemory>
+    ensures { OnOk result (text.new ≡ text.old ++ spec.dropped_at question (view.kind kind.now) (map term hypotheses.now)) }
+{
+    match question {
+        Question::Predicate(_, _) => add_dropped_by(alloc, kind, hypotheses, text),
+        Question::TypeOf(_, _) => add_dropped_by(alloc, kind, without_last(hypotheses), text),
+        Question::Written
+        | Question::Shown(_)
+        | Question::Controlled(_)
+        | Question::Retyped(_)
+        | Question::Freed(_)
+        | Question::Invariant(_)
+        | Question::Guard
+        | Question::HeadGuard
+        | Question::Printed => Ok(()),
+    }
+}
+
+/// All but the last of some hypotheses.
+fn without_last(hypotheses: &[Expr]) -> &[Expr]
+    ensures { map term result.now ≡ take (length (map term hypotheses.now) - 1) (map term hypotheses.now) }
+{
+    let count = hypotheses.len().saturating_sub(1);
+    &hypotheses[..count]
+}
+
+/// Adds which hypotheses the state of a statement drops, if it has one.
+fn add_dropped_by(
+    alloc: Global,
+    kind: &StmtKind,
+    hypotheses: &[Expr],
+    text: &mut Blob,
+) -> Result<(), NoMemory>
+    ensures { OnOk result (text.new ≡ text.old ++ spec.dropped_by (spec.state_of (view.kind kind.now)) (map term hypotheses.now)) }
+{
+    match kind {
+        StmtKind::If(_, _, _, join) => {
+            add_dropped(alloc, b"join", join.preds.as_slice(), hypotheses, text)
+        }
+        StmtKind::While(_, inv, _) => {
+            add_dropped(alloc, b"inv", inv.preds.as_slice(), hypotheses, text)
+        }
+        StmtKind::Note(j) => add_dropped(alloc, b"note", j.preds.as_slice(), hypotheses, text),
+        StmtKind::Skip | StmtKind::Lock(_) | StmtKind::Unlock(_) => Ok(()),
+        StmtKind::Assign(_, _, _, _) | StmtKind::Output(_) => Ok(()),
+    }
+}
