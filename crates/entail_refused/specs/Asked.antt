@@ -12,6 +12,7 @@ use Rattle.entail_questions.specs.QuestionLines.{question_line}
 use Rattle.entail_text.specs.Given.{cert_of}
 use Rattle.entail_text.specs.EntailmentLines.{told}
 use Rattle.entail_text.specs.VariableNames.{variable_names}
+use Rattle.entail_text.specs.ZeroGoals.{zero_line}
 use Rattle.mode_compat.specs.Compatible.{numbered}
 use Rattle.mode_compat.specs.Declared.{declaration_obligations}
 use Rattle.typing_rules.specs.ThreadEntailments.{PlacedEntailment, entailment_among, thread_entailments}
@@ -22,10 +23,11 @@ use Rattle.entail_refused.specs.Sites.{Site, site_of}
 
 -- the text of the program is that of its places
 module _ (p : Program) (bytes : List ℕ) where
-  -- its goal, its hypotheses, each with where it comes from, and the certificate that the thread gives for it
+  -- its goal, its hypotheses, each with where it comes from, the certificate that the thread gives for it, and of a goal that is 0 a line more
   abbrev pub entailment_lines : (t : ℕ) → Option Site → PlacedEntailment → List ℕ
   entailment_lines t site g =
       told (variable_names p.vars) g.entailment.hyps (remarks_on (plain p) bytes site g.entailment.hyps) g.entailment.goal (cert_of (numbered p t).body g.place g.number)
+      ++ zero_line g.entailment.goal
 
   -- what is told of an entailment that is asked there
   abbrev pub told_at : (t : ℕ) → Option Site → PlacedEntailment → List ℕ

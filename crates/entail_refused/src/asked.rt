@@ -16,7 +16,7 @@ use crate::site::{Site, site_of};
 use cov_ast::{CheckFault, Detail, Program, Refusal, Rule};
 use cov_expr::{Blob, NoMemory};
 use entail_questions::{add_question, body_of};
-use entail_text::{add_told, cert_of, variable_names};
+use entail_text::{add_told, add_zero, cert_of, variable_names};
 use std::alloc::Global;
 use typing_rules::{Entail, entailment_at};
 use verify::check_declared;
@@ -174,5 +174,6 @@ fn add_lines(
         &e.goal,
         cert,
         text,
-    )
+    )?;
+    add_zero(&e.goal, text)
 }

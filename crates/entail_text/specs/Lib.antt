@@ -5,3 +5,4 @@ pub mod VariableNames
 pub mod Inside
 pub mod Dropped
 pub mod OtherCertificates
+pub mod ZeroGoals

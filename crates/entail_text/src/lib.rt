@@ -1,6 +1,7 @@
 //! Entailments in plain text: what was asked where a certificate isn't valid.
 //!
 //! - [`add_told`]: the goal of an entailment, its hypotheses by number, and its certificate, with the first node that fails.
+//! - [`add_zero`]: of a goal that is 0, how it may be shown at all.
 //! - [`failing_node_is_there`] has no body: its contract is a law, that the node of which the text tells is there and fails.
 //! - [`variable_names`]: the names with which it spells expressions of a program.
 //! - [`cert_of`]: the certificate that a thread gives for an entailment.
@@ -15,6 +16,7 @@
 //! | `given` | `Given` | the certificate of a number at a place |
 //! | `other` | `OtherCertificates` | the certificates of other numbers |
 //! | `dropped` | `Dropped` | the hypotheses that a state drops |
+//! | `zero` | `ZeroGoals` | goals that are 0 |
 #![tactic(auto)]
 
 mod dropped;
@@ -24,6 +26,7 @@ mod names;
 mod node;
 mod other;
 mod told;
+mod zero;
 
 pub use dropped::{add_dropped, has_same};
 pub use given::cert_of;
@@ -31,3 +34,4 @@ pub use laws::failing_node_is_there;
 pub use names::variable_names;
 pub use other::add_other;
 pub use told::add_told;
+pub use zero::add_zero;
