@@ -1,5 +1,5 @@
 -- What is asked of a statement goes by what is hidden of the variables of the program.
-use Rattle.std.proofs.Common.{◌≡◌, ℕ, ◌<◌, ◌&&◌, ◌||◌, not, [], ◌∷◌, ◌++◌, length, map, Bool, refl, ap, ap₂, arith, subst, if◌then◌else◌}
+use Rattle.std.proofs.Common.{◌≡◌, ℕ, ◌<◌, ◌&&◌, ◌||◌, not, [], ◌∷◌, ◌++◌, length, map, Bool, refl, ap, ap₂, arith, if◌then◌else◌}
 use Rattle.cov_expr.specs.Trees.{mentions}
 use Rattle.cov_ast.specs.Declarations.{class_of, is_control}
 use Rattle.cov_ast.specs.Plain.{Plain}
@@ -32,7 +32,6 @@ module _ (p : Plain) (f g : ℕ → Bool) (same : (x : ℕ) → x < length p.var
   same_questions locks (output e) range = refl
 
 -- where that is kept as a set
-pub of_table : (p : Plain) (n : ℕ) (f : ℕ → Bool) (locks : ℕ) (s : Stm) → n ≡ length p.vars → IsStmInRange n locks s
-    → of_statement p (has (table n f)) s ≡ of_statement p f s
-of_table p n f locks s all range =
-    same_questions p (has (table n f)) f (λ x h. table_at n f x (omega (arith, h, all))) locks s (subst (λ k. IsStmInRange k locks s) all range)
+pub of_table : (p : Plain) (f : ℕ → Bool) (locks : ℕ) (s : Stm) → IsStmInRange (length p.vars) locks s
+    → of_statement p (has (table (length p.vars) f)) s ≡ of_statement p f s
+of_table p f locks s range = same_questions p (has (table (length p.vars) f)) f (table_at (length p.vars) f) locks s range

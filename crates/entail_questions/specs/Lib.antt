@@ -1,3 +1,4 @@
 pub mod Questions
 pub mod QuestionLines
 pub mod OwnEntailments
+pub mod Controls

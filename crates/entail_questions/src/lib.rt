@@ -3,7 +3,7 @@
 //! - [`question`]: what the entailment with a number asks, of those of the statement at a place ([`Asked`], [`Question`], [`End`]).
 //! - [`add_question`]: the same as a line of text.
 //! - [`body_of`]: the statements of a thread.
-//! - [`is_control`]: whether the class of some variable mentions another.
+//! - [`is_control`], [`control_set`]: whether the class of some variable mentions another, and the variables that are so mentioned.
 //! - [`each_entailment_has_a_question`], [`held_locks_are_those_of_points`] and [`what_is_listed_is_asked`] have no body: their contracts are
 //!   laws, that this goes by the rules of types.
 //!
@@ -12,6 +12,8 @@
 //! | `statements`, `assignments`, `states`, `hidden` | `Questions` | what the entailments of a statement ask, in their order |
 //! | `lines` | `QuestionLines` | the sentences |
 //! | `laws` | `OwnEntailments` | the entailments of a statement by the rules of types |
+//!
+//! `specs/Controls.antt` has the set of the variables that classes mention.
 #![tactic(auto)]
 
 mod asked;
@@ -24,7 +26,7 @@ mod statements;
 mod states;
 
 pub use asked::{body_of, question};
-pub use assignments::is_control;
+pub use assignments::{control_set, is_control};
 pub use kinds::{Asked, End, Question};
 pub use laws::{
     each_entailment_has_a_question, held_locks_are_those_of_points, what_is_listed_is_asked,

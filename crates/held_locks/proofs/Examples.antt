@@ -1,6 +1,6 @@
 -- The locks that are held along small texts, by computation.
-use Rattle.std.proofs.Common.{◌≡◌, List, [], ◌∷◌, Bool, true, false, Option, None, refl}
-use Rattle.cov_expr.specs.Term.{const, var}
+use Rattle.std.proofs.Common.{◌≡◌, [], ◌∷◌, true, false, refl}
+use Rattle.cov_expr.specs.Term.{var}
 use Rattle.cov_ast.specs.Syntax as s
 use Rattle.statement_paths.specs.Paths.{passed, yes, no, head}
 use Rattle.held_locks.specs.LocksHeld.{held_along, held_at_end}

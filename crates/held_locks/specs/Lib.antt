@@ -1,1 +1,2 @@
 pub mod LocksHeld
+pub mod VariableSets

@@ -1,5 +1,5 @@
 -- The locks that a thread holds at a place of its text: those that are taken and not given back on the way to it.
-use Rattle.std.specs.Prelude.{ℕ, List, [], ◌∷◌, Bool, true, false, length, replicate, set}
+use Rattle.std.specs.Prelude.{List, [], ◌∷◌, Bool, true, false, length, replicate, set}
 use Rattle.cov_ast.specs.Plain.{Plain}
 use Rattle.cov_ast.specs.Syntax.{Stm, skip, assign, lock, unlock, branch, loop, note, output, Block, done, more}
 use Rattle.statement_paths.specs.Paths.{Step, passed, yes, no, head}

@@ -1,11 +1,14 @@
-//! The locks that a thread holds at a place of its text.
+//! The locks that a thread holds at a place of its text, and what they make of the variables.
 //!
 //! - [`modes_along`]: the modes of a thread behind steps of its text, with the locks that it holds there.
 //! - [`pass_block`]: the same behind the statements of a block more.
+//! - [`stable_set`], [`hidden_set`]: the variables that no other thread writes, or reads either, by the modes.
 //!
-//! `specs/LocksHeld.antt` says which locks are held.
+//! `specs/LocksHeld.antt` says which locks are held, and `specs/VariableSets.antt` which variables these are.
 #![tactic(auto)]
 
+mod sets;
 mod walk;
 
+pub use sets::{hidden_set, stable_set};
 pub use walk::{modes_along, pass_block};

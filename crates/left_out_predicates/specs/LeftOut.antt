@@ -11,10 +11,9 @@ use Rattle.cov_expr.specs.View.{term}
 use Rattle.cov_ast.specs.Declarations.{lock_at}
 use Rattle.cov_ast.specs.Plain.{Plain}
 use Rattle.cov_ast.specs.Syntax.{Lock, Stm, skip, assign, lock, unlock, branch, loop, note, output}
-use Rattle.cov_ast.specs.Tables.{has, table}
+use Rattle.cov_ast.specs.Tables.{has}
 use Rattle.hypothesis_origins.specs.Origins.{Given, at_place, given_by, place_of}
 use Rattle.hypothesis_origins.specs.declared.origin.Origin.{Origin}
-use Rattle.mode_state.specs.Sets.{is_stable}
 use Rattle.statement_paths.specs.Paths.{Step, passed, yes, no, head}
 use Rattle.typing_state.specs.Terms.{each_variable}
 use Rattle.left_out_predicates.specs.declared.found.LeftOut as declared
@@ -148,12 +147,6 @@ module _ (p : Plain) (hypotheses : List Term) where
   -- what was left out on the way to a point with these hypotheses, where these variables are stable
   abbrev pub left_out : (stable : List Bool) → List Step → List LeftOut
   left_out stable ss = (behind stable ss).found
-
--- What is stable -----------------------------------------------------------------------------------------------
-
--- for a thread that holds these locks
-abbrev pub stable_where : Plain → (t : ℕ) → (held : List Bool) → List Bool
-stable_where p t held = table (length p.vars) (is_stable p t held)
 
 -- What the code has --------------------------------------------------------------------------------------------
 

@@ -6,11 +6,12 @@ use Rattle.cov_ast.specs.Syntax.{Program}
 use Rattle.cov_print.specs.Spelling.{Names, whole}
 use Rattle.entail_text.specs.VariableNames.{variable_names}
 use Rattle.held_locks.specs.LocksHeld.{held_along, none_held}
+use Rattle.held_locks.specs.VariableSets.{stable}
 use Rattle.hypothesis_origins.specs.Remarks.{origin_text}
 use Rattle.hypothesis_origins.specs.declared.origin.Origin.{Origin}
 use Rattle.statement_paths.specs.Paths.{Step}
 use Rattle.text_lines.specs.Lines.{line}
-use Rattle.left_out_predicates.specs.LeftOut.{LeftOut, left_out, stable_where}
+use Rattle.left_out_predicates.specs.LeftOut.{LeftOut, left_out}
 use Rattle.left_out_predicates.specs.declared.states.StateAt.{StateAt}
 use Rattle.left_out_predicates.specs.declared.states.StateKind.{StateKind}
 use Rattle.left_out_predicates.specs.declared.states.StateKind.TheVariants.{Join, Inv, Note}
@@ -47,7 +48,7 @@ lines_of p names bytes (o ∷ os) = left_out_line p names bytes o ++ lines_of p 
 
 -- what is stable for a thread behind steps
 abbrev pub stable_behind : Plain → (t : ℕ) → List Step → List Bool
-stable_behind p t steps = stable_where p t (held_along steps (none_held p))
+stable_behind p t steps = stable p t (held_along steps (none_held p))
 
 -- the lines of what was left out on the way to a point of a thread with these hypotheses
 abbrev pub left_out_lines : Program → (t : ℕ) → (bytes : List ℕ) → List Step → (hypotheses : List Term) → List ℕ

@@ -6,14 +6,16 @@ use Rattle.cov_ast.specs.declared.refusal.Rule.{Rule}
 use Rattle.cov_ast.specs.declared.refusal.Rule.TheVariants.{V3, V4, V8, V12, V15, V16, W9}
 use Rattle.cov_ast.specs.declared.refusal.Detail.{Detail}
 use Rattle.cov_ast.specs.declared.refusal.Detail.TheVariants.{Three}
+use Rattle.entail_questions.specs.Controls.{controls}
 use Rattle.entail_text.specs.VariableNames.{variable_names}
 use Rattle.held_locks.specs.LocksHeld.{held_along, none_held}
+use Rattle.held_locks.specs.VariableSets.{hidden, stable}
 use Rattle.mode_compat.specs.Compatible.{numbered}
 use Rattle.refusal_names.specs.LargeTerms.{large_line}
 use Rattle.refusal_names.specs.MissingGuarantees.{guarantee_line}
 use Rattle.refusal_names.specs.NameLines.{reads_line, types_line, ends_line, predicates_line, added_line}
 use Rattle.refusal_names.specs.SpokenParts.{evaluated}
-use Rattle.refusal_names.specs.StableSets.{controls, hidden, stable, stable_controls, held_where_stated}
+use Rattle.refusal_names.specs.StableSets.{stable_controls, held_where_stated}
 use Rattle.statement_paths.specs.Paths.{Step, Way, way_to}
 
 -- of a statement of a thread, behind steps, by the locks that are held in front of it; the bytes are those of the program's text

@@ -1,22 +1,13 @@
--- The sets of variables that rules ask for at a place of a thread: what is stable and what is hidden there, and what is a control.
+-- What types are judged by at a place of a thread: which controls are stable, and by which locks.
 use Rattle.std.specs.Prelude.{ℕ, ◌&&◌, List, Bool, length}
 use Rattle.cov_ast.specs.Declarations.{is_control}
 use Rattle.cov_ast.specs.Plain.{Plain}
 use Rattle.cov_ast.specs.Syntax.{Stm, skip, assign, lock, unlock, branch, loop, note, output}
 use Rattle.cov_ast.specs.Tables.{table}
 use Rattle.held_locks.specs.LocksHeld.{held_at_end}
-use Rattle.mode_state.specs.Sets.{is_hidden, is_stable}
+use Rattle.mode_state.specs.Sets.{is_stable}
 
-abbrev pub controls : Plain → List Bool
-controls p = table (length p.vars) (is_control p)
-
--- for a thread that holds these locks
-abbrev pub stable : Plain → (t : ℕ) → (held : List Bool) → List Bool
-stable p t held = table (length p.vars) (is_stable p t held)
-
-abbrev pub hidden : Plain → (t : ℕ) → (held : List Bool) → List Bool
-hidden p t held = table (length p.vars) (is_hidden p t held)
-
+-- for a thread that holds these locks: the controls that no other thread writes
 abbrev pub stable_controls : Plain → (t : ℕ) → (held : List Bool) → List Bool
 stable_controls p t held = table (length p.vars) (λ x. is_stable p t held x && is_control p x)
 

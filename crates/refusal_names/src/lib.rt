@@ -12,7 +12,7 @@
 //! | `large` | `LargeTerms` | the line of V16 |
 //! | `laws` | | laws of the line of W9 |
 //! | `outside` | `OutsideVariables` | variables outside of a set |
-//! | `sets` | `StableSets` | what is stable and what is hidden at a place, and what is a control |
+//! | `sets` | `StableSets` | what types are judged by at a place, and the locks that are held where a statement states what holds |
 //!
 //! `specs/SpokenParts.antt` says of which expressions of a statement rules speak.
 #![tactic(auto)]

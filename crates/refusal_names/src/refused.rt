@@ -2,7 +2,9 @@ ghost use Rattle.std.specs.Prelude.{◌≡◌, ◌<◌, ◌++◌, ℕ, List, Boo
 ghost use Rattle.cov_ast.specs.Plain.{plain};
 ghost use Rattle.cov_ast.specs.View as view;
 ghost use Rattle.cov_ast.specs.WellFormed.{IsWellFormed};
+ghost use Rattle.entail_questions.specs.Controls as classes;
 ghost use Rattle.held_locks.specs.LocksHeld.{held_along, none_held};
+ghost use Rattle.held_locks.specs.VariableSets as variables;
 ghost use Rattle.mode_compat.specs.Compatible.{numbered};
 ghost use Rattle.mode_state.specs.Sets.{modes_at};
 ghost use Rattle.statement_paths.specs.Paths.{way, way_to};
@@ -18,13 +20,13 @@ use crate::guarantees::add_guarantee;
 use crate::large::add_large;
 use crate::predicates::add_predicates;
 use crate::reads::add_reads;
-use crate::sets::{hidden_set, known_at, pass_to_state, stable_set};
+use crate::sets::{known_at, pass_to_state};
 use crate::types::add_types;
 use cov_ast::{Detail, NameTable, Program, Refusal, Rule, StmtKind};
 use cov_expr::{Blob, NoMemory};
 use entail_questions::body_of;
 use entail_text::variable_names;
-use held_locks::modes_along;
+use held_locks::{hidden_set, modes_along, stable_set};
 use mode_state::ModeState;
 use statement_paths::{Way, way_to};
 use std::alloc::Global;
@@ -184,7 +186,7 @@ fn add_unstable_reads(
 ) -> Result<(), NoMemory>
     requires { IsWellFormed (view.program p.now) }
     ensures { (t : ℕ) (held : List Bool) → modes.now ≡ modes_at (plain (view.program p.now)) t held
-        → OnOk result (text.new ≡ text.old ++ lines.reads_line names.now (sets.stable (plain (view.program p.now)) t held) (evaluated (view.kind kind.now))) }
+        → OnOk result (text.new ≡ text.old ++ lines.reads_line names.now (variables.stable (plain (view.program p.now)) t held) (evaluated (view.kind kind.now))) }
 {
     let stable = stable_set(alloc, p, modes)?;
     add_reads(alloc, names, &stable, kind, text)
@@ -202,7 +204,7 @@ fn add_bad_predicate(
     requires { IsWellFormed (view.program p.now) }
     ensures { (t : ℕ) (held : List Bool) → modes ≡ modes_at (plain (view.program p.now)) t held
         → OnOk result (text.new ≡ text.old ++ lines.predicates_line names.now
-        (sets.stable (plain (view.program p.now)) t (sets.held_where_stated (view.kind kind.now) held)) (view.kind kind.now)) }
+        (variables.stable (plain (view.program p.now)) t (sets.held_where_stated (view.kind kind.now) held)) (view.kind kind.now)) }
 {
     let mut there = modes;
     pass_to_state(kind, &mut there);
@@ -222,7 +224,7 @@ fn add_bad_type(
     requires { IsWellFormed (view.program p.now) }
     ensures { (t : ℕ) (held : List Bool) → modes ≡ modes_at (plain (view.program p.now)) t held
         → OnOk result (let q = plain (view.program p.now) in let there = sets.held_where_stated (view.kind kind.now) held in
-        text.new ≡ text.old ++ lines.types_line q names.now (sets.stable q t there) (sets.controls q) (sets.stable_controls q t there) (view.kind kind.now)) }
+        text.new ≡ text.old ++ lines.types_line q names.now (variables.stable q t there) (classes.controls q) (sets.stable_controls q t there) (view.kind kind.now)) }
 {
     let mut there = modes;
     pass_to_state(kind, &mut there);
@@ -243,7 +245,7 @@ fn add_too_large(
     requires { IsWellFormed (view.program p.now) }
     ensures { (t : ℕ) (held : List Bool) → modes.now ≡ modes_at (plain (view.program p.now)) t held
         → OnOk result (let w = way found.now in
-        text.new ≡ text.old ++ large_line (view.program p.now).vars names.now bytes.now (sets.hidden (plain (view.program p.now)) t held) w.steps w.stm) }
+        text.new ≡ text.old ++ large_line (view.program p.now).vars names.now bytes.now (variables.hidden (plain (view.program p.now)) t held) w.steps w.stm) }
 {
     let hidden = hidden_set(alloc, p, modes)?;
     let (steps, kind) = (found.steps.as_slice(), &found.stmt.kind);

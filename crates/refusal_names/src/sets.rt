@@ -3,13 +3,15 @@ ghost use Rattle.cov_ast.specs.Declarations as declared;
 ghost use Rattle.cov_ast.specs.Plain.{Plain, plain};
 ghost use Rattle.cov_ast.specs.View as view;
 ghost use Rattle.cov_ast.specs.WellFormed.{IsWellFormed};
+ghost use Rattle.entail_questions.specs.Controls as classes;
+ghost use Rattle.held_locks.specs.VariableSets as variables;
 ghost use Rattle.mode_state.specs.Sets.{is_stable, modes_at};
 ghost use Rattle.refusal_names.specs.StableSets as spec;
 
 use cov_ast::{NumberSet, Program, StmtKind};
 use cov_expr::{List, NoMemory};
-use entail_questions::is_control;
-use held_locks::pass_block;
+use entail_questions::control_set;
+use held_locks::{pass_block, stable_set};
 use mode_state::ModeState;
 use std::alloc::Global;
 
@@ -24,9 +26,9 @@ pub struct Known {
 /// What is known of the variables of a program while a thread holds some locks.
 pub fn known_at(alloc: Global, p: &Program, modes: &ModeState) -> Result<Known, NoMemory>
     requires { IsWellFormed (view.program p.now) }
-    ensures controls { IfOk result (λ made. made.controls ≡ spec.controls (plain (view.program p.now))) }
+    ensures controls { IfOk result (λ made. made.controls ≡ classes.controls (plain (view.program p.now))) }
     ensures stable { IfOk result (λ made. (t : ℕ) (held : List Bool) → modes.now ≡ modes_at (plain (view.program p.now)) t held
-        → made.stable ≡ spec.stable (plain (view.program p.now)) t held) }
+        → made.stable ≡ variables.stable (plain (view.program p.now)) t held) }
     ensures stable_controls { IfOk result (λ made. (t : ℕ) (held : List Bool) → modes.now ≡ modes_at (plain (view.program p.now)) t held
         → made.stable_controls ≡ spec.stable_controls (plain (view.program p.now)) t held) }
 {
@@ -40,32 +42,6 @@ pub fn known_at(alloc: Global, p: &Program, modes: &ModeState) -> Result<Known, 
     })
 }
 
-/// The variables that no other thread writes while a thread holds some locks.
-pub fn stable_set(alloc: Global, p: &Program, modes: &ModeState) -> Result<NumberSet, NoMemory>
-    requires { IsWellFormed (view.program p.now) }
-    ensures { IfOk result (λ made. (t : ℕ) (held : List Bool) → modes.now ≡ modes_at (plain (view.program p.now)) t held
-        → made ≡ spec.stable (plain (view.program p.now)) t held) }
-{
-    let mut marks = List::new(alloc);
-    for x in 0..p.vars.len() as u32 {
-        marks.push(modes.stable(x))?;
-    }
-    Ok(NumberSet::from_marks(marks))
-}
-
-/// The variables that no other thread reads or writes while a thread holds some locks.
-pub fn hidden_set(alloc: Global, p: &Program, modes: &ModeState) -> Result<NumberSet, NoMemory>
-    requires { IsWellFormed (view.program p.now) }
-    ensures { IfOk result (λ made. (t : ℕ) (held : List Bool) → modes.now ≡ modes_at (plain (view.program p.now)) t held
-        → made ≡ spec.hidden (plain (view.program p.now)) t held) }
-{
-    let mut marks = List::new(alloc);
-    for x in 0..p.vars.len() as u32 {
-        marks.push(modes.hidden(x))?;
-    }
-    Ok(NumberSet::from_marks(marks))
-}
-
 /// Those of the stable ones that are controls.
 fn stable_control_set(
     alloc: Global,
@@ -74,7 +50,7 @@ fn stable_control_set(
     controls: &NumberSet,
 ) -> Result<NumberSet, NoMemory>
     requires formed { IsWellFormed (view.program p.now) }
-    requires controls { controls.now ≡ spec.controls (plain (view.program p.now)) }
+    requires controls { controls.now ≡ classes.controls (plain (view.program p.now)) }
     ensures { IfOk result (λ made. (t : ℕ) (held : List Bool) → modes.now ≡ modes_at (plain (view.program p.now)) t held
         → made ≡ spec.stable_controls (plain (view.program p.now)) t held) }
 {
@@ -87,22 +63,10 @@ fn stable_control_set(
 
 /// Whether a variable is stable and a control.
 fn is_stable_control(modes: &ModeState, controls: &NumberSet, x: u32) -> bool
-    ensures { (p : Plain) (t : ℕ) (held : List Bool) → modes.now ≡ modes_at p t held → controls.now ≡ spec.controls p → x < length p.vars
+    ensures { (p : Plain) (t : ℕ) (held : List Bool) → modes.now ≡ modes_at p t held → controls.now ≡ classes.controls p → x < length p.vars
         → result ≡ (is_stable p t held x && declared.is_control p x) }
 {
     modes.stable(x) && controls.has(x)
-}
-
-/// The variables that classes mention. It takes time in proportion to the classes, for each variable.
-fn control_set(alloc: Global, p: &Program) -> Result<NumberSet, NoMemory>
-    requires { IsWellFormed (view.program p.now) }
-    ensures { IfOk result (λ made. made ≡ spec.controls (plain (view.program p.now))) }
-{
-    let mut marks = List::new(alloc);
-    for x in 0..p.vars.len() as u32 {
-        marks.push(is_control(p, x))?;
-    }
-    Ok(NumberSet::from_marks(marks))
 }
 
 /// Goes on from the front of a statement to where it states what holds: of a branch, to the end of its first block.

@@ -12,6 +12,7 @@ use Rattle.cov_ast.specs.Declarations.{class_of, is_control, lists, no_lock, und
 use Rattle.cov_ast.specs.Plain.{Plain}
 use Rattle.cov_ast.specs.Syntax.{State, skip, assign, lock, unlock, branch, loop, note, output}
 use Rattle.cov_ast.specs.Tables.{has}
+use Rattle.entail_questions.specs.Controls.{controls}
 use Rattle.hypothesis_origins.specs.Origins.{place_of}
 use Rattle.hypothesis_origins.specs.Points as points
 use Rattle.hypothesis_origins.specs.Points.{point_behind}
@@ -20,7 +21,6 @@ use Rattle.typing_rules.specs.Blocks.{after_block, value_type}
 use Rattle.typing_state.specs.After.{start, start_type, with_guard, updated, updated_from, retyped, listed_or, locked_type, assigned_type, forgotten_type}
 use Rattle.typing_state.specs.Point.{Point, default_type, given_type, is_tracked}
 use Rattle.typing_state.specs.Terms.{listed}
-use Rattle.type_origins.specs.TypeLines.{controls}
 use Rattle.type_origins.specs.TypeOrigins.{after_step, after_steps, changed_by, is_listed, locks_over, no_history, set_by, set_by_assignment, set_by_state, set_by_types, change_at, changed_at, where_true, with_step}
 use Rattle.type_origins.specs.TypesFromOrigins.{IsFrom, IsTold, TellsOfType, said, said_in, type_behind}
 use Rattle.type_origins.specs.declared.origin.By.{By}

@@ -1,12 +1,13 @@
 -- A line for each variable whose type makes up a goal: where its type comes from.
-use Rattle.std.specs.Prelude.{ℕ, List, [], ◌∷◌, ◌++◌, Bool, true, false, codes, decimal, length, if◌then◌else◌, Option, Some, None}
-use Rattle.cov_ast.specs.Declarations.{is_control, lock_at, name_of}
+use Rattle.std.specs.Prelude.{ℕ, List, [], ◌∷◌, ◌++◌, Bool, true, false, codes, decimal, if◌then◌else◌, Option, Some, None}
+use Rattle.cov_ast.specs.Declarations.{lock_at, name_of}
 use Rattle.cov_ast.specs.Plain.{Plain}
 use Rattle.cov_ast.specs.Syntax.{Stm}
-use Rattle.cov_ast.specs.Tables.{has, table}
+use Rattle.cov_ast.specs.Tables.{has}
+use Rattle.entail_questions.specs.Controls.{controls}
 use Rattle.entail_questions.specs.declared.kinds.Question.{Question}
 use Rattle.held_locks.specs.LocksHeld.{held_along, none_held}
-use Rattle.mode_state.specs.Sets.{is_hidden, is_stable}
+use Rattle.held_locks.specs.VariableSets.{hidden, stable}
 use Rattle.statement_paths.specs.Paths.{Step}
 use Rattle.text_lines.specs.Lines.{line}
 use Rattle.type_origins.specs.AskedVariables.{variables_of}
@@ -24,17 +25,7 @@ use Rattle.type_origins.specs.declared.origin.Source.TheVariants as source
 
 -- What is known of the variables at a point --------------------------------------------------------------------
 
--- the set of the controls
-abbrev pub controls : Plain → List Bool
-controls p = table (length p.vars) (is_control p)
-
--- for a thread that holds these locks: the set of what no other thread writes, and of what none reads either
-abbrev pub stable : Plain → (t : ℕ) → (held : List Bool) → List Bool
-stable p t held = table (length p.vars) (is_stable p t held)
-
-abbrev pub hidden : Plain → (t : ℕ) → (held : List Bool) → List Bool
-hidden p t held = table (length p.vars) (is_hidden p t held)
-
+-- for a thread that holds these locks
 abbrev pub known_at : Plain → (t : ℕ) → (held : List Bool) → Known
 known_at p t held = record { controls = controls p; stable = stable p t held; hidden = hidden p t held }
 

@@ -1,13 +1,14 @@
-use Rattle.std.proofs.Common.{◌≡◌, ◌<◌, ◌∙◌, ap, sym, length, map, option_map, Some, arith}
+use Rattle.std.proofs.Common.{◌≡◌, ◌<◌, ◌∙◌, ap, refl, sym, length, map, option_map, Some, arith}
 use Rattle.std.proofs.lemmas.List.{length-map}
 use Rattle.cov_ast.specs.Plain.{plain}
-use Rattle.cov_ast.specs.Tables.{has, table}
+use Rattle.cov_ast.specs.Tables.{has}
 use Rattle.cov_ast.specs.View as view
 use Rattle.cov_ast.specs.WellFormed.{IsStmInRange}
 use Rattle.mode_compat.specs.Compatible.{no_thread, numbered}
 use Rattle.mode_state.specs.Sets.{is_hidden}
 use Rattle.statement_paths.specs.Paths.{step, way, way_to}
 use Rattle.held_locks.specs.LocksHeld.{held_along, none_held}
+use Rattle.held_locks.specs.VariableSets.{hidden}
 use Rattle.entail_questions.specs.Questions.{asked_among, asked_behind, of_statement}
 use Rattle.entail_questions.proofs.InRange.{statement_in_range}
 use Rattle.entail_questions.proofs.SameQuestions.{of_table}
@@ -34,14 +35,13 @@ returns c =
     let inside : t < length q.threads = omega (arith, length-map p.threads view.thread, c.requires.thread) in
     let found : way_to (numbered q t).body c.args.place ≡ Some (way w)
     = ap (λ b. way_to b c.args.place) (sym c.body_of.ensures) ∙ sym c.in_ok-way.ensures ∙ ap (option_map way) c.in-Some.is in
-    let range : IsStmInRange (length p.vars) (length p.locks) s
-    = statement_in_range (length q.vars) (length q.locks) (length p.vars) (length p.locks) (numbered q t).body c.args.place (way w)
-    (c.requires.formed.ids.of_threads t no_thread inside).body found (length-map p.vars view.var) (length-map p.locks view.lock) in
+    let range : IsStmInRange (length q.vars) (length q.locks) s
+    = statement_in_range (length q.vars) (length q.locks) (length q.vars) (length q.locks) (numbered q t).body c.args.place (way w)
+    (c.requires.formed.ids.of_threads t no_thread inside).body found refl refl in
     c.asked_among.ensures
     ∙ ap (λ qs. asked_among qs c.args.number)
     (c.as_slice-2.ensures ∙ c.in_ok-all.ensures
     ∙ ap (λ h. of_statement (plain q) (has h) s)
-    (c.in_ok-hidden.ensures ∙ ap (λ ss. table (length p.vars) (is_hidden (plain q) t (held_along (map step ss) (none_held (plain q))))) c.as_slice.ensures)
-    ∙ of_table (plain q) (length p.vars) (is_hidden (plain q) t (held_along (map step w.steps) (none_held (plain q)))) (length p.locks) s
-    (sym (length-map p.vars view.var)) range)
+    (c.in_ok-hidden.ensures ∙ ap (λ ss. hidden (plain q) t (held_along (map step ss) (none_held (plain q)))) c.as_slice.ensures)
+    ∙ of_table (plain q) (is_hidden (plain q) t (held_along (map step w.steps) (none_held (plain q)))) (length q.locks) s range)
     ∙ ap (λ o. asked_behind (plain q) t o c.args.number) (sym found)

@@ -3,7 +3,7 @@ use Rattle.std.specs.List.{range_with_len}
 use Rattle.cov_ast.specs.Declarations.{is_control}
 use Rattle.cov_ast.specs.Plain.{plain}
 use Rattle.cov_ast.specs.View as view
-use Rattle.refusal_names.proofs.sets.control_set.Given as goal
+use Rattle.entail_questions.proofs.assignments.control_set.Given as goal
 
 -- of each variable so far, whether it is a control
 abbrev pub invariant-loop-x : goal.invariant-loop-x

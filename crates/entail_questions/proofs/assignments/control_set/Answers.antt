@@ -4,7 +4,7 @@ use Rattle.std.proofs.lemmas.List.FromFn.{map-range_with_len_more}
 use Rattle.cov_ast.specs.Declarations.{is_control}
 use Rattle.cov_ast.specs.Plain.{plain}
 use Rattle.cov_ast.specs.View as view
-use Rattle.type_origins.proofs.known.control_set.Goals as goal
+use Rattle.entail_questions.proofs.assignments.control_set.Goals as goal
 
 pub loop-x-preserved : goal.loop-x-preserved
 loop-x-preserved c =
