@@ -25,7 +25,7 @@ line_without number proofs = if is_given proofs number then [] else numbers_line
 
 -- of an entailment of a statement with these proofs: that line, and the certificate that would show it, if one does
 abbrev pub lines_of : List Proof → PlacedEntailment → List ℕ
-lines_of proofs g = line_without g.number proofs ++ other_line proofs g.entailment.hyps g.entailment.goal
+lines_of proofs g = line_without g.number proofs ++ other_line proofs g.number g.entailment.hyps g.entailment.goal
 
 -- of the statement at the end of a way, if there is one
 abbrev pub lines_behind : Option Way → PlacedEntailment → List ℕ

@@ -42,7 +42,7 @@ fn add_of_proofs(
     ensures { OnOk result (text.new ≡ text.old ++ spec.lines_of (map view.proof proofs.now) (view_entail e.now)) }
 {
     add_without(proofs, e.number, text)?;
-    add_other(alloc, proofs, &e.hyps, &e.goal, text)
+    add_other(alloc, proofs, e.number, &e.hyps, &e.goal, text)
 }
 
 /// Adds the numbers of certificates, where none has a number.

@@ -106,5 +106,9 @@ none_dropped : dropped_line (codes "join") (bin Le (var 0) (const 2) ∷ []) (co
 none_dropped = refl
 
 -- the second of two certificates, which is given for 7
-second_shows : first_valid (record { number = 3; cert = s.hyp 2 } ∷ record { number = 7; cert = s.hyp 1 } ∷ []) (var 1 ∷ var 0 ∷ []) (var 1) ≡ Some 7
+second_shows : first_valid (record { number = 3; cert = s.hyp 2 } ∷ record { number = 7; cert = s.hyp 1 } ∷ []) 3 (var 1 ∷ var 0 ∷ []) (var 1) ≡ Some 7
 second_shows = refl
+
+-- that of the number itself isn't another
+itself_is_none : first_valid (record { number = 7; cert = s.hyp 1 } ∷ []) 7 (var 1 ∷ var 0 ∷ []) (var 1) ≡ None
+itself_is_none = refl

@@ -12,34 +12,36 @@ use entail_cert::{CertFault, check_cert};
 use std::alloc::Global;
 use text_parts::add_number;
 
-/// Adds a line of the first certificate, of those that a statement gives, that would show an entailment. Nothing is added where none would.
-/// It takes the time and the memory of a check of each of them.
+/// Adds a line of the first certificate, of those that a statement gives for other numbers, that would show the entailment of a number. Nothing
+/// is added where none would. It takes the time and the memory of a check of each of them.
 pub fn add_other(
     alloc: Global,
     proofs: &[Proof],
+    number: u32,
     hyps: &List<Expr>,
     goal: &Expr,
     text: &mut Blob,
 ) -> Result<(), NoMemory>
-    ensures { OnOk result (text.new ≡ text.old ++ spec.other_line (map view.proof proofs.now) (map term hyps.now) (term goal.now)) }
+    ensures { OnOk result (text.new ≡ text.old ++ spec.other_line (map view.proof proofs.now) number (map term hyps.now) (term goal.now)) }
 {
-    match first_valid(alloc, proofs, hyps, goal)? {
-        Some(number) => add_line_of(number, text),
+    match first_valid(alloc, proofs, number, hyps, goal)? {
+        Some(other) => add_line_of(other, text),
         None => Ok(()),
     }
 }
 
-/// The number for which the first certificate is given that is valid for an entailment.
+/// The other number for which the first certificate is given that is valid for the entailment of a number.
 fn first_valid(
     alloc: Global,
     proofs: &[Proof],
+    number: u32,
     hyps: &List<Expr>,
     goal: &Expr,
 ) -> Result<Option<u32>, NoMemory>
-    ensures { IfOk result (λ found. found ≡ spec.first_valid (map view.proof proofs.now) (map term hyps.now) (term goal.now)) }
+    ensures { IfOk result (λ found. found ≡ spec.first_valid (map view.proof proofs.now) number (map term hyps.now) (term goal.now)) }
 {
     for proof in proofs {
-        if is_shown_by(alloc, hyps, goal, &proof.cert)? {
+        if proof.number != number && is_shown_by(alloc, hyps, goal, &proof.cert)? {
             return Ok(Some(proof.number));
         }
     }
@@ -63,7 +65,5 @@ fn add_line_of(number: u32, text: &mut Blob) -> Result<(), NoMemory>
 {
     text.extend_from_slice(b"  the certificate that is given for ")?;
     add_number(number as usize, text)?;
-    text.extend_from_slice(
-        b" would show it: numbers move where a predicate or a type is added or left out\n",
-    )
+    text.extend_from_slice(b" would show it: one is wanted here too, or numbers have moved\n")
 }

@@ -23,7 +23,7 @@ fn add_where_zero(k: u32, text: &mut Blob) -> Result<(), NoMemory>
 {
     if k == 0 {
         text.extend_from_slice(
-            b"  a goal of 0 follows only where hypotheses contradict each other: else no certificate helps, and what is to be mended is the type\n",
+            b"  a goal of 0 follows only where the hypotheses can't all hold: else no certificate helps, and a hypothesis is missing or what is asked isn't so\n",
         )
     } else {
         Ok(())

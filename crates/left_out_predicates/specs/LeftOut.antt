@@ -1,7 +1,8 @@
 -- The predicates that would be known at a point, had the state of a branch, of a loop or of a note on the way to it listed them.
 --
--- A state forgets each predicate that it doesn't list. One that a step in front of the state gives, and that nothing changes on the way
--- to the point, could have been listed, and would then be a hypothesis there.
+-- A state forgets each predicate that it doesn't list. One that a step in front of the state gives, whose variables are stable at the point and
+-- since that step, and to which no statement on the way stores, would be a hypothesis there, had the states listed it. Whether the blocks that are
+-- passed let it be listed isn't looked at.
 use Rattle.std.specs.Prelude.{ℕ, ◌&&◌, nat_lt, List, [], ◌∷◌, ◌++◌, length, map, set, Bool, false, not, if◌then◌else◌, Option, Some, None}
 use Rattle.std.specs.Option.{option_or}
 use Rattle.cov_expr.specs.declared.expr.Op.TheVariants.{Eq}
@@ -10,10 +11,12 @@ use Rattle.cov_expr.specs.Trees.{has_term, is_closed, mentions}
 use Rattle.cov_expr.specs.View.{term}
 use Rattle.cov_ast.specs.Declarations.{lock_at}
 use Rattle.cov_ast.specs.Plain.{Plain}
-use Rattle.cov_ast.specs.Syntax.{Lock, Stm, skip, assign, lock, unlock, branch, loop, note, output}
+use Rattle.cov_ast.specs.Syntax.{Lock, Stm, skip, assign, lock, unlock, branch, loop, note, output, Block, done, more}
 use Rattle.cov_ast.specs.Tables.{has}
 use Rattle.hypothesis_origins.specs.Origins.{Given, at_place, given_by, place_of}
 use Rattle.hypothesis_origins.specs.declared.origin.Origin.{Origin}
+use Rattle.hypothesis_origins.specs.declared.origin.Source.{Source}
+use Rattle.hypothesis_origins.specs.declared.origin.Source.TheVariants as by
 use Rattle.statement_paths.specs.Paths.{Step, passed, yes, no, head}
 use Rattle.typing_state.specs.Terms.{each_variable}
 use Rattle.left_out_predicates.specs.declared.found.LeftOut as declared
@@ -33,15 +36,32 @@ without_all marks (x ∷ xs) = without_all (set marks x false) xs
 abbrev pub without_listed : Lock → List Bool → List Bool
 without_listed l marks = without_all (without_all marks l.nowrite) l.hide
 
--- What a statement that is passed leaves of a set of variables: an assignment touches its variable, and a lock that is taken or freed all
--- that are under it.
+abbrev mutual
+  -- what the locks leave of a set that are taken or given back in a statement, or in its blocks
+  pub unlocked_by : Plain → Stm → List Bool → List Bool
+  unlocked_by p skip marks = marks
+  unlocked_by p (assign x e q retypes) marks = marks
+  unlocked_by p (lock l) marks = without_listed (lock_at p l) marks
+  unlocked_by p (unlock l) marks = without_listed (lock_at p l) marks
+  unlocked_by p (branch e a b join) marks = unlocked_in p b (unlocked_in p a marks)
+  unlocked_by p (loop e inv b) marks = unlocked_in p b marks
+  unlocked_by p (note j) marks = marks
+  unlocked_by p (output e) marks = marks
+
+  -- the same of the statements of a block
+  pub unlocked_in : Plain → Block → List Bool → List Bool
+  unlocked_in p done marks = marks
+  unlocked_in p (more at s proofs rest) marks = unlocked_in p rest (unlocked_by p s marks)
+
+-- What a statement that is passed leaves of a set of variables: an assignment touches its variable, and a lock that is taken or given
+-- back, also in a block, all that are under it.
 abbrev pub untouched_past : Plain → Stm → List Bool → List Bool
 untouched_past p skip marks = marks
 untouched_past p (assign x e q retypes) marks = set marks x false
-untouched_past p (lock l) marks = without_listed (lock_at p l) marks
-untouched_past p (unlock l) marks = without_listed (lock_at p l) marks
-untouched_past p (branch e a b join) marks = marks
-untouched_past p (loop e inv b) marks = marks
+untouched_past p (lock l) marks = unlocked_by p (lock l) marks
+untouched_past p (unlock l) marks = unlocked_by p (unlock l) marks
+untouched_past p (branch e a b join) marks = unlocked_by p (branch e a b join) marks
+untouched_past p (loop e inv b) marks = unlocked_by p (loop e inv b) marks
 untouched_past p (note j) marks = marks
 untouched_past p (output e) marks = marks
 
@@ -98,7 +118,7 @@ pub record Behind : Type 0 where
 abbrev pub at_point : (stable : List Bool) → Behind
 at_point stable = record { kept = stable; state = None; found = [] }
 
--- An equation that gives a variable a value over itself, as `x == x + 1` behind `x := x + 1`, is never known.
+-- whether a variable is given a value over itself
 abbrev pub is_own_value : Term → (value : Term) → Bool
 is_own_value (const k) e = false
 is_own_value (var x) e = mentions e x
@@ -109,17 +129,22 @@ abbrev pub is_own : Term → Bool
 is_own (bin Eq a b) = is_own_value a b
 is_own e = false
 
+-- An assignment of a value over the variable itself, as `x := x + 1`, gives no equation.
+abbrev pub gives_nothing : Source → Term → Bool
+gives_nothing by.Assigned e = is_own e
+gives_nothing source e = false
+
 -- of a point with these hypotheses
 module _ (hypotheses : List Term) where
   -- Whether a predicate was left out in front of steps that keep these variables: it has a variable, each is kept, and it is neither a
   -- hypothesis nor found already. Of more than a few the others aren't shown.
   abbrev pub is_left_out : (kept : List Bool) → (found : List LeftOut) → Term → Bool
   is_left_out kept found e =
-      nat_lt (length found) MOST_FOUND && not (is_closed e) && not (is_own e) && each_variable (has kept) e && not (has_term hypotheses e) && not (has_term (map (λ o. o.term) found) e)
+      nat_lt (length found) MOST_FOUND && not (is_closed e) && each_variable (has kept) e && not (has_term hypotheses e) && not (has_term (map (λ o. o.term) found) e)
 
   -- what was found, and a predicate that the step at a place gives, if it was left out
   abbrev pub with_given : (kept : List Bool) → (at : ℕ) → StateAt → Given → (found : List LeftOut) → List LeftOut
-  with_given kept at state g found = if is_left_out kept found g.term then found ++ left_out_at at state g ∷ [] else found
+  with_given kept at state g found = if not (gives_nothing g.source g.term) && is_left_out kept found g.term then found ++ left_out_at at state g ∷ [] else found
 
   abbrev pub with_each : (kept : List Bool) → (at : ℕ) → StateAt → List Given → (found : List LeftOut) → List LeftOut
   with_each kept at state [] found = found

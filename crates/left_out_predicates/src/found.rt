@@ -17,7 +17,7 @@ use crate::states::StateAt;
 use cov_ast::{NumberSet, Program};
 use cov_expr::{Expr, List, NoMemory, Op, closed, copy, mentions, same};
 use entail_text::has_same;
-use hypothesis_origins::Origin;
+use hypothesis_origins::{Origin, Source};
 use statement_paths::Step;
 use std::alloc::Global;
 
@@ -103,7 +103,7 @@ fn add_given(
 ) -> Result<(), NoMemory>
     ensures { OnOk result (map spec.seen found.new ≡ spec.with_given (map term hypotheses.now) kept.now at state (given one.now) (map spec.seen found.old)) }
 {
-    if is_left_out(hypotheses, kept, found.as_slice(), &one.term) {
+    if !gives_nothing(one) && is_left_out(hypotheses, kept, found.as_slice(), &one.term) {
         let term = copy(alloc, &one.term)?;
         let origin = Origin {
             source: one.source,
@@ -124,7 +124,6 @@ fn is_left_out(hypotheses: &[Expr], kept: &NumberSet, found: &[LeftOut], e: &Exp
 {
     found.len() < MOST_FOUND
         && !closed(e)
-        && !is_own(e)
         && is_over(kept, e)
         && !has_same(hypotheses, e)
         && !is_found(found, e)
@@ -139,6 +138,22 @@ fn is_over(set: &NumberSet, e: &Expr) -> bool
         Expr::Var(x) => set.has(*x),
         Expr::Not(a) => is_over(set, a),
         Expr::Bin(_, a, b) => is_over(set, a) && is_over(set, b),
+    }
+}
+
+/// Whether an assignment gives a variable a value over itself, and so no equation.
+fn gives_nothing(one: &Given) -> bool
+    ensures { result ≡ spec.gives_nothing one.now.source (term one.now.term) }
+{
+    match one.source {
+        Source::Assigned => is_own(&one.term),
+        Source::Invariant(_)
+        | Source::Join
+        | Source::LoopLeft
+        | Source::LoopState
+        | Source::Noted
+        | Source::GuardHolds
+        | Source::GuardFails => false,
     }
 }
 

@@ -7,4 +7,4 @@ use Rattle.entail_text.proofs.other.first_valid.Given as goal
 -- none of the certificates so far is the one
 abbrev pub invariant-loop-proof : goal.invariant-loop-proof
 invariant-loop-proof l =
-    first_valid (map view.proof (drop l.proof-index l.proofs)) (map term l.hyps) (term l.goal) ≡ first_valid (map view.proof l.proofs) (map term l.hyps) (term l.goal)
+    first_valid (map view.proof (drop l.proof-index l.proofs)) l.number (map term l.hyps) (term l.goal) ≡ first_valid (map view.proof l.proofs) l.number (map term l.hyps) (term l.goal)
