@@ -1,9 +1,9 @@
 -- Threads whose names differ are found by their names.
-use Rattle.std.proofs.Common.{◌≡◌, ◌≢◌, ℕ, zero, suc, ◌<◌, List, [], ◌∷◌, ◌++◌, length, map, get_or, Bool, true, false, if◌then◌else◌, Option, Some, refl, sym, ap, ◌∙◌, arith}
+use Rattle.std.proofs.Common.{◌≡◌, ◌≢◌, ℕ, zero, suc, ◌<◌, List, [], ◌∷◌, ◌++◌, length, map, get_or, Bool, true, false, if◌then◌else◌, Option, Some, refl, ap, ◌∙◌, arith}
 use Rattle.std.specs.Prelude.{not}
 use Rattle.std.specs.List.{list_any}
 use Rattle.std.specs.Str.{bytes_eq}
-use Rattle.std.proofs.lemmas.Bool.{and_parts, or_parts}
+use Rattle.std.proofs.lemmas.Bool.{and_parts, not-true, or_parts}
 use Rattle.std.proofs.lemmas.Cmp.{nat_list_eq_equiv}
 use Rattle.cov_ast.specs.NameTables.{find_name}
 use Rattle.cov_ast.specs.Syntax.{Var, Lock, Thread, Program}
@@ -15,17 +15,13 @@ use Rattle.refusal_names.specs.MissingGuarantees.{thread_named, guarantee_line, 
 abbrev names : List Thread → List (List ℕ)
 names ts = map (λ t. t.name) ts
 
-not_true : (b : Bool) → not b ≡ true → b ≡ false
-not_true true h = sym h
-not_true false h = refl
-
 distinct_back : (ns ms : List (List ℕ)) → are_distinct bytes_eq (ns ++ ms) ≡ true → are_distinct bytes_eq ms ≡ true
 distinct_back [] ms h = h
 distinct_back (n ∷ ns) ms h = distinct_back ns ms (and_parts (not (list_any (bytes_eq n) (ns ++ ms))) (are_distinct bytes_eq (ns ++ ms)) h).1
 
 -- the first of distinct names is none of the others, and these are distinct
 first_apart : (n : List ℕ) (ns : List (List ℕ)) → are_distinct bytes_eq (n ∷ ns) ≡ true → (list_any (bytes_eq n) ns ≡ false) × (are_distinct bytes_eq ns ≡ true)
-first_apart n ns h = let both = and_parts (not (list_any (bytes_eq n) ns)) (are_distinct bytes_eq ns) h in (not_true (list_any (bytes_eq n) ns) both.0, both.1)
+first_apart n ns h = let both = and_parts (not (list_any (bytes_eq n) ns)) (are_distinct bytes_eq ns) h in (not-true (list_any (bytes_eq n) ns) both.0, both.1)
 
 -- a name that none of threads has isn't that of one of them
 none_at : (n : List ℕ) (ts : List Thread) (i : ℕ) (d : Thread) → list_any (bytes_eq n) (names ts) ≡ false → i < length ts → bytes_eq n (get_or ts i d).name ≡ false
