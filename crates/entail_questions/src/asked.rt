@@ -6,11 +6,11 @@ ghost use Rattle.cov_ast.specs.WellFormed.{IsWellFormed};
 ghost use Rattle.mode_compat.specs.Compatible.{numbered};
 ghost use Rattle.entail_questions.specs.Questions as spec;
 
-use crate::hidden::hidden_behind;
 use crate::kinds::{Asked, Question};
 use crate::statements::questions;
 use cov_ast::{Program, Stmt};
 use cov_expr::NoMemory;
+use held_locks::hidden_behind;
 use statement_paths::way_to;
 use std::alloc::Global;
 

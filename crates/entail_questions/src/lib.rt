@@ -9,7 +9,7 @@
 //!
 //! | `src/` | `specs/` | what it has |
 //! |---|---|---|
-//! | `statements`, `assignments`, `states`, `hidden` | `Questions` | what the entailments of a statement ask, in their order |
+//! | `statements`, `assignments`, `states` | `Questions` | what the entailments of a statement ask, in their order |
 //! | `lines` | `QuestionLines` | the sentences |
 //! | `laws` | `OwnEntailments` | the entailments of a statement by the rules of types |
 //!
@@ -18,7 +18,6 @@
 
 mod asked;
 mod assignments;
-mod hidden;
 mod kinds;
 mod laws;
 mod lines;

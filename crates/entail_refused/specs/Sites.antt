@@ -1,6 +1,6 @@
 -- Where an entailment for which a program is refused is asked: the way to the point from whose predicates it is to follow.
 use Rattle.std.specs.Prelude.{ℕ, List, [], ◌++◌, map, Option, Some, None}
-use Rattle.cov_ast.specs.Syntax.{Stm, branch, loop, Program}
+use Rattle.cov_ast.specs.Syntax.{Stm, Program}
 use Rattle.cov_ast.specs.View as view
 use Rattle.entail_questions.specs.Questions.{asked}
 use Rattle.entail_questions.specs.declared.kinds.Asked.{Asked}
@@ -14,31 +14,13 @@ use Rattle.entail_refused.specs.declared.site.Site as declared
 
 -- From the statement at a place ---------------------------------------------------------------------------------
 
--- to the head of a loop
-abbrev pub head_of : (at : ℕ) → Stm → List Step
-head_of at (loop r inv b) = to_head at inv
-head_of at s = []
-
--- to the ends of the blocks of a branch, and of that of a loop
-abbrev pub first_end_of : (at : ℕ) → Stm → List Step
-first_end_of at (branch r a b join) = to_first_end at r a
-first_end_of at s = []
-
-abbrev pub second_end_of : (at : ℕ) → Stm → List Step
-second_end_of at (branch r a b join) = to_second_end at r b
-second_end_of at s = []
-
-abbrev pub body_end_of : (at : ℕ) → Stm → List Step
-body_end_of at (loop r inv b) = to_body_end at r inv b
-body_end_of at s = []
-
 -- the steps to where a state is to be met
 abbrev pub steps_to_end : End → (at : ℕ) → Stm → List Step
 steps_to_end e.Here at s = []
 steps_to_end e.Entry at s = []
-steps_to_end e.FirstBlock at s = first_end_of at s
-steps_to_end e.SecondBlock at s = second_end_of at s
-steps_to_end e.Body at s = body_end_of at s
+steps_to_end e.FirstBlock at s = to_first_end at s
+steps_to_end e.SecondBlock at s = to_second_end at s
+steps_to_end e.Body at s = to_body_end at s
 
 -- the steps to the point from whose predicates an entailment is to follow
 abbrev pub steps_to_point : Question → (at : ℕ) → Stm → List Step
@@ -49,7 +31,7 @@ steps_to_point (q.Retyped z) at s = []
 steps_to_point (q.Invariant l) at s = []
 steps_to_point (q.Freed x) at s = []
 steps_to_point q.Guard at s = []
-steps_to_point q.HeadGuard at s = head_of at s
+steps_to_point q.HeadGuard at s = to_head at s
 steps_to_point q.Printed at s = []
 steps_to_point (q.Predicate end i) at s = steps_to_end end at s
 steps_to_point (q.TypeOf end z) at s = steps_to_end end at s

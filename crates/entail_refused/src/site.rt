@@ -74,7 +74,7 @@ fn add_steps_to_point<'p>(
     ensures { OnOk result (map paths.step steps.new ≡ map paths.step steps.old ++ spec.steps_to_point question at (view.kind kind.now)) }
 {
     match question {
-        Question::HeadGuard => add_steps_to_head(at, kind, steps),
+        Question::HeadGuard => add_to_head(at, kind, steps),
         Question::Predicate(end, _) | Question::TypeOf(end, _) => {
             add_steps_to_end(end, at, kind, steps)
         }
@@ -99,89 +99,9 @@ fn add_steps_to_end<'p>(
     ensures { OnOk result (map paths.step steps.new ≡ map paths.step steps.old ++ spec.steps_to_end end at (view.kind kind.now)) }
 {
     match end {
-        End::FirstBlock => add_steps_to_first_end(at, kind, steps),
-        End::SecondBlock => add_steps_to_second_end(at, kind, steps),
-        End::Body => add_steps_to_body_end(at, kind, steps),
+        End::FirstBlock => add_to_first_end(at, kind, steps),
+        End::SecondBlock => add_to_second_end(at, kind, steps),
+        End::Body => add_to_body_end(at, kind, steps),
         End::Here | End::Entry => Ok(()),
-    }
-}
-
-/// Adds the step from a loop to its head.
-fn add_steps_to_head<'p>(
-    at: u32,
-    kind: &'p StmtKind,
-    steps: &mut List<Step<'p>>,
-) -> Result<(), NoMemory>
-    ensures { OnOk result (map paths.step steps.new ≡ map paths.step steps.old ++ spec.head_of at (view.kind kind.now)) }
-{
-    match kind {
-        StmtKind::While(_, inv, _) => add_to_head(at, inv, steps),
-        StmtKind::Skip
-        | StmtKind::Assign(_, _, _, _)
-        | StmtKind::Lock(_)
-        | StmtKind::Unlock(_)
-        | StmtKind::If(_, _, _, _)
-        | StmtKind::Note(_)
-        | StmtKind::Output(_) => Ok(()),
-    }
-}
-
-/// Adds the steps from a branch to the end of its first block.
-fn add_steps_to_first_end<'p>(
-    at: u32,
-    kind: &'p StmtKind,
-    steps: &mut List<Step<'p>>,
-) -> Result<(), NoMemory>
-    ensures { OnOk result (map paths.step steps.new ≡ map paths.step steps.old ++ spec.first_end_of at (view.kind kind.now)) }
-{
-    match kind {
-        StmtKind::If(e, a, _, _) => add_to_first_end(at, e, a.as_slice(), steps),
-        StmtKind::Skip
-        | StmtKind::Assign(_, _, _, _)
-        | StmtKind::Lock(_)
-        | StmtKind::Unlock(_)
-        | StmtKind::While(_, _, _)
-        | StmtKind::Note(_)
-        | StmtKind::Output(_) => Ok(()),
-    }
-}
-
-/// Adds the steps from a branch to the end of its second block.
-fn add_steps_to_second_end<'p>(
-    at: u32,
-    kind: &'p StmtKind,
-    steps: &mut List<Step<'p>>,
-) -> Result<(), NoMemory>
-    ensures { OnOk result (map paths.step steps.new ≡ map paths.step steps.old ++ spec.second_end_of at (view.kind kind.now)) }
-{
-    match kind {
-        StmtKind::If(e, _, b, _) => add_to_second_end(at, e, b.as_slice(), steps),
-        StmtKind::Skip
-        | StmtKind::Assign(_, _, _, _)
-        | StmtKind::Lock(_)
-        | StmtKind::Unlock(_)
-        | StmtKind::While(_, _, _)
-        | StmtKind::Note(_)
-        | StmtKind::Output(_) => Ok(()),
-    }
-}
-
-/// Adds the steps from a loop to the end of its block.
-fn add_steps_to_body_end<'p>(
-    at: u32,
-    kind: &'p StmtKind,
-    steps: &mut List<Step<'p>>,
-) -> Result<(), NoMemory>
-    ensures { OnOk result (map paths.step steps.new ≡ map paths.step steps.old ++ spec.body_end_of at (view.kind kind.now)) }
-{
-    match kind {
-        StmtKind::While(e, inv, b) => add_to_body_end(at, e, inv, b.as_slice(), steps),
-        StmtKind::Skip
-        | StmtKind::Assign(_, _, _, _)
-        | StmtKind::Lock(_)
-        | StmtKind::Unlock(_)
-        | StmtKind::If(_, _, _, _)
-        | StmtKind::Note(_)
-        | StmtKind::Output(_) => Ok(()),
     }
 }

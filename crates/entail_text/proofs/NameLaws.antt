@@ -1,9 +1,9 @@
 -- Names that differ, put into a table one behind the other.
-use Rattle.std.proofs.Common.{◌≡◌, ℕ, ◌+◌, ◌<◌, List, [], ◌∷◌, ◌++◌, length, map, drop, get_or, Bool, true, false, if◌then◌else◌, refl, sym, ◌∙◌, ap, subst, append_assoc}
+use Rattle.std.proofs.Common.{◌≡◌, ℕ, ◌+◌, ◌<◌, List, [], ◌∷◌, ◌++◌, length, map, drop, get_or, true, false, if◌then◌else◌, refl, sym, ◌∙◌, ap, subst, append_assoc}
 use Rattle.std.specs.Prelude.{◌||◌, not}
 use Rattle.std.specs.List.{list_any}
 use Rattle.std.specs.Str.{bytes_eq}
-use Rattle.std.proofs.lemmas.Bool.{and_parts, and_from, or_parts}
+use Rattle.std.proofs.lemmas.Bool.{and_parts, and_from, not-true, or_parts}
 use Rattle.std.proofs.lemmas.Cmp.{nat_list_eq_equiv}
 use Rattle.std.proofs.lemmas.List.{at_drop_more}
 use Rattle.std.proofs.lemmas.List.Folds.{list_any-append}
@@ -13,10 +13,6 @@ use Rattle.cov_ast.specs.WellFormed.{are_distinct}
 use Rattle.cov_ast.specs.declared.decl.VarDecl.{VarDecl}
 use Rattle.entail_text.specs.Inside.{AreNew}
 use Rattle.entail_text.specs.VariableNames.{variable_names}
-
-not_true : (b : Bool) → not b ≡ true → b ≡ false
-not_true true h = sym h
-not_true false h = refl
 
 -- Distinct names -------------------------------------------------------------------------------------------------
 
@@ -43,13 +39,13 @@ new_from : (before ns : List (List ℕ)) → AreApart before ns → are_distinct
 new_from before [] h d = tt
 new_from before (n ∷ ns) h d =
     let both = and_parts (not (list_any (bytes_eq n) ns)) (are_distinct bytes_eq ns) d in
-    (h.0, new_from (before ++ n ∷ []) ns (apart_more before ns n h.1 (not_true (list_any (bytes_eq n) ns) both.0)) both.1)
+    (h.0, new_from (before ++ n ∷ []) ns (apart_more before ns n h.1 (not-true (list_any (bytes_eq n) ns) both.0)) both.1)
 
 pub distinct_front : (ns ms : List (List ℕ)) → are_distinct bytes_eq (ns ++ ms) ≡ true → are_distinct bytes_eq ns ≡ true
 distinct_front [] ms h = refl
 distinct_front (n ∷ ns) ms h =
     let both = and_parts (not (list_any (bytes_eq n) (ns ++ ms))) (are_distinct bytes_eq (ns ++ ms)) h in
-    let apart = or_parts (list_any (bytes_eq n) ns) (list_any (bytes_eq n) ms) (sym (list_any-append (bytes_eq n) ns ms) ∙ not_true (list_any (bytes_eq n) (ns ++ ms)) both.0) in
+    let apart = or_parts (list_any (bytes_eq n) ns) (list_any (bytes_eq n) ms) (sym (list_any-append (bytes_eq n) ns ms) ∙ not-true (list_any (bytes_eq n) (ns ++ ms)) both.0) in
     and_from (not (list_any (bytes_eq n) ns)) (are_distinct bytes_eq ns) (ap not apart.0) (distinct_front ns ms both.1)
 
 pub all_new : (ns : List (List ℕ)) → are_distinct bytes_eq ns ≡ true → AreNew [] ns

@@ -3,12 +3,15 @@
 //! - [`modes_along`]: the modes of a thread behind steps of its text, with the locks that it holds there.
 //! - [`pass_block`]: the same behind the statements of a block more.
 //! - [`stable_set`], [`hidden_set`]: the variables that no other thread writes, or reads either, by the modes.
+//! - [`stable_behind`], [`hidden_behind`]: the same behind steps of its text.
 //!
 //! `specs/LocksHeld.antt` says which locks are held, and `specs/VariableSets.antt` which variables these are.
 #![tactic(auto)]
 
+mod behind;
 mod sets;
 mod walk;
 
+pub use behind::{hidden_behind, stable_behind};
 pub use sets::{hidden_set, stable_set};
 pub use walk::{modes_along, pass_block};

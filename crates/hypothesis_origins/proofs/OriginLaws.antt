@@ -10,11 +10,11 @@ use Rattle.cov_expr.specs.Trees.{same, has_term, mentions}
 use Rattle.cov_ast.specs.Declarations.{lock_at}
 use Rattle.cov_ast.specs.Plain.{Plain}
 use Rattle.cov_ast.specs.Syntax.{skip, assign, lock, unlock, branch, loop, note, output}
-use Rattle.statement_paths.specs.Paths.{Step, passed, yes, no, head}
+use Rattle.statement_paths.specs.Paths.{Step, passed, yes, no, head, place_of}
 use Rattle.typing_state.specs.After.{start, with_term_if, keeps_value}
 use Rattle.typing_state.specs.Point.{Point, is_over_stable}
 use Rattle.typing_state.specs.Terms.{with_term, with_terms, with_option, distinct_terms}
-use Rattle.hypothesis_origins.specs.Origins.{Given, given, each, by_invariant, given_by, first_given, at_place, place_of, origin_at, origin}
+use Rattle.hypothesis_origins.specs.Origins.{Given, given, each, by_invariant, given_by, first_given, at_place, origin_at, origin}
 use Rattle.hypothesis_origins.specs.Points.{after_step, after_steps, point_behind}
 use Rattle.hypothesis_origins.specs.declared.origin.Origin.{Origin}
 use Rattle.hypothesis_origins.specs.declared.origin.Source.{Source}

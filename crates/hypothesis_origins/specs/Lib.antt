@@ -1,3 +1,4 @@
+pub mod GivenViews
 pub mod Origins
 pub mod Points
 pub mod Remarks

@@ -1,7 +1,8 @@
 -- Where a hypothesis of an entailment comes from: the last step on the way to the statement that gives it.
 --
 -- The point before a statement has what the steps to it give, as far as that isn't forgotten on the way. A later step gives a
--- predicate anew, so the last one counts.
+-- predicate anew, so the last one counts. An assignment and a guard give theirs only where it is over variables that are stable
+-- there, which isn't looked at here.
 use Rattle.std.specs.Prelude.{ℕ, List, [], ◌∷◌, Option, Some, None, option_map, if◌then◌else◌}
 use Rattle.std.specs.Option.{option_or}
 use Rattle.cov_expr.specs.declared.expr.Op.TheVariants.{Eq}
@@ -10,14 +11,14 @@ use Rattle.cov_expr.specs.Trees.{same}
 use Rattle.cov_ast.specs.Declarations.{lock_at}
 use Rattle.cov_ast.specs.Plain.{Plain}
 use Rattle.cov_ast.specs.Syntax.{State, Stm, skip, assign, lock, unlock, branch, loop, note, output}
-use Rattle.statement_paths.specs.Paths.{Step, passed, yes, no, head}
+use Rattle.statement_paths.specs.Paths.{Step, passed, yes, no, head, place_of}
 use Rattle.hypothesis_origins.specs.declared.origin.Origin.{Origin}
 use Rattle.hypothesis_origins.specs.declared.origin.Source.{Source}
 use Rattle.hypothesis_origins.specs.declared.origin.Source.TheVariants as by
 
--- What a step gives --------------------------------------------------------------------------------------------
+-- What a step may give --------------------------------------------------------------------------------------------
 
--- a predicate that a step gives, with what in the step does
+-- a predicate that a step may give, with what in the step does
 pub record Given : Type 0 where
   pub source : Source
   pub term : Term
@@ -39,7 +40,7 @@ by_invariant l (Some e) = given (by.Invariant l) e ∷ []
 abbrev pub given_behind_loop : Term → State → List Given
 given_behind_loop e inv = given by.LoopLeft (neg e) ∷ each by.LoopState inv.preds
 
--- what a statement gives to the point behind it
+-- what a statement may give to the point behind it
 abbrev pub given_behind : Plain → Stm → List Given
 given_behind p skip = []
 given_behind p (assign x e q retypes) = given by.Assigned (bin Eq (var x) e) ∷ []
@@ -50,7 +51,7 @@ given_behind p (loop e inv b) = given_behind_loop e inv
 given_behind p (note j) = each by.Noted j.preds
 given_behind p (output e) = []
 
--- what a step gives to the point at its end
+-- what a step may give to the point at its end
 abbrev pub given_by : Plain → Step → List Given
 given_by p (passed at s) = given_behind p s
 given_by p (yes at e) = given by.GuardHolds e ∷ []
@@ -66,13 +67,6 @@ first_given (g ∷ gs) h = if same g.term h then Some g.source else first_given 
 
 abbrev pub at_place : (at : ℕ) → Source → Origin
 at_place at source = record { source = source; at = at }
-
--- the place of the statement that a step is about
-abbrev pub place_of : Step → ℕ
-place_of (passed at s) = at
-place_of (yes at e) = at
-place_of (no at e) = at
-place_of (head at inv) = at
 
 -- the origin in one step, if that gives the hypothesis
 abbrev pub origin_at : Plain → Step → (hypothesis : Term) → Option Origin

@@ -54,7 +54,8 @@ fn remark(
     if asked {
         text.extend_from_slice(b"asked with the goal")?;
     } else {
-        add_any_origin(p, bytes, origin_of(p, steps, hypothesis), &mut text)?;
+        let origin = origin_of(alloc, p, steps, hypothesis)?;
+        add_any_origin(p, bytes, origin, &mut text)?;
     }
     Ok(text)
 }

@@ -13,11 +13,11 @@ use Rattle.cov_ast.specs.Declarations.{lock_at}
 use Rattle.cov_ast.specs.Plain.{Plain}
 use Rattle.cov_ast.specs.Syntax.{Lock, Stm, skip, assign, lock, unlock, branch, loop, note, output, Block, done, more}
 use Rattle.cov_ast.specs.Tables.{has}
-use Rattle.hypothesis_origins.specs.Origins.{Given, at_place, given_by, place_of}
+use Rattle.hypothesis_origins.specs.Origins.{Given, at_place, given_by}
 use Rattle.hypothesis_origins.specs.declared.origin.Origin.{Origin}
 use Rattle.hypothesis_origins.specs.declared.origin.Source.{Source}
 use Rattle.hypothesis_origins.specs.declared.origin.Source.TheVariants as by
-use Rattle.statement_paths.specs.Paths.{Step, passed, yes, no, head}
+use Rattle.statement_paths.specs.Paths.{Step, passed, yes, no, head, place_of}
 use Rattle.typing_state.specs.Terms.{each_variable}
 use Rattle.left_out_predicates.specs.declared.found.LeftOut as declared
 use Rattle.left_out_predicates.specs.declared.found.TheConstants.{MOST_FOUND}

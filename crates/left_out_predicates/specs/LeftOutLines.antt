@@ -1,12 +1,11 @@
 -- What was left out on the way to a point, as lines of text. Expressions are spelled canonically.
-use Rattle.std.specs.Prelude.{ℕ, List, [], ◌∷◌, ◌++◌, Bool, codes, decimal}
+use Rattle.std.specs.Prelude.{ℕ, List, [], ◌∷◌, ◌++◌, codes, decimal}
 use Rattle.cov_expr.specs.Term.{Term}
 use Rattle.cov_ast.specs.Plain.{Plain, plain}
 use Rattle.cov_ast.specs.Syntax.{Program}
 use Rattle.cov_print.specs.Spelling.{Names, whole}
 use Rattle.entail_text.specs.VariableNames.{variable_names}
-use Rattle.held_locks.specs.LocksHeld.{held_along, none_held}
-use Rattle.held_locks.specs.VariableSets.{stable}
+use Rattle.held_locks.specs.VariableSets.{stable_behind}
 use Rattle.hypothesis_origins.specs.Remarks.{origin_text}
 use Rattle.hypothesis_origins.specs.declared.origin.Origin.{Origin}
 use Rattle.statement_paths.specs.Paths.{Step}
@@ -45,10 +44,6 @@ left_out_line p names bytes o = predicate_part names o.term ++ origin_part p byt
 abbrev pub lines_of : Plain → Names → (bytes : List ℕ) → List LeftOut → List ℕ
 lines_of p names bytes [] = []
 lines_of p names bytes (o ∷ os) = left_out_line p names bytes o ++ lines_of p names bytes os
-
--- what is stable for a thread behind steps
-abbrev pub stable_behind : Plain → (t : ℕ) → List Step → List Bool
-stable_behind p t steps = stable p t (held_along steps (none_held p))
 
 -- the lines of what was left out on the way to a point of a thread with these hypotheses
 abbrev pub left_out_lines : Program → (t : ℕ) → (bytes : List ℕ) → List Step → (hypotheses : List Term) → List ℕ

@@ -1,3 +1,2 @@
-pub mod GivenViews
 pub mod LeftOut
 pub mod LeftOutLines

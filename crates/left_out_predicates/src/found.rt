@@ -6,18 +6,16 @@ ghost use Rattle.cov_expr.specs.View.{term};
 ghost use Rattle.cov_ast.specs.Plain.{plain};
 ghost use Rattle.cov_ast.specs.Tables.{has};
 ghost use Rattle.cov_ast.specs.View as view;
-ghost use Rattle.hypothesis_origins.specs.Origins as origins;
+ghost use Rattle.hypothesis_origins.specs.GivenViews.{given};
 ghost use Rattle.statement_paths.specs.Paths as paths;
 ghost use Rattle.typing_state.specs.Terms.{each_variable};
-ghost use Rattle.left_out_predicates.specs.GivenViews.{given};
 ghost use Rattle.left_out_predicates.specs.LeftOut as spec;
 
-use crate::given::{Given, given_by};
 use crate::states::StateAt;
 use cov_ast::{NumberSet, Program};
-use cov_expr::{Expr, List, NoMemory, Op, closed, copy, mentions, same};
+use cov_expr::{Expr, List, NoMemory, Op, closed, mentions, same};
 use entail_text::has_same;
-use hypothesis_origins::{Origin, Source};
+use hypothesis_origins::{Given, Origin, Source, add_given};
 use statement_paths::Step;
 use std::alloc::Global;
 
@@ -34,12 +32,12 @@ pub struct LeftOut {
 
 /// Adds what a step gives that the first state behind it left out, if there is such a state. `kept` are the variables that the steps behind
 /// it keep.
-pub fn add_of_step(
+pub fn add_of_step<'p>(
     alloc: Global,
-    p: &Program,
+    p: &'p Program,
     hypotheses: &[Expr],
     kept: &NumberSet,
-    step: &Step<'_>,
+    step: &Step<'p>,
     state: Option<StateAt>,
     found: &mut List<LeftOut>,
 ) -> Result<(), NoMemory>
@@ -47,29 +45,12 @@ pub fn add_of_step(
 {
     match state {
         Some(state) => {
-            let all = given_by(alloc, p, step)?;
-            add_each(
-                alloc,
-                hypotheses,
-                kept,
-                place_of(step),
-                state,
-                all.as_slice(),
-                found,
-            )
+            let mut all = List::new(alloc);
+            add_given(p, step, &mut all)?;
+            let at = step.place();
+            add_each(alloc, hypotheses, kept, at, state, all.as_slice(), found)
         }
         None => Ok(()),
-    }
-}
-
-/// The place of the statement that a step is about.
-fn place_of(step: &Step<'_>) -> u32
-    ensures { result ≡ origins.place_of (paths.step step.now) }
-{
-    match step {
-        Step::Passed(stmt) => stmt.at,
-        Step::Yes(at, _) | Step::No(at, _) => *at,
-        Step::Head(at, _) => *at,
     }
 }
 
@@ -80,35 +61,33 @@ fn add_each(
     kept: &NumberSet,
     at: u32,
     state: StateAt,
-    all: &[Given],
+    all: &[Given<'_>],
     found: &mut List<LeftOut>,
 ) -> Result<(), NoMemory>
     ensures { OnOk result (map spec.seen found.new ≡ spec.with_each (map term hypotheses.now) kept.now at state (map given all.now) (map spec.seen found.old)) }
 {
     for one in all {
-        add_given(alloc, hypotheses, kept, at, state, one, found)?;
+        add_if_left_out(alloc, hypotheses, kept, at, state, one, found)?;
     }
     Ok(())
 }
 
 /// Adds a predicate, if a state left it out.
-fn add_given(
+fn add_if_left_out(
     alloc: Global,
     hypotheses: &[Expr],
     kept: &NumberSet,
     at: u32,
     state: StateAt,
-    one: &Given,
+    one: &Given<'_>,
     found: &mut List<LeftOut>,
 ) -> Result<(), NoMemory>
     ensures { OnOk result (map spec.seen found.new ≡ spec.with_given (map term hypotheses.now) kept.now at state (given one.now) (map spec.seen found.old)) }
 {
-    if !gives_nothing(one) && is_left_out(hypotheses, kept, found.as_slice(), &one.term) {
-        let term = copy(alloc, &one.term)?;
-        let origin = Origin {
-            source: one.source,
-            at,
-        };
+    let term = one.term.made(alloc)?;
+    let source = one.source;
+    if !gives_nothing(source, &term) && is_left_out(hypotheses, kept, found.as_slice(), &term) {
+        let origin = Origin { source, at };
         found.push(LeftOut {
             term,
             origin,
@@ -142,11 +121,11 @@ fn is_over(set: &NumberSet, e: &Expr) -> bool
 }
 
 /// Whether an assignment gives a variable a value over itself, and so no equation.
-fn gives_nothing(one: &Given) -> bool
-    ensures { result ≡ spec.gives_nothing one.now.source (term one.now.term) }
+fn gives_nothing(source: Source, e: &Expr) -> bool
+    ensures { result ≡ spec.gives_nothing source (term e.now) }
 {
-    match one.source {
-        Source::Assigned => is_own(&one.term),
+    match source {
+        Source::Assigned => is_own(e),
         Source::Invariant(_)
         | Source::Join
         | Source::LoopLeft

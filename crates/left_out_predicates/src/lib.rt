@@ -4,15 +4,13 @@
 //!
 //! | `src/` | `specs/` | what it has |
 //! |---|---|---|
-//! | `search`, `found`, `given`, `states`, `touched` | `LeftOut` | what was left out, by one walk from the point back to the start |
-//! | `stable`, `lines` | `LeftOutLines` | the lines |
+//! | `search`, `found`, `states`, `touched` | `LeftOut` | what was left out, by one walk from the point back to the start |
+//! | `lines` | `LeftOutLines` | the lines |
 #![tactic(auto)]
 
 mod found;
-mod given;
 mod lines;
 mod search;
-mod stable;
 mod states;
 mod touched;
 

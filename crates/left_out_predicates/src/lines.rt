@@ -11,12 +11,12 @@ ghost use Rattle.left_out_predicates.specs.LeftOutLines as spec;
 
 use crate::found::LeftOut;
 use crate::search::left_out;
-use crate::stable::stable_behind;
 use crate::states::{StateAt, StateKind};
 use cov_ast::{NameTable, Program};
 use cov_expr::{Blob, Expr, NoMemory};
 use cov_print::add_expr;
 use entail_text::variable_names;
+use held_locks::stable_behind;
 use hypothesis_origins::{Origin, add_origin};
 use statement_paths::Step;
 use std::alloc::Global;

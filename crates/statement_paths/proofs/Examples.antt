@@ -61,15 +61,22 @@ a_place_twice = refl
 
 -- The ends of blocks -------------------------------------------------------------------------------------------
 
-the_first_end : to_first_end 10 (var 0) first ≡ yes 10 (var 0) ∷ passed 20 store ∷ []
+the_first_end : to_first_end 10 choice ≡ yes 10 (var 0) ∷ passed 20 store ∷ []
 the_first_end = refl
 
-an_empty_end : to_second_end 10 (var 0) s.done ≡ no 10 (var 0) ∷ []
+an_empty_end : to_second_end 10 (s.branch (var 0) first s.done (stated (const 1))) ≡ no 10 (var 0) ∷ []
 an_empty_end = refl
 
-the_head : to_head 40 (stated (var 2)) ≡ head 40 (stated (var 2)) ∷ []
+the_head : to_head 40 (s.loop (var 1) (stated (var 2)) turn) ≡ head 40 (stated (var 2)) ∷ []
 the_head = refl
 
-the_end_of_a_turn : to_body_end 40 (var 1) (stated (var 2)) turn
+the_end_of_a_turn : to_body_end 40 (s.loop (var 1) (stated (var 2)) turn)
     ≡ head 40 (stated (var 2)) ∷ yes 40 (var 1) ∷ passed 50 (s.unlock 0) ∷ passed 60 (s.assign 1 (const 0) None []) ∷ []
 the_end_of_a_turn = refl
+
+-- a branch has no head, and a loop no second block
+no_head : to_head 10 choice ≡ []
+no_head = refl
+
+no_second_block : to_second_end 40 (s.loop (var 1) (stated (var 2)) turn) ≡ []
+no_second_block = refl

@@ -20,6 +20,13 @@ pub data Step : Type 0 where
   -- to the head of a loop, with what the loop states
   head : (at : ℕ) → State → Step
 
+-- the place of the statement that a step is about
+abbrev pub place_of : Step → ℕ
+place_of (passed at s) = at
+place_of (yes at e) = at
+place_of (no at e) = at
+place_of (head at inv) = at
+
 -- The steps to a statement, the first of the thread first, and what stands at their end.
 pub record Way : Type 0 where
   pub steps : List Step
@@ -63,21 +70,25 @@ abbrev pub passed_all : Block → List Step
 passed_all done = []
 passed_all (more at s proofs rest) = passed at s ∷ passed_all rest
 
--- from a branch to the end of its first block
-abbrev pub to_first_end : (at : ℕ) → Term → Block → List Step
-to_first_end at e a = yes at e ∷ passed_all a
+-- from a branch at a place to the end of its first block; no steps from another statement
+abbrev pub to_first_end : (at : ℕ) → Stm → List Step
+to_first_end at (branch e a b join) = yes at e ∷ passed_all a
+to_first_end at s = []
 
 -- from a branch to the end of its second block
-abbrev pub to_second_end : (at : ℕ) → Term → Block → List Step
-to_second_end at e b = no at e ∷ passed_all b
+abbrev pub to_second_end : (at : ℕ) → Stm → List Step
+to_second_end at (branch e a b join) = no at e ∷ passed_all b
+to_second_end at s = []
 
 -- from a loop to its head
-abbrev pub to_head : (at : ℕ) → State → List Step
-to_head at inv = head at inv ∷ []
+abbrev pub to_head : (at : ℕ) → Stm → List Step
+to_head at (loop e inv b) = head at inv ∷ []
+to_head at s = []
 
 -- from a loop to the end of its block
-abbrev pub to_body_end : (at : ℕ) → Term → State → Block → List Step
-to_body_end at e inv b = head at inv ∷ yes at e ∷ passed_all b
+abbrev pub to_body_end : (at : ℕ) → Stm → List Step
+to_body_end at (loop e inv b) = head at inv ∷ yes at e ∷ passed_all b
+to_body_end at s = []
 
 -- What the code has --------------------------------------------------------------------------------------------
 

@@ -1,3 +1,6 @@
+ghost use Rattle.std.specs.Prelude.{◌≡◌};
+ghost use Rattle.statement_paths.specs.Paths as spec;
+
 use cov_ast::{State, Stmt};
 use cov_expr::{Expr, List};
 
@@ -12,6 +15,19 @@ pub enum Step<'p> {
     No(u32, &'p Expr),
     /// To the head of the loop at a place, with what the loop states.
     Head(u32, &'p State),
+}
+
+impl Step<'_> {
+    /// The place of the statement that the step is about.
+    pub fn place(&self) -> u32
+        ensures { result ≡ spec.place_of (spec.step self.now) }
+    {
+        match self {
+            Step::Passed(stmt) => stmt.at,
+            Step::Yes(at, _) | Step::No(at, _) => *at,
+            Step::Head(at, _) => *at,
+        }
+    }
 }
 
 /// A statement, with the steps to it from the start of the text.

@@ -1,6 +1,6 @@
 use Rattle.std.proofs.Common.{◌≡◌, drop, map}
 use Rattle.cov_expr.specs.View.{term}
-use Rattle.left_out_predicates.specs.GivenViews.{given}
+use Rattle.hypothesis_origins.specs.GivenViews.{given}
 use Rattle.left_out_predicates.specs.LeftOut.{seen, with_each}
 use Rattle.left_out_predicates.proofs.found.add_each.Given as goal
 
