@@ -17,8 +17,8 @@ use Rattle.type_origins.specs.declared.origin.By.TheVariants as by
 use Rattle.type_origins.specs.declared.origin.Change.TheVariants as change
 use Rattle.type_origins.specs.declared.origin.History.{History}
 use Rattle.type_origins.specs.declared.origin.Later.{Later}
-use Rattle.type_origins.specs.declared.origin.Source.{Source}
-use Rattle.type_origins.specs.declared.origin.Source.TheVariants as source
+use Rattle.type_origins.specs.declared.origin.TypeSource.{TypeSource}
+use Rattle.type_origins.specs.declared.origin.TypeSource.TheVariants as source
 
 -- var m: low; var buf: low when m == 0; var o: high; lock l hide m, buf; thread t assume nowrite o
 abbrev program : Plain
@@ -60,7 +60,7 @@ noted = passed 4 (s.note (stated ((2, const 0) ∷ [])))
 abbrev story : (z : ℕ) → List Step → History
 story z steps = history (controls program) (locks_over program z) z steps
 
-abbrev from : (at : ℕ) → Source → Option Later → History
+abbrev from : (at : ℕ) → TypeSource → Option Later → History
 from at source later = record { origin = Some (record { source = source; at = at }); later = later }
 
 -- One step -----------------------------------------------------------------------------------------------------

@@ -29,9 +29,9 @@ use Rattle.type_origins.specs.declared.origin.Change.{Change}
 use Rattle.type_origins.specs.declared.origin.Change.TheVariants as change
 use Rattle.type_origins.specs.declared.origin.History.{History}
 use Rattle.type_origins.specs.declared.origin.Later.{Later}
-use Rattle.type_origins.specs.declared.origin.Origin.{Origin}
-use Rattle.type_origins.specs.declared.origin.Source.{Source}
-use Rattle.type_origins.specs.declared.origin.Source.TheVariants as source
+use Rattle.type_origins.specs.declared.origin.TypeOrigin.{TypeOrigin}
+use Rattle.type_origins.specs.declared.origin.TypeSource.{TypeSource}
+use Rattle.type_origins.specs.declared.origin.TypeSource.TheVariants as source
 
 -- Conditions ---------------------------------------------------------------------------------------------------
 
@@ -172,16 +172,16 @@ module _ (p : Plain) (t z : ℕ) (declared : (x : ℕ) → length p.vars ≤ x �
       kept (locked_type p l) a.types z
       (λ q. ap (λ b. if b && not (is_control p z) then Some (class_of p z) else q) (sym (is_under l) ∙ fails (has ls l) (source.Taken l) h))
   unset (passed at (unlock l)) a h k = let c : ◌≡◌ {A = Option Change} (Some (change.Returned l)) None = k in cc
-  unset (passed at (branch e yes_block no_block join)) a h k = let c : ◌≡◌ {A = Option Source} (Some (set_by_state z by.Join join)) None = h in cc
-  unset (passed at (loop e inv b)) a h k = let c : ◌≡◌ {A = Option Source} (Some (set_by_state z by.LoopState inv)) None = h in cc
+  unset (passed at (branch e yes_block no_block join)) a h k = let c : ◌≡◌ {A = Option TypeSource} (Some (set_by_state z by.Join join)) None = h in cc
+  unset (passed at (loop e inv b)) a h k = let c : ◌≡◌ {A = Option TypeSource} (Some (set_by_state z by.LoopState inv)) None = h in cc
   unset (passed at (note j)) a h k =
       kept_retyped (listed_or j.types) a.types z (λ g. kept_listed j.types z g (fails (is_listed j.types z) (source.Listed by.Noted) h))
   unset (passed at (output e)) a h k = refl
   unset (yes at e) a h k = refl
   unset (no at e) a h k = refl
-  unset (head at inv) a h k = let c : ◌≡◌ {A = Option Source} (Some (set_by_state z by.LoopState inv)) None = h in cc
+  unset (head at inv) a h k = let c : ◌≡◌ {A = Option TypeSource} (Some (set_by_state z by.LoopState inv)) None = h in cc
 
-  abbrev Gives : Step → Point → Source → Type 0
+  abbrev Gives : Step → Point → TypeSource → Type 0
   Gives s a source = given_type (points.after_step p t s a) z ≡ said_in p t z s a source
 
   by_state : (by : By) (j : State) (held : List Bool) (stored : Option Term) (qs : List (Option Term)) (b : Bool) → is_listed j.types z ≡ b
@@ -193,7 +193,7 @@ module _ (p : Plain) (t z : ℕ) (declared : (x : ℕ) → length p.vars ≤ x �
   by_state by j held stored qs false other some =
       retyped_to (λ x q. listed_or j.types x (default_type p t held x)) qs z (default_type p t held z) (λ g. kept_listed j.types z (default_type p t held z) other) some
 
-  by_assignment : (at x : ℕ) (e : Term) (q : Option Term) (retypes : List (ℕ × Term)) (a : Point) (k : Source) → set_by_assignment cs z x retypes ≡ Some k
+  by_assignment : (at x : ℕ) (e : Term) (q : Option Term) (retypes : List (ℕ × Term)) (a : Point) (k : TypeSource) → set_by_assignment cs z x retypes ≡ Some k
       → is_some (given_type (points.after_step p t (passed at (assign x e q retypes)) a) z) ≡ true → Gives (passed at (assign x e q retypes)) a k
   by_assignment at x e q retypes a k h some = by_case (cases_Bool (has cs x))
     where
@@ -217,8 +217,8 @@ module _ (p : Plain) (t z : ℕ) (declared : (x : ℕ) → length p.vars ≤ x �
           (λ g. at_control false (is_none x plain) g ∙ ap (λ b. if b then value_type p t a q e else g) m.0) some)
 
   -- what sets a type gives it
-  gives : (s : Step) (a : Point) (k : Source) → set_by cs ls z s ≡ Some k → is_some (given_type (points.after_step p t s a) z) ≡ true → Gives s a k
-  gives (passed at skip) a k h some = let c : ◌≡◌ {A = Option Source} None (Some k) = h in cc
+  gives : (s : Step) (a : Point) (k : TypeSource) → set_by cs ls z s ≡ Some k → is_some (given_type (points.after_step p t s a) z) ≡ true → Gives s a k
+  gives (passed at skip) a k h some = let c : ◌≡◌ {A = Option TypeSource} None (Some k) = h in cc
   gives (passed at (assign x e q retypes)) a k h some = by_assignment at x e q retypes a k h some
   gives (passed at (lock l)) a k h some =
       let m = holds (has ls l) (source.Taken l) k h in
@@ -226,7 +226,7 @@ module _ (p : Plain) (t z : ℕ) (declared : (x : ℕ) → length p.vars ≤ x �
       (updated_where (locked_type p l) a.types z some
       ∙ ap (λ b. if b && not (is_control p z) then Some (class_of p z) else get_or a.types z None) (sym (is_under l) ∙ m.0)
       ∙ ap (λ b. if true && not b then Some (class_of p z) else get_or a.types z None) no_control)
-  gives (passed at (unlock l)) a k h some = let c : ◌≡◌ {A = Option Source} None (Some k) = h in cc
+  gives (passed at (unlock l)) a k h some = let c : ◌≡◌ {A = Option TypeSource} None (Some k) = h in cc
   gives (passed at (branch e yes_block no_block join)) a k h some =
       let end = after_block p t yes_block (with_guard p t a e) in
       subst (Gives (passed at (branch e yes_block no_block join)) a) (ap (λ o. unwrap_or o (set_by_state z by.Join join)) h)
@@ -237,9 +237,9 @@ module _ (p : Plain) (t z : ℕ) (declared : (x : ℕ) → length p.vars ≤ x �
   gives (passed at (note j)) a k h some =
       let m = holds (is_listed j.types z) (source.Listed by.Noted) k h in
       subst (Gives (passed at (note j)) a) m.1 (retyped_listed (listed_or j.types) j.types (λ g. g) a.types z m.0 (λ g. refl) some)
-  gives (passed at (output e)) a k h some = let c : ◌≡◌ {A = Option Source} None (Some k) = h in cc
-  gives (yes at e) a k h some = let c : ◌≡◌ {A = Option Source} None (Some k) = h in cc
-  gives (no at e) a k h some = let c : ◌≡◌ {A = Option Source} None (Some k) = h in cc
+  gives (passed at (output e)) a k h some = let c : ◌≡◌ {A = Option TypeSource} None (Some k) = h in cc
+  gives (yes at e) a k h some = let c : ◌≡◌ {A = Option TypeSource} None (Some k) = h in cc
+  gives (no at e) a k h some = let c : ◌≡◌ {A = Option TypeSource} None (Some k) = h in cc
   gives (head at inv) a k h some =
       subst (Gives (head at inv) a) (ap (λ o. unwrap_or o (set_by_state z by.LoopState inv)) h)
       (by_state by.LoopState inv a.held None a.types (is_listed inv.types z) refl some)
@@ -268,7 +268,7 @@ module _ (p : Plain) (t z : ℕ) (declared : (x : ℕ) → length p.vars ≤ x �
   one_more [] s a = refl
   one_more (r ∷ rs) s a = one_more rs s (points.after_step p t r a)
 
-  longer : (done : List Step) (s : Step) (o : Option Origin) → IsFrom p t z done o → type_behind p t z (done ++ s ∷ []) ≡ type_behind p t z done
+  longer : (done : List Step) (s : Step) (o : Option TypeOrigin) → IsFrom p t z done o → type_behind p t z (done ++ s ∷ []) ≡ type_behind p t z done
       → IsFrom p t z (done ++ s ∷ []) o
   longer done s None from same = same ∙ from
   longer done s (Some o) from same = record {
@@ -291,7 +291,7 @@ module _ (p : Plain) (t z : ℕ) (declared : (x : ℕ) → length p.vars ≤ x �
       by_change e None k = λ later some. longer done s h.origin (told later (sym (ap is_some (same e k)) ∙ some)) (same e k)
       by_change e (Some y) k = λ later some. let c : ◌≡◌ {A = Option Later} (Some (change_at (place_of s) y)) None = later in cc
 
-      by_source : (x : Option Source) → set_by cs ls z s ≡ x → IsTold p t z (done ++ s ∷ []) (with_step (place_of s) x (changed_by cs s) h)
+      by_source : (x : Option TypeSource) → set_by cs ls z s ≡ x → IsTold p t z (done ++ s ∷ []) (with_step (place_of s) x (changed_by cs s) h)
       by_source None e = by_change e (changed_by cs s) refl
       by_source (Some x) e = λ later some. record {
         front = done;

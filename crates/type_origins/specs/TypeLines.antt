@@ -19,9 +19,9 @@ use Rattle.type_origins.specs.declared.origin.Change.{Change}
 use Rattle.type_origins.specs.declared.origin.Change.TheVariants as change
 use Rattle.type_origins.specs.declared.origin.History.{History}
 use Rattle.type_origins.specs.declared.origin.Later.{Later}
-use Rattle.type_origins.specs.declared.origin.Origin.{Origin}
-use Rattle.type_origins.specs.declared.origin.Source.{Source}
-use Rattle.type_origins.specs.declared.origin.Source.TheVariants as source
+use Rattle.type_origins.specs.declared.origin.TypeOrigin.{TypeOrigin}
+use Rattle.type_origins.specs.declared.origin.TypeSource.{TypeSource}
+use Rattle.type_origins.specs.declared.origin.TypeSource.TheVariants as source
 
 -- What is known of the variables at a point --------------------------------------------------------------------
 
@@ -60,14 +60,14 @@ abbrev pub unlisted_text : (hidden : Bool) → By → List ℕ
 unlisted_text hidden by = default_text hidden ++ list_word by
 
 -- what sets a type, in front of the line of it
-abbrev pub source_text : Plain → (hidden : Bool) → Source → List ℕ
+abbrev pub source_text : Plain → (hidden : Bool) → TypeSource → List ℕ
 source_text p hidden source.Stored = codes "from the assignment"
 source_text p hidden (source.Taken l) = taken_text p l
 source_text p hidden (source.Listed by) = listed_text by
 source_text p hidden (source.Unlisted by) = unlisted_text hidden by
 
 -- what stands behind the line of it
-abbrev pub source_end : Source → List ℕ
+abbrev pub source_end : TypeSource → List ℕ
 source_end source.Stored = []
 source_end (source.Taken l) = []
 source_end (source.Listed by) = []
@@ -77,11 +77,11 @@ source_end (source.Unlisted by) = codes ", doesn't list it"
 abbrev pub place_text : (bytes : List ℕ) → (at : ℕ) → List ℕ
 place_text bytes at = codes ", line " ++ decimal (line bytes at)
 
-abbrev pub set_text : Plain → (bytes : List ℕ) → (hidden : Bool) → Origin → List ℕ
+abbrev pub set_text : Plain → (bytes : List ℕ) → (hidden : Bool) → TypeOrigin → List ℕ
 set_text p bytes hidden o = source_text p hidden o.source ++ place_text bytes o.at ++ source_end o.source
 
 -- where a type comes from; where no step sets it, from the start
-abbrev pub origin_text : Plain → (bytes : List ℕ) → (hidden : Bool) → Option Origin → List ℕ
+abbrev pub origin_text : Plain → (bytes : List ℕ) → (hidden : Bool) → Option TypeOrigin → List ℕ
 origin_text p bytes hidden None = codes "its class, from the start of the thread"
 origin_text p bytes hidden (Some o) = set_text p bytes hidden o
 

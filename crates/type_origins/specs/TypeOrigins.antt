@@ -18,8 +18,8 @@ use Rattle.type_origins.specs.declared.origin.Change.{Change}
 use Rattle.type_origins.specs.declared.origin.Change.TheVariants as change
 use Rattle.type_origins.specs.declared.origin.History.{History}
 use Rattle.type_origins.specs.declared.origin.Later.{Later}
-use Rattle.type_origins.specs.declared.origin.Source.{Source}
-use Rattle.type_origins.specs.declared.origin.Source.TheVariants as source
+use Rattle.type_origins.specs.declared.origin.TypeSource.{TypeSource}
+use Rattle.type_origins.specs.declared.origin.TypeSource.TheVariants as source
 
 -- whether types are listed for a variable
 abbrev pub is_listed : List (ℕ × Term) → (z : ℕ) → Bool
@@ -56,21 +56,21 @@ module _ (controls : List Bool) where
   changed_by (head at inv) = None
 
 -- of a state that sets every type
-abbrev pub set_by_state : (z : ℕ) → By → State → Source
+abbrev pub set_by_state : (z : ℕ) → By → State → TypeSource
 set_by_state z by j = if is_listed j.types z then source.Listed by else source.Unlisted by
 
 -- of types that set those of their variables alone
-abbrev pub set_by_types : (z : ℕ) → By → List (ℕ × Term) → Option Source
+abbrev pub set_by_types : (z : ℕ) → By → List (ℕ × Term) → Option TypeSource
 set_by_types z by types = where_true (is_listed types z) (source.Listed by)
 
 -- a control has no type itself: what is stored there gives the types that are written behind it
-abbrev pub set_by_assignment : (controls : List Bool) → (z x : ℕ) → (retypes : List (ℕ × Term)) → Option Source
+abbrev pub set_by_assignment : (controls : List Bool) → (z x : ℕ) → (retypes : List (ℕ × Term)) → Option TypeSource
 set_by_assignment controls z x retypes = if has controls x then set_by_types z by.Retype retypes else where_true (x == z) source.Stored
 
 -- with the set of the controls, and the set of the locks that the variable is under
 module _ (controls locks : List Bool) (z : ℕ) where
   -- what in a statement sets the type behind it
-  abbrev pub set_past : Stm → Option Source
+  abbrev pub set_past : Stm → Option TypeSource
   set_past skip = None
   set_past (assign x e q retypes) = set_by_assignment controls z x retypes
   set_past (lock l) = where_true (has locks l) (source.Taken l)
@@ -81,7 +81,7 @@ module _ (controls locks : List Bool) (z : ℕ) where
   set_past (output e) = None
 
   -- what in a step sets the type at its end
-  abbrev pub set_by : Step → Option Source
+  abbrev pub set_by : Step → Option TypeSource
   set_by (passed at s) = set_past s
   set_by (yes at e) = None
   set_by (no at e) = None
@@ -90,7 +90,7 @@ module _ (controls locks : List Bool) (z : ℕ) where
 -- The history of a type ----------------------------------------------------------------------------------------
 
 -- a type that was set here, and not changed since
-abbrev pub set_at : (at : ℕ) → Source → History
+abbrev pub set_at : (at : ℕ) → TypeSource → History
 set_at at source = record { origin = Some (record { source = source; at = at }); later = None }
 
 abbrev pub change_at : (at : ℕ) → Change → Later
@@ -102,7 +102,7 @@ changed_at at None h = h
 changed_at at (Some change) h = record h { later = Some (change_at at change) }
 
 -- what sets the type begins a new history
-abbrev pub with_step : (at : ℕ) → Option Source → Option Change → History → History
+abbrev pub with_step : (at : ℕ) → Option TypeSource → Option Change → History → History
 with_step at (Some source) change h = set_at at source
 with_step at None change h = changed_at at change h
 

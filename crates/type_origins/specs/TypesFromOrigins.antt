@@ -13,9 +13,9 @@ use Rattle.typing_state.specs.Point.{Point, default_type, given_type}
 use Rattle.typing_state.specs.Terms.{listed}
 use Rattle.type_origins.specs.TypeOrigins.{history, locks_over, set_by}
 use Rattle.type_origins.specs.declared.origin.History.{History}
-use Rattle.type_origins.specs.declared.origin.Origin.{Origin}
-use Rattle.type_origins.specs.declared.origin.Source.{Source}
-use Rattle.type_origins.specs.declared.origin.Source.TheVariants as source
+use Rattle.type_origins.specs.declared.origin.TypeOrigin.{TypeOrigin}
+use Rattle.type_origins.specs.declared.origin.TypeSource.{TypeSource}
+use Rattle.type_origins.specs.declared.origin.TypeSource.TheVariants as source
 
 -- What a step gives to the type of a variable --------------------------------------------------------------------
 
@@ -49,14 +49,14 @@ module _ (p : Plain) (t : ℕ) where
   stored_in s a = None
 
 -- what a source says, where this is stored and listed, and these locks are held
-abbrev pub said : Plain → (t z : ℕ) → (stored : Option Term) → (types : List (ℕ × Term)) → (held : List Bool) → Source → Option Term
+abbrev pub said : Plain → (t z : ℕ) → (stored : Option Term) → (types : List (ℕ × Term)) → (held : List Bool) → TypeSource → Option Term
 said p t z stored types held source.Stored = stored
 said p t z stored types held (source.Taken l) = Some (class_of p z)
 said p t z stored types held (source.Listed by) = listed types z
 said p t z stored types held (source.Unlisted by) = Some (default_type p t held z)
 
 -- what a source says of a step from a point
-abbrev pub said_in : Plain → (t z : ℕ) → Step → Point → Source → Option Term
+abbrev pub said_in : Plain → (t z : ℕ) → Step → Point → TypeSource → Option Term
 said_in p t z s a source = said p t z (stored_in p t s a) (types_in s) (after_step p t s a).held source
 
 -- What a history says --------------------------------------------------------------------------------------------
@@ -66,7 +66,7 @@ abbrev pub type_behind : Plain → (t z : ℕ) → List Step → Option Term
 type_behind p t z steps = given_type (point_behind p t steps) z
 
 -- One of the steps is at the place of an origin, and the type behind all of them is what the source of the origin says of it.
-pub record ComesFrom (p : Plain) (t z : ℕ) (steps : List Step) (o : Origin) : Type 0 where
+pub record ComesFrom (p : Plain) (t z : ℕ) (steps : List Step) (o : TypeOrigin) : Type 0 where
   pub front : List Step
   pub step : Step
   pub back : List Step
@@ -76,7 +76,7 @@ pub record ComesFrom (p : Plain) (t z : ℕ) (steps : List Step) (o : Origin) : 
   pub says : type_behind p t z steps ≡ said_in p t z step (point_behind p t front) o.source
 
 -- without an origin the type is the class
-abbrev pub IsFrom : Plain → (t z : ℕ) → List Step → Option Origin → Type 0
+abbrev pub IsFrom : Plain → (t z : ℕ) → List Step → Option TypeOrigin → Type 0
 IsFrom p t z steps None = type_behind p t z steps ≡ Some (class_of p z)
 IsFrom p t z steps (Some o) = ComesFrom p t z steps o
 

@@ -1,7 +1,7 @@
 //! Where the types come from that make up the goal of an entailment.
 //!
 //! - [`add_type_lines`]: a line for each variable whose type makes up the goal of what is asked of a statement.
-//! - [`history_of`], with [`locks_over`]: the last step on the way to a point that sets the type of a variable ([`Origin`], [`Source`]),
+//! - [`history_of`], with [`locks_over`]: the last step on the way to a point that sets the type of a variable ([`TypeOrigin`], [`TypeSource`]),
 //!   and the last after it that may forget it ([`Later`], [`Change`]).
 //! - [`types_are_from_their_origins`] has no body: its contract is a law, that this goes by the rules of types.
 //!
@@ -23,5 +23,5 @@ mod words;
 
 pub use laws::types_are_from_their_origins;
 pub use lines::add_type_lines;
-pub use origin::{By, Change, History, Later, Origin, Source};
+pub use origin::{By, Change, History, Later, TypeOrigin, TypeSource};
 pub use steps::{history_of, locks_over};

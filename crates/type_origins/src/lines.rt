@@ -11,7 +11,7 @@ ghost use Rattle.type_origins.specs.TypeOrigins.{history, locks_over};
 
 use crate::asked::variables_of;
 use crate::known::{Known, known_behind};
-use crate::origin::{By, Change, History, Later, Origin, Source};
+use crate::origin::{By, Change, History, Later, TypeOrigin, TypeSource};
 use crate::steps::{history_of, locks_over};
 use crate::words::{change_end, change_word, default_text, list_word, listed_text, source_end};
 use cov_ast::{Program, StmtKind};
@@ -147,7 +147,7 @@ fn add_any_origin(
     p: &Program,
     bytes: &[u8],
     hidden: bool,
-    origin: Option<Origin>,
+    origin: Option<TypeOrigin>,
     text: &mut Blob,
 ) -> Result<(), NoMemory>
     ensures { OnOk result (text.new ≡ text.old ++ spec.origin_text (plain (view.program p.now)) bytes.now hidden origin) }
@@ -163,7 +163,7 @@ fn add_origin(
     p: &Program,
     bytes: &[u8],
     hidden: bool,
-    origin: Origin,
+    origin: TypeOrigin,
     text: &mut Blob,
 ) -> Result<(), NoMemory>
     ensures { OnOk result (text.new ≡ text.old ++ spec.set_text (plain (view.program p.now)) bytes.now hidden origin) }
@@ -174,14 +174,14 @@ fn add_origin(
 }
 
 /// Adds what sets a type.
-fn add_source(p: &Program, hidden: bool, source: Source, text: &mut Blob) -> Result<(), NoMemory>
+fn add_source(p: &Program, hidden: bool, source: TypeSource, text: &mut Blob) -> Result<(), NoMemory>
     ensures { OnOk result (text.new ≡ text.old ++ spec.source_text (plain (view.program p.now)) hidden source) }
 {
     match source {
-        Source::Stored => text.extend_from_slice(b"from the assignment"),
-        Source::Taken(l) => add_taken(p, l, text),
-        Source::Listed(by) => text.extend_from_slice(listed_text(by).as_bytes()),
-        Source::Unlisted(by) => add_unlisted(hidden, by, text),
+        TypeSource::Stored => text.extend_from_slice(b"from the assignment"),
+        TypeSource::Taken(l) => add_taken(p, l, text),
+        TypeSource::Listed(by) => text.extend_from_slice(listed_text(by).as_bytes()),
+        TypeSource::Unlisted(by) => add_unlisted(hidden, by, text),
     }
 }
 

@@ -15,7 +15,7 @@ pub enum By {
 
 /// What sets the type of a variable.
 #[derive(Clone, Copy, Debug, PartialEq, Eq)]
-pub enum Source {
+pub enum TypeSource {
     /// An assignment to the variable: the type of the value.
     Stored,
     /// This lock, which the variable is under and which is taken: the variable's class.
@@ -28,8 +28,8 @@ pub enum Source {
 
 /// Where a type comes from: what sets it, and the byte offset of the statement that does.
 #[derive(Clone, Copy, Debug, PartialEq, Eq)]
-pub struct Origin {
-    pub source: Source,
+pub struct TypeOrigin {
+    pub source: TypeSource,
     pub at: u32,
 }
 
@@ -53,6 +53,6 @@ pub struct Later {
 /// the thread.
 #[derive(Clone, Copy, Debug, PartialEq, Eq)]
 pub struct History {
-    pub origin: Option<Origin>,
+    pub origin: Option<TypeOrigin>,
     pub later: Option<Later>,
 }

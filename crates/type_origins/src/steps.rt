@@ -8,7 +8,7 @@ ghost use Rattle.hypothesis_origins.specs.Origins.{place_of};
 ghost use Rattle.statement_paths.specs.Paths as paths;
 ghost use Rattle.type_origins.specs.TypeOrigins as spec;
 
-use crate::origin::{By, Change, History, Later, Origin, Source};
+use crate::origin::{By, Change, History, Later, TypeOrigin, TypeSource};
 use cov_ast::{NumberSet, Program, Retype, State, StmtKind};
 use cov_expr::{Expr, List, NoMemory};
 use statement_paths::Step;
@@ -57,11 +57,11 @@ fn place_of(step: &Step<'_>) -> u32
 }
 
 /// A type that was set at a place, and not changed since.
-fn set_at(at: u32, source: Source) -> History
+fn set_at(at: u32, source: TypeSource) -> History
     ensures { result ≡ spec.set_at at source }
 {
     History {
-        origin: Some(Origin { source, at }),
+        origin: Some(TypeOrigin { source, at }),
         later: None,
     }
 }
@@ -107,7 +107,7 @@ fn changed_past(controls: &NumberSet, kind: &StmtKind) -> Option<Change>
 }
 
 /// What in a step sets the type at its end.
-fn set_by(controls: &NumberSet, locks: &NumberSet, z: u32, step: &Step<'_>) -> Option<Source>
+fn set_by(controls: &NumberSet, locks: &NumberSet, z: u32, step: &Step<'_>) -> Option<TypeSource>
     ensures { result ≡ spec.set_by controls.now locks.now z (paths.step step.now) }
 {
     match step {
@@ -118,7 +118,7 @@ fn set_by(controls: &NumberSet, locks: &NumberSet, z: u32, step: &Step<'_>) -> O
 }
 
 /// What in a statement sets the type behind it.
-fn set_past(controls: &NumberSet, locks: &NumberSet, z: u32, kind: &StmtKind) -> Option<Source>
+fn set_past(controls: &NumberSet, locks: &NumberSet, z: u32, kind: &StmtKind) -> Option<TypeSource>
     ensures { result ≡ spec.set_past controls.now locks.now z (view.kind kind.now) }
 {
     match kind {
@@ -126,42 +126,42 @@ fn set_past(controls: &NumberSet, locks: &NumberSet, z: u32, kind: &StmtKind) ->
         StmtKind::Assign(x, _, _, retypes) => {
             set_by_assignment(controls, z, *x, retypes.as_slice())
         }
-        StmtKind::Lock(l) => where_true(locks.has(*l), Source::Taken(*l)),
+        StmtKind::Lock(l) => where_true(locks.has(*l), TypeSource::Taken(*l)),
         StmtKind::If(_, _, _, join) => Some(set_by_state(z, By::Join, join)),
         StmtKind::While(_, inv, _) => Some(set_by_state(z, By::LoopState, inv)),
         StmtKind::Note(note) => where_true(
             is_listed(note.types.as_slice(), z),
-            Source::Listed(By::Noted),
+            TypeSource::Listed(By::Noted),
         ),
     }
 }
 
 /// A source under a condition.
-fn where_true(holds: bool, source: Source) -> Option<Source>
+fn where_true(holds: bool, source: TypeSource) -> Option<TypeSource>
     ensures { result ≡ spec.where_true holds source }
 {
     if holds { Some(source) } else { None }
 }
 
 /// What in an assignment to a variable sets the type.
-fn set_by_assignment(controls: &NumberSet, z: u32, x: u32, retypes: &[Retype]) -> Option<Source>
+fn set_by_assignment(controls: &NumberSet, z: u32, x: u32, retypes: &[Retype]) -> Option<TypeSource>
     ensures { result ≡ spec.set_by_assignment controls.now z x (map view.retype retypes.now) }
 {
     if controls.has(x) {
-        where_true(is_retyped(retypes, z), Source::Listed(By::Retype))
+        where_true(is_retyped(retypes, z), TypeSource::Listed(By::Retype))
     } else {
-        where_true(x == z, Source::Stored)
+        where_true(x == z, TypeSource::Stored)
     }
 }
 
 /// The source in a state that sets every type.
-fn set_by_state(z: u32, by: By, state: &State) -> Source
+fn set_by_state(z: u32, by: By, state: &State) -> TypeSource
     ensures { result ≡ spec.set_by_state z by (view.state state.now) }
 {
     if is_listed(state.types.as_slice(), z) {
-        Source::Listed(by)
+        TypeSource::Listed(by)
     } else {
-        Source::Unlisted(by)
+        TypeSource::Unlisted(by)
     }
 }
 

@@ -3,7 +3,7 @@
 ghost use Rattle.std.specs.Prelude.{◌≡◌};
 ghost use Rattle.type_origins.specs.TypeLines as spec;
 
-use crate::origin::{By, Change, Source};
+use crate::origin::{By, Change, TypeSource};
 
 /// What lists types, or doesn't.
 pub fn list_word(by: By) -> &'static str
@@ -41,12 +41,12 @@ pub fn default_text(hidden: bool) -> &'static str
 }
 
 /// What stands behind the line of what sets a type.
-pub fn source_end(source: Source) -> &'static str
+pub fn source_end(source: TypeSource) -> &'static str
     ensures { result.now ≡ spec.source_end source }
 {
     match source {
-        Source::Stored | Source::Taken(_) | Source::Listed(_) => "",
-        Source::Unlisted(_) => ", doesn't list it",
+        TypeSource::Stored | TypeSource::Taken(_) | TypeSource::Listed(_) => "",
+        TypeSource::Unlisted(_) => ", doesn't list it",
     }
 }
 
