@@ -10,8 +10,7 @@ use Rattle.cov_ast.specs.Declarations.{lists}
 use Rattle.cov_ast.specs.Plain.{Plain}
 use Rattle.cov_ast.specs.Syntax.{State, Stm, skip, assign, lock, unlock, branch, loop, note, output}
 use Rattle.cov_ast.specs.Tables.{has}
-use Rattle.hypothesis_origins.specs.Origins.{place_of}
-use Rattle.statement_paths.specs.Paths.{Step, passed, yes, no, head}
+use Rattle.statement_paths.specs.Paths.{Step, passed, yes, no, head, place_of}
 use Rattle.type_origins.specs.declared.origin.By.{By}
 use Rattle.type_origins.specs.declared.origin.By.TheVariants as by
 use Rattle.type_origins.specs.declared.origin.Change.{Change}

@@ -5,9 +5,8 @@ use Rattle.cov_ast.specs.Declarations.{class_of}
 use Rattle.cov_ast.specs.Plain.{Plain}
 use Rattle.cov_ast.specs.Syntax.{Stm, skip, assign, lock, unlock, branch, loop, note, output}
 use Rattle.entail_questions.specs.Controls.{controls}
-use Rattle.hypothesis_origins.specs.Origins.{place_of}
 use Rattle.hypothesis_origins.specs.Points.{after_step, point_behind}
-use Rattle.statement_paths.specs.Paths.{Step, passed, yes, no, head}
+use Rattle.statement_paths.specs.Paths.{Step, passed, yes, no, head, place_of}
 use Rattle.typing_rules.specs.Blocks.{value_type}
 use Rattle.typing_state.specs.Point.{Point, default_type, given_type}
 use Rattle.typing_state.specs.Terms.{listed}

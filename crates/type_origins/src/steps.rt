@@ -4,7 +4,6 @@ ghost use Rattle.std.specs.Prelude.{◌≡◌, ◌∷◌, IfOk, Some, None, map}
 ghost use Rattle.cov_expr.specs.View.{term};
 ghost use Rattle.cov_ast.specs.Plain.{plain};
 ghost use Rattle.cov_ast.specs.View as view;
-ghost use Rattle.hypothesis_origins.specs.Origins.{place_of};
 ghost use Rattle.statement_paths.specs.Paths as paths;
 ghost use Rattle.type_origins.specs.TypeOrigins as spec;
 
@@ -39,20 +38,10 @@ fn after_step(
 ) -> History
     ensures { result ≡ spec.after_step controls.now locks.now z (paths.step step.now) so_far }
 {
-    let at = place_of(step);
+    let at = step.place();
     match set_by(controls, locks, z, step) {
         Some(source) => set_at(at, source),
         None => changed_at(at, changed_by(controls, step), so_far),
-    }
-}
-
-/// The place of the statement that a step is about.
-fn place_of(step: &Step<'_>) -> u32
-    ensures { result ≡ place_of (paths.step step.now) }
-{
-    match step {
-        Step::Passed(stmt) => stmt.at,
-        Step::Yes(at, _) | Step::No(at, _) | Step::Head(at, _) => *at,
     }
 }
 
