@@ -4,9 +4,9 @@ use Rattle.std.proofs.lemmas.Fmt.{decimal_digit}
 use Rattle.cov_expr.specs.declared.expr.Op.TheVariants.{Add}
 use Rattle.cov_expr.specs.Term.{Term, const, var, bin}
 use Rattle.cov_ast.specs.Syntax as s
-use Rattle.cov_ast.specs.declared.refusal.Detail.TheVariants.{Nothing, Three}
+use Rattle.cov_ast.specs.declared.refusal.Detail.TheVariants.{Nothing, One, Three}
 use Rattle.cov_ast.specs.declared.refusal.Rule.{Rule}
-use Rattle.cov_ast.specs.declared.refusal.Rule.TheVariants.{V3, V4, V8, V9, V12, V15, V16, W8, W9}
+use Rattle.cov_ast.specs.declared.refusal.Rule.TheVariants.{V1, V2, V3, V4, V8, V9, V12, V15, V16, W8, W9}
 use Rattle.refusal_names.specs.RefusalNames as spec
 
 -- a is plain low and the control of b; c is high. The lock l hides a and b, the lock m writes c alone.
@@ -36,7 +36,7 @@ behind_lock stm = with_body (s.more 80 (s.lock 0) [] (s.more 90 stm [] s.done))
 abbrev alone : s.Stm → s.Program
 alone stm = with_body (s.more 90 stm [] s.done)
 
--- a refusal by a rule of statements, which shows no names
+-- a refusal by a rule of statements that shows no names
 abbrev refusal_names : s.Program → Rule → (thread : Option ℕ) → (place : ℕ) → List ℕ
 refusal_names p rule thread place = spec.refusal_names p (codes "first\nsecond\n") rule thread place Nothing
 
@@ -181,3 +181,64 @@ itself = refl
 
 a_rule_of_declarations : spec.refusal_names two_threads [] W8 None 70 (Three (codes "t") (codes "v") (codes "a")) ≡ []
 a_rule_of_declarations = refl
+
+-- V1 and V2: t guarantees not to write b, and to leave d alone; l hides a and b, and m lists c
+abbrev guarding : s.Thread
+guarding = record {
+  name = codes "t";
+  at = 4;
+  modes = record { assume_nowrite = []; assume_hide = []; guarantee_nowrite = 1 ∷ []; guarantee_hide = 3 ∷ [] };
+  body = s.more 80 (s.lock 0) [] (s.more 90 s.skip [] (s.more 92 (s.unlock 0) [] (s.more 94 s.skip [] s.done)));
+  end = 99;
+}
+
+abbrev guarded : s.Program
+guarded = record {
+  version = 1;
+  vars = record { name = codes "a"; at = 4; class = s.low } ∷ record { name = codes "b"; at = 12; class = s.low } ∷ record { name = codes "c"; at = 27; class = s.high }
+      ∷ record { name = codes "d"; at = 30; class = s.high } ∷ [];
+  locks = record { name = codes "l"; at = 0; nowrite = []; hide = 0 ∷ 1 ∷ []; inv = None } ∷ record { name = codes "m"; at = 2; nowrite = 2 ∷ []; hide = []; inv = None } ∷ [];
+  threads = guarding ∷ [];
+}
+
+-- at 94 no lock is held, and at 90 the lock l
+abbrev access : Rule → (place : ℕ) → (shown : List ℕ) → List ℕ
+access rule place shown = spec.refusal_names guarded (codes "a\nb\nc\n") rule (Some 0) place (One shown)
+
+hidden_by_a_lock : access V1 94 (codes "a") ≡ codes "  lock l, line 1, has `hide a`, and isn't held here\n"
+hidden_by_a_lock = simp (decimal_digit 1 (lit< tt))
+
+hidden_and_written : access V2 94 (codes "a") ≡ codes "  lock l, line 1, has `hide a`, and isn't held here\n"
+hidden_and_written = simp (decimal_digit 1 (lit< tt))
+
+under_a_lock : access V2 90 (codes "c") ≡ codes "  lock m, line 2, has `nowrite c`, and isn't held here\n"
+under_a_lock = simp (decimal_digit 2 (lit< tt))
+
+left_alone : access V1 90 (codes "d") ≡ codes "  thread t, line 3, has `guarantee hide d`\n"
+left_alone = simp (decimal_digit 3 (lit< tt))
+
+left_alone_and_written : access V2 90 (codes "d") ≡ codes "  thread t, line 3, has `guarantee hide d`\n"
+left_alone_and_written = simp (decimal_digit 3 (lit< tt))
+
+-- a guarantee comes first, though the lock isn't held; but it forbids no reading
+not_to_be_written : access V2 94 (codes "b") ≡ codes "  thread t, line 3, has `guarantee nowrite b`\n"
+not_to_be_written = simp (decimal_digit 3 (lit< tt))
+
+yet_hidden : access V1 94 (codes "b") ≡ codes "  lock l, line 1, has `hide b`, and isn't held here\n"
+yet_hidden = simp (decimal_digit 1 (lit< tt))
+
+-- what is permitted: with the lock, and to read what only isn't to be written; and no such variable, and nothing shown
+with_the_lock : access V1 90 (codes "a") ≡ []
+with_the_lock = refl
+
+written_with_the_lock : access V2 90 (codes "a") ≡ []
+written_with_the_lock = refl
+
+only_read : access V1 94 (codes "c") ≡ []
+only_read = refl
+
+no_such_variable : access V1 94 (codes "e") ≡ []
+no_such_variable = refl
+
+nothing_shown : spec.refusal_names guarded [] V1 (Some 0) 94 Nothing ≡ []
+nothing_shown = refl

@@ -1,44 +1,28 @@
 -- Threads whose names differ are found by their names.
-use Rattle.std.proofs.Common.{◌≡◌, ◌≢◌, ℕ, zero, suc, ◌<◌, List, [], ◌∷◌, ◌++◌, length, map, get_or, Bool, true, false, if◌then◌else◌, Option, Some, refl, ap, ◌∙◌, arith}
-use Rattle.std.specs.Prelude.{not}
-use Rattle.std.specs.List.{list_any}
+use Rattle.std.proofs.Common.{◌≡◌, ◌≢◌, ℕ, zero, suc, ◌<◌, List, [], ◌∷◌, ◌++◌, length, map, get_or, true, false, if◌then◌else◌, Option, Some, sym, ap, ◌∙◌, arith}
 use Rattle.std.specs.Str.{bytes_eq}
-use Rattle.std.proofs.lemmas.Bool.{and_parts, not-true, or_parts}
+use Rattle.std.proofs.Math.ListN.{get_or-map}
 use Rattle.std.proofs.lemmas.Cmp.{nat_list_eq_equiv}
+use Rattle.std.proofs.lemmas.List.{length-map}
 use Rattle.cov_ast.specs.NameTables.{find_name}
 use Rattle.cov_ast.specs.Syntax.{Var, Lock, Thread, Program}
 use Rattle.cov_ast.specs.WellFormed.{are_distinct, IsWellFormed}
 use Rattle.entail_text.specs.VariableNames.{variable_names}
 use Rattle.mode_compat.specs.Compatible.{numbered, no_thread}
+use Rattle.refusal_names.proofs.FoundNames.{distinct_back, first_apart, names_apart}
 use Rattle.refusal_names.specs.MissingGuarantees.{thread_named, guarantee_line, missing, missing_of, missing_text}
 
 abbrev names : List Thread → List (List ℕ)
 names ts = map (λ t. t.name) ts
 
-distinct_back : (ns ms : List (List ℕ)) → are_distinct bytes_eq (ns ++ ms) ≡ true → are_distinct bytes_eq ms ≡ true
-distinct_back [] ms h = h
-distinct_back (n ∷ ns) ms h = distinct_back ns ms (and_parts (not (list_any (bytes_eq n) (ns ++ ms))) (are_distinct bytes_eq (ns ++ ms)) h).1
-
--- the first of distinct names is none of the others, and these are distinct
-first_apart : (n : List ℕ) (ns : List (List ℕ)) → are_distinct bytes_eq (n ∷ ns) ≡ true → (list_any (bytes_eq n) ns ≡ false) × (are_distinct bytes_eq ns ≡ true)
-first_apart n ns h = let both = and_parts (not (list_any (bytes_eq n) ns)) (are_distinct bytes_eq ns) h in (not-true (list_any (bytes_eq n) ns) both.0, both.1)
-
--- a name that none of threads has isn't that of one of them
-none_at : (n : List ℕ) (ts : List Thread) (i : ℕ) (d : Thread) → list_any (bytes_eq n) (names ts) ≡ false → i < length ts → bytes_eq n (get_or ts i d).name ≡ false
-none_at n [] i d h inside = let no : ⊥ = omega (arith, inside) in absurd no
-none_at n (t ∷ ts) zero d h inside = (or_parts (bytes_eq n t.name) (list_any (bytes_eq n) (names ts)) h).0
-none_at n (t ∷ ts) (suc i) d h inside = none_at n ts i d (or_parts (bytes_eq n t.name) (list_any (bytes_eq n) (names ts)) h).1 (omega (arith, inside))
-
 -- two threads have two names
 pub apart : (ts : List Thread) (i j : ℕ) (d : Thread) → are_distinct bytes_eq (names ts) ≡ true → i < length ts → j < length ts → i ≢ j
     → bytes_eq (get_or ts i d).name (get_or ts j d).name ≡ false
-apart [] i j d h below_i below_j differ = let no : ⊥ = omega (arith, below_i) in absurd no
-apart (t ∷ ts) zero zero d h below_i below_j differ = absurd (differ refl)
-apart (t ∷ ts) zero (suc j) d h below_i below_j differ = none_at t.name ts j d (first_apart t.name (names ts) h).0 (omega (arith, below_j))
-apart (t ∷ ts) (suc i) zero d h below_i below_j differ =
-    nat_list_eq_equiv.symm (get_or ts i d).name t.name ∙ none_at t.name ts i d (first_apart t.name (names ts) h).0 (omega (arith, below_i))
-apart (t ∷ ts) (suc i) (suc j) d h below_i below_j differ =
-    apart ts i j d (first_apart t.name (names ts) h).1 (omega (arith, below_i)) (omega (arith, below_j)) (λ same. differ (ap suc same))
+apart ts i j d h below_i below_j differ =
+    let at : (k : ℕ) → get_or (names ts) k d.name ≡ (get_or ts k d).name = λ k. get_or-map (λ t. t.name) ts k d in
+    let long = length-map ts (λ t. t.name) in
+    sym (ap (λ n. bytes_eq n (get_or (names ts) j d.name)) (at i) ∙ ap (λ n. bytes_eq (get_or ts i d).name n) (at j))
+    ∙ names_apart (names ts) i j d.name h (omega (arith, below_i, long)) (omega (arith, below_j, long)) differ
 
 -- each is found by its name
 pub found : (ts : List Thread) (i : ℕ) (d : Thread) → are_distinct bytes_eq (names ts) ≡ true → i < length ts
@@ -47,7 +31,8 @@ found [] i d h inside = let no : ⊥ = omega (arith, inside) in absurd no
 found (t ∷ ts) zero d h inside = ap (λ b. if b then Some t else thread_named t.name ts) (nat_list_eq_equiv.refl t.name)
 found (t ∷ ts) (suc i) d h inside =
     let u = get_or ts i d in
-    ap (λ b. if b then Some t else thread_named u.name ts) (none_at t.name ts i d (first_apart t.name (names ts) h).0 (omega (arith, inside)))
+    let differ : zero ≢ suc i = λ same. let no : ⊥ = omega (arith, same) in no in
+    ap (λ b. if b then Some t else thread_named u.name ts) (apart (t ∷ ts) zero (suc i) d h (omega (arith, inside)) inside differ)
     ∙ found ts i d (first_apart t.name (names ts) h).1 (omega (arith, inside))
 
 -- the names of the threads of a program are distinct

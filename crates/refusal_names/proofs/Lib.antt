@@ -2,5 +2,7 @@ pub mod OutsideLaws
 pub mod ReadLaws
 pub mod LineLaws
 pub mod ThreadLaws
+pub mod FoundNames
 pub mod FoundThreads
+pub mod ForbiddenLaws
 mod Examples

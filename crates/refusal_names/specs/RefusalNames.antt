@@ -1,9 +1,9 @@
 -- What a refusal is about, by name: by its rule, its thread and its place, at which a statement stands.
-use Rattle.std.specs.Prelude.{ℕ, nat_lt, List, [], Bool, length, if◌then◌else◌, Option, Some, None}
+use Rattle.std.specs.Prelude.{ℕ, nat_lt, List, [], Bool, false, true, length, if◌then◌else◌, Option, Some, None}
 use Rattle.cov_ast.specs.Plain.{plain}
 use Rattle.cov_ast.specs.Syntax.{Program, Stm}
 use Rattle.cov_ast.specs.declared.refusal.Rule.{Rule}
-use Rattle.cov_ast.specs.declared.refusal.Rule.TheVariants.{V3, V4, V8, V12, V15, V16, W9}
+use Rattle.cov_ast.specs.declared.refusal.Rule.TheVariants.{V1, V2, V3, V4, V8, V12, V15, V16, W9}
 use Rattle.cov_ast.specs.declared.refusal.Detail.{Detail}
 use Rattle.cov_ast.specs.declared.refusal.Detail.TheVariants.{Three}
 use Rattle.entail_questions.specs.Controls.{controls}
@@ -11,6 +11,7 @@ use Rattle.entail_text.specs.VariableNames.{variable_names}
 use Rattle.held_locks.specs.LocksHeld.{held_along, none_held}
 use Rattle.held_locks.specs.VariableSets.{hidden, stable}
 use Rattle.mode_compat.specs.Compatible.{numbered}
+use Rattle.refusal_names.specs.ForbiddenAccess.{shown_access}
 use Rattle.refusal_names.specs.LargeTerms.{large_line}
 use Rattle.refusal_names.specs.MissingGuarantees.{guarantee_line}
 use Rattle.refusal_names.specs.NameLines.{reads_line, types_line, ends_line, predicates_line, added_line}
@@ -18,26 +19,29 @@ use Rattle.refusal_names.specs.SpokenParts.{evaluated}
 use Rattle.refusal_names.specs.StableSets.{stable_controls, held_where_stated}
 use Rattle.statement_paths.specs.Paths.{Step, Way, way_to}
 
--- of a statement of a thread, behind steps, by the locks that are held in front of it; the bytes are those of the program's text
-abbrev pub line_of : Program → (bytes : List ℕ) → (t : ℕ) → Rule → List Step → (held : List Bool) → Stm → List ℕ
-line_of p bytes t V3 steps held s = reads_line (variable_names p.vars) (stable (plain p) t held) (evaluated s)
-line_of p bytes t V4 steps held s =
+-- Of a statement of a thread, behind steps, by the locks that are held in front of it, and by what the refusal shows. The bytes are those of
+-- the program's text.
+abbrev pub line_of : Program → (bytes : List ℕ) → (t : ℕ) → Rule → Detail → List Step → (held : List Bool) → Stm → List ℕ
+line_of p bytes t V1 detail steps held s = shown_access (variable_names p.vars) bytes (numbered p t) p.locks held false detail
+line_of p bytes t V2 detail steps held s = shown_access (variable_names p.vars) bytes (numbered p t) p.locks held true detail
+line_of p bytes t V3 detail steps held s = reads_line (variable_names p.vars) (stable (plain p) t held) (evaluated s)
+line_of p bytes t V4 detail steps held s =
     let there = held_where_stated s held in
     types_line (plain p) (variable_names p.vars) (stable (plain p) t there) (controls (plain p)) (stable_controls (plain p) t there) s
-line_of p bytes t V8 steps held s = ends_line p.locks held s
-line_of p bytes t V12 steps held s = predicates_line (variable_names p.vars) (stable (plain p) t (held_where_stated s held)) s
-line_of p bytes t V15 steps held s = added_line (plain p) (variable_names p.vars) s
-line_of p bytes t V16 steps held s = large_line p.vars (variable_names p.vars) bytes (hidden (plain p) t held) steps s
-line_of p bytes t rule steps held s = []
+line_of p bytes t V8 detail steps held s = ends_line p.locks held s
+line_of p bytes t V12 detail steps held s = predicates_line (variable_names p.vars) (stable (plain p) t (held_where_stated s held)) s
+line_of p bytes t V15 detail steps held s = added_line (plain p) (variable_names p.vars) s
+line_of p bytes t V16 detail steps held s = large_line p.vars (variable_names p.vars) bytes (hidden (plain p) t held) steps s
+line_of p bytes t rule detail steps held s = []
 
 -- of the statement at the end of a way, if there is one
-abbrev pub line_of_way : Program → (bytes : List ℕ) → (t : ℕ) → Rule → Option Way → List ℕ
-line_of_way p bytes t rule None = []
-line_of_way p bytes t rule (Some w) = line_of p bytes t rule w.steps (held_along w.steps (none_held (plain p))) w.stm
+abbrev pub line_of_way : Program → (bytes : List ℕ) → (t : ℕ) → Rule → Detail → Option Way → List ℕ
+line_of_way p bytes t rule detail None = []
+line_of_way p bytes t rule detail (Some w) = line_of p bytes t rule detail w.steps (held_along w.steps (none_held (plain p))) w.stm
 
 -- of the statement at a place of a thread, where the program has so many threads
-abbrev pub line_at : Program → (bytes : List ℕ) → (t : ℕ) → Rule → (place : ℕ) → List ℕ
-line_at p bytes t rule place = if nat_lt t (length p.threads) then line_of_way p bytes t rule (way_to (numbered p t).body place) else []
+abbrev pub line_at : Program → (bytes : List ℕ) → (t : ℕ) → Rule → (place : ℕ) → Detail → List ℕ
+line_at p bytes t rule place detail = if nat_lt t (length p.threads) then line_of_way p bytes t rule detail (way_to (numbered p t).body place) else []
 
 -- of the declarations, by the names that the refusal shows
 abbrev pub line_of_declarations : Program → (bytes : List ℕ) → Rule → Detail → List ℕ
@@ -47,4 +51,4 @@ line_of_declarations p bytes rule detail = []
 -- the line of a refusal; none where it names no thread and isn't one of W9, no statement, or another rule
 abbrev pub refusal_names : Program → (bytes : List ℕ) → Rule → (thread : Option ℕ) → (place : ℕ) → Detail → List ℕ
 refusal_names p bytes rule None place detail = line_of_declarations p bytes rule detail
-refusal_names p bytes rule (Some t) place detail = line_at p bytes t rule place
+refusal_names p bytes rule (Some t) place detail = line_at p bytes t rule place detail

@@ -128,7 +128,7 @@ fn is_met(assumes_hide: bool, other: &Modes, x: u32) -> bool
 }
 
 /// Whether a number stands in a list.
-fn has_number(numbers: &[u32], x: u32) -> bool
+pub fn has_number(numbers: &[u32], x: u32) -> bool
     ensures { result ≡ tree.has_number numbers.now x }
 {
     numbers.iter().any(|y| *y == x)

@@ -8,12 +8,14 @@ ghost use Rattle.held_locks.specs.VariableSets as variables;
 ghost use Rattle.mode_compat.specs.Compatible.{numbered};
 ghost use Rattle.mode_state.specs.Sets.{modes_at};
 ghost use Rattle.statement_paths.specs.Paths.{way, way_to};
+ghost use Rattle.refusal_names.specs.ForbiddenAccess.{shown_access};
 ghost use Rattle.refusal_names.specs.LargeTerms.{large_line};
 ghost use Rattle.refusal_names.specs.NameLines as lines;
 ghost use Rattle.refusal_names.specs.RefusalNames as spec;
 ghost use Rattle.refusal_names.specs.SpokenParts.{evaluated};
 ghost use Rattle.refusal_names.specs.StableSets as sets;
 
+use crate::access::add_access;
 use crate::added::add_added;
 use crate::ends::add_ends;
 use crate::guarantees::add_guarantee;
@@ -31,8 +33,8 @@ use mode_state::ModeState;
 use statement_paths::{Way, way_to};
 use std::alloc::Global;
 
-/// Adds a line of what a refusal is about, by name. Nothing is added where the rule shows its names itself, where it isn't one of
-/// W9, V3, V4, V8, V12, V15 and V16, and where no statement of the thread stands at the place. `bytes` are the text of the program.
+/// Adds a line of what a refusal is about, by name. Nothing is added where it isn't one of W9, V1, V2, V3, V4, V8, V12, V15 and V16, and
+/// where no statement of the thread stands at the place. `bytes` are the text of the program.
 pub fn add_names(
     alloc: Global,
     p: &Program,
@@ -44,7 +46,7 @@ pub fn add_names(
     ensures { OnOk result (text.new ≡ text.old ++ spec.refusal_names (view.program p.now) bytes.now refusal.now.rule refusal.now.thread refusal.now.place refusal.now.detail) }
 {
     match refusal.thread {
-        Some(t) => add_at(alloc, p, bytes, t, refusal.rule, refusal.place, text),
+        Some(t) => add_at(alloc, p, bytes, t, refusal, text),
         None => add_of_declarations(alloc, p, bytes, refusal.rule, refusal.detail, text),
     }
 }
@@ -75,15 +77,14 @@ fn add_at(
     p: &Program,
     bytes: &[u8],
     t: u32,
-    rule: Rule,
-    place: u32,
+    refusal: &Refusal,
     text: &mut Blob,
 ) -> Result<(), NoMemory>
     requires { IsWellFormed (view.program p.now) }
-    ensures { OnOk result (text.new ≡ text.old ++ spec.line_at (view.program p.now) bytes.now t rule place) }
+    ensures { OnOk result (text.new ≡ text.old ++ spec.line_at (view.program p.now) bytes.now t refusal.now.rule refusal.now.place refusal.now.detail) }
 {
     if (t as usize) < p.threads.len() {
-        add_in_thread(alloc, p, bytes, t, rule, place, text)
+        add_in_thread(alloc, p, bytes, t, refusal, text)
     } else {
         Ok(())
     }
@@ -95,16 +96,15 @@ fn add_in_thread(
     p: &Program,
     bytes: &[u8],
     t: u32,
-    rule: Rule,
-    place: u32,
+    refusal: &Refusal,
     text: &mut Blob,
 ) -> Result<(), NoMemory>
     requires formed { IsWellFormed (view.program p.now) }
     requires thread { t < length p.now.threads }
-    ensures { OnOk result (text.new ≡ text.old ++ spec.line_of_way (view.program p.now) bytes.now t rule (way_to (numbered (view.program p.now) t).body place)) }
+    ensures { OnOk result (text.new ≡ text.old ++ spec.line_of_way (view.program p.now) bytes.now t refusal.now.rule refusal.now.detail (way_to (numbered (view.program p.now) t).body refusal.now.place)) }
 {
-    let found = way_to(alloc, body_of(p, t), place)?;
-    add_of_any(alloc, p, bytes, t, rule, &found, text)
+    let found = way_to(alloc, body_of(p, t), refusal.place)?;
+    add_of_any(alloc, p, bytes, t, refusal, &found, text)
 }
 
 /// Adds the line of the statement at the end of a way, if there is one.
@@ -113,16 +113,16 @@ fn add_of_any(
     p: &Program,
     bytes: &[u8],
     t: u32,
-    rule: Rule,
+    refusal: &Refusal,
     found: &Option<Way<'_>>,
     text: &mut Blob,
 ) -> Result<(), NoMemory>
     requires formed { IsWellFormed (view.program p.now) }
     requires thread { t < length p.now.threads }
-    ensures { OnOk result (text.new ≡ text.old ++ spec.line_of_way (view.program p.now) bytes.now t rule (option_map way found.now)) }
+    ensures { OnOk result (text.new ≡ text.old ++ spec.line_of_way (view.program p.now) bytes.now t refusal.now.rule refusal.now.detail (option_map way found.now)) }
 {
     match found {
-        Some(found) => add_of_way(alloc, p, bytes, t, rule, found, text),
+        Some(found) => add_of_way(alloc, p, bytes, t, refusal, found, text),
         None => Ok(()),
     }
 }
@@ -133,17 +133,17 @@ fn add_of_way(
     p: &Program,
     bytes: &[u8],
     t: u32,
-    rule: Rule,
+    refusal: &Refusal,
     found: &Way<'_>,
     text: &mut Blob,
 ) -> Result<(), NoMemory>
     requires formed { IsWellFormed (view.program p.now) }
     requires thread { t < length p.now.threads }
     ensures { let w = way found.now in
-        OnOk result (text.new ≡ text.old ++ spec.line_of (view.program p.now) bytes.now t rule w.steps (held_along w.steps (none_held (plain (view.program p.now)))) w.stm) }
+        OnOk result (text.new ≡ text.old ++ spec.line_of (view.program p.now) bytes.now t refusal.now.rule refusal.now.detail w.steps (held_along w.steps (none_held (plain (view.program p.now)))) w.stm) }
 {
     let modes = modes_along(alloc, p, t, found.steps.as_slice())?;
-    add_line(alloc, p, bytes, t, rule, modes, found, text)
+    add_line(alloc, p, bytes, t, refusal, modes, found, text)
 }
 
 /// Adds the line of the statement at the end of a way, by the modes in front of it.
@@ -152,19 +152,22 @@ fn add_line(
     p: &Program,
     bytes: &[u8],
     t: u32,
-    rule: Rule,
+    refusal: &Refusal,
     modes: ModeState,
     found: &Way<'_>,
     text: &mut Blob,
 ) -> Result<(), NoMemory>
     requires formed { IsWellFormed (view.program p.now) }
+    requires thread { t < length p.now.threads }
     requires modes { modes ≡ modes_at (plain (view.program p.now)) t modes.held }
     ensures { let w = way found.now in
-        OnOk result (text.new ≡ text.old ++ spec.line_of (view.program p.now) bytes.now t rule w.steps modes.held w.stm) }
+        OnOk result (text.new ≡ text.old ++ spec.line_of (view.program p.now) bytes.now t refusal.now.rule refusal.now.detail w.steps modes.held w.stm) }
 {
     let names = variable_names(alloc, p)?;
     let kind = &found.stmt.kind;
-    match rule {
+    match refusal.rule {
+        Rule::V1 => add_access_in(p, &names, bytes, t, &modes, false, refusal.detail, text),
+        Rule::V2 => add_access_in(p, &names, bytes, t, &modes, true, refusal.detail, text),
         Rule::V3 => add_unstable_reads(alloc, p, &names, &modes, kind, text),
         Rule::V4 => add_bad_type(alloc, p, &names, modes, kind, text),
         Rule::V8 => add_ends(alloc, p.locks.as_slice(), modes, kind, text),
@@ -173,6 +176,35 @@ fn add_line(
         Rule::V16 => add_too_large(alloc, p, &names, bytes, &modes, found, text),
         _ => Ok(()),
     }
+}
+
+/// Adds why a thread may not read, or write, the variable that a refusal shows.
+fn add_access_in(
+    p: &Program,
+    names: &NameTable,
+    bytes: &[u8],
+    t: u32,
+    modes: &ModeState,
+    writes: bool,
+    detail: Detail,
+    text: &mut Blob,
+) -> Result<(), NoMemory>
+    requires formed { IsWellFormed (view.program p.now) }
+    requires thread { t < length p.now.threads }
+    ensures { OnOk result (let q = view.program p.now in
+        text.new ≡ text.old ++ shown_access names.now bytes.now (numbered q t) q.locks (modes.now).held writes detail) }
+{
+    let thread = &p.threads.as_slice()[t as usize];
+    add_access(
+        names,
+        bytes,
+        thread,
+        p.locks.as_slice(),
+        modes,
+        writes,
+        detail,
+        text,
+    )
 }
 
 /// Adds what others may write between two reads of a statement.
