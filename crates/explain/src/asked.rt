@@ -15,7 +15,7 @@ use policy_class::resolve;
 use refusal_names::add_names;
 use std::alloc::Global;
 
-/// Adds what a refusal of bytes is about: of W9, V3, V4, V8, V12, V15 and V16 names, of V9 the entailment, of other rules nothing.
+/// Adds what a refusal of bytes is about: of W9, V1, V2, V3, V4, V8, V12, V15 and V16 names, of V9 the entailment, of other rules nothing.
 pub fn add_asked(
     alloc: Global,
     bytes: &[u8],
