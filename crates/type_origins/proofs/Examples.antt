@@ -20,13 +20,13 @@ use Rattle.type_origins.specs.declared.origin.Later.{Later}
 use Rattle.type_origins.specs.declared.origin.TypeSource.{TypeSource}
 use Rattle.type_origins.specs.declared.origin.TypeSource.TheVariants as source
 
--- var m: low; var buf: low when m == 0; var o: high; lock l hide m, buf; thread t assume nowrite o
+-- var m: low; var buf: low when m == 0; var o: high; var n: low; lock l hide m, buf; thread t assume nowrite o
 abbrev program : Plain
 program = record {
   vars =
       record { name = codes "m"; at = 0; class = s.low }
       ∷ record { name = codes "buf"; at = 0; class = s.when (bin Eq (var 0) (const 0)) }
-      ∷ record { name = codes "o"; at = 0; class = s.high } ∷ [];
+      ∷ record { name = codes "o"; at = 0; class = s.high } ∷ record { name = codes "n"; at = 0; class = s.low } ∷ [];
   locks = record { name = codes "l"; at = 0; nowrite = []; hide = 0 ∷ 1 ∷ []; inv = None } ∷ [];
   threads = record { name = codes "t"; modes = record no_modes { assume_nowrite = 2 ∷ [] }; body = none } ∷ [];
 }
@@ -142,22 +142,25 @@ a_control_and_an_assignment : type_lines program 0 text (taken ∷ stored ∷ ra
 a_control_and_an_assignment = simp (decimal_digit 2 (lit< tt), decimal_digit 3 (lit< tt))
 
 not_stable : type_lines program 0 text (taken ∷ returned ∷ []) q.Guard (s.branch (var 1) s.done s.done (stated []))
-    ≡ codes "  type of buf:  its class, since others may write it here\n"
-not_stable = refl
+    ≡ codes "  type of buf:  its class `m == 0`, since others may write it here\n"
+not_stable = simp (decimal_digit 0 (lit< tt))
+
+a_low_variable : type_lines program 0 text [] q.Printed (s.output (var 3)) ≡ codes "  type of n:  its class `1`, since others may write it here\n"
+a_low_variable = simp (decimal_digit 1 (lit< tt))
 
 -- under its lock nobody else reads `buf`
 hidden : type_lines program 0 text (taken ∷ joined [] ∷ []) (q.Freed 1) (s.unlock 0) ≡ codes "  type of buf:  0, since the join, line 4, doesn't list it\n"
 hidden = simp (decimal_digit 4 (lit< tt))
 
 not_hidden : type_lines program 0 text (joined [] ∷ returned ∷ []) (q.Retyped 2) s.skip
-    ≡ codes "  type of o:  its class, since the join, line 4, doesn't list it; then l is given back, line 4, which forgets a type that mentions what it protects\n"
-not_hidden = simp (decimal_digit 4 (lit< tt))
+    ≡ codes "  type of o:  its class `0`, since the join, line 4, doesn't list it; then l is given back, line 4, which forgets a type that mentions what it protects\n"
+not_hidden = simp (decimal_digit 0 (lit< tt), decimal_digit 4 (lit< tt))
 
-by_its_lock : type_lines program 0 text (taken ∷ []) (q.Controlled 1) s.skip ≡ codes "  type of buf:  its class, from the lock l, line 2\n"
-by_its_lock = simp (decimal_digit 2 (lit< tt))
+by_its_lock : type_lines program 0 text (taken ∷ []) (q.Controlled 1) s.skip ≡ codes "  type of buf:  its class `m == 0`, from the lock l, line 2\n"
+by_its_lock = simp (decimal_digit 0 (lit< tt), decimal_digit 2 (lit< tt))
 
-at_the_start : type_lines program 0 text [] (q.TypeOf e.Here 2) s.skip ≡ codes "  type of o:  its class, from the start of the thread\n"
-at_the_start = refl
+at_the_start : type_lines program 0 text [] (q.TypeOf e.Here 2) s.skip ≡ codes "  type of o:  its class `0`, from the start of the thread\n"
+at_the_start = simp (decimal_digit 0 (lit< tt))
 
 no_lines : type_lines program 0 text [] (q.Invariant 0) (s.unlock 0) ≡ []
 no_lines = refl

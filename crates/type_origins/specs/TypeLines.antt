@@ -1,11 +1,14 @@
--- A line for each variable whose type makes up a goal: where its type comes from.
+-- A line for each variable whose type makes up a goal: where its type comes from. Classes are spelled canonically.
 use Rattle.std.specs.Prelude.{ℕ, List, [], ◌∷◌, ◌++◌, Bool, true, false, codes, decimal, if◌then◌else◌, Option, Some, None}
-use Rattle.cov_ast.specs.Declarations.{lock_at, name_of}
+use Rattle.cov_expr.specs.Term.{Term}
+use Rattle.cov_ast.specs.Declarations.{class_of, lock_at, name_of}
 use Rattle.cov_ast.specs.Plain.{Plain}
 use Rattle.cov_ast.specs.Syntax.{Stm}
 use Rattle.cov_ast.specs.Tables.{has}
+use Rattle.cov_print.specs.Spelling.{Names, whole}
 use Rattle.entail_questions.specs.Controls.{controls}
 use Rattle.entail_questions.specs.declared.kinds.Question.{Question}
+use Rattle.entail_text.specs.VariableNames.{variable_names}
 use Rattle.held_locks.specs.LocksHeld.{held_along, none_held}
 use Rattle.held_locks.specs.VariableSets.{hidden, stable}
 use Rattle.statement_paths.specs.Paths.{Step}
@@ -48,23 +51,31 @@ listed_text by.LoopState = codes "listed by the inv"
 listed_text by.Noted = codes "listed by the note"
 listed_text by.Retype = codes "from the retype"
 
--- the type of what isn't listed: nothing is known of a variable that no other thread may read, and of each other one its class
-abbrev pub default_text : (hidden : Bool) → List ℕ
-default_text true = codes "0, since the "
-default_text false = codes "its class, since the "
+-- a class that is this expression
+abbrev pub spelled_class : Names → Term → List ℕ
+spelled_class names e = codes "its class `" ++ whole names e ++ codes "`"
 
-abbrev pub taken_text : Plain → (l : ℕ) → List ℕ
-taken_text p l = codes "its class, from the lock " ++ (lock_at p l).name
+-- the class of a variable
+abbrev pub class_text : Plain → Names → (z : ℕ) → List ℕ
+class_text p names z = spelled_class names (class_of p z)
 
-abbrev pub unlisted_text : (hidden : Bool) → By → List ℕ
-unlisted_text hidden by = default_text hidden ++ list_word by
+-- what is known of a variable without more: nothing where no other thread may read it, and else its class
+abbrev pub default_text : Plain → Names → (hidden : Bool) → (z : ℕ) → List ℕ
+default_text p names true z = codes "0"
+default_text p names false z = class_text p names z
 
--- what sets a type, in front of the line of it
-abbrev pub source_text : Plain → (hidden : Bool) → TypeSource → List ℕ
-source_text p hidden source.Stored = codes "from the assignment"
-source_text p hidden (source.Taken l) = taken_text p l
-source_text p hidden (source.Listed by) = listed_text by
-source_text p hidden (source.Unlisted by) = unlisted_text hidden by
+abbrev pub taken_text : Plain → Names → (z l : ℕ) → List ℕ
+taken_text p names z l = class_text p names z ++ codes ", from the lock " ++ (lock_at p l).name
+
+abbrev pub unlisted_text : Plain → Names → (hidden : Bool) → (z : ℕ) → By → List ℕ
+unlisted_text p names hidden z by = default_text p names hidden z ++ codes ", since the " ++ list_word by
+
+-- what sets the type of a variable, in front of the line of it
+abbrev pub source_text : Plain → Names → (hidden : Bool) → (z : ℕ) → TypeSource → List ℕ
+source_text p names hidden z source.Stored = codes "from the assignment"
+source_text p names hidden z (source.Taken l) = taken_text p names z l
+source_text p names hidden z (source.Listed by) = listed_text by
+source_text p names hidden z (source.Unlisted by) = unlisted_text p names hidden z by
 
 -- what stands behind the line of it
 abbrev pub source_end : TypeSource → List ℕ
@@ -77,13 +88,17 @@ source_end (source.Unlisted by) = codes ", doesn't list it"
 abbrev pub place_text : (bytes : List ℕ) → (at : ℕ) → List ℕ
 place_text bytes at = codes ", line " ++ decimal (line bytes at)
 
-abbrev pub set_text : Plain → (bytes : List ℕ) → (hidden : Bool) → TypeOrigin → List ℕ
-set_text p bytes hidden o = source_text p hidden o.source ++ place_text bytes o.at ++ source_end o.source
+abbrev pub set_text : Plain → Names → (bytes : List ℕ) → (hidden : Bool) → (z : ℕ) → TypeOrigin → List ℕ
+set_text p names bytes hidden z o = source_text p names hidden z o.source ++ place_text bytes o.at ++ source_end o.source
 
--- where a type comes from; where no step sets it, from the start
-abbrev pub origin_text : Plain → (bytes : List ℕ) → (hidden : Bool) → Option TypeOrigin → List ℕ
-origin_text p bytes hidden None = codes "its class, from the start of the thread"
-origin_text p bytes hidden (Some o) = set_text p bytes hidden o
+-- a type that no step sets is the class
+abbrev pub start_text : Plain → Names → (z : ℕ) → List ℕ
+start_text p names z = class_text p names z ++ codes ", from the start of the thread"
+
+-- where the type of a variable comes from
+abbrev pub origin_text : Plain → Names → (bytes : List ℕ) → (hidden : Bool) → (z : ℕ) → Option TypeOrigin → List ℕ
+origin_text p names bytes hidden z None = start_text p names z
+origin_text p names bytes hidden z (Some o) = set_text p names bytes hidden z o
 
 -- The words on a later change ----------------------------------------------------------------------------------
 
@@ -115,23 +130,27 @@ later_text p bytes (Some c) = forgotten_text p bytes c
 
 -- Lines --------------------------------------------------------------------------------------------------------
 
-abbrev pub history_text : Plain → (bytes : List ℕ) → (hidden : Bool) → History → List ℕ
-history_text p bytes hidden h = origin_text p bytes hidden h.origin ++ later_text p bytes h.later
+abbrev pub history_text : Plain → Names → (bytes : List ℕ) → (hidden : Bool) → (z : ℕ) → History → List ℕ
+history_text p names bytes hidden z h = origin_text p names bytes hidden z h.origin ++ later_text p bytes h.later
 
 -- what stands in front of the words on a variable
 abbrev pub label : Plain → (z : ℕ) → List ℕ
 label p z = codes "  type of " ++ name_of p z ++ codes ":  "
 
-module _ (p : Plain) (bytes : List ℕ) (steps : List Step) (known : Known) where
+-- of a variable that others may write
+abbrev pub shared_text : Plain → Names → (z : ℕ) → List ℕ
+shared_text p names z = class_text p names z ++ codes ", since others may write it here"
+
+module _ (p : Plain) (names : Names) (bytes : List ℕ) (steps : List Step) (known : Known) where
   -- of a variable that is tracked
   abbrev pub tracked_text : (z : ℕ) → List ℕ
-  tracked_text z = history_text p bytes (has known.hidden z) (history known.controls (locks_over p z) z steps)
+  tracked_text z = history_text p names bytes (has known.hidden z) z (history known.controls (locks_over p z) z steps)
 
   -- where the type of a variable behind steps comes from
   abbrev pub type_text : (z : ℕ) → List ℕ
   type_text z =
       if has known.controls z then codes "1, as that of every control" else
-      (if has known.stable z then tracked_text z else codes "its class, since others may write it here")
+      (if has known.stable z then tracked_text z else shared_text p names z)
 
   abbrev pub type_line : (z : ℕ) → List ℕ
   type_line z = label p z ++ type_text z ++ codes "\n"
@@ -143,4 +162,4 @@ module _ (p : Plain) (bytes : List ℕ) (steps : List Step) (known : Known) wher
 -- The lines on the variables whose types make up the goal of what is asked of a statement. The steps are those of a thread to the
 -- point of which is asked.
 abbrev pub type_lines : Plain → (t : ℕ) → (bytes : List ℕ) → List Step → Question → Stm → List ℕ
-type_lines p t bytes steps question s = lines_of p bytes steps (known_behind p t steps) (variables_of question s)
+type_lines p t bytes steps question s = lines_of p (variable_names p.vars) bytes steps (known_behind p t steps) (variables_of question s)

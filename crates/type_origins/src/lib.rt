@@ -9,11 +9,12 @@
 //! |---|---|---|
 //! | `origin`, `steps` | `TypeOrigins` | what a step does to the type of a variable, and which steps count |
 //! | `asked` | `AskedVariables` | whose types make up a goal |
-//! | `known`, `lines`, `words` | `TypeLines` | the lines, by what is known of the variables at the point |
+//! | `known`, `lines`, `class`, `words` | `TypeLines` | the lines, by what is known of the variables at the point |
 //! | `laws` | `TypesFromOrigins` | what a history says of the type at a point |
 #![tactic(auto)]
 
 mod asked;
+mod class;
 mod known;
 mod laws;
 mod lines;

@@ -10,13 +10,15 @@ ghost use Rattle.type_origins.specs.TypeLines as spec;
 ghost use Rattle.type_origins.specs.TypeOrigins.{history, locks_over};
 
 use crate::asked::variables_of;
+use crate::class::{add_class, add_default, add_shared, add_start};
 use crate::known::{Known, known_behind};
 use crate::origin::{By, Change, History, Later, TypeOrigin, TypeSource};
 use crate::steps::{history_of, locks_over};
-use crate::words::{change_end, change_word, default_text, list_word, listed_text, source_end};
-use cov_ast::{Program, StmtKind};
+use crate::words::{change_end, change_word, list_word, listed_text, source_end};
+use cov_ast::{NameTable, Program, StmtKind};
 use cov_expr::{Blob, NoMemory};
 use entail_questions::Question;
+use entail_text::variable_names;
 use statement_paths::Step;
 use std::alloc::Global;
 use text_lines::position;
@@ -25,8 +27,8 @@ use text_parts::{add_lock_name, add_number, add_variable_name};
 /// Adds a line for each variable whose type makes up the goal of what is asked of a statement: where that type comes from. `steps` are
 /// those from the start of the thread to the point of which is asked, and `bytes` are the text of the program.
 ///
-/// For each such variable it takes time in proportion to the text, to what the steps list and to the lists of the locks, and for each
-/// variable of the program to the classes.
+/// For each such variable it takes time in proportion to the text, to what the steps list, to the lists of the locks and to the class of the
+/// variable; once, to the names, and for each variable of the program to the classes.
 pub fn add_type_lines(
     alloc: Global,
     p: &Program,
@@ -43,23 +45,34 @@ pub fn add_type_lines(
 {
     let known = known_behind(alloc, p, t, steps)?;
     let variables = variables_of(alloc, question, kind)?;
-    add_lines(alloc, p, bytes, steps, &known, variables.as_slice(), text)
+    let names = variable_names(alloc, p)?;
+    add_lines(
+        alloc,
+        p,
+        &names,
+        bytes,
+        steps,
+        &known,
+        variables.as_slice(),
+        text,
+    )
 }
 
 /// Adds the line of each of some variables.
 fn add_lines(
     alloc: Global,
     p: &Program,
+    names: &NameTable,
     bytes: &[u8],
     steps: &[Step<'_>],
     known: &Known,
     variables: &[u32],
     text: &mut Blob,
 ) -> Result<(), NoMemory>
-    ensures { OnOk result (text.new ≡ text.old ++ spec.lines_of (plain (view.program p.now)) bytes.now (map paths.step steps.now) known.now variables.now) }
+    ensures { OnOk result (text.new ≡ text.old ++ spec.lines_of (plain (view.program p.now)) names.now bytes.now (map paths.step steps.now) known.now variables.now) }
 {
     for z in variables {
-        add_line(alloc, p, bytes, steps, known, *z, text)?;
+        add_line(alloc, p, names, bytes, steps, known, *z, text)?;
     }
     Ok(())
 }
@@ -68,16 +81,17 @@ fn add_lines(
 fn add_line(
     alloc: Global,
     p: &Program,
+    names: &NameTable,
     bytes: &[u8],
     steps: &[Step<'_>],
     known: &Known,
     z: u32,
     text: &mut Blob,
 ) -> Result<(), NoMemory>
-    ensures { OnOk result (text.new ≡ text.old ++ spec.type_line (plain (view.program p.now)) bytes.now (map paths.step steps.now) known.now z) }
+    ensures { OnOk result (text.new ≡ text.old ++ spec.type_line (plain (view.program p.now)) names.now bytes.now (map paths.step steps.now) known.now z) }
 {
     add_label(p, z, text)?;
-    add_type(alloc, p, bytes, steps, known, z, text)?;
+    add_type(alloc, p, names, bytes, steps, known, z, text)?;
     text.extend_from_slice(b"\n")
 }
 
@@ -94,20 +108,21 @@ fn add_label(p: &Program, z: u32, text: &mut Blob) -> Result<(), NoMemory>
 fn add_type(
     alloc: Global,
     p: &Program,
+    names: &NameTable,
     bytes: &[u8],
     steps: &[Step<'_>],
     known: &Known,
     z: u32,
     text: &mut Blob,
 ) -> Result<(), NoMemory>
-    ensures { OnOk result (text.new ≡ text.old ++ spec.type_text (plain (view.program p.now)) bytes.now (map paths.step steps.now) known.now z) }
+    ensures { OnOk result (text.new ≡ text.old ++ spec.type_text (plain (view.program p.now)) names.now bytes.now (map paths.step steps.now) known.now z) }
 {
     if known.controls.has(z) {
         text.extend_from_slice(b"1, as that of every control")
     } else if known.stable.has(z) {
-        add_tracked(alloc, p, bytes, steps, known, z, text)
+        add_tracked(alloc, p, names, bytes, steps, known, z, text)
     } else {
-        text.extend_from_slice(b"its class, since others may write it here")
+        add_shared(p, names, z, text)
     }
 }
 
@@ -115,89 +130,118 @@ fn add_type(
 fn add_tracked(
     alloc: Global,
     p: &Program,
+    names: &NameTable,
     bytes: &[u8],
     steps: &[Step<'_>],
     known: &Known,
     z: u32,
     text: &mut Blob,
 ) -> Result<(), NoMemory>
-    ensures { OnOk result (text.new ≡ text.old ++ spec.tracked_text (plain (view.program p.now)) bytes.now (map paths.step steps.now) known.now z) }
+    ensures { OnOk result (text.new ≡ text.old ++ spec.tracked_text (plain (view.program p.now)) names.now bytes.now (map paths.step steps.now) known.now z) }
 {
     let locks = locks_over(alloc, p, z)?;
     let history = history_of(&known.controls, &locks, z, steps);
-    add_history(p, bytes, known.hidden.has(z), &history, text)
+    add_history(p, names, bytes, known.hidden.has(z), z, &history, text)
 }
 
-/// Adds the history of a type.
+/// Adds the history of the type of a variable.
 fn add_history(
     p: &Program,
+    names: &NameTable,
     bytes: &[u8],
     hidden: bool,
+    z: u32,
     history: &History,
     text: &mut Blob,
 ) -> Result<(), NoMemory>
-    ensures { OnOk result (text.new ≡ text.old ++ spec.history_text (plain (view.program p.now)) bytes.now hidden history.now) }
+    ensures { OnOk result (text.new ≡ text.old ++ spec.history_text (plain (view.program p.now)) names.now bytes.now hidden z history.now) }
 {
-    add_any_origin(p, bytes, hidden, history.origin, text)?;
+    add_any_origin(p, names, bytes, hidden, z, history.origin, text)?;
     add_any_later(p, bytes, history.later, text)
 }
 
-/// Adds where a type comes from.
+/// Adds where the type of a variable comes from.
 fn add_any_origin(
     p: &Program,
+    names: &NameTable,
     bytes: &[u8],
     hidden: bool,
+    z: u32,
     origin: Option<TypeOrigin>,
     text: &mut Blob,
 ) -> Result<(), NoMemory>
-    ensures { OnOk result (text.new ≡ text.old ++ spec.origin_text (plain (view.program p.now)) bytes.now hidden origin) }
+    ensures { OnOk result (text.new ≡ text.old ++ spec.origin_text (plain (view.program p.now)) names.now bytes.now hidden z origin) }
 {
     match origin {
-        Some(origin) => add_origin(p, bytes, hidden, origin, text),
-        None => text.extend_from_slice(b"its class, from the start of the thread"),
+        Some(origin) => add_origin(p, names, bytes, hidden, z, origin, text),
+        None => add_start(p, names, z, text),
     }
 }
 
-/// Adds what sets a type, and its line.
+/// Adds what sets the type of a variable, and its line.
 fn add_origin(
     p: &Program,
+    names: &NameTable,
     bytes: &[u8],
     hidden: bool,
+    z: u32,
     origin: TypeOrigin,
     text: &mut Blob,
 ) -> Result<(), NoMemory>
-    ensures { OnOk result (text.new ≡ text.old ++ spec.set_text (plain (view.program p.now)) bytes.now hidden origin) }
+    ensures { OnOk result (text.new ≡ text.old ++ spec.set_text (plain (view.program p.now)) names.now bytes.now hidden z origin) }
 {
-    add_source(p, hidden, origin.source, text)?;
+    add_source(p, names, hidden, z, origin.source, text)?;
     add_place(bytes, origin.at, text)?;
     text.extend_from_slice(source_end(origin.source).as_bytes())
 }
 
-/// Adds what sets a type.
-fn add_source(p: &Program, hidden: bool, source: TypeSource, text: &mut Blob) -> Result<(), NoMemory>
-    ensures { OnOk result (text.new ≡ text.old ++ spec.source_text (plain (view.program p.now)) hidden source) }
+/// Adds what sets the type of a variable.
+fn add_source(
+    p: &Program,
+    names: &NameTable,
+    hidden: bool,
+    z: u32,
+    source: TypeSource,
+    text: &mut Blob,
+) -> Result<(), NoMemory>
+    ensures { OnOk result (text.new ≡ text.old ++ spec.source_text (plain (view.program p.now)) names.now hidden z source) }
 {
     match source {
         TypeSource::Stored => text.extend_from_slice(b"from the assignment"),
-        TypeSource::Taken(l) => add_taken(p, l, text),
+        TypeSource::Taken(l) => add_taken(p, names, z, l, text),
         TypeSource::Listed(by) => text.extend_from_slice(listed_text(by).as_bytes()),
-        TypeSource::Unlisted(by) => add_unlisted(hidden, by, text),
+        TypeSource::Unlisted(by) => add_unlisted(p, names, hidden, z, by, text),
     }
 }
 
-/// Adds that a lock is taken.
-fn add_taken(p: &Program, l: u32, text: &mut Blob) -> Result<(), NoMemory>
-    ensures { OnOk result (text.new ≡ text.old ++ spec.taken_text (plain (view.program p.now)) l) }
+/// Adds that a lock is taken, which a variable is under.
+fn add_taken(
+    p: &Program,
+    names: &NameTable,
+    z: u32,
+    l: u32,
+    text: &mut Blob,
+) -> Result<(), NoMemory>
+    ensures { OnOk result (text.new ≡ text.old ++ spec.taken_text (plain (view.program p.now)) names.now z l) }
 {
-    text.extend_from_slice(b"its class, from the lock ")?;
+    add_class(p, names, z, text)?;
+    text.extend_from_slice(b", from the lock ")?;
     add_lock_name(p, l, text)
 }
 
-/// Adds that a type isn't listed.
-fn add_unlisted(hidden: bool, by: By, text: &mut Blob) -> Result<(), NoMemory>
-    ensures { OnOk result (text.new ≡ text.old ++ spec.unlisted_text hidden by) }
+/// Adds that the type of a variable isn't listed.
+fn add_unlisted(
+    p: &Program,
+    names: &NameTable,
+    hidden: bool,
+    z: u32,
+    by: By,
+    text: &mut Blob,
+) -> Result<(), NoMemory>
+    ensures { OnOk result (text.new ≡ text.old ++ spec.unlisted_text (plain (view.program p.now)) names.now hidden z by) }
 {
-    text.extend_from_slice(default_text(hidden).as_bytes())?;
+    add_default(p, names, hidden, z, text)?;
+    text.extend_from_slice(b", since the ")?;
     text.extend_from_slice(list_word(by).as_bytes())
 }
 

@@ -29,17 +29,6 @@ pub fn listed_text(by: By) -> &'static str
     }
 }
 
-/// The type of what isn't listed.
-pub fn default_text(hidden: bool) -> &'static str
-    ensures { result.now ≡ spec.default_text hidden }
-{
-    if hidden {
-        "0, since the "
-    } else {
-        "its class, since the "
-    }
-}
-
 /// What stands behind the line of what sets a type.
 pub fn source_end(source: TypeSource) -> &'static str
     ensures { result.now ≡ spec.source_end source }

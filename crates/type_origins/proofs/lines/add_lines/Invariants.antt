@@ -10,4 +10,4 @@ abbrev pub invariant-loop-z : goal.invariant-loop-z
 invariant-loop-z l =
     let p = plain (view.program l.p) in
     let steps = map paths.step l.steps in
-    l.text ++ spec.lines_of p l.bytes steps l.known (drop l.z-index l.variables) ≡ l.fn.text ++ spec.lines_of p l.bytes steps l.known l.variables
+    l.text ++ spec.lines_of p l.names l.bytes steps l.known (drop l.z-index l.variables) ≡ l.fn.text ++ spec.lines_of p l.names l.bytes steps l.known l.variables
