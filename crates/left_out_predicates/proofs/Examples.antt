@@ -1,15 +1,18 @@
 -- Small ways, and what was left out on them, by computation.
-use Rattle.std.proofs.Common.{◌≡◌, ℕ, List, [], ◌∷◌, length, Some, None, true, false, refl, codes, lit<}
+use Rattle.std.proofs.Common.{◌≡◌, ℕ, List, [], ◌∷◌, Bool, length, Some, None, true, false, refl, codes, lit<}
 use Rattle.std.proofs.lemmas.Fmt.{decimal_digit}
 use Rattle.cov_expr.specs.declared.expr.Op.TheVariants.{Eq, Le}
 use Rattle.cov_expr.specs.Term.{Term, const, var, neg, bin}
+use Rattle.cov_expr.specs.Trees.{has_term}
 use Rattle.cov_ast.specs.Plain.{Plain}
 use Rattle.cov_ast.specs.Syntax as s
 use Rattle.hypothesis_origins.specs.Origins.{given}
+use Rattle.hypothesis_origins.specs.Points.{point_behind}
 use Rattle.hypothesis_origins.specs.declared.origin.Source.TheVariants.{Assigned, Invariant, LoopLeft, Noted, GuardFails}
 use Rattle.statement_paths.specs.Paths.{Step, passed, no, head}
 use Rattle.left_out_predicates.specs.LeftOut.{LeftOut, left_out, left_out_at, state_at}
 use Rattle.left_out_predicates.specs.LeftOutLines.{left_out_line}
+use Rattle.left_out_predicates.specs.WouldBeKnown.{first_listed, first_state, listing}
 use Rattle.left_out_predicates.specs.declared.states.StateKind.TheVariants as of
 
 -- lock door has x and the invariant x <= 2
@@ -105,6 +108,43 @@ many = bin Le (var 0) (const 1) ∷ bin Le (var 0) (const 2) ∷ bin Le (var 0) 
 
 at_most_eight : length (left_out program [] (true ∷ true ∷ []) (noted 5 many ∷ noted 7 [] ∷ [])) ≡ 8
 at_most_eight = refl
+
+-- Had the states listed it -----------------------------------------------------------------------------------------
+
+abbrev knows : List Step → Bool
+knows steps = has_term (point_behind program 0 steps).preds small
+
+-- known in front of the note, forgotten behind it
+in_front_of_the_note : knows (taken ∷ []) ≡ true
+in_front_of_the_note = refl
+
+forgotten : knows (taken ∷ noted 7 [] ∷ choice ∷ []) ≡ false
+forgotten = refl
+
+listed : knows (taken ∷ listing small (noted 7 [] ∷ choice ∷ [])) ≡ true
+listed = refl
+
+-- not where only the first state lists it
+listed_once : knows (taken ∷ noted 7 (small ∷ []) ∷ choice ∷ []) ≡ false
+listed_once = refl
+
+-- what assigns the variable, or gives back its lock, forgets it all the same
+assigned : knows (taken ∷ listing small (noted 7 [] ∷ one ∷ [])) ≡ false
+assigned = refl
+
+given_back : knows (taken ∷ listing small (noted 7 [] ∷ freed ∷ [])) ≡ false
+given_back = refl
+
+states_list_it : listing small (one ∷ noted 7 [] ∷ choice ∷ passed 6 (s.loop (var 1) (stated []) s.done) ∷ head 6 (stated (is_one ∷ [])) ∷ no 5 (var 1) ∷ [])
+    ≡ one ∷ noted 7 (small ∷ []) ∷ passed 8 (s.branch (var 1) s.done s.done (stated (small ∷ []))) ∷ passed 6 (s.loop (var 1) (stated (small ∷ [])) s.done)
+    ∷ head 6 (stated (is_one ∷ small ∷ [])) ∷ no 5 (var 1) ∷ []
+states_list_it = refl
+
+first_is_the_note : first_state (one ∷ noted 7 (small ∷ []) ∷ choice ∷ []) ≡ Some (state_at of.Note 7)
+first_is_the_note = refl
+
+note_lists_it : first_listed (one ∷ noted 7 (small ∷ []) ∷ choice ∷ []) ≡ small ∷ []
+note_lists_it = refl
 
 -- A line -------------------------------------------------------------------------------------------------------
 
