@@ -31,16 +31,16 @@ abbrev pub There : {A : Type 0} → Option A → Type 0
 There None = ⊥
 There (Some x) = Unit {0}
 
-abbrev In : (x : ℕ) → List ℕ → Type 0
+abbrev pub In : (x : ℕ) → List ℕ → Type 0
 In x [] = ⊥
 In x (y ∷ ys) = (y ≡ x) ⊎ In x ys
 
-in_left : (x : ℕ) (xs ys : List ℕ) → In x xs → In x (xs ++ ys)
+pub in_left : (x : ℕ) (xs ys : List ℕ) → In x xs → In x (xs ++ ys)
 in_left x [] ys h = absurd h
 in_left x (y ∷ xs) ys (inl h) = inl h
 in_left x (y ∷ xs) ys (inr h) = inr (in_left x xs ys h)
 
-in_right : (x : ℕ) (xs ys : List ℕ) → In x ys → In x (xs ++ ys)
+pub in_right : (x : ℕ) (xs ys : List ℕ) → In x ys → In x (xs ++ ys)
 in_right x [] ys h = h
 in_right x (y ∷ xs) ys h = inr (in_right x xs ys h)
 
@@ -49,7 +49,7 @@ eqb_same n = eq-eqb n n refl
 
 -- Numbers that differ ----------------------------------------------------------------------------------------------
 
-abbrev Differ : List ℕ → Type 0
+abbrev pub Differ : List ℕ → Type 0
 Differ [] = Unit {0}
 Differ (x ∷ xs) = (In x xs → ⊥) × Differ xs
 
@@ -60,21 +60,21 @@ not_in x (y ∷ ys) h (inl k) =
     true≢false (sym (eqb_same x) ∙ ap (λ z. x == z) (sym k) ∙ parts.0)
 not_in x (y ∷ ys) h (inr k) = not_in x ys (or_parts (x == y) (list_any (λ z. x == z) ys) h).1 k
 
-differ : (xs : List ℕ) → are_distinct (◌==◌) xs ≡ true → Differ xs
+pub differ : (xs : List ℕ) → are_distinct (◌==◌) xs ≡ true → Differ xs
 differ [] h = tt
 differ (x ∷ xs) h =
     let parts = and_parts (not (list_any (λ y. x == y) xs)) (are_distinct (◌==◌) xs) h in
     (not_in x xs (not-true (list_any (λ y. x == y) xs) parts.0), differ xs parts.1)
 
-differ_left : (xs ys : List ℕ) → Differ (xs ++ ys) → Differ xs
+pub differ_left : (xs ys : List ℕ) → Differ (xs ++ ys) → Differ xs
 differ_left [] ys d = tt
 differ_left (x ∷ xs) ys d = ((λ h. d.0 (in_left x xs ys h)), differ_left xs ys d.1)
 
-differ_right : (xs ys : List ℕ) → Differ (xs ++ ys) → Differ ys
+pub differ_right : (xs ys : List ℕ) → Differ (xs ++ ys) → Differ ys
 differ_right [] ys d = d
 differ_right (x ∷ xs) ys d = differ_right xs ys d.1
 
-apart : (x : ℕ) (xs ys : List ℕ) → Differ (xs ++ ys) → In x ys → In x xs → ⊥
+pub apart : (x : ℕ) (xs ys : List ℕ) → Differ (xs ++ ys) → In x ys → In x xs → ⊥
 apart x [] ys d h k = k
 apart x (y ∷ xs) ys d h (inl k) = d.0 (in_right y xs ys (subst (λ z. In z ys) (sym k) h))
 apart x (y ∷ xs) ys d h (inr k) = apart x xs ys d.1 h k
@@ -149,7 +149,7 @@ module _ (place number : ℕ) where
     two_steps held s s2 None h = h
     two_steps held s s2 (Some w) h = h
 
-    abbrev way_from : (at : ℕ) → Stm → List Proof → Option Way
+    abbrev pub way_from : (at : ℕ) → Stm → List Proof → Option Way
     way_from at s proofs = if at == place then Some (here s proofs) else way_within at s place
 
     -- of the statement itself
@@ -171,7 +171,7 @@ module _ (place number : ℕ) where
 
     -- Where nothing stands ---------------------------------------------------------------------------------------------
 
-    no_way_from : (at : ℕ) (s : Stm) (proofs : List Proof) → (at ≡ place → ⊥) → way_within at s place ≡ None → way_from at s proofs ≡ None
+    pub no_way_from : (at : ℕ) (s : Stm) (proofs : List Proof) → (at ≡ place → ⊥) → way_within at s place ≡ None → way_from at s proofs ≡ None
     no_way_from at s proofs other none = by (at == place) refl
       where
         by : (b : Bool) → (at == place) ≡ b → (if b then Some (here s proofs) else way_within at s place) ≡ None
@@ -179,7 +179,7 @@ module _ (place number : ℕ) where
         by false is = none
 
     mutual
-      no_way_within : (at : ℕ) (s : Stm) → (In place (places_within s) → ⊥) → way_within at s place ≡ None
+      pub no_way_within : (at : ℕ) (s : Stm) → (In place (places_within s) → ⊥) → way_within at s place ≡ None
       no_way_within at skip out = refl
       no_way_within at (assign x e q retypes) out = refl
       no_way_within at (lock l) out = refl
@@ -191,7 +191,7 @@ module _ (place number : ℕ) where
       no_way_within at (note j) out = refl
       no_way_within at (output e) out = refl
 
-      no_way : (b : Block) → (In place (places b) → ⊥) → way_to b place ≡ None
+      pub no_way : (b : Block) → (In place (places b) → ⊥) → way_to b place ≡ None
       no_way done out = refl
       no_way (more at s proofs rest) out =
           ap (λ o. option_or o (option_map (behind (passed at s ∷ [])) (way_to rest place)))
@@ -237,7 +237,7 @@ module _ (place number : ℕ) where
       stands_at (note j) at a h = inl (of_placed at 1 (state_follows a j) h).0
       stands_at (output e) at a h = inl (of_placed at 1 (guard_follows p t a e ∷ []) h).0
 
-      stands_in : (b : Block) (a : Point) → There (entailment_among (block_entailments p t b a) place number) → In place (places b)
+      pub stands_in : (b : Block) (a : Point) → There (entailment_among (block_entailments p t b a) place number) → In place (places b)
       stands_in done a h = absurd h
       stands_in (more at s proofs rest) a h =
           by_either (In place (places (more at s proofs rest))) (in_one (stm_entailments p t s at a) (block_entailments p t rest (after_stm p t s a)) h)

@@ -2,5 +2,6 @@ mod GivenProofs
 mod Asks
 mod OnceListed
 mod RefusedListed
+mod SiteLaws
 mod WholeProgram
 mod Examples

@@ -4,3 +4,4 @@ pub mod Asked
 pub mod GivenElsewhere
 pub mod Remarked
 pub mod RefusedEntailment
+pub mod SiteHypotheses

@@ -5,6 +5,8 @@
 //!   (`type_origins`), which hypotheses the state drops that is asked of, and what would be a hypothesis, had a state listed it (`left_out_predicates`).
 //! - [`refused_entailment_is_listed`] and [`refusal_is_told`], which are laws: there is always such an entailment, and it is the one
 //!   whose certificate isn't valid. `specs/RefusedEntailment.antt` says so.
+//! - [`hypotheses_are_of_the_site`], a law too: the hypotheses of an entailment are what is known at the point of its site, and one expression
+//!   more at most. `specs/SiteHypotheses.antt` says so.
 //!
 //! `specs/Asked.antt` says which entailment that is, `specs/Sites.antt` the point of which it asks and the steps to it, by
 //! which its hypotheses, types and what was left out are sought, and
@@ -18,6 +20,8 @@ mod given;
 mod laws;
 mod remarked;
 mod site;
+mod site_laws;
 
 pub use asked::add_asked;
 pub use laws::{refusal_is_told, refused_entailment_is_listed};
+pub use site_laws::hypotheses_are_of_the_site;
