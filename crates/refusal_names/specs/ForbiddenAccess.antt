@@ -1,4 +1,4 @@
--- V1 and V2: why a thread may not read or write a variable at a place: a guarantee of it, or a lock that it doesn't hold there.
+-- V1 and V2: why a thread may not read or write a variable at a place: a guarantee that it gives, or a lock that it doesn't hold there.
 use Rattle.std.specs.Prelude.{◌≡◌, ◌⊎◌, ℕ, suc, ◌<◌, ◌&&◌, List, [], ◌∷◌, ◌++◌, Bool, false, length, Option, Some, None, codes, decimal, if◌then◌else◌}
 use Rattle.cov_expr.specs.Trees.{has_number}
 use Rattle.cov_ast.specs.Declarations.{lock_at}

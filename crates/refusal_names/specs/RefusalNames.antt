@@ -1,4 +1,4 @@
--- What a refusal is about, by name: by its rule, its thread and its place, at which a statement stands.
+-- What a refusal is about, by name: by its rule, its thread, its place, at which a statement stands, and what it shows.
 use Rattle.std.specs.Prelude.{ℕ, nat_lt, List, [], Bool, false, true, length, if◌then◌else◌, Option, Some, None}
 use Rattle.cov_ast.specs.Plain.{plain}
 use Rattle.cov_ast.specs.Syntax.{Program, Stm}
