@@ -2,7 +2,7 @@
 use Rattle.std.proofs.Common.{◌≡◌, ℕ, List, [], ◌∷◌, Option, Some, None, refl, codes, lit<}
 use Rattle.std.proofs.lemmas.Fmt.{decimal_digit}
 use Rattle.cov_expr.specs.Term.{Term, const, var, bin}
-use Rattle.cov_expr.specs.declared.expr.Op.TheVariants.{Eq, Add}
+use Rattle.cov_expr.specs.declared.expr.Op.TheVariants.{Eq, Add, Both}
 use Rattle.cov_ast.specs.Declarations.{no_modes}
 use Rattle.cov_ast.specs.Plain.{Plain, none}
 use Rattle.cov_ast.specs.Syntax as s
@@ -11,6 +11,8 @@ use Rattle.entail_questions.specs.declared.kinds.End.TheVariants as e
 use Rattle.entail_questions.specs.declared.kinds.Question.TheVariants as q
 use Rattle.statement_paths.specs.Paths.{Step, passed, yes, head}
 use Rattle.type_origins.specs.AskedVariables.{variables_of}
+use Rattle.typing_state.specs.After.{start}
+use Rattle.type_origins.specs.GoalTypes.{goal_of, goals_of}
 use Rattle.type_origins.specs.TypeLines.{type_lines}
 use Rattle.type_origins.specs.TypeOrigins.{history, locks_over, change_at}
 use Rattle.type_origins.specs.declared.origin.By.TheVariants as by
@@ -130,6 +132,35 @@ of_what_is_listed = refl
 
 of_a_predicate : variables_of (q.Predicate e.Here 1) s.skip ≡ []
 of_a_predicate = refl
+
+-- Goals --------------------------------------------------------------------------------------------------------
+
+-- at the start the type of `o` is its class, and so is that of `buf`, which others may write
+of_a_sum : goal_of program 0 (q.Shown 2) sum (start program 0) ≡ bin Both (const 0) (bin Eq (var 0) (const 0))
+of_a_sum = refl
+
+what_is_written : goal_of program 0 (q.Shown 2) (s.assign 2 (var 1) (Some (const 1)) []) (start program 0) ≡ const 1
+what_is_written = refl
+
+of_a_variable : goal_of program 0 (q.Controlled 1) sum (start program 0) ≡ bin Eq (var 0) (const 0)
+of_a_variable = refl
+
+the_second_predicate : goal_of program 0 (q.Predicate e.Here 2) (s.note (record { preds = var 0 ∷ var 2 ∷ []; types = [] })) (start program 0) ≡ var 2
+the_second_predicate = refl
+
+-- a branch on `n`, whose second block stores a public value in `o`
+abbrev chooses : s.Stm
+chooses = s.branch (var 3) s.done (s.more 5 (s.assign 2 (const 1) None []) [] s.done) (stated ((2, const 1) ∷ []))
+
+at_its_guard_and_its_ends : goals_of program 0 chooses (start program 0) ≡ const 1 ∷ const 0 ∷ const 1 ∷ []
+at_its_guard_and_its_ends = refl
+
+-- the loop states that `o` is public, which it is at the head, and not at the end of a block that stores `buf`
+abbrev repeats : s.Stm
+repeats = s.loop (var 2) (stated ((2, const 1) ∷ [])) (s.more 6 (s.assign 2 (var 1) None []) [] s.done)
+
+at_its_head_and_its_end : goals_of program 0 repeats (start program 0) ≡ const 0 ∷ const 1 ∷ bin Eq (var 0) (const 0) ∷ []
+at_its_head_and_its_end = refl
 
 -- Lines --------------------------------------------------------------------------------------------------------
 

@@ -1,4 +1,5 @@
 pub mod TypeOrigins
 pub mod AskedVariables
+pub mod GoalTypes
 pub mod TypeLines
 pub mod TypesFromOrigins
