@@ -2,6 +2,7 @@ mod GivenProofs
 mod Asks
 mod OnceListed
 mod RefusedListed
+mod SitePoints
 mod SiteLaws
 mod WholeProgram
 mod Examples

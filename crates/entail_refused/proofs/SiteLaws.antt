@@ -12,7 +12,7 @@ use Rattle.cov_ast.specs.Syntax.{State, Stm, skip, assign, lock, unlock, branch,
 use Rattle.cov_ast.specs.WellFormed.{IsWellFormed, places, places_within}
 use Rattle.mode_compat.specs.Compatible.{no_thread, numbered}
 use Rattle.mode_state.specs.Sets.{is_hidden}
-use Rattle.statement_paths.specs.Paths.{passed, yes, no, head, Way, here, behind, way_to, way_within, passed_all}
+use Rattle.statement_paths.specs.Paths.{passed, yes, no, head, Way, here, behind, way_to, way_within}
 use Rattle.typing_rules.specs.Blocks.{after_stm, after_block, value_type}
 use Rattle.typing_rules.specs.Counts.{entailment_count}
 use Rattle.typing_rules.specs.Entailments.{Entailment, assign_entailments, controlled_follows, controlled_values, freed_value, from_one_more, from_preds, guard_follows, retype_follows, shown_controlled, shown_value, state_follows, type_follows, unlock_entailments, written_type}
@@ -31,6 +31,7 @@ use Rattle.entail_questions.specs.declared.kinds.Question.TheVariants as q
 use Rattle.entail_questions.proofs.EachAsked.{Differ, In, There, apart, differ, differ_left, differ_right, in_left, in_right, no_way, no_way_from, no_way_within, stands_in, way_from}
 use Rattle.entail_questions.proofs.HeldAtPoints.{after_held}
 use Rattle.hypothesis_origins.specs.Points.{after_steps, point_behind}
+use Rattle.entail_refused.proofs.SitePoints.{past_block}
 use Rattle.entail_refused.specs.SiteHypotheses.{AreOf, IsOfSite}
 use Rattle.entail_refused.specs.Sites.{Site, site_at, site_behind, steps_to_end, steps_to_point}
 
@@ -78,10 +79,6 @@ module _ {A B : Type 0} (R : A → B → Type 0) where
 -- Of a statement -------------------------------------------------------------------------------------------------
 
 module _ (p : Plain) (t : ℕ) where
-  passed_is : (b : Block) (a : Point) → after_steps p t (passed_all b) a ≡ after_block p t b a
-  passed_is done a = refl
-  passed_is (more at s proofs rest) a = passed_is rest (after_stm p t s a)
-
   -- What a question asks of a statement follows from what is known at its point.
   abbrev Follows : (at : ℕ) → Stm → Point → Question → Entailment → Type 0
   Follows at s a question g = AreOf (after_steps p t (steps_to_point question at s) a).preds g.hyps
@@ -153,8 +150,8 @@ module _ (p : Plain) (t : ℕ) where
       let second = after_block p t no_block (with_guard p t a (neg e)) in (
         inl refl,
         zip_append (Follows at s a) (of_state ends.FirstBlock join) (state_follows first join) (of_state ends.SecondBlock join) (state_follows second join)
-            (of_each_state at s a ends.FirstBlock first (passed_is yes_block (with_guard p t a e)) join)
-            (of_each_state at s a ends.SecondBlock second (passed_is no_block (with_guard p t a (neg e))) join),
+            (of_each_state at s a ends.FirstBlock first (past_block p t yes_block (with_guard p t a e)) join)
+            (of_each_state at s a ends.SecondBlock second (past_block p t no_block (with_guard p t a (neg e))) join),
       )
   follows at (loop e inv b) a =
       let s = loop e inv b in
@@ -162,7 +159,7 @@ module _ (p : Plain) (t : ℕ) where
       let end = after_block p t b start in
       zip_append (Follows at s a) (of_state ends.Entry inv) (state_follows a inv) (q.HeadGuard ∷ of_state ends.Body inv) (guard_follows p t (meet p t a inv) e ∷ state_follows end inv)
       (of_each_state at s a ends.Entry a refl inv)
-      (inl refl, of_each_state at s a ends.Body end (passed_is b start) inv)
+      (inl refl, of_each_state at s a ends.Body end (past_block p t b start) inv)
   follows at (note j) a = of_each_state at (note j) a ends.Here a refl j
   follows at (output e) a = (inl refl, tt)
 

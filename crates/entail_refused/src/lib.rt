@@ -7,6 +7,7 @@
 //!   whose certificate isn't valid. `specs/RefusedEntailment.antt` says so.
 //! - [`hypotheses_are_of_the_site`], a law too: the hypotheses of an entailment are what is known at the point of its site, and one expression
 //!   more at most. `specs/SiteHypotheses.antt` says so.
+//! - [`sites_lead_to_the_point_asked`], another: the steps of a site lead to the point of which its question asks.
 //!
 //! `specs/Asked.antt` says which entailment that is, `specs/Sites.antt` the point of which it asks and the steps to it, by
 //! which its hypotheses, types and what was left out are sought, and
@@ -24,4 +25,4 @@ mod site_laws;
 
 pub use asked::add_asked;
 pub use laws::{refusal_is_told, refused_entailment_is_listed};
-pub use site_laws::hypotheses_are_of_the_site;
+pub use site_laws::{hypotheses_are_of_the_site, sites_lead_to_the_point_asked};

@@ -1,10 +1,23 @@
-//! A law of the sites of entailments.
+//! Laws of the sites of entailments.
 
-ghost use Rattle.std.specs.Prelude.{◌≡◌, ◌<◌, ℕ, Some, length};
+ghost use Rattle.std.specs.Prelude.{◌≡◌, ◌<◌, ℕ, List, Some, length};
+ghost use Rattle.cov_ast.specs.Plain.{Plain};
 ghost use Rattle.cov_ast.specs.Syntax as syntax;
 ghost use Rattle.cov_ast.specs.WellFormed.{IsWellFormed};
+ghost use Rattle.entail_questions.specs.declared.kinds.Question as questions;
+ghost use Rattle.hypothesis_origins.specs.Points.{point_behind};
+ghost use Rattle.statement_paths.specs.Paths as paths;
+ghost use Rattle.type_origins.specs.GoalTypes.{asked_point};
 ghost use Rattle.typing_rules.specs.ThreadEntailments.{PlacedEntailment, entailment_among, thread_entailments};
 ghost use Rattle.entail_refused.specs.SiteHypotheses.{IsOfSite};
+ghost use Rattle.entail_refused.specs.Sites.{site_at};
+
+/// A law: the steps of a site lead to the point of which its question asks, where `steps` lead to the statement.
+#[tactic(auto, using(crate::proofs::SitePoints::at_the_point))]
+pub fn sites_lead_to_the_point_asked()
+    ensures { (p : Plain) → (t : ℕ) → (steps : List paths.Step) → (question : questions.Question) → (at : ℕ) → (s : syntax.Stm)
+        → point_behind p t (site_at steps question at s).steps ≡ asked_point p t question s (point_behind p t steps) }
+{}
 
 /// A law: each entailment of a thread of a well formed program is to follow from the predicates of the point to which the steps of its
 /// site lead, and from one expression more where it asks of a type or a value.

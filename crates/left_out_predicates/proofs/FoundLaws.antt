@@ -2,7 +2,7 @@
 use Rattle.std.proofs.Common.{◌≡◌, ℕ, ◌<◌, List, [], ◌∷◌, ◌++◌, length, map, Bool, true, false, Option, Some, None, ◌⊎◌, inl, inr, refl, sym, ◌∙◌, ap, subst, if◌then◌else◌, Contains, true≢false, arith}
 use Rattle.std.specs.Prelude.{◌&&◌, ◌||◌, not, nat_lt}
 use Rattle.std.specs.Option.{option_or}
-use Rattle.std.proofs.lemmas.Bool.{and_parts, lt-ltb, ltb-true, or_left, or_right}
+use Rattle.std.proofs.lemmas.Bool.{and_parts, lt-ltb, ltb-true, not-true, or_left, or_parts, or_right}
 use Rattle.std.proofs.lemmas.List.{length-append, map-append}
 use Rattle.std.proofs.lemmas.List.Elements.{Contains-append_cases, Contains-append_left, Contains-append_right, Contains-push, Contains-push_cases}
 use Rattle.cov_expr.proofs.Tests.{left_true, right_true}
@@ -22,14 +22,6 @@ use Rattle.left_out_predicates.proofs.StepLaws.{only}
 
 -- What isn't found yet -------------------------------------------------------------------------------------------
 
-is_false : (b : Bool) → not b ≡ true → b ≡ false
-is_false true h = absurd (true≢false (sym h))
-is_false false h = refl
-
-neither : (a b : Bool) → (a || b) ≡ false → a ≡ false
-neither true b h = absurd (true≢false h)
-neither false b h = refl
-
 abbrev pub terms : List LeftOut → List Term
 terms found = map (λ o. o.term) found
 
@@ -46,7 +38,7 @@ fresh_without found o e fresh =
     let more : length (found ++ o ∷ []) < MOST_FOUND = ltb-true (length (found ++ o ∷ [])) MOST_FOUND fresh.few in
     record {
       few = lt-ltb (length found) MOST_FOUND (omega (arith, length-append found (o ∷ []), more));
-      another = neither (has_term (terms found) e) (has_term (o.term ∷ []) e) (sym (terms_with found o e) ∙ fresh.another);
+      another = (or_parts (has_term (terms found) e) (has_term (o.term ∷ []) e) (sym (terms_with found o e) ∙ fresh.another)).0;
     }
 
 not_fresh : (found : List LeftOut) (o : LeftOut) → IsFresh (found ++ o ∷ []) o.term → ⊥
@@ -89,15 +81,15 @@ module _ (hypotheses : List Term) where
           placed = refl;
           names = refl;
           gives = Contains-push [] g;
-          gives_some = is_false (gives_nothing g.source g.term) both.0;
+          gives_some = not-true (gives_nothing g.source g.term) both.0;
           missing = record {
-            not_closed = is_false (is_closed g.term) (right_true few not_closed two);
+            not_closed = not-true (is_closed g.term) (right_true few not_closed two);
             over = right_true (few && not_closed) over three;
-            unknown = is_false (has_term hypotheses g.term) (right_true (few && not_closed && over) unknown four);
+            unknown = not-true (has_term hypotheses g.term) (right_true (few && not_closed && over) unknown four);
           };
           fresh = record {
             few = left_true few not_closed two;
-            another = is_false (has_term (terms found) g.term) (right_true (few && not_closed && over && unknown) another both.1);
+            another = not-true (has_term (terms found) g.term) (right_true (few && not_closed && over && unknown) another both.1);
           };
         }
 

@@ -13,6 +13,7 @@ use Rattle.entail_questions.proofs.HeldAtPoints.{after_held}
 use Rattle.held_locks.specs.LocksHeld.{held_after, held_along, none_held}
 use Rattle.held_locks.specs.VariableSets.{stable, stable_behind}
 use Rattle.hypothesis_origins.specs.Origins.{Given, given, each, given_by}
+use Rattle.hypothesis_origins.proofs.PointLaws.{appended}
 use Rattle.hypothesis_origins.specs.Points.{after_step, after_steps, point_behind}
 use Rattle.hypothesis_origins.specs.declared.origin.Source.{Source}
 use Rattle.hypothesis_origins.specs.declared.origin.Source.TheVariants as by
@@ -61,10 +62,6 @@ module _ (p : Plain) (t : ℕ) where
   held_joined : (front back : List Step) (held : List Bool) → held_along (front ++ back) held ≡ held_along back (held_along front held)
   held_joined [] back held = refl
   held_joined (s ∷ front) back held = held_joined front back (held_after s held)
-
-  joined : (front back : List Step) (a : Point) → after_steps p t (front ++ back) a ≡ after_steps p t back (after_steps p t front a)
-  joined [] back a = refl
-  joined (s ∷ front) back a = joined front back (after_step p t s a)
 
 -- Known to the point ---------------------------------------------------------------------------------------------
 
@@ -221,14 +218,14 @@ would_be_known p t steps hypotheses o k =
             let known : Knows p t (after_steps p t back next) o.term
             = listed_is_known p t hypotheses back next o.term missing.not_closed missing.unknown over fresh listed in
             let end : point_behind p t steps ≡ after_steps p t back next
-            = ap (point_behind p t) found.parts ∙ joined p t front (step ∷ back) (start p t) in
+            = ap (point_behind p t) found.parts ∙ appended p t front (step ∷ back) (start p t) in
             absurd (true≢false (sym (among o.term (subst (λ a. Knows p t a o.term) (sym end) known)) ∙ missing.unknown))
         | inr other ↦ other
       ];
       stays = λ so_far rest same.
           let at : point_behind p t ((front ++ step ∷ []) ++ listing o.term so_far) ≡ after_steps p t (listing o.term so_far) next
-          = joined p t (front ++ step ∷ []) (listing o.term so_far) (start p t)
-          ∙ ap (after_steps p t (listing o.term so_far)) (joined p t front (step ∷ []) (start p t)) in
+          = appended p t (front ++ step ∷ []) (listing o.term so_far) (start p t)
+          ∙ ap (after_steps p t (listing o.term so_far)) (appended p t front (step ∷ []) (start p t)) in
           subst (λ a. Knows p t a o.term) (sym at)
           (stays p t hypotheses so_far rest next o.term (subst (λ ss. IsKept p t hypotheses next.held ss o.term) same over) there);
     }

@@ -13,6 +13,7 @@ use Rattle.cov_ast.specs.Plain.{Plain}
 use Rattle.cov_ast.specs.Syntax.{State, skip, assign, lock, unlock, branch, loop, note, output}
 use Rattle.cov_ast.specs.Tables.{has}
 use Rattle.entail_questions.specs.Controls.{controls}
+use Rattle.hypothesis_origins.proofs.PointLaws.{appended}
 use Rattle.hypothesis_origins.specs.Points as points
 use Rattle.hypothesis_origins.specs.Points.{point_behind}
 use Rattle.statement_paths.specs.Paths.{Step, passed, yes, no, head, place_of}
@@ -263,10 +264,6 @@ module _ (p : Plain) (t z : ℕ) (declared : (x : ℕ) → length p.vars ≤ x �
 
   -- Several steps ----------------------------------------------------------------------------------------------
 
-  one_more : (ss : List Step) (s : Step) (a : Point) → points.after_steps p t (ss ++ s ∷ []) a ≡ points.after_step p t s (points.after_steps p t ss a)
-  one_more [] s a = refl
-  one_more (r ∷ rs) s a = one_more rs s (points.after_step p t r a)
-
   longer : (done : List Step) (s : Step) (o : Option TypeOrigin) → IsFrom p t z done o → type_behind p t z (done ++ s ∷ []) ≡ type_behind p t z done
       → IsFrom p t z (done ++ s ∷ []) o
   longer done s None from same = same ∙ from
@@ -284,7 +281,7 @@ module _ (p : Plain) (t z : ℕ) (declared : (x : ℕ) → length p.vars ≤ x �
   one_step done s h told = by_source (set_by cs ls z s) refl
     where
       same : set_by cs ls z s ≡ None → changed_by cs s ≡ None → type_behind p t z (done ++ s ∷ []) ≡ type_behind p t z done
-      same e k = ap (λ a. given_type a z) (one_more done s (start p t)) ∙ unset s (point_behind p t done) e k
+      same e k = ap (λ a. given_type a z) (appended p t done (s ∷ []) (start p t)) ∙ unset s (point_behind p t done) e k
 
       by_change : set_by cs ls z s ≡ None → (y : Option Change) → changed_by cs s ≡ y → IsTold p t z (done ++ s ∷ []) (changed_at (place_of s) y h)
       by_change e None k = λ later some. longer done s h.origin (told later (sym (ap is_some (same e k)) ∙ some)) (same e k)
@@ -300,7 +297,7 @@ module _ (p : Plain) (t z : ℕ) (declared : (x : ℕ) → length p.vars ≤ x �
         placed = refl;
         sets = e;
         says =
-            let last = ap (λ a. given_type a z) (one_more done s (start p t)) in
+            let last = ap (λ a. given_type a z) (appended p t done (s ∷ []) (start p t)) in
             last ∙ gives s (point_behind p t done) x e (sym (ap is_some last) ∙ some);
       }
 
