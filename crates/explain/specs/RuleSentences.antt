@@ -69,7 +69,7 @@ behind r.V10 = []
 behind r.V11 = codes " at its end"
 behind r.V12 = []
 behind r.V13 = codes ", which is that of no entailment of the statement, or is given before"
-behind r.V14 = codes " can have no type here: it isn't tracked, or is listed before, or no control is assigned"
+behind r.V14 = codes " can have no type here: it is a control, or isn't stable, or is listed before, or its `retype` stands where no control is assigned"
 behind r.V15 = []
 behind r.V16 = []
 

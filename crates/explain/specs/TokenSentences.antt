@@ -1,6 +1,7 @@
 -- A token with which no program goes on, in plain words.
 use Rattle.std.specs.Prelude.{ℕ, List, [], ◌∷◌, ◌++◌, codes, if◌then◌else◌}
 use Rattle.std.specs.List.{take_while}
+use Rattle.std.specs.Str.{bytes_eq}
 use Rattle.cov_expr.specs.Bytes.{is_lower, is_word}
 use Rattle.cov_expr.specs.Spellings.{is_keyword}
 
@@ -16,10 +17,14 @@ in_front word = if is_keyword word then codes "`" else codes "no program goes on
 abbrev pub behind : List ℕ → List ℕ
 behind word = if is_keyword word then codes "` is a reserved word, and no program goes on with it here" else codes "` here"
 
+-- what a text with this word needs, which is of version 2 alone
+abbrev pub version_hint : List ℕ → List ℕ
+version_hint word = if bytes_eq word (codes "output") then codes "; a text with outputs begins with `version 2;`" else []
+
 -- the sentence of a word, or of a token that is none
 abbrev pub word_sentence : List ℕ → List ℕ
 word_sentence [] = codes "no program goes on with this token"
-word_sentence (b ∷ bs) = in_front (b ∷ bs) ++ (b ∷ bs) ++ behind (b ∷ bs)
+word_sentence (b ∷ bs) = in_front (b ∷ bs) ++ (b ∷ bs) ++ behind (b ∷ bs) ++ version_hint (b ∷ bs)
 
 -- the sentence of a token, by the text from it on
 abbrev pub token_sentence : List ℕ → List ℕ

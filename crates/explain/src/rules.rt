@@ -117,7 +117,7 @@ fn behind(rule: Rule) -> &'static str
         Rule::V11 => " at its end",
         Rule::V13 => ", which is that of no entailment of the statement, or is given before",
         Rule::V14 =>
-            " can have no type here: it isn't tracked, or is listed before, or no control is assigned",
+            " can have no type here: it is a control, or isn't stable, or is listed before, or its `retype` stands where no control is assigned",
         Rule::W8
         | Rule::W9
         | Rule::V3

@@ -24,7 +24,8 @@ fn add_word_sentence(word: &[u8], text: &mut Blob) -> Result<(), NoMemory>
     }
     text.extend_from_slice(in_front(word).as_bytes())?;
     text.extend_from_slice(word)?;
-    text.extend_from_slice(behind(word).as_bytes())
+    text.extend_from_slice(behind(word).as_bytes())?;
+    text.extend_from_slice(version_hint(word).as_bytes())
 }
 
 /// What stands in front of a word in its sentence.
@@ -46,6 +47,17 @@ fn behind(word: &[u8]) -> &'static str
         "` is a reserved word, and no program goes on with it here"
     } else {
         "` here"
+    }
+}
+
+/// What a text with this word needs, which is of version 2 alone.
+fn version_hint(word: &[u8]) -> &'static str
+    ensures { result.now ≡ spec.version_hint word.now }
+{
+    if word == b"output".as_slice() {
+        "; a text with outputs begins with `version 2;`"
+    } else {
+        ""
     }
 }
 

@@ -1,7 +1,7 @@
 -- The predicates that would be known at a point, had the state of a branch, of a loop or of a note on the way to it listed them.
 --
 -- A state forgets each predicate that it doesn't list. One that a step in front of the state gives, whose variables are stable at the point and
--- since that step, and to which no statement on the way stores, would be a hypothesis there, had the states listed it. Whether the blocks that are
+-- since that step, and to which no statement behind that step stores, would be a hypothesis there, had the states listed it. Whether the blocks that are
 -- passed let it be listed isn't looked at.
 use Rattle.std.specs.Prelude.{ℕ, ◌&&◌, nat_lt, List, [], ◌∷◌, ◌++◌, length, map, set, Bool, false, not, if◌then◌else◌, Option, Some, None}
 use Rattle.std.specs.Option.{option_or}

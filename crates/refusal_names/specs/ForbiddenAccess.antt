@@ -15,8 +15,8 @@ use Rattle.text_lines.specs.Lines.{line}
 
 -- Which declaration forbids it ---------------------------------------------------------------------------------
 
--- The word of the list that forbids to read a variable, or to write it, of the two lists of a thread's guarantees, or of a lock that the
--- thread doesn't hold: what is to be left alone is neither read nor written.
+-- The word of the list that forbids to read a variable, or to write it, of the two lists of a thread's guarantees, or of a lock, while
+-- the thread doesn't hold it: what is to be left alone is neither read nor written.
 abbrev pub forbidding : (nowrite hide : List ℕ) → (writes : Bool) → (x : ℕ) → Option (List ℕ)
 forbidding nowrite hide writes x =
     if has_number hide x then Some (codes "hide") else if writes && has_number nowrite x then Some (codes "nowrite") else None
@@ -25,7 +25,7 @@ forbidding nowrite hide writes x =
 abbrev pub guarantee_forbidding : Thread → (writes : Bool) → (x : ℕ) → Option (List ℕ)
 guarantee_forbidding t writes x = forbidding t.modes.guarantee_nowrite t.modes.guarantee_hide writes x
 
--- of a lock that isn't held
+-- of a lock, while it isn't held
 abbrev pub lock_forbidding : Lock → (writes : Bool) → (x : ℕ) → Option (List ℕ)
 lock_forbidding l writes x = forbidding l.nowrite l.hide writes x
 

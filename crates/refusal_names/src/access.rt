@@ -72,7 +72,7 @@ fn guarantee_forbidding(t: &ThreadDecl, writes: bool, x: u32) -> Option<&'static
     )
 }
 
-/// The same of the lists of a lock that isn't held.
+/// The same of the lists of a lock, while it isn't held.
 fn lock_forbidding(lock: &LockDecl, writes: bool, x: u32) -> Option<&'static [u8]>
     ensures { option_map (λ w. w.now) result ≡ spec.lock_forbidding (view.lock lock.now) writes x }
 {

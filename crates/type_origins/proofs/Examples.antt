@@ -169,8 +169,8 @@ abbrev text : List ℕ
 text = 10 ∷ 120 ∷ 10 ∷ 10 ∷ 120 ∷ 120 ∷ 120 ∷ 120 ∷ []
 
 a_control_and_an_assignment : type_lines program 0 text (taken ∷ stored ∷ raised ∷ []) q.Printed (s.output (bin Add (var 0) (var 2)))
-    ≡ codes "  type of m:  1, as that of every control\n  type of o:  from the assignment, line 2; then m is stored to, line 3, which forgets a type that mentions it\n"
-a_control_and_an_assignment = simp (decimal_digit 2 (lit< tt), decimal_digit 3 (lit< tt))
+    ≡ codes "  type of m:  1, as that of every control\n  type of o:  from the assignment, line 2; then m is stored to, line 3, which turns a type that mentions it into its class `0`\n"
+a_control_and_an_assignment = simp (decimal_digit 0 (lit< tt), decimal_digit 2 (lit< tt), decimal_digit 3 (lit< tt))
 
 not_stable : type_lines program 0 text (taken ∷ returned ∷ []) q.Guard (s.branch (var 1) s.done s.done (stated []))
     ≡ codes "  type of buf:  its class `m == 0`, since others may write it here\n"
@@ -184,7 +184,7 @@ hidden : type_lines program 0 text (taken ∷ joined [] ∷ []) (q.Freed 1) (s.u
 hidden = simp (decimal_digit 4 (lit< tt))
 
 not_hidden : type_lines program 0 text (joined [] ∷ returned ∷ []) (q.Retyped 2) s.skip
-    ≡ codes "  type of o:  its class `0`, since the join, line 4, doesn't list it; then l is given back, line 4, which forgets a type that mentions what it protects\n"
+    ≡ codes "  type of o:  its class `0`, since the join, line 4, doesn't list it; then l is given back, line 4, which turns a type that mentions what it protects into its class `0`\n"
 not_hidden = simp (decimal_digit 0 (lit< tt), decimal_digit 4 (lit< tt))
 
 by_its_lock : type_lines program 0 text (taken ∷ []) (q.Controlled 1) s.skip ≡ codes "  type of buf:  its class `m == 0`, from the lock l, line 2\n"

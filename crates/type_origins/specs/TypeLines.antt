@@ -117,21 +117,21 @@ change_text p c = codes "; then " ++ change_subject p c ++ change_word c
 
 -- what stands behind the line of it
 abbrev pub change_end : Change → List ℕ
-change_end (change.ControlStored x) = codes ", which forgets a type that mentions it"
-change_end (change.Returned l) = codes ", which forgets a type that mentions what it protects"
+change_end (change.ControlStored x) = codes ", which turns a type that mentions it into "
+change_end (change.Returned l) = codes ", which turns a type that mentions what it protects into "
 
-abbrev pub forgotten_text : Plain → (bytes : List ℕ) → Later → List ℕ
-forgotten_text p bytes c = change_text p c.change ++ place_text bytes c.at ++ change_end c.change
+abbrev pub forgotten_text : Plain → Names → (bytes : List ℕ) → (hidden : Bool) → (z : ℕ) → Later → List ℕ
+forgotten_text p names bytes hidden z c = change_text p c.change ++ place_text bytes c.at ++ change_end c.change ++ default_text p names hidden z
 
 -- what may have forgotten a type since, if something may
-abbrev pub later_text : Plain → (bytes : List ℕ) → Option Later → List ℕ
-later_text p bytes None = []
-later_text p bytes (Some c) = forgotten_text p bytes c
+abbrev pub later_text : Plain → Names → (bytes : List ℕ) → (hidden : Bool) → (z : ℕ) → Option Later → List ℕ
+later_text p names bytes hidden z None = []
+later_text p names bytes hidden z (Some c) = forgotten_text p names bytes hidden z c
 
 -- Lines --------------------------------------------------------------------------------------------------------
 
 abbrev pub history_text : Plain → Names → (bytes : List ℕ) → (hidden : Bool) → (z : ℕ) → History → List ℕ
-history_text p names bytes hidden z h = origin_text p names bytes hidden z h.origin ++ later_text p bytes h.later
+history_text p names bytes hidden z h = origin_text p names bytes hidden z h.origin ++ later_text p names bytes hidden z h.later
 
 -- what stands in front of the words on a variable
 abbrev pub label : Plain → (z : ℕ) → List ℕ

@@ -157,7 +157,7 @@ fn add_history(
     ensures { OnOk result (text.new ≡ text.old ++ spec.history_text (plain (view.program p.now)) names.now bytes.now hidden z history.now) }
 {
     add_any_origin(p, names, bytes, hidden, z, history.origin, text)?;
-    add_any_later(p, bytes, history.later, text)
+    add_any_later(p, names, bytes, hidden, z, history.later, text)
 }
 
 /// Adds where the type of a variable comes from.
@@ -253,28 +253,40 @@ fn add_place(bytes: &[u8], at: u32, text: &mut Blob) -> Result<(), NoMemory>
     add_number(position(bytes, at as usize).line, text)
 }
 
-/// Adds what may have forgotten a type since, if something may.
+/// Adds what may have forgotten the type of a variable since, if something may.
 fn add_any_later(
     p: &Program,
+    names: &NameTable,
     bytes: &[u8],
+    hidden: bool,
+    z: u32,
     later: Option<Later>,
     text: &mut Blob,
 ) -> Result<(), NoMemory>
-    ensures { OnOk result (text.new ≡ text.old ++ spec.later_text (plain (view.program p.now)) bytes.now later) }
+    ensures { OnOk result (text.new ≡ text.old ++ spec.later_text (plain (view.program p.now)) names.now bytes.now hidden z later) }
 {
     match later {
-        Some(later) => add_later(p, bytes, later, text),
+        Some(later) => add_later(p, names, bytes, hidden, z, later, text),
         None => Ok(()),
     }
 }
 
-/// Adds what may have forgotten a type since, and its line.
-fn add_later(p: &Program, bytes: &[u8], later: Later, text: &mut Blob) -> Result<(), NoMemory>
-    ensures { OnOk result (text.new ≡ text.old ++ spec.forgotten_text (plain (view.program p.now)) bytes.now later) }
+/// Adds what may have forgotten the type of a variable since, its line, and what the type is then.
+fn add_later(
+    p: &Program,
+    names: &NameTable,
+    bytes: &[u8],
+    hidden: bool,
+    z: u32,
+    later: Later,
+    text: &mut Blob,
+) -> Result<(), NoMemory>
+    ensures { OnOk result (text.new ≡ text.old ++ spec.forgotten_text (plain (view.program p.now)) names.now bytes.now hidden z later) }
 {
     add_change(p, later.change, text)?;
     add_place(bytes, later.at, text)?;
-    text.extend_from_slice(change_end(later.change).as_bytes())
+    text.extend_from_slice(change_end(later.change).as_bytes())?;
+    add_default(p, names, hidden, z, text)
 }
 
 /// Adds what is done that may forget a type.

@@ -54,7 +54,7 @@ pub fn change_end(change: Change) -> &'static str
     ensures { result.now ≡ spec.change_end change }
 {
     match change {
-        Change::ControlStored(_) => ", which forgets a type that mentions it",
-        Change::Returned(_) => ", which forgets a type that mentions what it protects",
+        Change::ControlStored(_) => ", which turns a type that mentions it into ",
+        Change::Returned(_) => ", which turns a type that mentions what it protects into ",
     }
 }
