@@ -1,5 +1,5 @@
--- The hypotheses of an entailment are those of the point at its site.
-use Rattle.std.proofs.Common.{◌≡◌, ◌⊎◌, ℕ, zero, suc, ◌+◌, ◌<◌, ◌==◌, ◌&&◌, ◌||◌, not, List, [], ◌∷◌, ◌++◌, length, map, Bool, true, false, refl, sym, ap, subst, take, ◌∙◌, inl, inr, arith, append_assoc, append-nil, Option, Some, None, option_map, option_to_list, if◌then◌else◌}
+-- The hypotheses of an entailment are those of the point at its site, and its goal is that of the question there.
+use Rattle.std.proofs.Common.{◌≡◌, ◌⊎◌, ℕ, zero, suc, ◌+◌, ◌<◌, ◌==◌, ◌&&◌, ◌||◌, not, List, [], ◌∷◌, ◌++◌, length, map, Bool, true, false, refl, sym, ap, subst, take, drop, get_or, ◌∙◌, inl, inr, arith, append_assoc, append-nil, Option, Some, None, option_map, option_to_list, if◌then◌else◌}
 use Rattle.std.specs.Prelude.{filter, slice_get, unwrap_or}
 use Rattle.std.specs.Option.{option_or}
 use Rattle.std.specs.List.{AllZip}
@@ -31,7 +31,10 @@ use Rattle.entail_questions.specs.declared.kinds.Question.TheVariants as q
 use Rattle.entail_questions.proofs.EachAsked.{Differ, In, There, apart, differ, differ_left, differ_right, in_left, in_right, no_way, no_way_from, no_way_within, stands_in, way_from}
 use Rattle.entail_questions.proofs.HeldAtPoints.{after_held}
 use Rattle.hypothesis_origins.specs.Points.{after_steps, point_behind}
-use Rattle.entail_refused.proofs.SitePoints.{past_block}
+use Rattle.type_origins.proofs.GoalLaws.{as_asked}
+use Rattle.type_origins.specs.GoalTypes.{asked_point, goal_of}
+use Rattle.entail_refused.proofs.SitePoints.{past_block, to_the_point}
+use Rattle.entail_refused.specs.Remarked.{asks_more}
 use Rattle.entail_refused.specs.SiteHypotheses.{AreOf, IsOfSite}
 use Rattle.entail_refused.specs.Sites.{Site, site_at, site_behind, steps_to_end, steps_to_point}
 
@@ -61,6 +64,13 @@ module _ {A B : Type 0} (R : A → B → Type 0) where
   zip_mapped f g h [] = tt
   zip_mapped f g h (x ∷ xs) = (h x, zip_mapped f g h xs)
 
+  zip_of_same : {C : Type 0} (f : A → C) (g : B → C) → ((x : A) (y : B) → g y ≡ f x → R x y) → (xs : List A) (ys : List B) → map g ys ≡ map f xs → AllZip R xs ys
+  zip_of_same f g h [] [] k = tt
+  zip_of_same {C = C} f g h [] (y ∷ ys) k = let c : ◌≡◌ {A = List C} (g y ∷ map g ys) [] = k in cc
+  zip_of_same {C = C} f g h (x ∷ xs) [] k = let c : ◌≡◌ {A = List C} [] (f x ∷ map f xs) = k in cc
+  zip_of_same f g h (x ∷ xs) (y ∷ ys) k =
+      (h x y (ap (λ us. get_or us 0 (f x)) k), zip_of_same f g h xs ys (ap (drop 1) k))
+
   zip_chosen : (b : Bool) (xs : List A) (ys : List B) → AllZip R xs ys → AllZip R (if b then xs else []) (if b then ys else [])
   zip_chosen true xs ys h = h
   zip_chosen false xs ys h = tt
@@ -76,12 +86,26 @@ module _ {A B : Type 0} (R : A → B → Type 0) where
   beside (x ∷ xs) (z ∷ ys) zero y h k = (x, refl, subst (R x) (same_item z y k) h.0)
   beside (x ∷ xs) (z ∷ ys) (suc i) y h k = beside xs ys i y h.1 k
 
+zip_both : {A B : Type 0} (R S : A → B → Type 0) (xs : List A) (ys : List B) → AllZip R xs ys → AllZip S xs ys → AllZip (λ x y. R x y × S x y) xs ys
+zip_both R S [] [] h k = tt
+zip_both R S [] (y ∷ ys) h k = absurd h
+zip_both R S (x ∷ xs) [] h k = absurd h
+zip_both R S (x ∷ xs) (y ∷ ys) h k = ((h.0, k.0), zip_both R S xs ys h.1 k.1)
+
 -- Of a statement -------------------------------------------------------------------------------------------------
 
 module _ (p : Plain) (t : ℕ) where
-  -- What a question asks of a statement follows from what is known at its point.
+  -- What a question asks of a statement, at a point: from what it is to follow, and its goal.
+  abbrev OfPoint : Question → Stm → Point → Entailment → Type 0
+  OfPoint question s b g = AreOf (asks_more question) b.preds g.hyps × (g.goal ≡ goal_of p t question s b)
+
+  -- It follows from what is known at the point to which the steps of the question lead.
   abbrev Follows : (at : ℕ) → Stm → Point → Question → Entailment → Type 0
-  Follows at s a question g = AreOf (after_steps p t (steps_to_point question at s) a).preds g.hyps
+  Follows at s a question g = AreOf (asks_more question) (after_steps p t (steps_to_point question at s) a).preds g.hyps
+
+  -- Its goal is that of the question at this point.
+  abbrev HasGoal : (at : ℕ) → Stm → Point → Question → Entailment → Type 0
+  HasGoal at s a question g = g.goal ≡ goal_of p t question s (after_steps p t (steps_to_point question at s) a)
 
   -- where the steps to an end lead to a point
   abbrev LeadsTo : (at : ℕ) → Stm → Point → End → Point → Type 0
@@ -90,29 +114,29 @@ module _ (p : Plain) (t : ℕ) where
   of_each_pred : (at : ℕ) (s : Stm) (a : Point) (end : End) (b : Point) → LeadsTo at s a end b → (n : ℕ) (rs : List Term)
       → AllZip (Follows at s a) (of_preds end n rs) (map (from_preds b.preds) rs)
   of_each_pred at s a end b is n [] = tt
-  of_each_pred at s a end b is n (r ∷ rs) = (inl (sym (ap (λ c. c.preds) is)), of_each_pred at s a end b is (n + 1) rs)
+  of_each_pred at s a end b is n (r ∷ rs) = (sym (ap (λ c. c.preds) is), of_each_pred at s a end b is (n + 1) rs)
 
   of_each_state : (at : ℕ) (s : Stm) (a : Point) (end : End) (b : Point) → LeadsTo at s a end b → (j : State)
       → AllZip (Follows at s a) (of_state end j) (state_follows b j)
   of_each_state at s a end b is j =
       zip_append (Follows at s a) (of_preds end 1 j.preds) (map (from_preds b.preds) j.preds) (map (λ r. q.TypeOf end r.0) j.types) (map (type_follows b) j.types)
       (of_each_pred at s a end b is 1 j.preds)
-      (zip_mapped (Follows at s a) (λ r. q.TypeOf end r.0) (type_follows b) (λ r. inr (r.1, ap (λ c. c.preds ++ r.1 ∷ []) (sym is))) j.types)
+      (zip_mapped (Follows at s a) (λ r. q.TypeOf end r.0) (type_follows b) (λ r. (r.1, ap (λ c. c.preds ++ r.1 ∷ []) (sym is))) j.types)
 
   module _ (at : ℕ) (s : Stm) (a : Point) where
     of_each_written : (e : Term) (w : Option Term) → AllZip (Follows at s a) (of_written w) (written_type p t a e w)
     of_each_written e None = tt
-    of_each_written e (Some r) = (inr (r, refl), tt)
+    of_each_written e (Some r) = ((r, refl), tt)
 
     of_each_shown : (x : ℕ) (r : Term) → AllZip (Follows at s a) (of_shown p (is_hidden p t a.held) x) (shown_value p t a x r)
     of_each_shown x r =
         zip_chosen (Follows at s a) (is_control p x || not (is_hidden p t a.held x)) (q.Shown x ∷ []) (from_one_more a.preds (class_of p x) r ∷ [])
-        (inr (class_of p x, refl), tt)
+        ((class_of p x, refl), tt)
 
     of_each_controlled : (x : ℕ) (e : Term) → AllZip (Follows at s a) (of_controlled p (is_hidden p t a.held) x) (controlled_values p t a x e)
     of_each_controlled x e =
         zip_chosen (Follows at s a) (is_control p x) (map q.Controlled (shown_controlled p t a x)) (map (controlled_follows p t a x e) (shown_controlled p t a x))
-        (zip_mapped (Follows at s a) q.Controlled (controlled_follows p t a x e) (λ y. inr (T.subst (class_of p y) x e, refl)) (shown_controlled p t a x))
+        (zip_mapped (Follows at s a) q.Controlled (controlled_follows p t a x e) (λ y. (T.subst (class_of p y) x e, refl)) (shown_controlled p t a x))
 
     of_each_assignment : (x : ℕ) (e : Term) (w : Option Term) (retypes : List (ℕ × Term))
         → AllZip (Follows at s a) (questions p t a.held (assign x e w retypes)) (assign_entailments p t a x e w retypes)
@@ -128,7 +152,7 @@ module _ (p : Plain) (t : ℕ) where
         zip_append R (asked1 ++ asked2 ++ asked3) (follows1 ++ follows2 ++ follows3) (map (λ z. q.Retyped z.0) retypes) (map (retype_follows p t a x e) retypes)
         (zip_append R (asked1 ++ asked2) (follows1 ++ follows2) asked3 follows3
         (zip_append R asked1 follows1 asked2 follows2 (of_each_written e w) (of_each_shown x r)) (of_each_controlled x e))
-        (zip_mapped R (λ z. q.Retyped z.0) (retype_follows p t a x e) (λ z. inr (T.subst z.1 x e, refl)) retypes)
+        (zip_mapped R (λ z. q.Retyped z.0) (retype_follows p t a x e) (λ z. (T.subst z.1 x e, refl)) retypes)
 
     of_each_unlock : (l : ℕ) → AllZip (Follows at s a) (of_unlock p l) (unlock_entailments p t a l)
     of_each_unlock l =
@@ -136,8 +160,8 @@ module _ (p : Plain) (t : ℕ) where
         let inv = option_to_list (lock_at p l).inv in
         let freed = filter (λ x. not (is_control p x)) (lock_at p l).hide in
         zip_append R (map (λ r. q.Invariant l) inv) (map (from_preds a.preds) inv) (map q.Freed freed) (map (freed_value p t a) freed)
-        (zip_mapped R (λ r. q.Invariant l) (from_preds a.preds) (λ r. inl refl) inv)
-        (zip_mapped R q.Freed (freed_value p t a) (λ x. inr (class_of p x, refl)) freed)
+        (zip_mapped R (λ r. q.Invariant l) (from_preds a.preds) (λ r. refl) inv)
+        (zip_mapped R q.Freed (freed_value p t a) (λ x. (class_of p x, refl)) freed)
 
   follows : (at : ℕ) (s : Stm) (a : Point) → AllZip (Follows at s a) (questions p t a.held s) (own_entailments p t s a)
   follows at skip a = tt
@@ -148,7 +172,7 @@ module _ (p : Plain) (t : ℕ) where
       let s = branch e yes_block no_block join in
       let first = after_block p t yes_block (with_guard p t a e) in
       let second = after_block p t no_block (with_guard p t a (neg e)) in (
-        inl refl,
+        refl,
         zip_append (Follows at s a) (of_state ends.FirstBlock join) (state_follows first join) (of_state ends.SecondBlock join) (state_follows second join)
             (of_each_state at s a ends.FirstBlock first (past_block p t yes_block (with_guard p t a e)) join)
             (of_each_state at s a ends.SecondBlock second (past_block p t no_block (with_guard p t a (neg e))) join),
@@ -159,9 +183,22 @@ module _ (p : Plain) (t : ℕ) where
       let end = after_block p t b start in
       zip_append (Follows at s a) (of_state ends.Entry inv) (state_follows a inv) (q.HeadGuard ∷ of_state ends.Body inv) (guard_follows p t (meet p t a inv) e ∷ state_follows end inv)
       (of_each_state at s a ends.Entry a refl inv)
-      (inl refl, of_each_state at s a ends.Body end (past_block p t b start) inv)
+      (refl, of_each_state at s a ends.Body end (past_block p t b start) inv)
   follows at (note j) a = of_each_state at (note j) a ends.Here a refl j
-  follows at (output e) a = (inl refl, tt)
+  follows at (output e) a = (refl, tt)
+
+  goals_as_asked : (at : ℕ) (s : Stm) (a : Point) → AllZip (HasGoal at s a) (questions p t a.held s) (own_entailments p t s a)
+  goals_as_asked at s a =
+      zip_of_same (HasGoal at s a) (λ question. goal_of p t question s (asked_point p t question s a)) (λ g. g.goal)
+      (λ question g same. same ∙ ap (goal_of p t question s) (sym (to_the_point p t question at s a)))
+      (questions p t a.held s) (own_entailments p t s a) (as_asked p t s a)
+
+  -- both
+  abbrev IsAsked : (at : ℕ) → Stm → Point → Question → Entailment → Type 0
+  IsAsked at s a question g = OfPoint question s (after_steps p t (steps_to_point question at s) a) g
+
+  each_asked : (at : ℕ) (s : Stm) (a : Point) → AllZip (IsAsked at s a) (questions p t a.held s) (own_entailments p t s a)
+  each_asked at s a = zip_both (Follows at s a) (HasGoal at s a) (questions p t a.held s) (own_entailments p t s a) (follows at s a) (goals_as_asked at s a)
 
 -- By place and number ----------------------------------------------------------------------------------------------
 
@@ -215,7 +252,7 @@ module _ (place number : ℕ) where
     -- of the statement at the end of a way from a point
     abbrev OfQuestion : Point → Way → PlacedEntailment → Option Asked → Type 0
     OfQuestion a w g None = ⊥
-    OfQuestion a w g (Some k) = AreOf (after_steps p t (w.steps ++ steps_to_point k.question place w.stm) a).preds g.entailment.hyps
+    OfQuestion a w g (Some k) = OfPoint p t k.question w.stm (after_steps p t (w.steps ++ steps_to_point k.question place w.stm) a) g.entailment
 
     abbrev OfWay : Point → Option Way → PlacedEntailment → Type 0
     OfWay a None g = ⊥
@@ -252,7 +289,7 @@ module _ (place number : ℕ) where
     Here at s proofs a g = OfWay a (way_from place number p t at s proofs) g
 
     asked_of : (at : ℕ) (s : Stm) (proofs : List Proof) (a : Point) (g : PlacedEntailment) (i : ℕ) → number ≡ suc i
-        → Beside (Follows p t place s a) (questions p t a.held s) i g.entailment → OfQuestion a (here s proofs) g (asked_among (questions p t a.held s) number)
+        → Beside (IsAsked p t place s a) (questions p t a.held s) i g.entailment → OfQuestion a (here s proofs) g (asked_among (questions p t a.held s) number)
     asked_of at s proofs a g i is found =
         subst (λ n. OfQuestion a (here s proofs) g (asked_among (questions p t a.held s) n)) (sym is)
         (subst (λ o. OfQuestion a (here s proofs) g (option_map (λ x. record { question = x; of = length (questions p t a.held s) }) o)) (sym found.1) found.2)
@@ -261,7 +298,7 @@ module _ (place number : ℕ) where
         → slice_get (own_entailments p t s a) i ≡ Some g.entailment → Here at s proofs a g
     own at s proofs a g is i numbered there =
         subst (λ b. OfWay a (if b then Some (here s proofs) else way_within at s place) g) (sym (eq-eqb at place is))
-        (asked_of at s proofs a g i numbered (beside (Follows p t place s a) (questions p t a.held s) (own_entailments p t s a) i g.entailment (follows p t place s a) there))
+        (asked_of at s proofs a g i numbered (beside (IsAsked p t place s a) (questions p t a.held s) (own_entailments p t s a) i g.entailment (each_asked p t place s a) there))
 
     -- of some of its own, with others in front and behind
     own_part : (at : ℕ) (s : Stm) (proofs : List Proof) (a : Point) (g : PlacedEntailment) (front gs back : List Entailment) (n : ℕ) → n ≡ suc (length front)
@@ -359,7 +396,7 @@ module _ (place number : ℕ) where
     -- The site -----------------------------------------------------------------------------------------------------
 
     abbrev HasSite : Option Way → Option Asked → PlacedEntailment → Type 0
-    HasSite w k g = (site : Site) × (site_behind place w k ≡ Some site) × AreOf (point_behind p t site.steps).preds g.entailment.hyps
+    HasSite w k g = (site : Site) × (site_behind place w k ≡ Some site) × OfPoint p t site.question site.stm (point_behind p t site.steps) g.entailment
 
     of_asked : (w : Way) (k : Option Asked) (g : PlacedEntailment) → OfQuestion (start p t) w g k → HasSite (Some w) k g
     of_asked w None g h = absurd h
@@ -377,4 +414,4 @@ of_site s t place number formed inside g h =
     let known = of_taken place number (entailment_count (reached (thread_obligations s t))) (all_entailments s t) g h in
     let found = of_way place number p t (way_to body place) g
     (sited_in place number p t body (start p t) g (differ (places body) (formed.bodies t no_thread inside).places_differ) known) in
-    record { site = found.0; there = found.1; known = found.2 }
+    record { site = found.0; there = found.1; known = found.2.0; goal = found.2.1 }

@@ -69,7 +69,7 @@ module _ (p : Plain) (t : ℕ) where
   to_the_end e.SecondBlock at s a = to_the_second_end at s a
   to_the_end e.Body at s a = to_the_body_end at s a
 
-  to_the_point : (question : Question) (at : ℕ) (s : Stm) (a : Point) → after_steps p t (steps_to_point question at s) a ≡ asked_point p t question s a
+  pub to_the_point : (question : Question) (at : ℕ) (s : Stm) (a : Point) → after_steps p t (steps_to_point question at s) a ≡ asked_point p t question s a
   to_the_point q.Written at s a = refl
   to_the_point (q.Shown x) at s a = refl
   to_the_point (q.Controlled y) at s a = refl

@@ -7,7 +7,7 @@ use Rattle.entail_questions.specs.declared.kinds.Question.TheVariants as q
 use Rattle.hypothesis_origins.specs.Remarks.{remarks}
 use Rattle.entail_refused.specs.Sites.{Site}
 
--- whether an entailment may follow from one expression more than the predicates, which is its last hypothesis
+-- whether an entailment follows from one expression more than the predicates, which is its last hypothesis
 abbrev pub asks_more : Question → Bool
 asks_more q.Written = true
 asks_more (q.Shown x) = true

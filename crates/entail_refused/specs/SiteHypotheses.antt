@@ -1,20 +1,27 @@
--- What an entailment follows from: the predicates of the point at its site, by the rules for statements.
+-- What an entailment asks: whether the goal of the question at its site follows from the predicates of the point there, by the rules for
+-- statements, and from one expression more where the question has one.
 --
--- So what is told of that point, as where its hypotheses come from and what was left out on the way, is told of the hypotheses of the entailment.
-use Rattle.std.specs.Prelude.{◌≡◌, ℕ, ◌⊎◌, List, [], ◌∷◌, ◌++◌, Some}
+-- So what is told of that point, as where its hypotheses and the types of its goal come from and what was left out on the way, is told of the
+-- hypotheses and the goal of the entailment.
+use Rattle.std.specs.Prelude.{◌≡◌, ℕ, List, [], ◌∷◌, ◌++◌, Bool, true, false, Some}
 use Rattle.cov_ast.specs.Plain.{plain}
 use Rattle.cov_ast.specs.Syntax.{Program}
 use Rattle.cov_expr.specs.Term.{Term}
 use Rattle.hypothesis_origins.specs.Points.{point_behind}
+use Rattle.type_origins.specs.GoalTypes.{goal_of}
 use Rattle.typing_rules.specs.ThreadEntailments.{PlacedEntailment}
+use Rattle.entail_refused.specs.Remarked.{asks_more}
 use Rattle.entail_refused.specs.Sites.{Site, site_of}
 
--- The hypotheses are these predicates, or these and one expression more: a type, or the class that is asked for.
-abbrev pub AreOf : (preds hyps : List Term) → Type 0
-AreOf preds hyps = (hyps ≡ preds) ⊎ ((e : Term) × (hyps ≡ preds ++ e ∷ []))
+-- The hypotheses are these predicates, with one expression more behind them, which isn't named here, or without one.
+abbrev pub AreOf : (more : Bool) → (preds hyps : List Term) → Type 0
+AreOf true preds hyps = (e : Term) × (hyps ≡ preds ++ e ∷ [])
+AreOf false preds hyps = hyps ≡ preds
 
--- An entailment of a thread, with this number at this place, has a site, and its hypotheses are of the point behind the steps to it.
+-- An entailment of a thread, with this number at this place, has a site. Its hypotheses are the predicates of the point behind the steps to
+-- it, with one expression more just where the question has one, and its goal is that of the question, of the statement there, at that point.
 pub record IsOfSite (p : Program) (t place number : ℕ) (g : PlacedEntailment) : Type 0 where
   pub site : Site
   pub there : site_of p t place number ≡ Some site
-  pub known : AreOf (point_behind (plain p) t site.steps).preds g.entailment.hyps
+  pub known : AreOf (asks_more site.question) (point_behind (plain p) t site.steps).preds g.entailment.hyps
+  pub goal : g.entailment.goal ≡ goal_of (plain p) t site.question site.stm (point_behind (plain p) t site.steps)

@@ -5,8 +5,8 @@
 //!   (`type_origins`), which hypotheses the state drops that is asked of, and what would be a hypothesis, had a state listed it (`left_out_predicates`).
 //! - [`refused_entailment_is_listed`] and [`refusal_is_told`], which are laws: there is always such an entailment, and it is the one
 //!   whose certificate isn't valid. `specs/RefusedEntailment.antt` says so.
-//! - [`hypotheses_are_of_the_site`], a law too: the hypotheses of an entailment are what is known at the point of its site, and one expression
-//!   more at most. `specs/SiteHypotheses.antt` says so.
+//! - [`hypotheses_are_of_the_site`], a law too: the hypotheses of an entailment are what is known at the point of its site, with one
+//!   expression more just where its question has one, and its goal is that of the question there. `specs/SiteHypotheses.antt` says so.
 //! - [`sites_lead_to_the_point_asked`], another: the steps of a site lead to the point of which its question asks.
 //!
 //! `specs/Asked.antt` says which entailment that is, `specs/Sites.antt` the point of which it asks and the steps to it, by

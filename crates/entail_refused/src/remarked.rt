@@ -50,7 +50,7 @@ fn remarks_at(
     )
 }
 
-/// Whether an entailment may follow from one expression more than the predicates, which is its last hypothesis.
+/// Whether an entailment follows from one expression more than the predicates, which is its last hypothesis.
 fn asks_more(question: Question) -> bool
     ensures { result ≡ spec.asks_more question }
 {

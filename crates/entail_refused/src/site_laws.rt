@@ -19,8 +19,9 @@ pub fn sites_lead_to_the_point_asked()
         → point_behind p t (site_at steps question at s).steps ≡ asked_point p t question s (point_behind p t steps) }
 {}
 
-/// A law: each entailment of a thread of a well formed program is to follow from the predicates of the point to which the steps of its
-/// site lead, and from one expression more where it asks of a type or a value.
+/// A law: each entailment of a thread of a well formed program has a site. Its hypotheses are the predicates of the point to which the
+/// steps of the site lead, with one expression more behind them just where the question has one (`asks_more`), and its goal is that of the
+/// question at this point.
 pub fn hypotheses_are_of_the_site()
     ensures { (p : syntax.Program) → (t place number : ℕ) → IsWellFormed p → t < length p.threads → (g : PlacedEntailment)
         → entailment_among (thread_entailments p t) place number ≡ Some g → IsOfSite p t place number g }
