@@ -1,3 +1,4 @@
 pub mod Examples
 pub mod OriginLaws
+pub mod LastOrigin
 pub mod PointLaws

@@ -120,11 +120,7 @@ fn add_one<'p>(
 }
 
 /// Adds the predicates of a state.
-fn add_each<'p>(
-    source: Source,
-    state: &'p State,
-    all: &mut List<Given<'p>>,
-) -> Result<(), NoMemory>
+fn add_each<'p>(source: Source, state: &'p State, all: &mut List<Given<'p>>) -> Result<(), NoMemory>
     ensures { OnOk result (map spec.given all.new ≡ map spec.given all.old ++ origins.each source (view.state state.now).preds) }
 {
     for pred in state.preds.as_slice() {

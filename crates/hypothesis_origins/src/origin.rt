@@ -43,7 +43,8 @@ pub struct Origin {
 }
 
 /// Where a hypothesis comes from behind steps: the last of them that gives it. `None` comes where no step does, as of the class or
-/// the type of a variable. It takes time in proportion to what the steps give, and memory for what one of them gives.
+/// the type of a variable. It looks at the steps from the last on, and takes time in
+/// proportion to what those give that it looks at, and memory for what one of them gives.
 pub fn origin_of<'p>(
     alloc: Global,
     p: &'p Program,
@@ -52,13 +53,12 @@ pub fn origin_of<'p>(
 ) -> Result<Option<Origin>, NoMemory>
     ensures { IfOk result (λ found. found ≡ spec.origin (plain (view.program p.now)) (map paths.step steps.now) (term hypothesis.now)) }
 {
-    let mut last = None;
-    for step in steps {
-        if let Some(found) = origin_at(alloc, p, step, hypothesis)? {
-            last = Some(found);
+    for i in (0..steps.len()).rev() {
+        if let Some(found) = origin_at(alloc, p, &steps[i], hypothesis)? {
+            return Ok(Some(found));
         }
     }
-    Ok(last)
+    Ok(None)
 }
 
 /// Whether a step gives a hypothesis, and what it is in the step that does.

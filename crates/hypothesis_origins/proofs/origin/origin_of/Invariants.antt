@@ -1,5 +1,4 @@
-use Rattle.std.proofs.Common.{◌≡◌, drop, map}
-use Rattle.std.specs.Option.{option_or}
+use Rattle.std.proofs.Common.{◌≡◌, None, drop, map}
 use Rattle.cov_expr.specs.View.{term}
 use Rattle.cov_ast.specs.Plain.{plain}
 use Rattle.cov_ast.specs.View as view
@@ -7,8 +6,6 @@ use Rattle.statement_paths.specs.Paths as paths
 use Rattle.hypothesis_origins.specs.Origins as spec
 use Rattle.hypothesis_origins.proofs.origin.origin_of.Given as goal
 
--- what is found so far counts where none of the steps that are left gives the hypothesis
-abbrev pub invariant-loop-step : goal.invariant-loop-step
-invariant-loop-step l =
-    option_or (spec.origin (plain (view.program l.p)) (map paths.step (drop l.step-index l.steps)) (term l.hypothesis)) l.last
-    ≡ spec.origin (plain (view.program l.p)) (map paths.step l.steps) (term l.hypothesis)
+-- none of the steps so far, which are the last ones, gives the hypothesis
+abbrev pub invariant-loop-i : goal.invariant-loop-i
+invariant-loop-i l = spec.origin (plain (view.program l.p)) (map paths.step (drop l.i l.steps)) (term l.hypothesis) ≡ None
