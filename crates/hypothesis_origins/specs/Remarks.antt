@@ -17,9 +17,9 @@ invariant_of p l = codes "invariant of " ++ (lock_at p l).name
 abbrev pub source_text : Plain → Source → List ℕ
 source_text p Assigned = codes "assignment"
 source_text p (Invariant l) = invariant_of p l
-source_text p Join = codes "join"
+source_text p Join = codes "join of the `if`"
 source_text p LoopLeft = codes "guard"
-source_text p LoopState = codes "inv"
+source_text p LoopState = codes "inv of the `while`"
 source_text p Noted = codes "note"
 source_text p GuardHolds = codes "guard"
 source_text p GuardFails = codes "guard"

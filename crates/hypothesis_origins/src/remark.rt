@@ -96,8 +96,8 @@ fn add_source(p: &Program, source: Source, text: &mut Blob) -> Result<(), NoMemo
     match source {
         Source::Assigned => text.extend_from_slice(b"assignment"),
         Source::Invariant(l) => add_invariant_of(p, l, text),
-        Source::Join => text.extend_from_slice(b"join"),
-        Source::LoopState => text.extend_from_slice(b"inv"),
+        Source::Join => text.extend_from_slice(b"join of the `if`"),
+        Source::LoopState => text.extend_from_slice(b"inv of the `while`"),
         Source::Noted => text.extend_from_slice(b"note"),
         Source::LoopLeft | Source::GuardHolds | Source::GuardFails => {
             text.extend_from_slice(b"guard")

@@ -15,10 +15,10 @@ use Rattle.left_out_predicates.specs.declared.states.StateAt.{StateAt}
 use Rattle.left_out_predicates.specs.declared.states.StateKind.{StateKind}
 use Rattle.left_out_predicates.specs.declared.states.StateKind.TheVariants.{Join, Inv, Note}
 
--- the word of the language for a state
+-- what a state is, with the statement that it is of, which gives its line
 abbrev pub kind_text : StateKind → List ℕ
-kind_text Join = codes "join"
-kind_text Inv = codes "inv"
+kind_text Join = codes "join of the `if`"
+kind_text Inv = codes "inv of the `while`"
 kind_text Note = codes "note"
 
 -- the predicate

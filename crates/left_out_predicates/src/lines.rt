@@ -117,13 +117,13 @@ fn add_line_part(bytes: &[u8], at: u32, text: &mut Blob) -> Result<(), NoMemory>
     text.extend_from_slice(b"\n")
 }
 
-/// The word of the language for a state.
+/// What a state is, with the statement that it is of, which gives its line.
 fn kind_text(kind: StateKind) -> &'static str
     ensures { result.now ≡ spec.kind_text kind }
 {
     match kind {
-        StateKind::Join => "join",
-        StateKind::Inv => "inv",
+        StateKind::Join => "join of the `if`",
+        StateKind::Inv => "inv of the `while`",
         StateKind::Note => "note",
     }
 }

@@ -180,11 +180,11 @@ a_low_variable : type_lines program 0 text [] q.Printed (s.output (var 3)) ≡ c
 a_low_variable = simp (decimal_digit 1 (lit< tt))
 
 -- under its lock nobody else reads `buf`
-hidden : type_lines program 0 text (taken ∷ joined [] ∷ []) (q.Freed 1) (s.unlock 0) ≡ codes "  type of buf:  0, since the join, line 4, doesn't list it\n"
+hidden : type_lines program 0 text (taken ∷ joined [] ∷ []) (q.Freed 1) (s.unlock 0) ≡ codes "  type of buf:  0, since the join of the `if`, line 4, doesn't list it\n"
 hidden = simp (decimal_digit 4 (lit< tt))
 
 not_hidden : type_lines program 0 text (joined [] ∷ returned ∷ []) (q.Retyped 2) s.skip
-    ≡ codes "  type of o:  its class `0`, since the join, line 4, doesn't list it; then l is given back, line 4, which turns a type that mentions what it protects into its class `0`\n"
+    ≡ codes "  type of o:  its class `0`, since the join of the `if`, line 4, doesn't list it; then l is given back, line 4, which turns a type that mentions what it protects into its class `0`\n"
 not_hidden = simp (decimal_digit 0 (lit< tt), decimal_digit 4 (lit< tt))
 
 by_its_lock : type_lines program 0 text (taken ∷ []) (q.Controlled 1) s.skip ≡ codes "  type of buf:  its class `m == 0`, from the lock l, line 2\n"

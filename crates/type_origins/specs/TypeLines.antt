@@ -40,14 +40,14 @@ known_behind p t steps = known_at p t (held_along steps (none_held p))
 
 -- what lists types, or doesn't
 abbrev pub list_word : By → List ℕ
-list_word by.Join = codes "join"
-list_word by.LoopState = codes "inv"
+list_word by.Join = codes "join of the `if`"
+list_word by.LoopState = codes "inv of the `while`"
 list_word by.Noted = codes "note"
 list_word by.Retype = codes "retype"
 
 abbrev pub listed_text : By → List ℕ
-listed_text by.Join = codes "listed by the join"
-listed_text by.LoopState = codes "listed by the inv"
+listed_text by.Join = codes "listed by the join of the `if`"
+listed_text by.LoopState = codes "listed by the inv of the `while`"
 listed_text by.Noted = codes "listed by the note"
 listed_text by.Retype = codes "from the retype"
 

@@ -10,8 +10,8 @@ pub fn list_word(by: By) -> &'static str
     ensures { result.now ≡ spec.list_word by }
 {
     match by {
-        By::Join => "join",
-        By::LoopState => "inv",
+        By::Join => "join of the `if`",
+        By::LoopState => "inv of the `while`",
         By::Noted => "note",
         By::Retype => "retype",
     }
@@ -22,8 +22,8 @@ pub fn listed_text(by: By) -> &'static str
     ensures { result.now ≡ spec.listed_text by }
 {
     match by {
-        By::Join => "listed by the join",
-        By::LoopState => "listed by the inv",
+        By::Join => "listed by the join of the `if`",
+        By::LoopState => "listed by the inv of the `while`",
         By::Noted => "listed by the note",
         By::Retype => "from the retype",
     }
