@@ -205,13 +205,13 @@ guarded = record {
 abbrev access : Rule → (place : ℕ) → (shown : List ℕ) → List ℕ
 access rule place shown = spec.refusal_names guarded (codes "a\nb\nc\n") rule (Some 0) place (One shown)
 
-hidden_by_a_lock : access V1 94 (codes "a") ≡ codes "  lock l, line 1, has `hide a`, and isn't held here\n"
+hidden_by_a_lock : access V1 94 (codes "a") ≡ codes "  lock l, line 1, has `hide a`, and isn't held here; held: none\n"
 hidden_by_a_lock = simp (decimal_digit 1 (lit< tt))
 
-hidden_and_written : access V2 94 (codes "a") ≡ codes "  lock l, line 1, has `hide a`, and isn't held here\n"
+hidden_and_written : access V2 94 (codes "a") ≡ codes "  lock l, line 1, has `hide a`, and isn't held here; held: none\n"
 hidden_and_written = simp (decimal_digit 1 (lit< tt))
 
-under_a_lock : access V2 90 (codes "c") ≡ codes "  lock m, line 2, has `nowrite c`, and isn't held here\n"
+under_a_lock : access V2 90 (codes "c") ≡ codes "  lock m, line 2, has `nowrite c`, and isn't held here; held: l\n"
 under_a_lock = simp (decimal_digit 2 (lit< tt))
 
 left_alone : access V1 90 (codes "d") ≡ codes "  thread t, line 3, has `guarantee hide d`\n"
@@ -224,7 +224,7 @@ left_alone_and_written = simp (decimal_digit 3 (lit< tt))
 not_to_be_written : access V2 94 (codes "b") ≡ codes "  thread t, line 3, has `guarantee nowrite b`\n"
 not_to_be_written = simp (decimal_digit 3 (lit< tt))
 
-yet_hidden : access V1 94 (codes "b") ≡ codes "  lock l, line 1, has `hide b`, and isn't held here\n"
+yet_hidden : access V1 94 (codes "b") ≡ codes "  lock l, line 1, has `hide b`, and isn't held here; held: none\n"
 yet_hidden = simp (decimal_digit 1 (lit< tt))
 
 -- what is permitted: with the lock, and to read what only isn't to be written; and no such variable, and nothing shown

@@ -20,6 +20,7 @@ use Rattle.mode_compat.specs.Compatible as compatible
 use Rattle.mode_state.specs.Sets.{may_read, may_write, locks_of}
 use Rattle.mode_state.proofs.HeldLaws.{all_from}
 use Rattle.refusal_names.proofs.FoundNames.{variable_found}
+use Rattle.refusal_names.specs.NameLines.{held_text}
 use Rattle.refusal_names.specs.ForbiddenAccess.{forbidding, guarantee_forbidding, lock_forbidding, with_word, first_forbidding, guarantee_or_lock, lock_or_nothing, access_line, access_of_any, shown_access, TellsWhy}
 use Rattle.refusal_names.specs.RefusalNames.{line_of}
 use Rattle.statement_paths.specs.Paths.{Step}
@@ -133,7 +134,7 @@ module _ (p : Program) (bytes : List ℕ) (t : ℕ) (held : List Bool) (writes :
   the_line = access_line names bytes (numbered p t) p.locks held writes x
 
   abbrev line_by : Option (List ℕ) → List ℕ
-  line_by guarantee = guarantee_or_lock names bytes (numbered p t) guarantee (first_forbidding held writes x 0 p.locks) x
+  line_by guarantee = guarantee_or_lock names bytes (numbered p t) guarantee (first_forbidding held writes x 0 p.locks) x (held_text p.locks held)
 
   same_guarantees : guarantee_forbids ≡ forbid (numbered p t).modes.guarantee_nowrite (numbered p t).modes.guarantee_hide writes x
   same_guarantees = ap (λ m. forbid m.guarantee_nowrite m.guarantee_hide writes x) (ap (λ th. th.modes) (get_or-map plain_thread p.threads t compatible.no_thread no_thread below))
@@ -157,7 +158,7 @@ module _ (p : Program) (bytes : List ℕ) (t : ℕ) (held : List Bool) (writes :
     apart = ap (has held) (let e : f.at ≡ 0 + f.at = omega arith in e) ∙ f.apart;
     word = f.word;
     forbids = f.forbids;
-    told = ap line_by is ∙ ap (λ k. lock_or_nothing names bytes k x) f.is;
+    told = ap line_by is ∙ ap (λ k. lock_or_nothing names bytes k x (held_text p.locks held)) f.is;
   })
   by_lock is h (inl n) =
       let free = same_guarantees ∙ unforbidden (numbered p t).modes.guarantee_nowrite (numbered p t).modes.guarantee_hide writes x is in
@@ -188,7 +189,7 @@ module _ (p : Program) (bytes : List ℕ) (t : ℕ) (held : List Bool) (writes :
       let parts = and_parts (not guarantee_forbids) (list_all (λ l. not (lock_forbids l) || has held l) (locks_of (plain p))) h in
       let free = sym same_guarantees ∙ not-true guarantee_forbids parts.0 in
       ap line_by (permitted (numbered p t).modes.guarantee_nowrite (numbered p t).modes.guarantee_hide writes x free)
-      ∙ ap (λ k. lock_or_nothing names bytes k x) (no_lock_found parts.1 (none_or_first held writes x 0 p.locks))
+      ∙ ap (λ k. lock_or_nothing names bytes k x (held_text p.locks held)) (no_lock_found parts.1 (none_or_first held writes x 0 p.locks))
 
 -- The refusals -------------------------------------------------------------------------------------------------
 

@@ -12,6 +12,7 @@ use Rattle.cov_print.specs.Spelling.{Names, name}
 use Rattle.entail_text.specs.VariableNames.{variable_names}
 use Rattle.mode_compat.specs.Compatible.{numbered}
 use Rattle.text_lines.specs.Lines.{line}
+use Rattle.refusal_names.specs.NameLines.{held_text}
 
 -- Which declaration forbids it ---------------------------------------------------------------------------------
 
@@ -54,23 +55,27 @@ list_text names start word x end = start ++ word ++ codes " " ++ name names x ++
 abbrev pub guarantee_text : Names → (bytes : List ℕ) → Thread → (word : List ℕ) → (x : ℕ) → List ℕ
 guarantee_text names bytes t word x = declared_text bytes (codes "thread") t.name t.at ++ list_text names (codes ", has `guarantee ") word x (codes "`\n")
 
-abbrev pub lock_text : Names → (bytes : List ℕ) → Lock → (word : List ℕ) → (x : ℕ) → List ℕ
-lock_text names bytes l word x = declared_text bytes (codes "lock") l.name l.at ++ list_text names (codes ", has `") word x (codes "`, and isn't held here\n")
+-- of a lock that isn't held, in front of those that are
+abbrev pub lock_start : Names → (bytes : List ℕ) → Lock → (word : List ℕ) → (x : ℕ) → List ℕ
+lock_start names bytes l word x = declared_text bytes (codes "lock") l.name l.at ++ list_text names (codes ", has `") word x (codes "`, and isn't held here; held: ")
+
+abbrev pub lock_text : Names → (bytes : List ℕ) → Lock → (word : List ℕ) → (x : ℕ) → (held : List ℕ) → List ℕ
+lock_text names bytes l word x held = lock_start names bytes l word x ++ held ++ codes "\n"
 
 -- of a lock, if there is one
-abbrev pub lock_or_nothing : Names → (bytes : List ℕ) → Option (Lock × List ℕ) → (x : ℕ) → List ℕ
-lock_or_nothing names bytes None x = []
-lock_or_nothing names bytes (Some k) x = lock_text names bytes k.0 k.1 x
+abbrev pub lock_or_nothing : Names → (bytes : List ℕ) → Option (Lock × List ℕ) → (x : ℕ) → (held : List ℕ) → List ℕ
+lock_or_nothing names bytes None x held = []
+lock_or_nothing names bytes (Some k) x held = lock_text names bytes k.0 k.1 x held
 
 -- of a guarantee of the thread, if one forbids it, and else of a lock
-abbrev pub guarantee_or_lock : Names → (bytes : List ℕ) → Thread → (guarantee : Option (List ℕ)) → (lock : Option (Lock × List ℕ)) → (x : ℕ) → List ℕ
-guarantee_or_lock names bytes t None lock x = lock_or_nothing names bytes lock x
-guarantee_or_lock names bytes t (Some word) lock x = guarantee_text names bytes t word x
+abbrev pub guarantee_or_lock : Names → (bytes : List ℕ) → Thread → (guarantee : Option (List ℕ)) → (lock : Option (Lock × List ℕ)) → (x : ℕ) → (held : List ℕ) → List ℕ
+guarantee_or_lock names bytes t None lock x held = lock_or_nothing names bytes lock x held
+guarantee_or_lock names bytes t (Some word) lock x held = guarantee_text names bytes t word x
 
 -- why a thread that holds these locks may not read or write a variable
 abbrev pub access_line : Names → (bytes : List ℕ) → Thread → List Lock → (held : List Bool) → (writes : Bool) → (x : ℕ) → List ℕ
 access_line names bytes t locks held writes x =
-    guarantee_or_lock names bytes t (guarantee_forbidding t writes x) (first_forbidding held writes x 0 locks) x
+    guarantee_or_lock names bytes t (guarantee_forbidding t writes x) (first_forbidding held writes x 0 locks) x (held_text locks held)
 
 -- the same of a variable by its name, if there is one
 abbrev pub access_of_any : Names → (bytes : List ℕ) → Thread → List Lock → (held : List Bool) → (writes : Bool) → Option ℕ → List ℕ
@@ -99,7 +104,7 @@ module _ (p : Program) (bytes : List ℕ) (t : ℕ) (held : List Bool) (writes :
     pub apart : has held number ≡ false
     pub word : List ℕ
     pub forbids : lock_forbidding (lock_at (plain p) number) writes x ≡ Some word
-    pub told : text ≡ lock_text (variable_names p.vars) bytes (lock_at (plain p) number) word x
+    pub told : text ≡ lock_text (variable_names p.vars) bytes (lock_at (plain p) number) word x (held_text p.locks held)
 
   abbrev pub TellsWhy : (text : List ℕ) → Type 0
   TellsWhy text = IsOfGuarantee text ⊎ IsOfLock text

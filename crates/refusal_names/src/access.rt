@@ -1,15 +1,19 @@
 ghost use Rattle.std.specs.Prelude.{◌≡◌, ◌++◌, ◌≤◌, OnOk, length, map, option_map};
 ghost use Rattle.cov_ast.specs.View as view;
 ghost use Rattle.refusal_names.specs.ForbiddenAccess as spec;
+ghost use Rattle.refusal_names.specs.NameLines.{held_text};
 
+use crate::ends::add_held;
 use crate::guarantees::{add_line_of, has_number};
 use crate::reads::add_variable;
 use cov_ast::{Detail, LockDecl, NameTable, ThreadDecl};
 use cov_expr::{Blob, Name, NoMemory};
 use mode_state::ModeState;
+use std::alloc::Global;
 
 /// Adds why a thread may not read, or write, the variable that a refusal shows, by the locks that it holds.
 pub fn add_access(
+    alloc: Global,
     names: &NameTable,
     bytes: &[u8],
     t: &ThreadDecl,
@@ -25,7 +29,7 @@ pub fn add_access(
 {
     match detail {
         Detail::One(shown) => match names.find(shown) {
-            Some(x) => add_cause(names, bytes, t, locks, modes, writes, x, text),
+            Some(x) => add_cause(alloc, names, bytes, t, locks, modes, writes, x, text),
             None => Ok(()),
         },
         _ => Ok(()),
@@ -34,6 +38,7 @@ pub fn add_access(
 
 /// Adds why a thread may not read, or write, a variable: its guarantee, or else the first lock.
 fn add_cause(
+    alloc: Global,
     names: &NameTable,
     bytes: &[u8],
     t: &ThreadDecl,
@@ -49,13 +54,10 @@ fn add_cause(
 {
     match guarantee_forbidding(t, writes, x) {
         Some(word) => add_guaranteed(names, bytes, t, word, x, text),
-        None => add_of_lock(
-            names,
-            bytes,
-            first_forbidding(locks, modes, writes, x),
-            x,
-            text,
-        ),
+        None => {
+            let found = first_forbidding(locks, modes, writes, x);
+            add_of_lock(alloc, names, bytes, locks, modes, found, x, text)
+        }
     }
 }
 
@@ -127,24 +129,32 @@ fn add_guaranteed(
     add_list(names, b", has `guarantee ", word, x, b"`\n", text)
 }
 
-/// Adds the line of a lock, if there is one.
+/// Adds the line of a lock that isn't held, with those that are, if there is such a lock.
 fn add_of_lock(
+    alloc: Global,
     names: &NameTable,
     bytes: &[u8],
+    locks: &[LockDecl],
+    modes: &ModeState,
     found: Option<(&LockDecl, &'static [u8])>,
     x: u32,
     text: &mut Blob,
 ) -> Result<(), NoMemory>
+    requires { length locks.now ≤ 64 }
     ensures { OnOk result (text.new ≡ text.old
-        ++ spec.lock_or_nothing names.now bytes.now (option_map (λ f. (view.lock f.0.now, f.1.now)) found.entry) x) }
+        ++ spec.lock_or_nothing names.now bytes.now (option_map (λ f. (view.lock f.0.now, f.1.now)) found.entry) x (held_text (map view.lock locks.now) (modes.now).held)) }
 {
     match found {
-        Some((lock, word)) => add_lock(names, bytes, lock, word, x, text),
+        Some((lock, word)) => {
+            add_lock(names, bytes, lock, word, x, text)?;
+            add_held(alloc, locks, modes, text)?;
+            text.extend_from_slice(b"\n")
+        }
         None => Ok(()),
     }
 }
 
-/// Adds the line of a lock.
+/// Adds the line of a lock that isn't held, in front of those that are.
 fn add_lock(
     names: &NameTable,
     bytes: &[u8],
@@ -153,7 +163,7 @@ fn add_lock(
     x: u32,
     text: &mut Blob,
 ) -> Result<(), NoMemory>
-    ensures { OnOk result (text.new ≡ text.old ++ spec.lock_text names.now bytes.now (view.lock lock.now) word.now x) }
+    ensures { OnOk result (text.new ≡ text.old ++ spec.lock_start names.now bytes.now (view.lock lock.now) word.now x) }
 {
     add_declared(bytes, b"lock", lock.name, lock.at, text)?;
     add_list(
@@ -161,7 +171,7 @@ fn add_lock(
         b", has `",
         word,
         x,
-        b"`, and isn't held here\n",
+        b"`, and isn't held here; held: ",
         text,
     )
 }

@@ -75,7 +75,7 @@ fn add_loop_ends(
 }
 
 /// Adds the names of the locks that are held.
-fn add_held(
+pub fn add_held(
     alloc: Global,
     locks: &[LockDecl],
     modes: &ModeState,

@@ -164,10 +164,10 @@ fn add_line(
         OnOk result (text.new ≡ text.old ++ spec.line_of (view.program p.now) bytes.now t refusal.now.rule refusal.now.detail w.steps modes.held w.stm) }
 {
     let names = variable_names(alloc, p)?;
-    let kind = &found.stmt.kind;
+    let (kind, detail) = (&found.stmt.kind, refusal.detail);
     match refusal.rule {
-        Rule::V1 => add_access_in(p, &names, bytes, t, &modes, false, refusal.detail, text),
-        Rule::V2 => add_access_in(p, &names, bytes, t, &modes, true, refusal.detail, text),
+        Rule::V1 => add_access_in(alloc, p, &names, bytes, t, &modes, false, detail, text),
+        Rule::V2 => add_access_in(alloc, p, &names, bytes, t, &modes, true, detail, text),
         Rule::V3 => add_unstable_reads(alloc, p, &names, &modes, kind, text),
         Rule::V4 => add_bad_type(alloc, p, &names, modes, kind, text),
         Rule::V8 => add_ends(alloc, p.locks.as_slice(), modes, kind, text),
@@ -180,6 +180,7 @@ fn add_line(
 
 /// Adds why a thread may not read, or write, the variable that a refusal shows.
 fn add_access_in(
+    alloc: Global,
     p: &Program,
     names: &NameTable,
     bytes: &[u8],
@@ -196,6 +197,7 @@ fn add_access_in(
 {
     let thread = &p.threads.as_slice()[t as usize];
     add_access(
+        alloc,
         names,
         bytes,
         thread,
