@@ -9,3 +9,4 @@ pub mod Entailment
 pub mod View
 pub mod Inside
 pub mod Lends
+pub mod Limits

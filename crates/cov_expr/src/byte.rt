@@ -1,3 +1,5 @@
+//! Classes of bytes: letters, digits, and those that words are made of.
+
 ghost use Rattle.std.specs.Prelude.{◌≡◌};
 ghost use Rattle.cov_expr.specs.Bytes as class;
 

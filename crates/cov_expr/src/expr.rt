@@ -1,3 +1,5 @@
+//! Expressions over numbered variables: their operators, their values, and when two are equal.
+
 ghost use Rattle.std.specs.Prelude.{◌≡◌, ◌↔◌, IsTrue, length};
 ghost use Rattle.cov_expr.specs.Term as spec;
 ghost use Rattle.cov_expr.specs.Trees as tree;

@@ -1,4 +1,7 @@
+//! Laws of expressions and of limits: functions with no body, whose contracts speak of all expressions and memories.
+
 ghost use Rattle.std.specs.Prelude.{◌≡◌, ◌↔◌, ℕ, ◌<◌, List, IsTrue, false, length, slice_index, slice_set};
+ghost use Rattle.cov_expr.specs.Limits.{AreTheLimits};
 ghost use Rattle.cov_expr.specs.Term.{Term, value};
 ghost use Rattle.cov_expr.specs.Trees as tree;
 ghost use Rattle.cov_expr.specs.Words.{AreWords, HasWords, IsWord};
@@ -26,4 +29,9 @@ pub fn substitution_is_a_store()
 /// The value of an expression of words in a memory of words is a word.
 pub fn values_are_words()
     ensures { (e : Term) → (m : List ℕ) → HasWords e → AreWords m → IsWord (value e m) }
+{}
+
+/// Each limit is the number that is told of it.
+pub fn limits_have_their_values()
+    ensures { AreTheLimits }
 {}

@@ -6,7 +6,7 @@
 //! - [`eval`]: its value in a memory. [`same`]: whether two trees are equal.
 //! - [`closed`], [`mentions`], [`has_conjunct`], [`vars`]: its parts. [`copy`], [`subst`]: trees made from others.
 //! - [`width_at_most`], [`height_at_most`], [`nodes_at_most`], [`nodes_left`]: its measures.
-//! - [`MOST_BYTES`] and the constants beside it: the limits of texts and programs.
+//! - [`MOST_BYTES`] and the constants beside it: the limits of texts, programs, other inputs and listings.
 //! - [`same_is_equality`] and the functions beside it have no body: their contracts are laws.
 #![tactic(auto)]
 
@@ -27,12 +27,14 @@ pub use byte::{is_digit, is_lower, is_word};
 pub use expr::{Expr, HOLE, Op, apply, eval, same};
 pub use kind::Kind;
 pub use laws::{
-    closed_mentions_nothing, same_is_equality, substitution_is_a_store, value_depends_on_mentioned,
-    values_are_words,
+    closed_mentions_nothing, limits_have_their_values, same_is_equality, substitution_is_a_store,
+    value_depends_on_mentioned, values_are_words,
 };
 pub use limits::{
-    MOST_BLOCKS, MOST_BRACKETS, MOST_BYTES, MOST_CERT_NODES, MOST_HEIGHT, MOST_LOCKS, MOST_MARKS,
-    MOST_NODES, MOST_PREDICATES, MOST_STATEMENTS, MOST_THREADS, MOST_TYPES, MOST_VARIABLES,
+    MOST_BLOCKS, MOST_BRACKETS, MOST_BYTES, MOST_CERT_NODES, MOST_ENTRIES, MOST_EXPRESSION_BYTES,
+    MOST_HEIGHT, MOST_INPUT_BYTES, MOST_LISTING_BYTES, MOST_LOCKS, MOST_MARKS, MOST_NAME_BYTES,
+    MOST_NODES, MOST_PREDICATES, MOST_ROUNDS, MOST_STATEMENTS, MOST_THREADS, MOST_TYPES,
+    MOST_VARIABLES,
 };
 pub use list::{Blob, List, NoMemory};
 pub use measures::{height_at_most, nodes_at_most, nodes_left, width_at_most};

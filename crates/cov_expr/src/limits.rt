@@ -1,6 +1,15 @@
-//! Limits of a text, a program and its parts. What is past one is refused.
+//! Limits of texts, programs and their parts, of the other inputs, and of what is written. What is past one is refused.
+//!
+//! - Of each text: [`MOST_BYTES`], [`MOST_BRACKETS`], [`MOST_MARKS`], [`MOST_NAME_BYTES`].
+//! - Of a program: [`MOST_VARIABLES`], [`MOST_LOCKS`], [`MOST_THREADS`], [`MOST_STATEMENTS`], [`MOST_BLOCKS`].
+//! - Of an expression, a certificate, a state: [`MOST_NODES`], [`MOST_HEIGHT`], [`MOST_CERT_NODES`],
+//!   [`MOST_PREDICATES`], [`MOST_TYPES`].
+//! - Of the other inputs: [`MOST_INPUT_BYTES`], [`MOST_ENTRIES`], [`MOST_EXPRESSION_BYTES`], [`MOST_ROUNDS`].
+//! - Of what is written: [`MOST_LISTING_BYTES`].
+//!
+//! Their values are pinned by `AreTheLimits` of `specs/Limits.antt`.
 
-/// Bytes of a text.
+/// Bytes of the text of a program.
 pub const MOST_BYTES: usize = 1_048_576;
 
 /// Brackets of a text that are open at once.
@@ -8,6 +17,9 @@ pub const MOST_BRACKETS: u32 = 200;
 
 /// Marks `!` in a row.
 pub const MOST_MARKS: u32 = 64;
+
+/// Bytes of a name of a variable, a lock or a thread.
+pub const MOST_NAME_BYTES: usize = 32;
 
 /// Variables of a program.
 pub const MOST_VARIABLES: usize = 256;
@@ -27,7 +39,7 @@ pub const MOST_BLOCKS: u32 = 64;
 /// Nodes of an expression.
 pub const MOST_NODES: u32 = 1000;
 
-/// Height of an expression, and of a certificate.
+/// Height of an expression, and of a certificate. A leaf has height 1.
 pub const MOST_HEIGHT: u32 = 64;
 
 /// Nodes of a certificate, without the expressions inside.
@@ -38,3 +50,18 @@ pub const MOST_PREDICATES: usize = 64;
 
 /// Types of a state.
 pub const MOST_TYPES: usize = 256;
+
+/// Bytes of a JSON file: a start, a schedule.
+pub const MOST_INPUT_BYTES: usize = 4_194_304;
+
+/// Entries of a schedule, each a turn of one thread.
+pub const MOST_ENTRIES: usize = 100_000;
+
+/// Bytes of an expression that is given as a word of a command.
+pub const MOST_EXPRESSION_BYTES: usize = 4_096;
+
+/// Rounds of a generated program.
+pub const MOST_ROUNDS: u32 = 200;
+
+/// Bytes of the listing of a compiled program.
+pub const MOST_LISTING_BYTES: usize = 268_435_456;

@@ -1,3 +1,5 @@
+//! A vector that contracts see as the list of its items, and the want of memory.
+
 ghost use Rattle.std.specs.Prelude.{◌≡◌, [], ◌∷◌, ◌++◌, ◌<◌, Some, length, remove, slice_get, slice_set, IfOk, OnOk, OnErr, MatchOption, IsTrue, ◌↔◌};
 ghost use Rattle.std.specs.Borrow.{sem};
 ghost use Rattle.cov_expr.specs.Lends.{LendsItems};

@@ -1,3 +1,5 @@
+//! Names of variables, locks and threads, and which texts are names.
+
 ghost use Rattle.std.specs.Prelude.{◌≡◌, IfSome, IsSome, ◌↔◌, IsTrue};
 ghost use Rattle.std.specs.List.{list_all};
 ghost use Rattle.cov_expr.specs.Bytes as class;
@@ -5,11 +7,9 @@ ghost use Rattle.cov_expr.specs.Names.{IsName};
 ghost use Rattle.cov_expr.specs.Names as spec;
 
 use crate::byte::{is_lower, is_word};
+use crate::limits::MOST_NAME_BYTES;
 use crate::spelling::is_keyword;
 use std::marker::Model;
-
-/// The most bytes of a name.
-const LONGEST: usize = 32;
 
 /// A name of a variable, a lock or a thread: a text of 1 to 32 bytes, of the form `[a-z][a-z0-9_]*` and no keyword.
 /// Contracts see it as these bytes.
@@ -86,7 +86,7 @@ impl Name {
 fn is_name(text: &[u8]) -> bool
     ensures { IsTrue result ↔ IsName text.now }
 {
-    text.len() <= LONGEST && is_word_text(text) && !is_keyword(text)
+    text.len() <= MOST_NAME_BYTES && is_word_text(text) && !is_keyword(text)
 }
 
 /// Whether a text is a lower-case letter and then letters, digits and underscores.

@@ -1,3 +1,5 @@
+//! Parts of expressions: their variables, and the conjuncts of a conjunction.
+
 ghost use Rattle.std.specs.Prelude.{◌≡◌, [], ◌∷◌, OnOk, IfOk};
 ghost use Rattle.cov_expr.specs.Trees as tree;
 ghost use Rattle.cov_expr.specs.View.{term};

@@ -1,3 +1,5 @@
+//! The table of keywords and signs, each with its kind, and how a text is looked up there.
+
 ghost use Rattle.std.specs.Prelude.{◌≡◌, ◌∷◌, ◌+◌, ◌<◌, ◌≤◌, ℕ, List, map};
 ghost use Rattle.cov_expr.specs.Inside.{start_of};
 ghost use Rattle.cov_expr.specs.Spellings as spec;
