@@ -1,11 +1,11 @@
+//! The text of the program of a number of rounds.
+
 ghost use Rattle.std.specs.Prelude.{◌≡◌, ◌≤◌, ◌<◌, ◌++◌, OnOk, IfOk, length};
+ghost use Rattle.cov_expr.specs.declared.limits.TheConstants.{MOST_ROUNDS};
 ghost use Rattle.cov_gen.specs.Big as spec;
 
 use cov_expr::{List, NoMemory};
 use std::alloc::Global;
-
-/// The most rounds of a program.
-pub const MOST_ROUNDS: u32 = 200;
 
 /// The name of the variable that is secret. Two runs whose starts differ in it alone are to look alike.
 pub const SECRET: &[u8] = b"k";
@@ -44,7 +44,7 @@ const READER_ROUND: &[u8] = b"  lock l;
 
 const END: &[u8] = b"}\n";
 
-/// The text of the program of so many rounds, 1 to [`MOST_ROUNDS`]: two threads, with 14 statements a round. It takes memory once, of just
+/// The text of the program of so many rounds, 1 to `MOST_ROUNDS` of `cov_expr`: two threads, with 14 statements a round. It takes memory once, of just
 /// as many bytes as the text has, and time in proportion.
 #[tactic(auto, unfolding(crate::specs::Big::big))]
 pub fn big(alloc: Global, rounds: u32) -> Result<List<u8>, NoMemory>

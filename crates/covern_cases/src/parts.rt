@@ -1,15 +1,14 @@
 //! Parts of the product by themselves.
 ghost use Rattle.std.specs.Prelude.{◌≤◌, length};
-ghost use Rattle.cov_expr.specs.declared.limits.TheConstants.{MOST_BYTES};
+ghost use Rattle.cov_expr.specs.declared.limits.TheConstants.{MOST_BYTES, MOST_LISTING_BYTES};
 ghost use Rattle.cov_ast.specs.View as view;
 ghost use Rattle.cov_ast.specs.Ready.{IsReady};
-ghost use Rattle.code_text.specs.declared.limits.TheConstants.{MOST_LISTING_BYTES};
 
 use crate::certificates::add_claims;
 use crate::failure::Failure;
-use code_text::{CodeFault, MOST_LISTING_BYTES, list, read_code};
+use code_text::{CodeFault, list, read_code};
 use cov_ast::{CheckFault, Parsed};
-use cov_expr::{Blob, MOST_BYTES};
+use cov_expr::{Blob, MOST_BYTES, MOST_LISTING_BYTES};
 use cov_lex::{LexFault, lex};
 use cov_parse::parse;
 use cov_text::ParseFault;

@@ -1,3 +1,5 @@
+//! The first lock or variable on which two memories with holders don't agree.
+
 ghost use Rattle.std.specs.Prelude.{◌≡◌, ◌↔◌, ◌≤◌, ◌&&◌, ◌||◌, not, length, IsNone};
 ghost use Rattle.cov_expr.specs.Words.{HasVarsBelow};
 ghost use Rattle.cov_ast.specs.View as view;

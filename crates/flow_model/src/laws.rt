@@ -1,3 +1,5 @@
+//! Laws: secure threads compose, and what is found first is what sets two memories apart, or makes them unfit to start from.
+
 ghost use Rattle.std.specs.Prelude.{◌≡◌, ◌↔◌, ℕ, ◌<◌, List, length, IsNone};
 ghost use Rattle.cov_ast.specs.Plain.{Plain, plain};
 ghost use Rattle.cov_ast.specs.Syntax as syntax;

@@ -1,3 +1,5 @@
+//! Who holds a lock, and what a step of a thread did: words that both machines share.
+
 /// Who holds a lock: nobody, or the thread of this number.
 #[derive(Clone, Copy, Debug, PartialEq, Eq)]
 pub struct Holder(pub Option<u32>);

@@ -1,3 +1,5 @@
+//! Masks of variables: controls, what held locks hide, and what threads assume hidden.
+
 ghost use Rattle.std.specs.Prelude.{◌≡◌, length, set, true};
 ghost use Rattle.cov_expr.specs.Trees.{occurrences};
 ghost use Rattle.cov_expr.specs.View.{term};

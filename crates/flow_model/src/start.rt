@@ -1,3 +1,5 @@
+//! The first variable or lock that makes two memories unfit to start from.
+
 ghost use Rattle.std.specs.Prelude.{◌≡◌, ◌↔◌, ◌&&◌, length, IsNone};
 ghost use Rattle.cov_expr.specs.Words.{HasVarsBelow};
 ghost use Rattle.cov_ast.specs.View as view;

@@ -6,7 +6,7 @@ use Rattle.cov_expr.specs.Words.{IsWord}
 use Rattle.risc_machine.specs.declared.parts.CodeBad.{CodeBad}
 use Rattle.risc_machine.specs.declared.parts.CodeBad.TheVariants as bad
 use Rattle.risc_machine.specs.declared.parts.Instr.{Instr}
-use Rattle.risc_machine.specs.declared.parts.Instr.TheVariants.{Load, Store, Jump, Jz, MovC, MovR, Bin, Acquire, Release, Out}
+use Rattle.risc_machine.specs.declared.parts.Instr.TheVariants.{Load, Store, Jump, Jz, Nop, MovC, MovR, Bin, Acquire, Release, Out}
 use Rattle.risc_machine.specs.declared.parts.Line.{Line}
 use Rattle.risc_machine.specs.declared.parts.Parts.{Parts}
 use Rattle.risc_machine.specs.declared.parts.ThreadCode.{ThreadCode}
@@ -44,35 +44,71 @@ is_register r = nat_lt r 8
 abbrev pub has_registers : Instr → Bool
 has_registers (Load r x) = is_register r
 has_registers (Store x r) = is_register r
+has_registers (Jump i) = true
 has_registers (Jz r i) = is_register r
+has_registers Nop = true
 has_registers (MovC r k) = is_register r
 has_registers (MovR r s) = is_register r && is_register s
 has_registers (Bin op r s) = is_register r && is_register s
+has_registers (Acquire l) = true
+has_registers (Release l) = true
 has_registers (Out r) = is_register r
-has_registers _ = true
 
 -- whether its variable is one of so many
 abbrev pub has_variable : ℕ → Instr → Bool
 has_variable vars (Load r x) = nat_lt x vars
 has_variable vars (Store x r) = nat_lt x vars
-has_variable vars _ = true
+has_variable vars (Jump i) = true
+has_variable vars (Jz r i) = true
+has_variable vars Nop = true
+has_variable vars (MovC r k) = true
+has_variable vars (MovR r s) = true
+has_variable vars (Bin op r s) = true
+has_variable vars (Acquire l) = true
+has_variable vars (Release l) = true
+has_variable vars (Out r) = true
 
 -- whether its lock is one of so many
 abbrev pub has_lock : ℕ → Instr → Bool
+has_lock locks (Load r x) = true
+has_lock locks (Store x r) = true
+has_lock locks (Jump i) = true
+has_lock locks (Jz r i) = true
+has_lock locks Nop = true
+has_lock locks (MovC r k) = true
+has_lock locks (MovR r s) = true
+has_lock locks (Bin op r s) = true
 has_lock locks (Acquire l) = nat_lt l locks
 has_lock locks (Release l) = nat_lt l locks
-has_lock locks _ = true
+has_lock locks (Out r) = true
 
 -- whether its target is one of so many lines, or their end
 abbrev pub has_target : ℕ → Instr → Bool
+has_target lines (Load r x) = true
+has_target lines (Store x r) = true
 has_target lines (Jump i) = nat_le i lines
 has_target lines (Jz r i) = nat_le i lines
-has_target lines _ = true
+has_target lines Nop = true
+has_target lines (MovC r k) = true
+has_target lines (MovR r s) = true
+has_target lines (Bin op r s) = true
+has_target lines (Acquire l) = true
+has_target lines (Release l) = true
+has_target lines (Out r) = true
 
 -- whether it stands in code of this version
 abbrev pub has_version : ℕ → Instr → Bool
+has_version version (Load r x) = true
+has_version version (Store x r) = true
+has_version version (Jump i) = true
+has_version version (Jz r i) = true
+has_version version Nop = true
+has_version version (MovC r k) = true
+has_version version (MovR r s) = true
+has_version version (Bin op r s) = true
+has_version version (Acquire l) = true
+has_version version (Release l) = true
 has_version version (Out r) = nat_le 2 version
-has_version version _ = true
 
 -- the first fault of the line at position `i` of thread `t`, which has so many lines
 abbrev pub line_fault : Parts → (t lines i : ℕ) → Line → Option CodeBad

@@ -53,9 +53,17 @@ effect s t (Out r) = record s { outputs = s.outputs ++ register s t r ∷ [] }
 
 -- where thread `t` goes on
 abbrev pub next_position : CodeState → (t : ℕ) → Instr → ℕ
+next_position s t (Load r x) = position s t + 1
+next_position s t (Store x r) = position s t + 1
 next_position s t (Jump i) = i
 next_position s t (Jz r i) = if is_set (register s t r) then position s t + 1 else i
-next_position s t _ = position s t + 1
+next_position s t Nop = position s t + 1
+next_position s t (MovC r k) = position s t + 1
+next_position s t (MovR r q) = position s t + 1
+next_position s t (Bin op r q) = position s t + 1
+next_position s t (Acquire l) = position s t + 1
+next_position s t (Release l) = position s t + 1
+next_position s t (Out r) = position s t + 1
 
 abbrev pub at_position : CodeState → (t i : ℕ) → CodeState
 at_position s t i = record s { positions = set s.positions t i }
@@ -63,9 +71,17 @@ at_position s t i = record s { positions = set s.positions t i }
 -- whether an instruction of thread `t` stays where it is: at a lock that is held by anybody, the thread too, or at the
 -- release of a lock that the thread doesn't hold
 abbrev pub code_stays : ℕ → Holders → Instr → Bool
+code_stays t h (Load r x) = false
+code_stays t h (Store x r) = false
+code_stays t h (Jump i) = false
+code_stays t h (Jz r i) = false
+code_stays t h Nop = false
+code_stays t h (MovC r k) = false
+code_stays t h (MovR r q) = false
+code_stays t h (Bin op r q) = false
 code_stays t h (Acquire l) = is_some (holder h l)
 code_stays t h (Release l) = not (is_held_by (holder h l) t)
-code_stays t h _ = false
+code_stays t h (Out r) = false
 
 abbrev pub after_instr : CodeState → (t : ℕ) → Instr → CodeState
 after_instr s t i = if code_stays t s.holders i then s else at_position (effect s t i) t (next_position s t i)

@@ -1,3 +1,5 @@
+//! Code: parts without a fault.
+
 ghost use Rattle.std.specs.Prelude.{◌≡◌, [], MatchResult, Some};
 ghost use Rattle.risc_machine.specs.Faults.{AreCounted, AreGood, fault_of, names_of, repeated};
 

@@ -1,3 +1,5 @@
+//! The first fault of parts.
+
 ghost use Rattle.std.specs.Prelude.{◌≡◌, ◌==◌, ◌++◌, ◌||◌, ◌<◌, [], length, map, None, Some};
 ghost use Rattle.std.specs.List.{list_any};
 ghost use Rattle.std.specs.Str.{bytes_eq};
@@ -170,7 +172,9 @@ fn has_variable(vars: usize, instr: Instr) -> bool
 {
     match instr {
         Instr::Load(_, x) | Instr::Store(x, _) => (x as usize) < vars,
-        _ => true,
+        Instr::Jump(_) | Instr::Jz(_, _) | Instr::Nop => true,
+        Instr::MovC(_, _) | Instr::MovR(_, _) | Instr::Bin(_, _, _) => true,
+        Instr::Acquire(_) | Instr::Release(_) | Instr::Out(_) => true,
     }
 }
 
@@ -180,7 +184,9 @@ fn has_lock(locks: usize, instr: Instr) -> bool
 {
     match instr {
         Instr::Acquire(l) | Instr::Release(l) => (l as usize) < locks,
-        _ => true,
+        Instr::Jump(_) | Instr::Jz(_, _) | Instr::Nop => true,
+        Instr::MovC(_, _) | Instr::MovR(_, _) | Instr::Bin(_, _, _) => true,
+        Instr::Load(_, _) | Instr::Store(_, _) | Instr::Out(_) => true,
     }
 }
 
@@ -190,7 +196,9 @@ fn has_target(lines: usize, instr: Instr) -> bool
 {
     match instr {
         Instr::Jump(i) | Instr::Jz(_, i) => i as usize <= lines,
-        _ => true,
+        Instr::Load(_, _) | Instr::Store(_, _) | Instr::Nop => true,
+        Instr::MovC(_, _) | Instr::MovR(_, _) | Instr::Bin(_, _, _) => true,
+        Instr::Acquire(_) | Instr::Release(_) | Instr::Out(_) => true,
     }
 }
 
@@ -200,6 +208,9 @@ fn has_version(version: u8, instr: Instr) -> bool
 {
     match instr {
         Instr::Out(_) => 2 <= version,
-        _ => true,
+        Instr::Load(_, _) | Instr::Store(_, _) => true,
+        Instr::Jump(_) | Instr::Jz(_, _) | Instr::Nop => true,
+        Instr::MovC(_, _) | Instr::MovR(_, _) | Instr::Bin(_, _, _) => true,
+        Instr::Acquire(_) | Instr::Release(_) => true,
     }
 }

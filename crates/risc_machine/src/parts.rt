@@ -1,3 +1,5 @@
+//! The parts of a code: instructions, lines and threads, and what can be wrong with them.
+
 use cov_expr::{List, Name, Op};
 
 /// An instruction. Registers are numbered from 0 to 7, variables and locks in order of declaration, and the positions of a

@@ -1,3 +1,5 @@
+//! The RISC machine: code that runs.
+
 ghost use Rattle.std.specs.Prelude.{◌≡◌, ◌<◌, ◌≤◌, ◌↔◌, length, replicate, IfOk, IsTrue, None};
 ghost use Rattle.flow_model.specs.FirstDifference.{holders_of};
 ghost use Rattle.risc_machine.specs.Machine as spec;

@@ -1,3 +1,5 @@
+//! The state of the RISC machine, and what each instruction does to it.
+
 ghost use Rattle.std.specs.Prelude.{◌≡◌, ◌+◌, ◌<◌, length, get_or, set, is_some, not, IsTrue, vec_capacity, vec_len, if◌then◌else◌};
 ghost use Rattle.flow_model.specs.FirstDifference.{holders_of};
 ghost use Rattle.flow_model.specs.Source.{holder, is_held_by};
@@ -62,7 +64,9 @@ impl State {
                     here + 1
                 }
             }
-            _ => here + 1,
+            Instr::Load(_, _) | Instr::Store(_, _) | Instr::Nop => here + 1,
+            Instr::MovC(_, _) | Instr::MovR(_, _) | Instr::Bin(_, _, _) => here + 1,
+            Instr::Acquire(_) | Instr::Release(_) | Instr::Out(_) => here + 1,
         }
     }
 
@@ -140,7 +144,9 @@ fn stays(holders: &[Holder], instr: Instr, t: u32) -> bool
     match instr {
         Instr::Acquire(l) => is_held(holders, l),
         Instr::Release(l) => !is_held_by(holders, l, t),
-        _ => false,
+        Instr::Load(_, _) | Instr::Store(_, _) | Instr::Out(_) => false,
+        Instr::Jump(_) | Instr::Jz(_, _) | Instr::Nop => false,
+        Instr::MovC(_, _) | Instr::MovR(_, _) | Instr::Bin(_, _, _) => false,
     }
 }
 

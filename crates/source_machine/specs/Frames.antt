@@ -2,8 +2,8 @@
 --
 -- A frame is what is left of a block that the thread stands in, the innermost first. A frame below the body of a loop begins
 -- with that loop: the items are those of the body, and then the loop itself.
-use Rattle.std.specs.Prelude.{ℕ, List, [], ◌∷◌, Option, Some}
-use Rattle.cov_ast.specs.Plain.{assign, branch, loop, output, next, none, ◌then_all◌, plain_block}
+use Rattle.std.specs.Prelude.{ℕ, List, [], ◌∷◌, Option, Some, None}
+use Rattle.cov_ast.specs.Plain.{Cmd, skip, assign, lock, unlock, branch, loop, output, next, none, ◌then_all◌, plain_block}
 use Rattle.cov_ast.specs.Syntax.{Block}
 use Rattle.flow_model.specs.Source.{Item, run, put, test, emit, items_then}
 
@@ -12,10 +12,21 @@ abbrev pub items : List Block → List Item
 items [] = []
 items (b ∷ bs) = items_then (plain_block b) (items bs)
 
+-- what a statement is once its expression was evaluated and gave a word, if it has one
+abbrev pub evaluated : (at word : ℕ) → Cmd → Item
+evaluated at word skip = run at skip
+evaluated at word (assign x e) = put at x word
+evaluated at word (lock l) = run at (lock l)
+evaluated at word (unlock l) = run at (unlock l)
+evaluated at word (branch e a b) = test at word a b
+evaluated at word (loop e b) = test at word (◌then_all◌ b (next at (loop e b) none)) none
+evaluated at word (output e) = emit at word
+
 -- the items, where the expression of the first statement was evaluated and gave a word
 abbrev pub with_word : Option ℕ → List Item → List Item
-with_word (Some word) (run at (assign x e) ∷ rest) = put at x word ∷ rest
-with_word (Some word) (run at (branch e a b) ∷ rest) = test at word a b ∷ rest
-with_word (Some word) (run at (loop e b) ∷ rest) = test at word (◌then_all◌ b (next at (loop e b) none)) none ∷ rest
-with_word (Some word) (run at (output e) ∷ rest) = emit at word ∷ rest
-with_word _ is = is
+with_word None is = is
+with_word (Some word) [] = []
+with_word (Some word) (run at c ∷ rest) = evaluated at word c ∷ rest
+with_word (Some word) (put at x w ∷ rest) = put at x w ∷ rest
+with_word (Some word) (test at w a b ∷ rest) = test at w a b ∷ rest
+with_word (Some word) (emit at w ∷ rest) = emit at w ∷ rest

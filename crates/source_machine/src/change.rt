@@ -1,3 +1,5 @@
+//! What a step of a thread changes beside the thread itself.
+
 /// What a step of a thread changes beside what remains of the thread.
 #[derive(Clone, Copy, Debug, PartialEq, Eq)]
 pub enum Change {

@@ -1,3 +1,5 @@
+//! How many frames a thread needs at most for a block.
+
 ghost use Rattle.std.specs.Prelude.{◌≡◌, ◌<◌};
 ghost use Rattle.cov_ast.specs.View as view;
 ghost use Rattle.cov_ast.specs.WellFormed.{block_size, most_size, stm_size};

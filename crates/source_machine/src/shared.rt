@@ -1,3 +1,5 @@
+//! What the threads of a running program share: memory, holders of locks and outputs.
+
 ghost use Rattle.std.specs.Prelude.{◌≡◌, ◌<◌, is_some, set, length, replicate, IfOk, None};
 ghost use Rattle.std.specs.Vec.{vec_capacity};
 ghost use Rattle.flow_model.specs.FirstDifference.{holders_of};

@@ -1,3 +1,5 @@
+//! The source machine: a program that runs.
+
 ghost use Rattle.std.specs.Prelude.{◌≡◌, ◌+◌, ◌<◌, ◌≤◌, ◌↔◌, ℕ, [], length, map, All, IfOk, IsTrue, MatchOption};
 ghost use Rattle.cov_ast.specs.View as view;
 ghost use Rattle.cov_ast.specs.Plain.{plain};

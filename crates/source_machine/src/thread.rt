@@ -1,3 +1,5 @@
+//! A thread that runs: its frames, its pending word, and its next step.
+
 ghost use Rattle.std.specs.Prelude.{◌≡◌, ◌+◌, ◌<◌, ◌≤◌, ◌∷◌, None, Some, max, option_map, map, length, IfOk, IfSome, vec_capacity};
 ghost use Rattle.cov_expr.specs.View.{term};
 ghost use Rattle.cov_expr.specs.Words.{HasVarsBelow};
@@ -270,7 +272,9 @@ fn is_note(kind: &StmtKind) -> bool
 {
     match kind {
         StmtKind::Note(_) => true,
-        _ => false,
+        StmtKind::Skip | StmtKind::Assign(_, _, _, _) | StmtKind::Output(_) => false,
+        StmtKind::Lock(_) | StmtKind::Unlock(_) => false,
+        StmtKind::If(_, _, _, _) | StmtKind::While(_, _, _) => false,
     }
 }
 
@@ -282,7 +286,9 @@ fn change_at(kind: &StmtKind, word: Option<u32>) -> Change
         (StmtKind::Lock(l) | StmtKind::Unlock(l), _) => Change::Holder(*l),
         (StmtKind::Assign(x, _, _, _), Some(_)) => Change::Word(*x),
         (StmtKind::Output(_), Some(_)) => Change::Outputs,
-        _ => Change::Nothing,
+        (StmtKind::Assign(_, _, _, _) | StmtKind::Output(_), None) => Change::Nothing,
+        (StmtKind::Skip | StmtKind::Note(_), _) => Change::Nothing,
+        (StmtKind::If(_, _, _, _) | StmtKind::While(_, _, _), _) => Change::Nothing,
     }
 }
 
@@ -293,7 +299,7 @@ fn alike_words(kind: &StmtKind, a: Option<u32>, b: Option<u32>) -> bool
     match kind {
         StmtKind::Assign(_, _, _, _) | StmtKind::Output(_) => a.is_some() == b.is_some(),
         StmtKind::If(_, _, _, _) | StmtKind::While(_, _, _) => same_word(a, b),
-        _ => true,
+        StmtKind::Skip | StmtKind::Lock(_) | StmtKind::Unlock(_) | StmtKind::Note(_) => true,
     }
 }
 

@@ -9,7 +9,7 @@ use Rattle.std.proofs.lemmas.Bool.Decides.{nat_tests}
 use Rattle.std.proofs.lemmas.Fmt.{digits_value-decimal, parse-decimal}
 use Rattle.std.proofs.lemmas.Slice.Eq.{bytes_eq-Decides}
 use Rattle.std.proofs.lemmas.Str.Parse.{numerals_by_value, tells_digits}
-use Rattle.cov_gen.specs.declared.text.TheConstants.{MOST_ROUNDS}
+use Rattle.cov_expr.specs.declared.limits.TheConstants.{MOST_ROUNDS}
 use Rattle.top_call.specs.Commands.{is_rounds, rounds_of}
 
 at_most : (a b : ℕ) → nat_le a b ≡ true → a ≤ b

@@ -9,7 +9,7 @@ use Rattle.cov_ast.specs.declared.refusal.Refusal.{Refusal}
 use Rattle.cov_expr.specs.Term.{Term}
 use Rattle.cov_expr.specs.View.{term}
 use Rattle.cov_expr.specs.declared.expr.Expr.{Expr}
-use Rattle.cov_gen.specs.declared.text.TheConstants.{MOST_ROUNDS}
+use Rattle.cov_expr.specs.declared.limits.TheConstants.{MOST_ROUNDS}
 use Rattle.cov_io.specs.Counters.{raised}
 use Rattle.cov_io.specs.Shelves.{Shelved, Gives, Passes}
 use Rattle.cov_io.specs.declared.shelf.Fetched.TheVariants.{Whole}

@@ -19,7 +19,7 @@ use crate::pair_code::pair_code;
 use crate::run::run;
 use crate::run_code::run_code;
 use crate::run_until::run_until;
-use cov_gen::MOST_ROUNDS;
+use cov_expr::MOST_ROUNDS;
 use cov_io::Shelf;
 use itoa::Buffer;
 use std::alloc::Global;

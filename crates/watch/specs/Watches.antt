@@ -2,7 +2,7 @@
 use Rattle.std.specs.Prelude.{ℕ}
 use Rattle.cov_expr.specs.Term.{Term}
 use Rattle.cov_expr.specs.View.{term}
-use Rattle.watch.specs.declared.stop.Watch.{Watch}
+use Rattle.watch.specs.declared.watch.Watch.{Watch}
 
 -- the expression that the test is for
 abbrev pub expr_of : {X : Type 0} {F : X → Type 0} {M : _} → Watch X F M → Term

@@ -7,6 +7,6 @@
 //! value isn't 0.
 #![tactic(auto)]
 
-mod stop;
+mod watch;
 
-pub use stop::{Test, Watch};
+pub use watch::{Test, Watch};

@@ -1,5 +1,5 @@
 ghost use Rattle.std.specs.Prelude.{◌≤◌};
-ghost use Rattle.cov_gen.specs.declared.text.TheConstants.{MOST_ROUNDS};
+ghost use Rattle.cov_expr.specs.declared.limits.TheConstants.{MOST_ROUNDS};
 
 use super::demand;
 use crate::top::add_shown;

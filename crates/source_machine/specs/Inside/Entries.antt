@@ -5,8 +5,14 @@ use Rattle.cov_ast.specs.Syntax as s
 use Rattle.cov_ast.specs.WellFormed.{IsBlockInRange}
 
 abbrev pub is_note : Stm → Bool
+is_note s.skip = false
+is_note (s.assign x e q retypes) = false
+is_note (s.lock l) = false
+is_note (s.unlock l) = false
+is_note (s.branch e a b join) = false
+is_note (s.loop e inv b) = false
 is_note (s.note j) = true
-is_note _ = false
+is_note (s.output e) = false
 
 -- a block from its first statement on that takes a step
 abbrev pub without_notes : Block → Block

@@ -25,11 +25,14 @@ same_word _ _ = false
 
 -- words that the expression of a statement gave, or none
 abbrev pub alike_words : Stm → Option ℕ → Option ℕ → Bool
+alike_words s.skip a b = true
 alike_words (s.assign x e q retypes) a b = same_test (is_some a) (is_some b)
-alike_words (s.output e) a b = same_test (is_some a) (is_some b)
+alike_words (s.lock l) a b = true
+alike_words (s.unlock l) a b = true
 alike_words (s.branch e x y join) a b = same_word a b
 alike_words (s.loop e inv x) a b = same_word a b
-alike_words _ a b = true
+alike_words (s.note j) a b = true
+alike_words (s.output e) a b = same_test (is_some a) (is_some b)
 
 abbrev pub stand_alike : Option (ℕ × Stm) → Option ℕ → Option (ℕ × Stm) → Option ℕ → Bool
 stand_alike None a None b = true
@@ -38,11 +41,16 @@ stand_alike _ a _ b = false
 
 -- what a step at a statement changes, whose expression was evaluated where there is a word
 abbrev pub stm_change : Stm → Option ℕ → Change
+stm_change s.skip w = change.Nothing
+stm_change (s.assign x e q retypes) None = change.Nothing
+stm_change (s.assign x e q retypes) (Some word) = change.Word x
 stm_change (s.lock l) w = change.Holder l
 stm_change (s.unlock l) w = change.Holder l
-stm_change (s.assign x e q retypes) (Some word) = change.Word x
+stm_change (s.branch e x y join) w = change.Nothing
+stm_change (s.loop e inv x) w = change.Nothing
+stm_change (s.note j) w = change.Nothing
+stm_change (s.output e) None = change.Nothing
 stm_change (s.output e) (Some word) = change.Outputs
-stm_change _ w = change.Nothing
 
 abbrev pub first_change : Option (ℕ × Stm) → Option ℕ → Change
 first_change None w = change.Nothing

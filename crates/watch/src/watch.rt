@@ -1,3 +1,5 @@
+//! A test of memories, kept with the expression that it tests for.
+
 ghost use Rattle.std.specs.Prelude.{◌≡◌, ◌↔◌, Bool, IsTrue, length};
 ghost use Rattle.cov_expr.specs.Entailment.{Holds};
 ghost use Rattle.cov_expr.specs.View.{term};
