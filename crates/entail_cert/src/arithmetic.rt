@@ -1,3 +1,5 @@
+//! The conditions of the certificates `ring` and `range`.
+
 ghost use Rattle.std.specs.Prelude.{◌≡◌, ◌++◌, IfOk, map};
 ghost use Rattle.cov_expr.specs.View.{term};
 ghost use Rattle.entail_range.specs.Range.{lent};

@@ -1,3 +1,5 @@
+//! The check of a certificate, and why one isn't accepted.
+
 ghost use Rattle.std.specs.Prelude.{◌≡◌, [], ◌∷◌, ◌++◌, OnOk, map};
 ghost use Rattle.cov_expr.specs.Entailment.{Entails};
 ghost use Rattle.cov_expr.specs.View.{term};

@@ -1,3 +1,5 @@
+//! Expressions that are lent or owned.
+
 ghost use Rattle.std.specs.Prelude.{◌≡◌};
 ghost use Rattle.cov_expr.specs.View.{term};
 ghost use Rattle.entail_cert.specs.HeldTerms.{held_term};

@@ -1,3 +1,5 @@
+//! Axioms with expressions for their letters, by number.
+
 ghost use Rattle.std.specs.Prelude.{◌≡◌, [], ◌∷◌, Err, MatchResult, Ok, Some, map};
 ghost use Rattle.cov_expr.specs.View.{term};
 ghost use Rattle.entail_cert.specs.Axioms.{axiom_for};

@@ -1,3 +1,5 @@
+//! Whether a goal is known of the hypotheses, conjunct by conjunct.
+
 ghost use Rattle.std.specs.Prelude.{◌≡◌, ◌++◌, ◌||◌, map};
 ghost use Rattle.std.specs.List.{list_any};
 ghost use Rattle.cov_expr.specs.Trees.{has_term};

@@ -1,3 +1,5 @@
+//! The soundness of certificates: the axioms hold, and a valid certificate gives its entailment.
+
 ghost use Rattle.std.specs.Prelude.{IsTrue, List, ℕ};
 ghost use Rattle.cov_ast.specs.Syntax.{Cert};
 ghost use Rattle.cov_ast.specs.WellFormed.{CertHasWords};

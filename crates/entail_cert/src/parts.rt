@@ -1,3 +1,5 @@
+//! What the conditions of certificates see in an expression: its operands, what it negates, its value where it is closed.
+
 ghost use Rattle.std.specs.Prelude.{◌≡◌, IfOk, false, option_map, true};
 ghost use Rattle.cov_expr.specs.declared.expr.TheConstants.{HOLE};
 ghost use Rattle.cov_expr.specs.Term.{neg};

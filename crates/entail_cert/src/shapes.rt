@@ -1,3 +1,5 @@
+//! The shapes of the axioms, built of copies of their letters.
+
 ghost use Rattle.cov_expr.specs.declared.expr.Op.TheVariants.{Add, And, Both, Either, Eq, Le, Lt, Ne, Or, Sub};
 ghost use Rattle.cov_expr.specs.Term as spec;
 ghost use Rattle.cov_expr.specs.View.{term};

@@ -1,3 +1,5 @@
+//! The walk over a certificate, which keeps the hypotheses that it adds and the path to its node.
+
 ghost use Rattle.std.specs.Prelude.{◌≡◌, ◌≤◌, ◌-◌, [], ◌∷◌, ◌++◌, ◌||◌, None, Some, Ok, Err, IfOk, IfSome, MatchBool, MatchOption, OnOk, map, option_map, slice_get};
 ghost use Rattle.cov_expr.specs.declared.expr.Op.TheVariants.{Eq};
 ghost use Rattle.cov_expr.specs.Term.{const, neg};

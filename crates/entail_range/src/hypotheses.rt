@@ -1,3 +1,5 @@
+//! Hypotheses as a walk over an expression looks them up, with an index or without one.
+
 ghost use Rattle.std.specs.Prelude.{◌≡◌, ◌++◌, IfOk, map};
 ghost use Rattle.cov_expr.specs.View.{term};
 ghost use Rattle.entail_range.specs.Inside.Index.{IsFit, IsIndexed, listed};

@@ -1,3 +1,5 @@
+//! Keys of expressions, and the slots at which hypotheses are found by them.
+
 ghost use Rattle.std.specs.Prelude.{◌≡◌, ◌<◌, [], ◌++◌, ◌%◌, IfOk, IfSome, OnOk, map, option_map, vec_len};
 ghost use Rattle.cov_expr.specs.Trees.{op_number};
 ghost use Rattle.cov_expr.specs.View.{term};

@@ -1,3 +1,5 @@
+//! Terms of any order as one polynomial, in which those of equal atoms are joined.
+
 ghost use Rattle.std.specs.Prelude.{◌≡◌, [], ◌∷◌, ◌++◌, IfOk, OnOk, map};
 ghost use Rattle.std.specs.List.Sorted.{IsPermutation, IsSortedBy};
 ghost use Rattle.entail_ring.specs.Inside.{AreBefore, AreUpTo, comes_before};

@@ -1,3 +1,5 @@
+//! Multisets of a few atoms, and their union.
+
 ghost use Rattle.std.specs.Prelude.{◌≡◌, ◌+◌, ◌<◌, ◌≤◌, [], ◌∷◌, ◌++◌, length};
 ghost use Rattle.entail_ring.specs.Polys as spec;
 

@@ -1,3 +1,5 @@
+//! Terms with a number by which most of them are put in order.
+
 ghost use Rattle.std.specs.Prelude.{◌≡◌, ◌^◌};
 ghost use Rattle.entail_ring.specs.Inside as inside;
 ghost use Rattle.entail_ring.specs.Polys as spec;

@@ -1,3 +1,5 @@
+//! The checks of the lists of locks (W4) and of their invariants (W5), and the lock that lists a variable.
+
 ghost use Rattle.std.specs.Prelude.{◌≡◌, ℕ, ◌<◌, ◌++◌, [], false, map, length, OnOk, All, IsTrue, IfSome, IsNone};
 ghost use Rattle.std.specs.List.{flat_map};
 ghost use Rattle.cov_ast.specs.View as view;

@@ -1,3 +1,5 @@
+//! Whether the controls of a variable are kept with it: under its lock (W7), or by who assumes it (W8).
+
 ghost use Rattle.std.specs.Prelude.{◌≡◌, ◌<◌, ◌||◌, map, length, IfOk, All, IsTrue, ◌↔◌};
 ghost use Rattle.std.specs.List.{flat_map, list_all, range_with_len};
 ghost use Rattle.cov_ast.specs.View as view;

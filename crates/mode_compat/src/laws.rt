@@ -1,3 +1,5 @@
+//! What the rules of modes give: what one thread may write is never stable for another.
+
 ghost use Rattle.std.specs.Prelude.{◌≡◌, ℕ, List, Bool, IsTrue};
 ghost use Rattle.cov_ast.specs.Syntax as syntax;
 ghost use Rattle.cov_ast.specs.Plain.{Plain, plain};

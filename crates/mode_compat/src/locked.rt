@@ -1,3 +1,5 @@
+//! Whether what a thread assumes is free of locks (W6).
+
 ghost use Rattle.std.specs.Prelude.{◌≡◌, ◌<◌, map, length, replicate, false, IfOk, All};
 ghost use Rattle.std.specs.List.{flat_map};
 ghost use Rattle.cov_ast.specs.View as view;

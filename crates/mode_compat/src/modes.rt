@@ -1,3 +1,5 @@
+//! The rules of modes one after the other (W6 to W9).
+
 ghost use Rattle.cov_ast.specs.View as view;
 ghost use Rattle.cov_ast.specs.Obligations.{Decides};
 ghost use Rattle.cov_ast.specs.WellFormed.{IsWellFormed};

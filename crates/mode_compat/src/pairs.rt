@@ -1,3 +1,5 @@
+//! Whether every other thread guarantees what a thread assumes (W9).
+
 ghost use Rattle.std.specs.Prelude.{◌≡◌, ◌<◌, ℕ, map, length, All, IfOk};
 ghost use Rattle.std.specs.List.{flat_map};
 ghost use Rattle.cov_ast.specs.View as view;

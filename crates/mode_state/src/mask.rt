@@ -1,3 +1,5 @@
+//! Sets of variables, each as four words.
+
 ghost use Rattle.std.specs.Prelude.{◌≡◌, ℕ, ◌||◌, ◌<◌, ◌≤◌, false, length, replicate, set, IfSome};
 ghost use Rattle.cov_expr.specs.Trees as tree;
 ghost use Rattle.cov_ast.specs.Tables.{table, has, with_all};

@@ -1,3 +1,5 @@
+//! Certificates with the ids of their variables in the place of the numbers of their names.
+
 ghost use Rattle.std.specs.Prelude.{◌≡◌, map, All};
 ghost use Rattle.cov_ast.specs.View as view;
 ghost use Rattle.cov_ast.specs.WellFormed.{CertHasWords};

@@ -1,3 +1,5 @@
+//! Expressions, states and new types with the ids of their variables in the place of the numbers of their names.
+
 ghost use Rattle.std.specs.Prelude.{◌≡◌, map, option_map, All};
 ghost use Rattle.cov_expr.specs.View.{term};
 ghost use Rattle.cov_expr.specs.Words.{HasWords};

@@ -1,5 +1,4 @@
-//! The policy of a program: the class of each variable and the controls that it depends on; and what the names of a text
-//! mean.
+//! The resolver of names: the program of a text, by the ids of its declarations; and then the rules of names and of classes.
 //!
 //! - [`resolve`]: the program of a text, in which each name is the id of its declaration (W1, W2).
 //! - [`check_policy`]: each control is itself declared low (W3).

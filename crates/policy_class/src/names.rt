@@ -1,3 +1,5 @@
+//! The names that a text declares, each once (W1).
+
 ghost use Rattle.std.specs.Prelude.{◌≡◌, ◌<◌, [], ◌∷◌, ◌++◌, length, map, IfOk, OnOk, All};
 ghost use Rattle.cov_expr.specs.Names.{IsName};
 ghost use Rattle.cov_ast.specs.View as view;

@@ -1,3 +1,5 @@
+//! The class of a variable, the controls on which it depends, and that each control is declared low (W3).
+
 ghost use Rattle.std.specs.Prelude.{◌≡◌, ◌<◌, map, length, IfOk};
 ghost use Rattle.std.specs.List.{flat_map};
 ghost use Rattle.cov_expr.specs.Words.{HasVarsBelow};

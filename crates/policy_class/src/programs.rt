@@ -1,3 +1,5 @@
+//! Programs with ids in the place of the numbers of names: statements, declarations and threads.
+
 ghost use Rattle.std.specs.Prelude.{◌≡◌, map, All};
 ghost use Rattle.cov_expr.specs.Words.{HasWords};
 ghost use Rattle.cov_ast.specs.View as view;

@@ -1,3 +1,5 @@
+//! Whether each name is declared as what it is used, a variable or a lock (W2).
+
 ghost use Rattle.std.specs.Prelude.{◌<◌, [], ◌∷◌, length, map, All};
 ghost use Rattle.cov_ast.specs.View as view;
 ghost use Rattle.cov_ast.specs.Obligations.{Decides};

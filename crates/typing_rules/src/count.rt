@@ -1,3 +1,5 @@
+//! How many statements were checked, and how many entailments.
+
 ghost use Rattle.std.specs.Prelude.{◌≡◌, ◌<◌, length};
 ghost use Rattle.cov_ast.specs.View as view;
 ghost use Rattle.cov_ast.specs.WellFormed.{block_size, places, places_within, stm_size, most_size};

@@ -1,3 +1,5 @@
+//! What the rules of statements give: a thread of which every obligation holds is secure.
+
 ghost use Rattle.std.specs.Prelude.{◌≡◌, ℕ, ◌<◌, length, IsTrue, false};
 ghost use Rattle.cov_ast.specs.Syntax as syntax;
 ghost use Rattle.cov_ast.specs.Obligations.{all_hold};

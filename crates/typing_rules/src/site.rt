@@ -1,3 +1,5 @@
+//! Where an obligation stands, and its refusal there.
+
 ghost use Rattle.std.specs.Prelude.{◌≡◌, [], ◌∷◌, false};
 ghost use Rattle.cov_ast.specs.Obligations.{Decides};
 ghost use Rattle.cov_ast.specs.declared.refusal.CheckFault.TheVariants as faults;

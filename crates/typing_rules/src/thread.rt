@@ -1,3 +1,5 @@
+//! A whole thread: its check, and the entailments that it has.
+
 ghost use Rattle.std.specs.Prelude.{◌≡◌, ◌<◌, ◌^◌, length, map, option_map, slice_get, Err, IfOk, IsTrue, MatchResult, None};
 ghost use Rattle.cov_ast.specs.Obligations.{Decides, all_hold, first_false};
 ghost use Rattle.cov_ast.specs.Plain.{plain};

@@ -1,3 +1,5 @@
+//! The walk over the statements of a thread, with its branches and loops.
+
 ghost use Rattle.std.specs.Prelude.{◌≡◌, ◌<◌, ◌++◌, [], ℕ, List, map, length, None};
 ghost use Rattle.cov_expr.specs.View.{term};
 ghost use Rattle.cov_ast.specs.Obligations.{Decides, Obligation, first_false};

@@ -1,3 +1,5 @@
+//! Types that are forgotten: when a lock is given back, a variable has a new value, or blocks join.
+
 ghost use Rattle.std.specs.Prelude.{◌≡◌, ◌<◌, ◌≤◌, ◌&&◌, [], length, map, not, option_map, get_or, set, IfOk, OnOk};
 ghost use Rattle.std.specs.Prelude.{None};
 ghost use Rattle.cov_expr.specs.View.{term};

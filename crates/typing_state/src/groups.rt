@@ -1,3 +1,5 @@
+//! Which variables the types mention, by groups of sixteen variables that have them.
+
 ghost use Rattle.std.specs.Prelude.{◌≡◌, ◌<◌, ◌≤◌, ◌/◌, ℕ, [], Some, false, get_or, option_map, replicate, true, IfOk};
 ghost use Rattle.cov_expr.specs.View.{term};
 ghost use Rattle.cov_ast.specs.Tables.{has};

@@ -1,3 +1,5 @@
+//! Keys of expressions, by which equal ones are found by hashing.
+
 ghost use Rattle.std.specs.Prelude.{◌≡◌, ◌+◌, [], ◌∷◌, ◌++◌, length, min, IfOk, OnOk};
 ghost use Rattle.cov_expr.specs.Trees.{op_number};
 ghost use Rattle.cov_expr.specs.View.{term};

@@ -1,3 +1,5 @@
+//! The law of keys: they tell expressions apart.
+
 ghost use Rattle.std.specs.Prelude.{◌≡◌, ◌↔◌};
 ghost use Rattle.cov_expr.specs.Term.{Term};
 ghost use Rattle.typing_state.specs.Keys.{key};

@@ -1,3 +1,5 @@
+//! The variables that an expression mentions, as a set.
+
 ghost use Rattle.std.specs.Prelude.{◌≡◌};
 ghost use Rattle.cov_expr.specs.Trees.{mentions, occurrences};
 ghost use Rattle.cov_expr.specs.View.{term};

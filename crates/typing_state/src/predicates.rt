@@ -1,3 +1,5 @@
+//! The predicates of a point, each once, with counts of those that are false and of those that are large.
+
 ghost use Rattle.std.specs.Prelude.{◌≡◌, ◌+◌, ◌<◌, ◌≤◌, [], if◌then◌else◌, is_some, length, map, not, filter, position, remove, take, IfOk, OnOk};
 ghost use Rattle.std.specs.List.{list_all, list_any};
 ghost use Rattle.cov_expr.specs.Trees as tree;

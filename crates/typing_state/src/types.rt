@@ -1,3 +1,5 @@
+//! The types of all variables of a point, which copies of it share.
+
 ghost use Rattle.std.specs.Prelude.{◌≡◌, ◌<◌, ◌≤◌, ◌||◌, ℕ, true, false, [], ◌∷◌, ◌++◌, length, map, option_copied, option_map, get_or, set, is_some, not, IfOk, IfSome, OnOk, None, if◌then◌else◌};
 ghost use Rattle.std.specs.List.{list_all};
 ghost use Rattle.cov_expr.specs.Trees as tree;

@@ -1,3 +1,5 @@
+//! The check of a whole program: its declarations, and then each of its threads.
+
 ghost use Rattle.std.specs.Prelude.{◌≡◌, ◌<◌, length, IfOk, MatchResult, Err, IsTrue};
 ghost use Rattle.std.specs.List.{flat_map};
 ghost use Rattle.cov_ast.specs.Obligations.{Decides, all_hold};

@@ -1,3 +1,5 @@
+//! The laws of accepted programs: they are secure and disciplined.
+
 ghost use Rattle.cov_ast.specs.Syntax as syntax;
 ghost use Rattle.cov_ast.specs.Plain.{plain};
 ghost use Rattle.cov_ast.specs.WellFormed.{IsWellFormed};
