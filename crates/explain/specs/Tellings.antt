@@ -13,7 +13,7 @@ use Rattle.program_warnings.specs.Warnings.{warnings}
 use Rattle.refusal_names.specs.RefusalNames.{refusal_names}
 use Rattle.explain.specs.Explanations.{explanation}
 use Rattle.explain.specs.WarningSentences.{warning_lines}
-use Rattle.top_call.specs.Check.{meaning}
+use Rattle.top_call.specs.Meaning.{meaning}
 use Rattle.top_call.specs.Programs.{SpellsProgram}
 use Rattle.top_call.specs.Replies.{Reply, accepted, malformed, refused}
 use Rattle.top_call.specs.declared.answers.Fault.{Fault}

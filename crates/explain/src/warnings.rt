@@ -3,7 +3,7 @@ ghost use Rattle.cov_ast.specs.Syntax.{Parsed};
 ghost use Rattle.cov_expr.specs.declared.limits.TheConstants.{MOST_BYTES};
 ghost use Rattle.explain.specs.Inside.{AreAccepted};
 ghost use Rattle.explain.specs.WarningSentences as spec;
-ghost use Rattle.top_call.specs.Check.{meaning};
+ghost use Rattle.top_call.specs.Meaning.{meaning};
 ghost use Rattle.top_call.specs.Programs.{SpellsProgram};
 ghost use Rattle.program_warnings.specs.Warnings as found;
 

@@ -8,10 +8,11 @@ use Rattle.cov_io.specs.Shelves.{File, Shelved, held}
 use Rattle.flow_model.specs.Agreement.{AreFitStarts}
 use Rattle.policy_class.specs.Resolved.{resolved}
 use Rattle.top_call.specs.BigReplies.{first_start, second_start}
-use Rattle.top_call.specs.Check.{IsAcceptedText, meaning, obligations, verdict_by}
+use Rattle.top_call.specs.Check.{IsAcceptedText, obligations, verdict_by}
 use Rattle.top_call.specs.Commands.{Command, check, compile, fmt, migrate, run, run_code, run_until, pair, pair_code, big, nothing}
 use Rattle.top_call.specs.Files.{Reads}
-use Rattle.top_call.specs.Headline.{RunsAccepted}
+use Rattle.top_call.specs.AcceptedRuns.{RunsAccepted}
+use Rattle.top_call.specs.Meaning.{meaning}
 use Rattle.top_call.specs.Outcome.{Does, plan_of, memory, entries}
 use Rattle.top_call.specs.Pairs.{Pairs}
 use Rattle.top_call.specs.Plans.{Plan, replies, file, argument, RepliesTo, MayReply}

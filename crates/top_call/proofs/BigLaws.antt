@@ -21,9 +21,10 @@ use Rattle.risc_machine.specs.declared.parts.Parts.{Parts}
 use Rattle.schedule_replay.specs.Replays.{AgreeThroughout, IsFirstStepApart}
 use Rattle.schedule_replay.specs.declared.replays.Found.{Found}
 use Rattle.top_call.specs.BigReplies.{AllRunTogether, RunsAll, SumsUp, start_with}
-use Rattle.top_call.specs.Check.{IsAcceptedText, meaning}
+use Rattle.top_call.specs.Check.{IsAcceptedText}
 use Rattle.top_call.specs.Codes.{code_of}
 use Rattle.top_call.specs.Inside.{IsCodeOf, IsNamed}
+use Rattle.top_call.specs.Meaning.{meaning}
 use Rattle.top_call.specs.Pairs.{UnlessUnfit}
 use Rattle.top_call.specs.Replies.{Reply, status_of}
 use Rattle.top_call.specs.declared.answers.Status.TheVariants as s

@@ -12,9 +12,10 @@ use Rattle.flow_model.specs.Secure.{IsSecure}
 use Rattle.policy_class.specs.Resolved.{Named, declared_names, lock_id, name_obligations, resolved, resolved_thread, use_obligation, var_id, w1_from}
 use Rattle.verify.specs.Accepted.{program_obligations, IsAccepted}
 use Rattle.verify.specs.Verdicts.{counts}
-use Rattle.top_call.specs.Check.{obligations, AreNamesInOrder, thread_name, verdict_by, Judges, IsAcceptedText}
+use Rattle.top_call.specs.Check.{obligations, thread_name, verdict_by, Judges, IsAcceptedText}
 use Rattle.top_call.specs.AnswerViews.{Gets}
 use Rattle.top_call.specs.Inside.{JudgesProgram, name_in, program_verdict}
+use Rattle.top_call.specs.Meaning.{AreNamesInOrder}
 use Rattle.top_call.specs.Replies.{Reply, refused, accepted, status_of}
 use Rattle.top_call.specs.declared.answers.Answer.{Answer}
 use Rattle.top_call.specs.declared.answers.Status.TheVariants as s

@@ -28,10 +28,11 @@ use Rattle.risc_machine.specs.declared.parts.ThreadCode.{ThreadCode}
 use Rattle.schedule_replay.specs.CodeReplays.{CodeAgreesThroughout, CodeStatesAgree, DeclaresAsMany, IsFirstCodeStepApart}
 use Rattle.schedule_replay.specs.declared.replays.Found.{Found}
 use Rattle.verify.specs.Accepted.{IsAccepted, program_obligations}
-use Rattle.top_call.specs.Check.{IsAcceptedText, meaning, obligations, thread_name, verdict_by}
+use Rattle.top_call.specs.Check.{IsAcceptedText, obligations, thread_name, verdict_by}
 use Rattle.top_call.specs.Codes.{CodeRunsTogether, Compiles, PairsCode, RepliesByCode, RepliesListing, RunsBothCodes, RunsCode, UnlessRejected, cleared, code_of, code_start, report_on_code}
 use Rattle.top_call.specs.AnswerViews.{Stops}
 use Rattle.top_call.specs.Inside.{IsCodeOf, IsNamed, IsNameRefusal, IsRejection, name_in}
+use Rattle.top_call.specs.Meaning.{meaning}
 use Rattle.top_call.specs.Pairs.{UnlessUnfit, bad_name}
 use Rattle.top_call.specs.Replies.{Reply, bad_starts, ran, refused, status_of}
 use Rattle.top_call.specs.declared.answers.Status.TheVariants as s

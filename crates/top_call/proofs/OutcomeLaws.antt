@@ -13,11 +13,13 @@ use Rattle.cov_text.specs.Text.{program_of}
 use Rattle.flow_model.specs.Secure.{IsSecure}
 use Rattle.policy_class.specs.Resolved.{resolved}
 use Rattle.top_call.specs.BigReplies.{first_start, second_start}
-use Rattle.top_call.specs.Check.{Judges, IsAcceptedText, AreNamesInOrder, meaning}
+use Rattle.top_call.specs.Check.{Judges, IsAcceptedText}
 use Rattle.top_call.specs.Codes.{Compiles, RepliesListing, code_of}
 use Rattle.top_call.specs.Commands.{Command, check, compile, fmt, migrate, run, run_code, run_until, pair, pair_code, big, nothing}
 use Rattle.top_call.specs.Ends.{Ends}
-use Rattle.top_call.specs.Headline.{HoldsSecure, PutsCode, RunsAccepted}
+use Rattle.top_call.specs.AcceptedRuns.{RunsAccepted}
+use Rattle.top_call.specs.Headline.{HoldsSecure, PutsCode}
+use Rattle.top_call.specs.Meaning.{AreNamesInOrder, meaning}
 use Rattle.top_call.specs.Outcome.{Does, Outcome, IsMet, IsSuccess, plan_of}
 use Rattle.top_call.specs.Plans.{MayReply, RepliesTo, replies}
 use Rattle.top_call.specs.Programs.{SpellsProgram, IsShownFault}

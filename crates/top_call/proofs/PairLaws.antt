@@ -19,7 +19,7 @@ use Rattle.schedule_replay.specs.Replays.{after_steps, AgreeThroughout, DiffersI
 use Rattle.schedule_replay.specs.declared.replays.Found.{Found}
 use Rattle.source_machine.specs.SourceMachine.{IsFirstApart}
 use Rattle.verify.specs.Accepted.{IsAccepted}
-use Rattle.top_call.specs.Check.{meaning}
+use Rattle.top_call.specs.Meaning.{meaning}
 use Rattle.top_call.specs.AnswerViews.{Stops}
 use Rattle.top_call.specs.Inside.{IsDeclared, IsRefusal, PairsFit, PairsProgram}
 use Rattle.top_call.specs.Pairs.{Pairs, RunApart, RunTogether, RunsBoth, RunsFit, UnlessUnfit, bad_name, differ_text}

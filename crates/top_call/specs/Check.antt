@@ -1,27 +1,19 @@
 -- `check`: what is replied to the bytes of a program.
 use Rattle.std.specs.Prelude.{◌≡◌, ℕ, List, [], ◌++◌, length, map, slice_get, if◌then◌else◌, Option, Some, None, IsTrue}
 use Rattle.cov_ast.specs.Syntax.{Parsed}
-use Rattle.cov_ast.specs.Plain.{Plain, plain}
 use Rattle.cov_ast.specs.Obligations.{Obligation, all_hold, first_false}
 use Rattle.cov_ast.specs.declared.refusal.Refusal.{Refusal}
 use Rattle.flow_model.specs.Secure.{IsSecure}
 use Rattle.policy_class.specs.Resolved.{name_obligations, resolved}
 use Rattle.verify.specs.Accepted.{program_obligations}
 use Rattle.verify.specs.Verdicts.{counts}
+use Rattle.top_call.specs.Meaning.{meaning}
 use Rattle.top_call.specs.Replies.{Reply, refused, accepted}
 
 -- the obligations of what a text spells: those of its names (W1, W2), and, where these hold, those of the program that it
 -- stands for (W3 to W9, V1 to V16)
 abbrev pub obligations : Parsed → List Obligation
 obligations p = name_obligations p ++ (if all_hold (name_obligations p) then program_obligations (resolved p) else [])
-
--- Each name is declared once, and is used as what it is declared.
-abbrev pub AreNamesInOrder : Parsed → Type 0
-AreNamesInOrder p = IsTrue (all_hold (name_obligations p))
-
--- what the program does that a text stands for
-abbrev pub meaning : Parsed → Plain
-meaning p = plain (resolved p)
 
 -- the name of a thread by its number
 abbrev pub thread_name : Parsed → Option ℕ → Option (List ℕ)

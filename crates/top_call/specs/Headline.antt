@@ -1,6 +1,5 @@
 -- The headline: what it says of a file that it is accepted, and what is put of its code.
 use Rattle.std.specs.Prelude.{◌≡◌, ℕ, List, Some, Ok}
-use Rattle.cov_ast.specs.Syntax.{Parsed}
 use Rattle.cov_grammar.specs.PlacedTrees as trees
 use Rattle.cov_io.specs.Shelves.{File, held}
 use Rattle.cov_io.specs.Sinks.{Sunk, Writes}
@@ -10,9 +9,9 @@ use Rattle.compiled_code.specs.GoodCode.{IsGoodCode}
 use Rattle.flow_model.specs.Secure.{IsSecure}
 use Rattle.policy_class.specs.Resolved.{resolved}
 use Rattle.risc_machine.specs.declared.parts.Parts.{Parts}
-use Rattle.top_call.specs.Check.{AreNamesInOrder, IsAcceptedText, meaning}
 use Rattle.top_call.specs.Commands.{Command, check, compile, fmt, migrate, run, run_code, run_until, pair, pair_code, big, nothing}
-use Rattle.top_call.specs.Programs.{SpellsTree, SpellsProgram}
+use Rattle.top_call.specs.Meaning.{AreNamesInOrder, meaning}
+use Rattle.top_call.specs.Programs.{SpellsTree}
 
 -- A file that is checked holds a program that is secure: from any two fit starts, under every schedule, its two runs agree
 -- after each step, on the public output too.
@@ -59,25 +58,3 @@ PutsCode files (pair name first second schedule) before after = Unit {0}
 PutsCode files (pair_code name first second schedule) before after = Unit {0}
 PutsCode files (big rounds schedule) before after = Unit {0}
 PutsCode files nothing before after = ⊥
-
--- A file holds a program that is accepted.
-pub record HoldsAccepted (files : List File) (name : List ℕ) : Type 0 where
-  pub bytes : List ℕ
-  pub at : held files name ≡ Some bytes
-  pub spelled : Parsed
-  pub is : SpellsProgram bytes spelled
-  pub accepted : IsAcceptedText spelled
-
--- The program that a command runs twice, if it does, is accepted. That of which the code is run twice is, or the code isn't run.
-abbrev pub RunsAccepted : List File → Command → Type 0
-RunsAccepted files (pair name first second schedule) = HoldsAccepted files name
-RunsAccepted files (check name) = Unit {0}
-RunsAccepted files (compile name) = Unit {0}
-RunsAccepted files (fmt name) = Unit {0}
-RunsAccepted files (migrate name) = Unit {0}
-RunsAccepted files (run name start schedule) = Unit {0}
-RunsAccepted files (run_code name start schedule) = Unit {0}
-RunsAccepted files (run_until name start schedule word) = Unit {0}
-RunsAccepted files (pair_code name first second schedule) = Unit {0}
-RunsAccepted files (big rounds schedule) = Unit {0}
-RunsAccepted files nothing = Unit {0}

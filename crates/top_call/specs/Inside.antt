@@ -27,11 +27,12 @@ use Rattle.verify.specs.Accepted.{IsAccepted, program_obligations}
 use Rattle.verify.specs.Verdicts.{counts}
 use Rattle.top_call.specs.AnswerViews.{Gets, Stops}
 use Rattle.top_call.specs.Asks.{Asks}
-use Rattle.top_call.specs.Check.{IsAcceptedText, meaning}
+use Rattle.top_call.specs.Check.{IsAcceptedText}
 use Rattle.top_call.specs.Codes.{PairsCode}
 use Rattle.top_call.specs.Commands.{Command, check, compile, fmt, migrate, run, run_code, run_until, pair, pair_code, big, nothing}
 use Rattle.top_call.specs.Expressions.{by_id, first_unknown}
 use Rattle.top_call.specs.Files.{Reads}
+use Rattle.top_call.specs.Meaning.{meaning}
 use Rattle.top_call.specs.Outcome.{entries, expression, memory}
 use Rattle.top_call.specs.Pairs.{Pairs, RunsBoth, RunsFit}
 use Rattle.top_call.specs.Plans.{Plan, MayReply, replies}

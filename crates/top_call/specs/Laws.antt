@@ -7,8 +7,9 @@ use Rattle.cov_print.specs.Spelling.{spelling}
 use Rattle.flow_model.specs.Source.{after, stayed}
 use Rattle.policy_class.specs.Resolved.{resolved}
 use Rattle.verify.specs.Verdicts.{counts}
-use Rattle.top_call.specs.Check.{meaning, obligations}
+use Rattle.top_call.specs.Check.{obligations}
 use Rattle.top_call.specs.Commands.{Command}
+use Rattle.top_call.specs.Meaning.{meaning}
 use Rattle.top_call.specs.Outcome.{Outcome}
 use Rattle.top_call.specs.Replies.{Reply}
 

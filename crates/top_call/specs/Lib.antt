@@ -1,6 +1,8 @@
 pub mod Commands
 pub mod Outcome
 pub mod Headline
+pub mod Meaning
+pub mod AcceptedRuns
 pub mod Plans
 pub mod Inputs
 pub mod Expressions

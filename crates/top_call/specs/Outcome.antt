@@ -7,12 +7,13 @@ use Rattle.cov_expr.specs.declared.limits.TheConstants.{MOST_BYTES}
 use Rattle.cov_gen.specs.Big as gen
 use Rattle.flow_model.specs.Agreement.{AreFitStarts}
 use Rattle.top_call.specs.BigReplies.{SumsUp, first_start, second_start}
-use Rattle.top_call.specs.Check.{Judges, IsAcceptedText, meaning}
+use Rattle.top_call.specs.Check.{Judges, IsAcceptedText}
 use Rattle.top_call.specs.Codes.{Compiles, RunsCode, PairsCode}
 use Rattle.top_call.specs.Commands.{Command, check, compile, fmt, migrate, run, run_code, run_until, pair, pair_code, big, nothing}
 use Rattle.top_call.specs.Expressions.{IsExpression, IsExpressionFault}
 use Rattle.top_call.specs.Format.{Formats, Migrates}
 use Rattle.top_call.specs.Inputs.{IsStart, IsStartFault, IsScheduleText, IsScheduleFault}
+use Rattle.top_call.specs.Meaning.{meaning}
 use Rattle.top_call.specs.Pairs.{Pairs}
 use Rattle.top_call.specs.Plans.{Plan, replies, file, argument, MayReply, RepliesOver, IsPlanMet}
 use Rattle.top_call.specs.Programs.{SpellsProgram, IsShownFault}

@@ -10,7 +10,7 @@ use Rattle.mode_compat.specs.Declared.{declaration_obligations}
 use Rattle.policy_class.specs.Resolved.{name_obligations, resolved}
 use Rattle.schedule_replay.specs.Replays.{StopsAt}
 use Rattle.schedule_replay.specs.declared.replays.Until.{Until}
-use Rattle.top_call.specs.Check.{meaning}
+use Rattle.top_call.specs.Meaning.{meaning}
 use Rattle.top_call.specs.Replies.{Reply, refused, ran}
 use Rattle.top_call.specs.RunReports.{run_report, stop_line}
 

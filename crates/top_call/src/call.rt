@@ -4,7 +4,8 @@ ghost use Rattle.cov_io.specs.Counters.{Rose};
 ghost use Rattle.top_call.specs.Asks.{Asks, files_of};
 ghost use Rattle.top_call.specs.Commands.{command_of};
 ghost use Rattle.top_call.specs.Ends.{Ends};
-ghost use Rattle.top_call.specs.Headline.{HoldsSecure, PutsCode, RunsAccepted};
+ghost use Rattle.top_call.specs.AcceptedRuns.{RunsAccepted};
+ghost use Rattle.top_call.specs.Headline.{HoldsSecure, PutsCode};
 ghost use Rattle.top_call.specs.Outcome.{Does, Outcome, IsMet, IsSuccess};
 
 use crate::answers::{Status, Stop};

@@ -6,11 +6,12 @@ use Rattle.cov_ast.specs.View as view
 use Rattle.cov_gen.specs.Big as gen
 use Rattle.flow_model.specs.Agreement.{AreFitStarts}
 use Rattle.top_call.specs.BigReplies.{SumsUp, first_start, second_start}
-use Rattle.top_call.specs.Check.{IsAcceptedText, meaning}
+use Rattle.top_call.specs.Check.{IsAcceptedText}
 use Rattle.top_call.specs.Commands.{big}
 use Rattle.top_call.specs.Inputs.{IsScheduleText, IsScheduleFault}
 use Rattle.top_call.specs.AnswerViews.{Gets}
 use Rattle.top_call.specs.Inside.{CarriesOut}
+use Rattle.top_call.specs.Meaning.{meaning}
 use Rattle.top_call.specs.Outcome.{plan_of, entries}
 use Rattle.top_call.specs.Plans.{Plan, replies}
 use Rattle.top_call.specs.Programs.{SpellsProgram, IsShownFault}

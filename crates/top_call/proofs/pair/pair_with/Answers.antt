@@ -3,7 +3,7 @@ use Rattle.std.proofs.lemmas.List.{length-map}
 use Rattle.cov_ast.specs.Syntax.{Parsed}
 use Rattle.cov_ast.specs.View as view
 use Rattle.flow_model.specs.Agreement.{AreFitStarts}
-use Rattle.top_call.specs.Check.{meaning}
+use Rattle.top_call.specs.Meaning.{meaning}
 use Rattle.top_call.specs.Inputs.{IsStart, IsStartFault, IsScheduleText, IsScheduleFault}
 use Rattle.top_call.specs.AnswerViews.{Gets}
 use Rattle.top_call.specs.Inside.{CarriesOut, second_plan}

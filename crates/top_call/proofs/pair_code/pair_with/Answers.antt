@@ -3,11 +3,12 @@ use Rattle.std.proofs.lemmas.List.{length-map}
 use Rattle.cov_ast.specs.Syntax.{Parsed}
 use Rattle.cov_ast.specs.View as view
 use Rattle.flow_model.specs.Agreement.{AreFitStarts}
-use Rattle.top_call.specs.Check.{IsAcceptedText, meaning}
+use Rattle.top_call.specs.Check.{IsAcceptedText}
 use Rattle.top_call.specs.Codes.{PairsCode}
 use Rattle.top_call.specs.Inputs.{IsStart, IsStartFault, IsScheduleText, IsScheduleFault}
 use Rattle.top_call.specs.AnswerViews.{Gets}
 use Rattle.top_call.specs.Inside.{CarriesOut, second_code_plan}
+use Rattle.top_call.specs.Meaning.{meaning}
 use Rattle.top_call.specs.Outcome.{entries}
 use Rattle.top_call.specs.Plans.{Plan, replies}
 use Rattle.top_call.specs.declared.inputs.TheConstants.{MOST_INPUT_BYTES}
