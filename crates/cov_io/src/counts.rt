@@ -1,3 +1,5 @@
+//! Counts of 64 bits, which stand still at their last value, and how often an interrupted call is made again.
+
 ghost use Rattle.std.specs.Prelude.{◌≡◌, ◌≤◌};
 ghost use Rattle.cov_io.specs.Counters.{last_count};
 ghost use Rattle.cov_io.specs.Counters as spec;

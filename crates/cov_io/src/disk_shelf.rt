@@ -1,15 +1,17 @@
-ghost use Rattle.std.specs.Prelude.{◌≡◌, ◌≤◌, ◌+◌, IfOk};
+//! A shelf over the files of a disk: one open, and reads up to one byte past the limit.
+
+ghost use Rattle.std.specs.Prelude.{◌≡◌, ◌≤◌, ◌+◌, None, IfOk};
 ghost use Rattle.std.specs.Io.{ReadsAtMost};
 ghost use Rattle.std.specs.Io.KnownBytes.{ReadConsumes};
 ghost use Rattle.cov_io.specs.Calls.{Tries, no_troubles};
 ghost use Rattle.cov_io.specs.Counters.{raised as raised_count};
-ghost use Rattle.cov_io.specs.Disks.{IsCaused, ReadsAll};
+ghost use Rattle.cov_io.specs.Disks.{HasAsked, HasRead, IsCaused, ReadsAll, after_read};
 ghost use Rattle.cov_io.specs.Shelves.{Gives, Passes, IsSound, bytes_taken, faults_of, untold};
 
 use crate::counts::{RETRIES, raised};
 use crate::disk::Disk;
 use crate::shelf::{Fetched, Shelf, ShelfFault};
-use crate::system::SystemDisk;
+use crate::system::System;
 use crate::trouble::CallError;
 use cov_expr::List;
 use std::alloc::Global;
@@ -18,7 +20,8 @@ use std::rt::Files;
 
 /// A shelf of the files of a disk. It tells them where the disk does, and is never sure.
 ///
-/// Contracts see it as what a shelf means, and how the calls of the disk went.
+/// Contracts see it as what a shelf means, how the calls of the disk went, and what was asked of the disk, where that
+/// tells it.
 #[derive(Drop)]
 pub struct DiskShelf<D: Disk> {
     disk: D,
@@ -34,21 +37,21 @@ impl<D: Disk> Model for DiskShelf<D> {
 
     ghost Value = { Reading };
 
-    ghost view = { λ s. record { shelved = record { told = D.told s.disk; sure = false; calls = s.calls; faults = s.faults; taken = s.taken }; troubles = D.troubles s.disk } };
+    ghost view = { λ s. record { shelved = record { told = D.told s.disk; sure = false; calls = s.calls; faults = s.faults; taken = s.taken }; troubles = D.troubles s.disk; log = D.log s.disk } };
 
     ghost invariant = { λ s. (s.calls ≤ last_count) × (s.faults ≤ last_count) × (s.taken ≤ last_count) };
 }
 
 /// The files of the system, whose names are paths. It tells nothing.
-pub type FileShelf<'r, R> = DiskShelf<SystemDisk<'r, R>>;
+pub type FileShelf<'r, R> = DiskShelf<System<'r, R>>;
 
-impl<'r, R: Files> DiskShelf<SystemDisk<'r, R>> {
+impl<'r, R: Files> DiskShelf<System<'r, R>> {
     /// The files of a runtime, before the first call.
     pub fn new(rt: &'r R) -> FileShelf<'r, R>
-        ensures { result ≡ record { shelved = untold 0 0 0; troubles = no_troubles } }
+        ensures { result ≡ record { shelved = untold 0 0 0; troubles = no_troubles; log = None } }
     {
         DiskShelf {
-            disk: SystemDisk::new(rt),
+            disk: System::new(rt),
             calls: 0,
             faults: 0,
             taken: 0,
@@ -71,6 +74,7 @@ impl<D: Disk> DiskShelf<D> {
         ensures faults { self.new.shelved.faults ≡ raised_count self.old.shelved.faults (faults_of result) }
         ensures taken { IfOk result (λ fetched. self.new.shelved.taken ≡ raised_count self.old.shelved.taken (bytes_taken limit fetched)) }
         ensures most { self.new.shelved.taken ≤ self.old.shelved.taken + (limit + 1) }
+        ensures read { HasRead self.old.log self.new.log limit result }
     {
         let mut bytes = List::new(alloc);
         let mut buffer = [0; 4096];
@@ -105,6 +109,7 @@ impl<D: Disk> Shelf for DiskShelf<D> {
         ensures faults { self.new.shelved.faults ≡ raised_count self.old.shelved.faults (faults_of result) }
         ensures taken { IfOk result (λ fetched. self.new.shelved.taken ≡ raised_count self.old.shelved.taken (bytes_taken limit fetched)) }
         ensures most { self.new.shelved.taken ≤ self.old.shelved.taken + (limit + 1) }
+        ensures asked { HasAsked self.old.log self.new.log name.now limit result }
     {
         self.calls = raised(self.calls, 1);
         match self.disk.open(name) {
@@ -127,6 +132,7 @@ fn read_some<D: Disk>(
     ensures bytes { ReadConsumes (D.left file.old) (D.left file.new) result buffer.new }
     ensures told { D.told disk.new ≡ D.told disk.old }
     ensures tries { Tries (D.troubles disk.old) (D.troubles disk.new) result }
+    ensures logged { D.log disk.new ≡ after_read (D.log disk.old) result }
 {
     for _ in 0..RETRIES {
         match disk.read(file, buffer) {

@@ -16,10 +16,11 @@
 //! and their next state as functions.
 //!
 //! A disk and an output may tell too, and count how often a call was interrupted and how often one failed. So it is
-//! proved, of every disk and output, that what is fetched is all the bytes under the very name that was asked for, and
-//! that as many bytes are answered as were written; and `IsCaused` of `specs/Disks.antt` and `IsPutCaused` of
-//! `specs/Outputs.antt` say that a fault stands for one error, or for a call that was interrupted each time that it was
-//! made, and that no other answer had an error. Those of the system tell nothing: their three calls stand in
+//! proved, of every disk and output, that what is fetched is all the bytes under the very name that was asked for, that
+//! this name alone is opened, once, and that no byte is read but up to one past the limit (`HasAsked` of
+//! `specs/Disks.antt`), and that as many bytes are answered as were written; and `IsCaused` of `specs/Disks.antt` and
+//! `IsPutCaused` of `specs/Outputs.antt` say that a fault stands for one error, or for a call that was interrupted each
+//! time that it was made, and that no other answer had an error. The system tells nothing: its three calls stand in
 //! `src/system.rt`.
 #![tactic(auto)]
 

@@ -1,3 +1,5 @@
+//! A shelf of files in memory, which fails at chosen calls.
+
 ghost use Rattle.std.specs.Prelude.{◌≡◌, option_copied};
 ghost use Rattle.cov_io.specs.Counters.{raised as raised_count};
 ghost use Rattle.cov_io.specs.Shelves.{Gives, Passes, IsSound, IsDistinctByName, held};

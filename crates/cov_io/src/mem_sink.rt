@@ -1,3 +1,5 @@
+//! A sink in memory that was reserved before, which fails at chosen puts.
+
 ghost use Rattle.std.specs.Prelude.{◌≡◌, ◌≤◌, ◌<◌, ◌+◌, [], IfOk, IsOk, length};
 ghost use Rattle.std.specs.Result.{result_ok};
 ghost use Rattle.cov_io.specs.Counters.{last_count};

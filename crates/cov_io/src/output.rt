@@ -1,3 +1,5 @@
+//! The call of a system by which bytes are written.
+
 ghost use Rattle.std.specs.Prelude.{◌≡◌, ◌≤◌, ◌<◌, List, ℕ, Option, IfOk, length};
 ghost use Rattle.cov_io.specs.Calls.{IsLater, Troubles, after_call, after_write};
 

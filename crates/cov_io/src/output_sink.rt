@@ -1,3 +1,5 @@
+//! A sink over the writes of an output.
+
 ghost use Rattle.std.specs.Prelude.{◌≡◌, ◌≤◌, ◌<◌, [], IfOk, OnErr, length};
 ghost use Rattle.cov_io.specs.Calls.{Tries, after_write, no_troubles};
 ghost use Rattle.cov_io.specs.Counters.{last_count};
@@ -7,7 +9,7 @@ ghost use Rattle.cov_io.specs.Sinks.{Puts, silent};
 use crate::counts::{RETRIES, raised};
 use crate::output::Output;
 use crate::sink::{Failed, Sink};
-use crate::system::SystemOutput;
+use crate::system::System;
 use crate::trouble::CallError;
 use std::marker::Model;
 
@@ -33,15 +35,15 @@ impl<O: Output> Model for OutputSink<O> {
 }
 
 /// Standard output. It tells nothing.
-pub type StdSink<'r, R> = OutputSink<SystemOutput<'r, R>>;
+pub type StdSink<'r, R> = OutputSink<System<'r, R>>;
 
-impl<'r, R: Print> OutputSink<SystemOutput<'r, R>> {
+impl<'r, R: Print> OutputSink<System<'r, R>> {
     /// The standard output of a runtime, before the first fault.
     pub fn new(rt: &'r R) -> StdSink<'r, R>
         ensures { result ≡ record { sunk = silent 0; troubles = no_troubles } }
     {
         OutputSink {
-            output: SystemOutput::new(rt),
+            output: System::new(rt),
             faults: 0,
         }
     }

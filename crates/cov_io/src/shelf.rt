@@ -1,3 +1,5 @@
+//! Where files are fetched from, by name and with a limit of length.
+
 ghost use Rattle.std.specs.Prelude.{◌≡◌};
 ghost use Rattle.cov_io.specs.Counters.{raised};
 ghost use Rattle.cov_io.specs.Shelves.{Shelved, Gives, Passes, IsSound};

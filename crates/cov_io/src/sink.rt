@@ -1,3 +1,5 @@
+//! Where a report is put to, piece by piece, and how all of a text is.
+
 ghost use Rattle.std.specs.Prelude.{◌≡◌, ◌≤◌, []};
 ghost use Rattle.cov_io.specs.Counters.{last_count};
 ghost use Rattle.cov_io.specs.Sinks.{Sunk, Puts, Writes};

@@ -14,31 +14,33 @@ use std::io::{Read, Write};
 use std::rt::Files;
 use std::{fs, io};
 
-/// The files of the system, whose names are paths. It tells nothing.
+/// The system, by a runtime: its files, whose names are paths, and its standard output. It tells nothing.
 #[derive(Drop)]
-pub struct SystemDisk<'r, R> {
+pub struct System<'r, R> {
     rt: &'r R,
     trouble: Trouble,
 }
 
-impl<'r, R: Files> SystemDisk<'r, R> {
-    /// The files of a runtime, before the first call.
-    pub(crate) fn new(rt: &'r R) -> SystemDisk<'r, R>
+impl<'r, R> System<'r, R> {
+    /// The system of a runtime, before the first call.
+    pub(crate) fn new(rt: &'r R) -> System<'r, R>
         ensures { result.trouble ≡ no_troubles }
     {
-        SystemDisk {
+        System {
             rt,
             trouble: Trouble::none(),
         }
     }
 }
 
-impl<R: Files> Disk for SystemDisk<'_, R> {
+impl<R: Files> Disk for System<'_, R> {
     type File = R::File;
 
     ghost told = { λ _. None };
 
     ghost troubles = { λ s. s.trouble };
+
+    ghost log = { λ _. None };
 
     ghost left = { R.File.remaining };
 
@@ -62,26 +64,7 @@ impl<R: Files> Disk for SystemDisk<'_, R> {
     }
 }
 
-/// Standard output. It tells nothing.
-#[derive(Drop)]
-pub struct SystemOutput<'r, R> {
-    rt: &'r R,
-    trouble: Trouble,
-}
-
-impl<'r, R: Print> SystemOutput<'r, R> {
-    /// The standard output of a runtime, before the first call.
-    pub(crate) fn new(rt: &'r R) -> SystemOutput<'r, R>
-        ensures { result.trouble ≡ no_troubles }
-    {
-        SystemOutput {
-            rt,
-            trouble: Trouble::none(),
-        }
-    }
-}
-
-impl<R: Print> Output for SystemOutput<'_, R> {
+impl<R: Print> Output for System<'_, R> {
     ghost has = { λ _. None };
 
     ghost troubles = { λ s. s.trouble };

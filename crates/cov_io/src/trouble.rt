@@ -1,3 +1,5 @@
+//! How often calls of the system failed, and why.
+
 ghost use Rattle.std.specs.Prelude.{◌≡◌, ◌↔◌};
 ghost use Rattle.std.specs.IoError.{error_kind};
 ghost use Rattle.cov_io.specs.Calls.{IsLater, after_error, failed as one_failed, no_troubles};

@@ -1,3 +1,5 @@
+//! Why a text has no tokens, and where.
+
 ghost use Rattle.std.specs.Prelude.{◌≡◌};
 ghost use Rattle.cov_lex.specs.declared.fault.LexFault.TheVariants as faults;
 

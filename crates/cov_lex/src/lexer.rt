@@ -1,3 +1,5 @@
+//! Texts as tokens, from their first byte to their last.
+
 ghost use Rattle.std.specs.Prelude.{◌≡◌, [], ◌∷◌, ◌++◌, ◌≤◌, ◌<◌, length, map, IfOk, OnOk};
 ghost use Rattle.cov_expr.specs.declared.limits.TheConstants.{MOST_BYTES};
 ghost use Rattle.cov_lex.specs.Classified.{classified_of, AreClassified};

@@ -1,7 +1,8 @@
-ghost use Rattle.std.specs.Prelude.{◌≡◌, ◌<◌, length, IsTrue, true, false, take, codes, unwrap_or, IfOk, MatchOption};
+//! What stands at the front of a text: a blank, a comment, a word, a number or a sign.
+
+ghost use Rattle.std.specs.Prelude.{◌≡◌, ◌<◌, length, IsTrue, true, false, take, codes, unwrap_or, IfOk};
 ghost use Rattle.std.specs.List.{take_while, list_all};
 ghost use Rattle.std.specs.Str.{bytes_eq};
-ghost use Rattle.std.specs.Str.Parse.{digits_value};
 ghost use Rattle.cov_expr.specs.Bytes as class;
 ghost use Rattle.cov_expr.specs.declared.kind.Kind.TheVariants as kinds;
 ghost use Rattle.cov_expr.specs.Spellings as spellings;
@@ -11,10 +12,8 @@ ghost use Rattle.cov_lex.specs.Lexing as spec;
 ghost use Rattle.cov_lex.specs.Inside.{with_kind, is_in, one_kind, two_kind, IsWithin};
 
 use crate::fault::LexFault;
-use cov_expr::{Kind, is_digit, is_lower, is_word, kind_of};
-
-/// The most bytes of a word.
-const LONGEST: usize = 32;
+use crate::number::digits_value;
+use cov_expr::{Kind, MOST_NAME_BYTES, is_digit, is_lower, is_word, kind_of};
 
 /// The most bytes of a keyword.
 const LONGEST_KEYWORD: usize = 9;
@@ -99,7 +98,7 @@ fn word(run: &[u8], at: u32) -> Result<Piece, LexFault>
     requires { IsTrue (begins_with_letter run.now) }
     ensures { result ≡ with_kind run.now (spec.word_of at run.now) }
 {
-    if run.len() > LONGEST {
+    if run.len() > MOST_NAME_BYTES {
         return Err(LexFault::NameTooLong(at));
     }
     Ok(Piece::Part(word_kind(run), 0, run.len()))
@@ -122,25 +121,10 @@ fn number(run: &[u8], at: u32) -> Result<Piece, LexFault>
     requires { IsTrue (list_all class.is_digit run.now) }
     ensures { result ≡ with_kind run.now (spec.number_of at run.now) }
 {
-    match value(run) {
+    match digits_value(run) {
         Some(n) => Ok(Piece::Part(Kind::Number, n, run.len())),
         None => Err(LexFault::NumberTooLarge(at)),
     }
-}
-
-/// The value of digits. `None` comes where it is above 4294967295.
-fn value(digits: &[u8]) -> Option<u32>
-    requires { IsTrue (list_all class.is_digit digits.now) }
-    ensures { MatchOption result (4294967295 < digits_value 10 digits.now) (λ n. n ≡ digits_value 10 digits.now) }
-{
-    let mut n: u64 = 0;
-    for digit in digits {
-        n = n * 10 + (*digit - b'0') as u64;
-        if n > 4294967295 {
-            return None;
-        }
-    }
-    Some(n as u32)
 }
 
 /// The longest sign at the front of a text that doesn't begin with a letter.

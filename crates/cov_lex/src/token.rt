@@ -1,3 +1,5 @@
+//! Tokens of a text: what each is, and where it stands.
+
 /// What a token is. Which keyword, name or sign it is, its bytes say.
 #[derive(Clone, Copy, Debug, PartialEq, Eq)]
 pub enum TokenKind {

@@ -10,6 +10,7 @@ invariant-loop g l =
     record {
       bytes : Keeps (disk.left l.fn.file) (disk.left l.file);
       told : disk.told l.disk ≡ disk.told l.fn.disk;
+      logged : disk.log l.disk ≡ disk.log l.fn.disk;
       no_error : HasNoError (disk.troubles l.fn.disk) (disk.troubles l.disk);
       least : raised (disk.troubles l.fn.disk).interrupts l.counter ≤ (disk.troubles l.disk).interrupts;
       most : (disk.troubles l.disk).interrupts ≤ (disk.troubles l.fn.disk).interrupts + l.counter;

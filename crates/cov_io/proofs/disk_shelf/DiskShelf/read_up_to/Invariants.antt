@@ -2,6 +2,7 @@ use Rattle.std.proofs.Common.{◌≤◌, ◌≡◌, ◌+◌, ◌-◌, length}
 use Rattle.std.specs.Io.KnownBytes.{Consumes}
 use Rattle.cov_io.specs.Calls.{HasNoError}
 use Rattle.cov_io.specs.Counters.{raised}
+use Rattle.cov_io.specs.Disks.{with_bytes}
 use Rattle.cov_io.proofs.disk_shelf.DiskShelf.read_up_to.Given as goal
 
 abbrev pub invariant-loop-buffer : goal.invariant-loop-buffer
@@ -14,6 +15,7 @@ invariant-loop-buffer g l =
       no_fault : l.self-inside.faults ≡ l.fn.self.shelved.faults;
       no_error : HasNoError l.fn.self.troubles (disk.troubles l.self-inside.disk);
       counted : l.self-inside.taken ≡ raised l.fn.self.shelved.taken (length l.bytes);
+      logged : disk.log l.self-inside.disk ≡ with_bytes l.fn.self.log (length l.bytes);
       within : length l.bytes ≤ l.limit + 1;
     }
 

@@ -1,6 +1,6 @@
 use Rattle.std.proofs.Common.{arith}
 use Rattle.cov_lex.proofs.Digits.{digit_step, digits_past}
-use Rattle.cov_lex.proofs.piece.value.Goals as goal
+use Rattle.cov_lex.proofs.number.digits_value.Goals as goal
 
 pub returns-then-n-gt4294967295 : goal.returns-then-n-gt4294967295
 returns-then-n-gt4294967295 c =
