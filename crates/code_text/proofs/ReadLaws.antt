@@ -1,13 +1,16 @@
 -- The definition's reading, line by line.
 use Rattle.std.proofs.Common.{◌≡◌, ℕ, ◌+◌, ◌<◌, ◌≤◌, zero, suc, nat_lt, ◌==◌, List, [], ◌∷◌, ◌++◌, length, get_or, refl, ap, sym, ◌∙◌, subst, arith, Bool, true, false, if◌then◌else◌, Option, Some, None, Err}
+use Rattle.std.specs.Prelude.{Result}
 use Rattle.std.proofs.lemmas.List.{append-nil}
 use Rattle.risc_machine.specs.Faults.{AreCounted}
 use Rattle.risc_machine.specs.declared.parts.Parts.{Parts}
 use Rattle.risc_machine.specs.declared.parts.ThreadCode.{ThreadCode}
-use Rattle.code_text.specs.Inside.Drafts.{AreShort, IsSmall}
+use Rattle.code_text.specs.Inside.Drafts.{AddsLine, Agrees, AreShort, Ends, IsSmall}
 use Rattle.code_text.specs.Listing.{onto}
 use Rattle.code_text.specs.Inside.ListingReading.{pieces, both, weight_of, line_with, line_of, ended, head_of, instr_of, row_of, with_row, read_lines, go_on, read_text, begin_with, begun, version_of}
 use Rattle.code_text.specs.Inside.ListingReading.{Draft}
+use Rattle.code_text.specs.declared.fault.CodeFault.{CodeFault}
+use Rattle.code_text.specs.declared.fault.CodeFault.TheVariants.{Line, Bad, NoMemory}
 use Rattle.code_text.specs.declared.row.Row.{Row}
 use Rattle.code_text.proofs.Cuts.{glue}
 
@@ -96,6 +99,17 @@ module _ (text l bs : List ℕ) (d : Draft) (n : ℕ) (cut : pieces 10 text ≡ 
 
   pub line_goes : (fs : List (List ℕ)) (r : Row) → fs ≡ pieces 32 l → Some r ≡ row_of d fs → read_lines (pieces 10 text) d n ≡ read_lines (pieces 10 bs) (with_row d r) (n + 1)
   line_goes fs r are some = at_line ∙ ap (go_on n (λ q. read_lines (pieces 10 bs) (with_row d q) (n + 1))) (ap (row_of d) (sym are) ∙ sym some)
+
+-- A line that isn't added ends the reading: it is no row, or memory ran out.
+pub line_ends : (fault : CodeFault) (n : ℕ) (d e now : Draft) (o : Option Row) (r : Result Parts ℕ) → AddsLine n d o e (Err fault) → (None ≡ o → r ≡ Err n) → Ends (Err fault) now r
+line_ends (Line m) n d e now o r h stops = stops (sym h.1) ∙ ap Err (sym h.0)
+line_ends (Bad b) n d e now o r h stops = absurd h
+line_ends NoMemory n d e now o r h stops = tt
+
+pub ends_agree : (fault : CodeFault) (d : Draft) (r : Result Parts ℕ) → Ends (Err fault) d r → Agrees (Err fault) r
+ends_agree (Line m) d r h = h
+ends_agree (Bad b) d r h = absurd h
+ends_agree NoMemory d r h = tt
 
 short_at : (n : ℕ) (ts : List ThreadCode) (k : ℕ) (d : ThreadCode) → AreShort n ts → n < 4294967296 → k < length ts → length (get_or ts k d).lines < 4294967296
 short_at n [] k d h small inside = absurd (omega (arith, inside))

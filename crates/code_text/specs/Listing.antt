@@ -73,13 +73,13 @@ rows p = head p.version ∷ ((map (declared (codes "var")) p.vars ++ map (declar
 -- Texts --------------------------------------------------------------------------------------------------------
 
 -- the end of a row behind a field
-abbrev pub behind : List (List ℕ) → List ℕ
-behind [] = codes "\n"
-behind (f ∷ fs) = 32 ∷ (f ++ behind fs)
+abbrev pub row_end : List (List ℕ) → List ℕ
+row_end [] = codes "\n"
+row_end (f ∷ fs) = 32 ∷ (f ++ row_end fs)
 
 abbrev pub spelled : List (List ℕ) → List ℕ
 spelled [] = codes "\n"
-spelled (f ∷ fs) = f ++ behind fs
+spelled (f ∷ fs) = f ++ row_end fs
 
 abbrev pub listing : Parts → List ℕ
 listing p = flat_map spelled (rows p)
@@ -88,10 +88,17 @@ listing p = flat_map spelled (rows p)
 
 -- the numbers of an instruction that are no ids of names are words
 abbrev pub HasWords : Instr → Type 0
+HasWords (Load r x) = Unit {0}
+HasWords (Store x r) = Unit {0}
 HasWords (Jump i) = IsWord i
 HasWords (Jz r i) = IsWord i
+HasWords Nop = Unit {0}
 HasWords (MovC r k) = IsWord k
-HasWords _ = Unit {0}
+HasWords (MovR r q) = Unit {0}
+HasWords (Bin op r q) = Unit {0}
+HasWords (Acquire l) = Unit {0}
+HasWords (Release l) = Unit {0}
+HasWords (Out r) = Unit {0}
 
 -- of code of a version, with so many variables and so many locks
 module _ (version vars locks : ℕ) where

@@ -1,3 +1,5 @@
+//! The parts that the rows of a listing have given so far.
+
 ghost use Rattle.std.specs.Prelude.{◌≡◌, length, OnOk};
 ghost use Rattle.cov_expr.specs.Words.{IsWord};
 ghost use Rattle.code_text.specs.Inside.Drafts.{CanStand};

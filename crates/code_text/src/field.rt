@@ -1,11 +1,13 @@
-ghost use Rattle.std.specs.Prelude.{◌≡◌, ◌≤◌, ◌<◌, length, IsTrue, MatchOption};
+//! Fields of a row: what names, numbers, registers, weights and operators they are.
+
+ghost use Rattle.std.specs.Prelude.{◌≡◌, ◌<◌};
 ghost use Rattle.std.specs.List.{list_all};
 ghost use Rattle.std.specs.Str.{bytes_eq};
-ghost use Rattle.std.specs.Str.Parse.{digits_value};
 ghost use Rattle.cov_expr.specs.Bytes as class;
 ghost use Rattle.code_text.specs.Inside.ListingReading as spec;
 
 use cov_expr::{Name, Op, is_digit};
+use cov_lex::digits_value;
 
 /// Whether a field is this word.
 pub fn is(field: &[u8], word: &[u8]) -> bool
@@ -25,7 +27,11 @@ pub fn name_of(field: &[u8]) -> Option<Name>
 pub fn number_of(field: &[u8]) -> Option<u32>
     ensures { result ≡ spec.number_of field.now }
 {
-    if is_number(field) { value(field) } else { None }
+    if is_number(field) {
+        digits_value(field)
+    } else {
+        None
+    }
 }
 
 fn is_number(field: &[u8]) -> bool
@@ -43,21 +49,6 @@ fn are_digits(field: &[u8]) -> bool
         }
     }
     true
-}
-
-/// The value of digits. `None` comes where it is above 4294967295.
-fn value(digits: &[u8]) -> Option<u32>
-    requires { IsTrue (list_all class.is_digit digits.now) }
-    ensures { MatchOption result (4294967295 < digits_value 10 digits.now) (λ n. n ≡ digits_value 10 digits.now) }
-{
-    let mut n: u64 = 0;
-    for digit in digits {
-        n = n * 10 + (*digit - b'0') as u64;
-        if n > 4294967295 {
-            return None;
-        }
-    }
-    Some(n as u32)
 }
 
 /// The register that a field is.

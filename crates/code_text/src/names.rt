@@ -1,3 +1,5 @@
+//! Names of a listing by hashing: ids of what is declared, and the first name that is repeated.
+
 ghost use Rattle.std.specs.Prelude.{◌≡◌, ◌↔◌, ℕ, ◌++◌, ◌∷◌, [], List, ◌<◌, length, IfOk, IfSome, OnOk, OnErr, IsTrue, None, Some, if◌then◌else◌, replicate};
 ghost use Rattle.cov_expr.specs.Words.{IsWord};
 ghost use Rattle.cov_expr.specs.Names.{IsName};

@@ -1,11 +1,14 @@
-ghost use Rattle.std.specs.Prelude.{◌≡◌, ℕ, ◌≤◌, ◌<◌, ◌∷◌, ◌+◌, [], length, map, take, drop, IfOk, MatchOption};
-ghost use Rattle.code_text.specs.Inside.Drafts.{Agrees};
+//! The code of a listing, read line by line.
+
+ghost use Rattle.std.specs.Prelude.{◌≡◌, ℕ, ◌≤◌, ◌<◌, ◌∷◌, ◌+◌, [], length, map, take, drop, IfOk, OnOk, MatchOption};
+ghost use Rattle.code_text.specs.Inside.Drafts.{AddsLine, Agrees, Ends, IsSmall};
 ghost use Rattle.code_text.specs.Inside.ListingReading as spec;
 ghost use Rattle.code_text.specs.Inside.ListingReading.{Draft};
 ghost use Rattle.code_text.specs.Inside.Cuts.{IsCut};
+ghost use Rattle.code_text.specs.Inside.Lookup.{IsRegisterOf};
 ghost use Rattle.code_text.specs.Listing.{IsListingOf};
 ghost use Rattle.code_text.specs.ListingAnswers.{IsReading, IsAnswerTo};
-ghost use Rattle.code_text.specs.declared.limits.TheConstants.{MOST_LISTING_BYTES};
+ghost use Rattle.cov_expr.specs.declared.limits.TheConstants.{MOST_LISTING_BYTES};
 ghost use Rattle.risc_machine.specs.Faults.{AreCounted, repeated, names_of};
 ghost use Rattle.risc_machine.specs.declared.parts.Parts.{Parts};
 
@@ -67,29 +70,59 @@ fn read_lines(alloc: Global, version: u8, text: &[u8]) -> Result<Found, CodeFaul
 {
     let mut draft = Draft::begin(alloc, version);
     let mut register = Register::new(alloc);
+    add_lines(alloc, text, &mut draft, &mut register)?;
+    Ok(Found {
+        parts: draft.into_parts(),
+        repeated: register.repeated(),
+    })
+}
+
+/// Adds the lines of a text, from the second of a listing on. Where it answers a fault the draft is to be dropped.
+fn add_lines(
+    alloc: Global,
+    text: &[u8],
+    draft: &mut Draft,
+    register: &mut Register,
+) -> Result<(), CodeFault>
+    requires short { length text.now ≤ MOST_LISTING_BYTES }
+    requires small { IsSmall 2 (draft.old).parts }
+    requires known { IsRegisterOf register.old (names_of (draft.old).parts) }
+    ensures ends { Ends result draft.new (spec.read_lines (spec.pieces 10 text.now) draft.old 2) }
+    ensures counted { OnOk result (AreCounted (draft.new).parts) }
+    ensures known { OnOk result (IsRegisterOf register.new (names_of (draft.new).parts)) }
+{
     let mut rest = text;
     let mut n: u32 = 2;
     while let Some(cut) = cut_line(rest) {
-        let Some(row) = row_of(&draft, cut.fields.as_slice()) else {
-            return Err(CodeFault::Line(n));
-        };
-        let Ok(()) = register.add_row(&row) else {
-            return Err(CodeFault::NoMemory);
-        };
-        let Ok(()) = draft.add(alloc, row) else {
-            return Err(CodeFault::NoMemory);
-        };
+        add_line(alloc, cut.fields.as_slice(), n, draft, register)?;
         rest = cut.rest;
         n += 1;
     }
     if rest.is_empty() && draft.left() == 0 {
-        Ok(Found {
-            parts: draft.into_parts(),
-            repeated: register.repeated(),
-        })
+        Ok(())
     } else {
         Err(CodeFault::Line(n))
     }
+}
+
+/// Adds the line of these fields, which has number `n`.
+fn add_line(
+    alloc: Global,
+    fields: &[&[u8]],
+    n: u32,
+    draft: &mut Draft,
+    register: &mut Register,
+) -> Result<(), CodeFault>
+    requires { IsSmall n (draft.old).parts }
+    ensures line { AddsLine n draft.old (spec.row_of draft.old (map (λ f. f.now) fields.now)) draft.new result }
+    ensures known { OnOk result (IsRegisterOf register.old (names_of (draft.old).parts) → IsRegisterOf register.new (names_of (draft.new).parts)) }
+{
+    let Some(row) = row_of(draft, fields) else {
+        return Err(CodeFault::Line(n));
+    };
+    register.add_row(&row)?;
+    draft.add(alloc, row)?;
+    Ok(())
 }
 
 fn version_of(line: &[u8]) -> Option<u8>

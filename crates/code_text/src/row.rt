@@ -1,3 +1,5 @@
+//! What a row of a listing is, by its fields and by what was read before it.
+
 ghost use Rattle.std.specs.Prelude.{◌≡◌, map};
 ghost use Rattle.code_text.specs.Inside.ListingReading as spec;
 

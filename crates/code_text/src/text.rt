@@ -1,3 +1,5 @@
+//! The listing of a code, written row by row.
+
 ghost use Rattle.std.specs.Prelude.{◌≡◌, ◌++◌, ◌∷◌, ◌+◌, ◌<◌, [], IfOk, OnOk, map, flat_map, decimal, codes, length, IsTrue, All};
 ghost use Rattle.risc_machine.specs.Faults.{has_registers, has_variable, has_lock};
 ghost use Rattle.cov_expr.specs.Names.{IsName};

@@ -6,8 +6,8 @@ use Rattle.risc_machine.specs.Machine.{CodeState}
 use Rattle.risc_machine.specs.declared.parts.Parts.{Parts}
 use Rattle.risc_machine.specs.declared.state.State.{State}
 
-abbrev pub state_of : State → CodeState
-state_of s = record {
+abbrev pub code_state : State → CodeState
+code_state s = record {
   memory = s.memory;
   holders = holders_of s.holders;
   outputs = s.said.items;

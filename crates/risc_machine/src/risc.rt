@@ -21,7 +21,7 @@ pub struct Risc<'c> {
 
 impl<'c> Model for Risc<'c> {
     ghost use Rattle.risc_machine.specs.Faults.{AreGood};
-    ghost use Rattle.risc_machine.specs.Inside.{Fits, state_of, room_of};
+    ghost use Rattle.risc_machine.specs.Inside.{Fits, code_state, room_of};
     ghost use Rattle.risc_machine.specs.Running.{Running};
 
     ghost Value = { Running };
@@ -34,11 +34,11 @@ impl<'c> Model for Risc<'c> {
 
     ghost view = { λ s. record {
       parts = s.code.now;
-      state = state_of s.state;
+      state = code_state s.state;
       room = room_of s.state;
     } };
 
-    ghost invariant = { λ s. Fits s.code.now (state_of s.state) };
+    ghost invariant = { λ s. Fits s.code.now (code_state s.state) };
 }
 
 impl<'c> Risc<'c> {

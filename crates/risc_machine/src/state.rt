@@ -7,7 +7,7 @@ ghost use Rattle.cov_expr.specs.Term.{is_set};
 ghost use Rattle.cov_expr.specs.Words.{IsWord};
 ghost use Rattle.risc_machine.specs.Faults.{has_registers, has_variable, has_lock};
 ghost use Rattle.risc_machine.specs.Machine as spec;
-ghost use Rattle.risc_machine.specs.Inside.{state_of, room_of};
+ghost use Rattle.risc_machine.specs.Inside.{code_state, room_of};
 
 use crate::parts::Instr;
 use cov_expr::{List, apply};
@@ -33,8 +33,8 @@ impl State {
         requires place { t < length self.old.positions }
         requires next { IsWord (get_or self.old.positions t 0 + 1) }
         requires room { vec_len self.old.said < vec_capacity self.old.said }
-        ensures state { state_of self.new ≡ spec.after_instr (state_of self.old) t instr }
-        ensures says { result ≡ spec.instr_says (state_of self.old) t instr }
+        ensures state { code_state self.new ≡ spec.after_instr (code_state self.old) t instr }
+        ensures says { result ≡ spec.instr_says (code_state self.old) t instr }
         ensures room { room_of self.new ≡ room_of self.old }
     {
         if stays(self.holders.as_slice(), instr, t) {
@@ -52,7 +52,7 @@ impl State {
         requires row { t < length (self.now).registers }
         requires place { t < length (self.now).positions }
         requires next { IsWord (get_or (self.now).positions t 0 + 1) }
-        ensures { result ≡ spec.next_position (state_of self.now) t instr }
+        ensures { result ≡ spec.next_position (code_state self.now) t instr }
     {
         let here = self.positions.as_slice()[t as usize];
         match instr {
@@ -77,7 +77,7 @@ impl State {
         requires lock { IsTrue (has_lock (length self.old.holders) instr) }
         requires row { t < length self.old.registers }
         requires room { vec_len self.old.said < vec_capacity self.old.said }
-        ensures state { state_of self.new ≡ spec.effect (state_of self.old) t instr }
+        ensures state { code_state self.new ≡ spec.effect (code_state self.old) t instr }
         ensures room { room_of self.new ≡ room_of self.old }
     {
         match instr {
@@ -112,7 +112,7 @@ impl State {
     fn register(&self, t: u32, r: u8) -> u32
         requires row { t < length (self.now).registers }
         requires register { r < 8 }
-        ensures { result ≡ spec.register (state_of self.now) t r }
+        ensures { result ≡ spec.register (code_state self.now) t r }
     {
         self.registers.as_slice()[t as usize][r as usize]
     }
@@ -121,7 +121,7 @@ impl State {
     fn put(&mut self, t: u32, r: u8, word: u32)
         requires row { t < length self.old.registers }
         requires register { r < 8 }
-        ensures state { state_of self.new ≡ spec.with_register (state_of self.old) t r word }
+        ensures state { code_state self.new ≡ spec.with_register (code_state self.old) t r word }
         ensures room { room_of self.new ≡ room_of self.old }
     {
         let mut row = self.registers.as_slice()[t as usize];

@@ -5,4 +5,3 @@ pub mod CodeLaws
 pub mod QuietLaws
 pub mod QuietCodeLaws
 pub mod ReadLaws
-pub mod PlainLaws

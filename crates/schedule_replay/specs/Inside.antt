@@ -1,18 +1,15 @@
 -- Words of private contracts. What is promised doesn't rest on them.
-use Rattle.std.specs.Prelude.{◌≡◌, ℕ, ◌+◌, ◌<◌, ◌≤◌, List, [], ◌∷◌, ◌++◌, length, take, Bool, true, false, if◌then◌else◌, Option, Some, None, Result, Ok, Err}
+use Rattle.std.specs.Prelude.{◌≡◌, ℕ, ◌+◌, ◌<◌, ◌≤◌, List, ◌++◌, length, take, Bool, true, false, if◌then◌else◌, Option, Some, None, Result, Ok, Err}
 use Rattle.cov_ast.specs.Plain.{Plain}
 use Rattle.flow_model.specs.Agreement.{StatesAgree}
 use Rattle.flow_model.specs.Source.{Run, step, run_from, items_of, stays_at}
 use Rattle.flow_model.specs.declared.machine.Stepped.{Stepped}
 use Rattle.flow_model.specs.declared.machine.Stepped.TheVariants as stepped
-use Rattle.json.specs.Token.{Token, number}
 use Rattle.risc_machine.specs.Machine.{CodeState, code_step, code_from}
 use Rattle.risc_machine.specs.Running.{Running}
 use Rattle.risc_machine.specs.declared.parts.Instr.{Instr}
 use Rattle.risc_machine.specs.declared.parts.Instr.TheVariants.{Load, Store, Jump, Jz, Nop, MovC, MovR, Bin, Acquire, Release, Out}
 use Rattle.risc_machine.specs.declared.parts.Line.{Line}
-use Rattle.serde_json.specs.Data.{unsigned}
-use Rattle.serde_json.specs.Read.{number_of}
 use Rattle.serde_json.specs.View.{view}
 use Rattle.serde_json.specs.declared.value.Value.{Value}
 use Rattle.source_machine.specs.SourceMachine.{Machine, run_of}
@@ -20,8 +17,6 @@ use Rattle.source_machine.specs.declared.change.Change.{Change}
 use Rattle.source_machine.specs.declared.change.Change.TheVariants as change
 use Rattle.schedule_replay.specs.CodeReplays.{CodeStatesAgree}
 use Rattle.schedule_replay.specs.Json.{value_of}
-use Rattle.schedule_replay.specs.declared.fault.ScheduleFault.{ScheduleFault}
-use Rattle.schedule_replay.specs.declared.fault.StartFault.{StartFault}
 use Rattle.schedule_replay.specs.declared.values.Unread.{Unread}
 use Rattle.schedule_replay.specs.declared.values.Unread.TheVariants as unread
 
@@ -119,18 +114,7 @@ IsRead bytes (Ok value) = value_of bytes ≡ Some (view value)
 IsRead bytes (Err unread.Json) = value_of bytes ≡ None
 IsRead bytes (Err unread.NoMemory) = Unit {0}
 
--- words in front of what a reading gives
-abbrev pub onto_start : List ℕ → Result (List ℕ) StartFault → Result (List ℕ) StartFault
-onto_start words (Ok more) = Ok (words ++ more)
-onto_start words (Err fault) = Err fault
-
-abbrev pub onto_schedule : List ℕ → Result (List ℕ) ScheduleFault → Result (List ℕ) ScheduleFault
-onto_schedule entries (Ok more) = Ok (entries ++ more)
-onto_schedule entries (Err fault) = Err fault
-
--- Of the tokens `before`, the first are the numbers of these entries, each that of one of so many threads, and `after` are the rest.
-abbrev pub HasEntries : (threads : ℕ) (before : List Token) (entries : List ℕ) (after : List Token) → Type 0
-HasEntries threads before [] after = before ≡ after
-HasEntries threads before (entry ∷ entries) after =
-    (numeral : List ℕ) × (rest : List Token) × (before ≡ number numeral ∷ rest) × (number_of numeral ≡ Some (unsigned entry)) × (entry < threads)
-    × HasEntries threads rest entries after
+-- numbers in front of what a reading gives
+abbrev pub onto : {E : Type 0} → List ℕ → Result (List ℕ) E → Result (List ℕ) E
+onto ns (Ok more) = Ok (ns ++ more)
+onto ns (Err fault) = Err fault

@@ -1,3 +1,5 @@
+//! Replays of a schedule on code: on one machine, or on two side by side.
+
 ghost use Rattle.std.specs.Prelude.{◌≡◌, ℕ, ◌+◌, ◌<◌, ◌≤◌, length, IsTrue, MatchOption};
 ghost use Rattle.cov_expr.specs.Words.{IsSchedule};
 ghost use Rattle.cov_ast.specs.Plain.{plain};

@@ -1,8 +1,11 @@
+//! Why bytes are no start, or no schedule.
+
 ghost use Rattle.schedule_replay.specs.declared.fault.StartFault.TheVariants as start;
 ghost use Rattle.schedule_replay.specs.declared.fault.ScheduleFault.TheVariants as schedule;
 ghost use Rattle.std.specs.Prelude.{◌≡◌};
 
 use cov_expr::{Name, NoMemory};
+use thiserror::Error;
 
 /// Why bytes are no start, the first that applies.
 #[derive(Clone, Copy, Debug, PartialEq, Eq)]
@@ -22,17 +25,22 @@ pub enum StartFault {
 }
 
 /// Why bytes are no schedule, the first that applies.
-#[derive(Clone, Copy, Debug, PartialEq, Eq)]
+#[derive(Clone, Copy, Debug, PartialEq, Eq, Error)]
 pub enum ScheduleFault {
     /// They have no reading as JSON.
+    #[error("no reading as JSON")]
     Json,
     /// The value is no list.
+    #[error("no list")]
     NotList,
     /// It has more than 100,000 entries.
+    #[error("more than 100000 entries")]
     TooMany,
     /// The entry at this index, the first, is no number of a thread. Indices are counted from 0.
+    #[error("the entry at {0} is no number of a thread")]
     BadEntry(u32),
     /// Memory ran out.
+    #[error("no memory")]
     NoMemory,
 }
 

@@ -13,7 +13,6 @@
 
 mod code_replays;
 mod fault;
-mod plain;
 mod replays;
 mod schedule;
 mod start;

@@ -1,3 +1,5 @@
+//! Replays of a schedule on programs: on one machine, until an expression holds, or on two side by side.
+
 ghost use Rattle.std.specs.Prelude.{◌≡◌, ◌↔◌, ◌+◌, ◌<◌, ◌≤◌, false, length, take, IsNone, IsTrue, MatchOption};
 ghost use Rattle.watch.specs.Watches.{expr_of, words_of};
 ghost use Rattle.cov_expr.specs.Entailment.{Holds};

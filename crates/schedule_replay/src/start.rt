@@ -1,3 +1,5 @@
+//! The words of a start, from a JSON object.
+
 ghost use Rattle.std.specs.Prelude.{◌≡◌, ◌++◌};
 ghost use Rattle.serde_json.specs.View.{members_view};
 ghost use Rattle.schedule_replay.specs.Json.{value_of};

@@ -1,3 +1,5 @@
+//! Values of JSON, and the whole numbers that they are.
+
 ghost use Rattle.std.specs.Prelude.{◌≡◌, ◌^◌, ◌≤◌, is_some, option_map};
 ghost use Rattle.serde_json.specs.Find.{get_member};
 ghost use Rattle.serde_json.specs.View.{view, members_view};
@@ -39,20 +41,6 @@ pub fn number_below(value: &Value, bound: u64) -> Option<u32>
 {
     match value.as_u64() {
         Some(number) if number < bound => Some(number as u32),
-        _ => None,
-    }
-}
-
-/// The whole number that a value is, where it is below a bound.
-pub fn whole_below(value: Value, bound: u64) -> Option<u32>
-    requires { bound ≤ 2 ^ 32 }
-    ensures { result ≡ spec.number_below bound (view value) }
-{
-    match value {
-        Value::Number(number) => match number.as_u64() {
-            Some(whole) if whole < bound => Some(whole as u32),
-            _ => None,
-        },
         _ => None,
     }
 }

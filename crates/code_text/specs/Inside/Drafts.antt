@@ -1,9 +1,9 @@
 -- What reading a text keeps to: it does what the definition by cases does, and no list outgrows the lines.
-use Rattle.std.specs.Prelude.{◌≡◌, ℕ, ◌≤◌, List, [], ◌∷◌, length, Result, Ok, Err}
+use Rattle.std.specs.Prelude.{◌≡◌, ℕ, ◌≤◌, List, [], ◌∷◌, length, Option, Some, None, Result, Ok, Err}
 use Rattle.cov_expr.specs.Names.{IsName}
 use Rattle.risc_machine.specs.declared.parts.Parts.{Parts}
 use Rattle.risc_machine.specs.declared.parts.ThreadCode.{ThreadCode}
-use Rattle.code_text.specs.Inside.ListingReading.{Draft}
+use Rattle.code_text.specs.Inside.ListingReading.{Draft, with_row}
 use Rattle.code_text.specs.declared.read.Found.{Found}
 use Rattle.code_text.specs.declared.fault.CodeFault.{CodeFault}
 use Rattle.code_text.specs.declared.fault.CodeFault.TheVariants.{Line, Bad, NoMemory}
@@ -16,6 +16,20 @@ Agrees (Ok found) r = r ≡ Ok found.parts
 Agrees (Err (Line n)) r = r ≡ Err n
 Agrees (Err (Bad f)) r = ⊥
 Agrees (Err NoMemory) r = Unit {0}
+
+-- Lines that were added end as the definition does, with the parts of the draft, unless memory runs out.
+abbrev pub Ends : Result (Unit {0}) CodeFault → Draft → Result Parts ℕ → Type 0
+Ends (Ok _) d r = r ≡ Ok d.parts
+Ends (Err (Line n)) d r = r ≡ Err n
+Ends (Err (Bad f)) d r = ⊥
+Ends (Err NoMemory) d r = Unit {0}
+
+-- What becomes of a draft by the line of number `n`, which is this row or none, unless memory runs out.
+abbrev pub AddsLine : (n : ℕ) → Draft → Option Row → Draft → Result (Unit {0}) CodeFault → Type 0
+AddsLine n d o e (Ok _) = (r : Row) × (o ≡ Some r) × (e ≡ with_row d r)
+AddsLine n d o e (Err (Line m)) = (m ≡ n) × (o ≡ None)
+AddsLine n d o e (Err (Bad f)) = ⊥
+AddsLine n d o e (Err NoMemory) = Unit {0}
 
 abbrev pub AreShort : ℕ → List ThreadCode → Type 0
 AreShort n [] = Unit {0}
