@@ -24,7 +24,7 @@ fn main(rt: HostRuntime) -> ExitCode {
     let mut shelf = FileShelf::new(&rt);
     let mut sink = StdSink::new(&rt);
     let status = explain(rt.alloc(), words.as_slice(), &mut shelf, &mut sink);
-    ExitCode::from(status as u8)
+    ExitCode::from(status.exit_status())
 }
 
 /// The words behind the program's name.

@@ -23,12 +23,11 @@ use Rattle.schedule_replay.specs.declared.replays.Found.{Found}
 use Rattle.top_call.specs.BigReplies.{AllRunTogether, RunsAll, SumsUp, start_with}
 use Rattle.top_call.specs.Check.{IsAcceptedText}
 use Rattle.top_call.specs.Codes.{code_of}
-use Rattle.top_call.specs.Inside.{IsCodeOf, IsNamed}
 use Rattle.top_call.specs.Meaning.{meaning}
 use Rattle.top_call.specs.Pairs.{UnlessUnfit}
 use Rattle.top_call.specs.Replies.{Reply, status_of}
 use Rattle.top_call.specs.declared.answers.Status.TheVariants as s
-use Rattle.top_call.proofs.CodeLaws.{by_code, by_code_agrees, by_code_sound}
+use Rattle.top_call.proofs.CodeLaws.{by_code_agrees, by_code_sound}
 use Rattle.top_call.proofs.PairLaws.{no_bad_start, secure_not_apart}
 use Rattle.top_call.proofs.PlanLaws.{IsSoundReply}
 
@@ -79,10 +78,6 @@ runs_not_apart p r q left right schedule (Some f) first second secure l k fit th
     (subst (λ b. IsFirstStepApart seen (begin seen left) b schedule f) second (subst (λ a. IsFirstStepApart seen a q schedule f) first found))
 
 -- Replies ------------------------------------------------------------------------------------------------------
-
-pub sum_replied : (p : Parsed) (program : Program) (c : Parts) → IsNamed p program → IsCodeOf program c → (rounds : ℕ) (left right schedule : List ℕ) (reply : Reply)
-    → RunsAll rounds program c left right schedule reply → SumsUp rounds p left right schedule reply
-sum_replied p program c named code rounds left right schedule = by_code p program c named code (λ q e. RunsAll rounds q e left right schedule)
 
 module _ (rounds : ℕ) (p : Program) (c : Parts) (left right schedule : List ℕ) where
   all_one : (o : Option BadStart) (reply other : Reply) → UnlessUnfit p o (AllRunTogether rounds p c left right schedule) reply

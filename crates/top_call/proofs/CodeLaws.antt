@@ -1,7 +1,7 @@
 -- Laws of replies by code: what is refused is refused as it is by a check, what is accepted has good code, and two runs of it from fit
 -- starts never differ.
 use Rattle.std.specs.Prelude.{MatchOption}
-use Rattle.std.proofs.Common.{◌≡◌, ℕ, zero, suc, List, true, false, is_some, Option, Some, None, refl, sym, ap, ◌∙◌, subst, length, get_or, map, replicate, take, arith}
+use Rattle.std.proofs.Common.{◌≡◌, ℕ, zero, suc, List, true, false, is_some, Option, Some, None, Result, Ok, Err, refl, sym, ap, ◌∙◌, subst, length, get_or, map, replicate, take, arith}
 use Rattle.std.proofs.lemmas.List.{length-map, length-replicate}
 use Rattle.std.proofs.lemmas.List.Elements.{All-replicate}
 use Rattle.compiled_code.specs.Compiled.{compiled}
@@ -30,11 +30,12 @@ use Rattle.schedule_replay.specs.declared.replays.Found.{Found}
 use Rattle.verify.specs.Accepted.{IsAccepted, program_obligations}
 use Rattle.top_call.specs.Check.{IsAcceptedText, obligations, thread_name, verdict_by}
 use Rattle.top_call.specs.Codes.{CodeRunsTogether, Compiles, PairsCode, RepliesByCode, RepliesListing, RunsBothCodes, RunsCode, UnlessRejected, cleared, code_of, code_start, report_on_code}
-use Rattle.top_call.specs.AnswerViews.{Stops}
-use Rattle.top_call.specs.Inside.{IsCodeOf, IsNamed, IsNameRefusal, IsRejection, name_in}
+use Rattle.top_call.specs.AnswerViews.{Gets, Stops, seen}
+use Rattle.top_call.specs.Inside.{AnswersByCode, IsCodeOf, IsNamed, IsNameRefusal, IsRejection, name_in}
 use Rattle.top_call.specs.Meaning.{meaning}
 use Rattle.top_call.specs.Pairs.{UnlessUnfit, bad_name}
 use Rattle.top_call.specs.Replies.{Reply, bad_starts, ran, refused, status_of}
+use Rattle.top_call.specs.declared.answers.Answer.{Answer}
 use Rattle.top_call.specs.declared.answers.Status.TheVariants as s
 use Rattle.top_call.specs.declared.answers.Stop.{Stop}
 use Rattle.top_call.proofs.CheckLaws.{names_refused, none_false, same_first, same_name}
@@ -66,14 +67,14 @@ module _ (p : Parsed) (may_reply : Reply → Type 0) where
         rejected reply refusal (sym (same_first p program named.is named.held) ∙ first)
         (is ∙ ap (λ (q : Program). refused refusal (name_in q.threads refusal.thread)) named.is ∙ ap (refused refusal) (same_name p refusal.thread))
 
-    pub program_rejected : (stop : Stop) → Stops (IsRejection program) stop → Stops (RepliesByCode p may_reply) stop
+    program_rejected : (stop : Stop) → Stops (IsRejection program) stop → Stops (RepliesByCode p may_reply) stop
     program_rejected stop h = stops_onward (IsRejection program) (RepliesByCode p may_reply) stop one_rejected h
 
 -- Accepted programs --------------------------------------------------------------------------------------------
 
 module _ (p : Parsed) (program : Program) (c : Parts) (named : IsNamed p program) (code : IsCodeOf program c) where
   -- the reply to the program and its code is the reply to the text
-  pub by_code : (may_reply : Program → Parts → Reply → Type 0) (reply : Reply) → may_reply program c reply → RepliesByCode p (may_reply (resolved p) (code_of p)) reply
+  by_code : (may_reply : Program → Parts → Reply → Type 0) (reply : Reply) → may_reply program c reply → RepliesByCode p (may_reply (resolved p) (code_of p)) reply
   by_code may_reply reply h = record {
     verdict = subst (λ o. UnlessRejected p o (may_reply (resolved p) (code_of p)) reply) (sym none)
         (subst (λ q. may_reply q (compiled q) reply) named.is (subst (λ d. may_reply program d reply) code.is h));
@@ -83,14 +84,11 @@ module _ (p : Parsed) (program : Program) (c : Parts) (named : IsNamed p program
       none : first_false (obligations p) ≡ None
       none = sym (same_first p program named.is named.held) ∙ none_false (program_obligations program) code.accepted
 
-  pub compiled_replied : (reply : Reply) → RepliesListing c reply → Compiles p reply
-  compiled_replied = by_code (λ q d. RepliesListing d)
-
-  pub run_replied : (memory schedule text : List ℕ) → text ≡ report_on_code program c memory schedule → RunsCode p memory schedule (ran text)
-  run_replied memory schedule text is = by_code (λ q d reply. reply ≡ ran (report_on_code q d memory schedule)) (ran text) (ap ran is)
-
-  pub pair_replied : (left right schedule : List ℕ) (reply : Reply) → RunsBothCodes program c left right schedule reply → PairsCode p left right schedule reply
-  pair_replied left right schedule = by_code (λ q d. RunsBothCodes q d left right schedule)
+-- what is answered to the program is the reply to the text
+pub answered_by_code : (p : Parsed) (program : Program) → IsNamed p program → (may_reply : Program → Parts → Reply → Type 0) (r : Result Answer Stop)
+    → AnswersByCode program may_reply r → Gets (RepliesByCode p (may_reply (resolved p) (code_of p))) r
+answered_by_code p program named may_reply (Ok answer) (c, code, h) = by_code p program c named code may_reply (seen answer) h
+answered_by_code p program named may_reply (Err stop) h = program_rejected p (may_reply (resolved p) (code_of p)) program named stop h
 
 -- the code of the program of a verdict, which is the one that was checked
 pub made_code : (p q : d.Program) (c : Parts) → q ≡ p → IsAccepted (view.program p) → c ≡ compiled (view.program q) → IsGoodCode (view.program q) c

@@ -4,6 +4,7 @@ pub mod FileLaws
 pub mod PlanLaws
 pub mod EndLaws
 pub mod InputLaws
+pub mod ReadLaws
 -- One for each kind of command.
 pub mod CheckLaws
 pub mod FormatLaws

@@ -133,6 +133,7 @@ does_code before after (compile name) reply h done old new put files told =
       spelled = text.1.1;
       named = subst AreNamesInOrder is text.2;
       code = code_of text.0;
+      is_code = text.4.is_code;
       good = subst (λ p. IsGoodCode (resolved p) (code_of text.0)) is text.3;
       text = listing (code_of text.0);
       listing = record { listed = text.4.listed; spelling = refl };

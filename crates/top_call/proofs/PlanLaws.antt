@@ -160,7 +160,7 @@ module _ {A : Type 0} (IsRead : List ℕ → A → Type 0) (IsFault : List ℕ �
       (after, Ok (Whole bytes), record { gives = gives; counted = counted }, inr (refl, inl (λ x h. reading.not_both bytes x fault h is)))
   asks_failed reading before after (stops.Answer answer) (inr (inl h)) counted = (after, Ok TooLong, record { gives = h.0; counted = counted }, refl)
   asks_failed reading before after (stops.Answer answer) (inr (inr h)) counted = (after, Err faults.Failed, record { gives = h.0; counted = counted }, refl)
-  asks_failed reading before after stops.NoMemory h counted = (after, Err faults.NoMemory, record { gives = tt; counted = counted }, refl)
+  asks_failed reading before after stops.NoMemory h counted = (after, Err faults.NoMemory, record { gives = tt; counted = counted }, (refl, tt))
 
   -- a file isn't read, and nothing follows
   pub carried_not : (before after : Shelved) (stop : Stop) → IsReading IsRead IsFault → Fails IsFault before after name most stop
@@ -215,7 +215,7 @@ module _ {A : Type 0} (IsRead : List ℕ → A → Type 0) (GoesOn GoesOn' : A �
   follows_onward (Ok (Whole bytes)) on lack h = continues_onward bytes on lack h
   follows_onward (Ok TooLong) on lack halts = halts
   follows_onward (Err faults.Failed) on lack halts = halts
-  follows_onward (Err faults.NoMemory) on lack halts = halts
+  follows_onward (Err faults.NoMemory) on lack h = (h.0, lack h.1)
 
 pub asks_onward : (before after : Shelved) (plan : Plan) (Lacks Lacks' : Type 0) → (Lacks → Lacks') → Asks before after plan Lacks → Asks before after plan Lacks'
 asks_onward before after (replies IsAsked may_reply) Lacks Lacks' lack same = same

@@ -1,10 +1,11 @@
 -- Which calls of the shelf a command makes.
-use Rattle.std.specs.Prelude.{◌≡◌, ◌⊎◌, ℕ, List, Result, Ok}
+use Rattle.std.specs.Prelude.{◌≡◌, ◌⊎◌, ℕ, List, Result, Ok, Err}
 use Rattle.cov_io.specs.Counters.{raised}
 use Rattle.cov_io.specs.Shelves.{Shelved, Gives}
 use Rattle.cov_io.specs.declared.shelf.Fetched.{Fetched}
-use Rattle.cov_io.specs.declared.shelf.Fetched.TheVariants.{Whole}
+use Rattle.cov_io.specs.declared.shelf.Fetched.TheVariants.{Whole, TooLong}
 use Rattle.cov_io.specs.declared.shelf.ShelfFault.{ShelfFault}
+use Rattle.cov_io.specs.declared.shelf.ShelfFault.TheVariants.{Failed, NoMemory}
 use Rattle.top_call.specs.Commands.{Command}
 use Rattle.top_call.specs.Outcome.{plan_of}
 use Rattle.top_call.specs.Plans.{Plan, replies, file, argument}
@@ -19,10 +20,12 @@ module _ {A : Type 0} (IsRead : List ℕ → A → Type 0) where
   abbrev pub Continues : List ℕ → (GoesOn : A → Type 0) → (Halts Lacks : Type 0) → Type 0
   Continues bytes GoesOn Halts Lacks = ((x : A) × IsRead bytes x × GoesOn x) ⊎ (Halts × (((x : A) → ¬ IsRead bytes x) ⊎ Lacks))
 
-  -- What follows a call for a file: what follows its bytes, or what stops.
+  -- What follows a call for a file: what follows its bytes, or what stops. Where memory ran out in the call, it did in the command.
   abbrev pub Follows : Result Fetched ShelfFault → (GoesOn : A → Type 0) → (Halts Lacks : Type 0) → Type 0
   Follows (Ok (Whole bytes)) GoesOn Halts Lacks = Continues bytes GoesOn Halts Lacks
-  Follows answer GoesOn Halts Lacks = Halts
+  Follows (Ok TooLong) GoesOn Halts Lacks = Halts
+  Follows (Err Failed) GoesOn Halts Lacks = Halts
+  Follows (Err NoMemory) GoesOn Halts Lacks = Halts × Lacks
 
 -- The shelf is called once for each file, in this order, up to the first that isn't read, and not otherwise; it is called
 -- for fewer only where memory ran out.

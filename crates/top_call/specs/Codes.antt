@@ -9,6 +9,7 @@ use Rattle.cov_ast.specs.Syntax.{Parsed, Program}
 use Rattle.cov_ast.specs.declared.refusal.Refusal.{Refusal}
 use Rattle.flow_model.specs.FirstDifference.{first_bad_start}
 use Rattle.policy_class.specs.Resolved.{resolved}
+use Rattle.risc_machine.specs.Faults.{AreGood}
 use Rattle.risc_machine.specs.Machine.{CodeState, code_after, code_begin}
 use Rattle.risc_machine.specs.declared.parts.Parts.{Parts}
 use Rattle.schedule_replay.specs.CodeReplays.{CodeAgreesThroughout, code_stayed_from}
@@ -33,8 +34,9 @@ pub record RepliesByCode (p : Parsed) (may_reply : Reply → Type 0) (reply : Re
 
 -- The listing -------------------------------------------------------------------------------------------------
 
--- The reply is the listing of a code.
+-- The reply is the listing of parts that are code, so that it can be read back.
 pub record RepliesListing (c : Parts) (reply : Reply) : Type 0 where
+  pub is_code : AreGood c
   pub listed : IsListed c
   pub is : reply ≡ spelled (listing c)
 

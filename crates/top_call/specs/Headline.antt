@@ -8,6 +8,7 @@ use Rattle.code_text.specs.Listing.{IsListingOf}
 use Rattle.compiled_code.specs.GoodCode.{IsGoodCode}
 use Rattle.flow_model.specs.Secure.{IsSecure}
 use Rattle.policy_class.specs.Resolved.{resolved}
+use Rattle.risc_machine.specs.Faults.{AreGood}
 use Rattle.risc_machine.specs.declared.parts.Parts.{Parts}
 use Rattle.top_call.specs.Commands.{Command, check, compile, fmt, migrate, run, run_code, run_until, pair, pair_code, big, nothing}
 use Rattle.top_call.specs.Meaning.{AreNamesInOrder, meaning}
@@ -30,9 +31,9 @@ HoldsSecure files (pair_code name first second schedule) = Unit {0}
 HoldsSecure files (big rounds schedule) = Unit {0}
 HoldsSecure files nothing = ⊥
 
--- What is put is the listing of a code, and a file holds a program for which this code is good: each run of the code is a run
--- of the program, from any two fit starts, under every schedule, two runs of the code agree after each step, and no variable is
--- loaded more often than it has to be.
+-- What is put is the listing of a code, to which no fault applies, and a file holds a program for which this code is good: each
+-- run of the code is a run of the program, from any two fit starts, under every schedule, two runs of the code agree after each
+-- step, and no variable is loaded more often than it has to be.
 pub record PutsGoodCode (files : List File) (name : List ℕ) (before after : Sunk) : Type 0 where
   pub bytes : List ℕ
   pub at : held files name ≡ Some bytes
@@ -40,6 +41,7 @@ pub record PutsGoodCode (files : List File) (name : List ℕ) (before after : Su
   pub spelled : SpellsTree bytes tree
   pub named : AreNamesInOrder (program_of bytes tree)
   pub code : Parts
+  pub is_code : AreGood code
   pub good : IsGoodCode (resolved (program_of bytes tree)) code
   pub text : List ℕ
   pub listing : IsListingOf code text

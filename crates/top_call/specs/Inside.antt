@@ -1,5 +1,5 @@
 -- Words of private contracts: what steps of the code give. To believe what `covern` promises, nothing here need be read.
-use Rattle.std.specs.Prelude.{◌≡◌, ◌≢◌, ◌≤◌, ℕ, List, length, map, slice_get, codes, Option, Some, None, Result, Ok, Err}
+use Rattle.std.specs.Prelude.{◌≡◌, ◌≢◌, ◌≤◌, ◌⊎◌, ℕ, List, length, map, slice_get, codes, Option, Some, None, Result, Ok, Err}
 use Rattle.cov_ast.specs.Obligations.{first_false}
 use Rattle.cov_ast.specs.Plain.{plain}
 use Rattle.cov_ast.specs.Syntax.{Parsed, Program, Thread}
@@ -14,7 +14,6 @@ use Rattle.cov_io.specs.Counters.{raised}
 use Rattle.cov_io.specs.Shelves.{Shelved, Gives, Passes}
 use Rattle.cov_io.specs.declared.shelf.Fetched.TheVariants.{Whole}
 use Rattle.cov_text.specs.Text.{Expression}
-use Rattle.flow_model.specs.Agreement.{AreFitStarts}
 use Rattle.flow_model.specs.Secure.{IsSecure}
 use Rattle.compiled_code.specs.Compiled.{compiled}
 use Rattle.compiled_code.specs.GoodCode.{IsGoodCode}
@@ -25,16 +24,14 @@ use Rattle.schedule_replay.specs.declared.replays.Until.{Until}
 use Rattle.source_machine.specs.SourceMachine.{Machine, run_of}
 use Rattle.verify.specs.Accepted.{IsAccepted, program_obligations}
 use Rattle.verify.specs.Verdicts.{counts}
-use Rattle.top_call.specs.AnswerViews.{Gets, Stops}
+use Rattle.top_call.specs.AnswerViews.{Gets, Stops, seen}
 use Rattle.top_call.specs.Asks.{Asks}
-use Rattle.top_call.specs.Check.{IsAcceptedText}
-use Rattle.top_call.specs.Codes.{PairsCode}
 use Rattle.top_call.specs.Commands.{Command, check, compile, fmt, migrate, run, run_code, run_until, pair, pair_code, big, nothing}
 use Rattle.top_call.specs.Expressions.{by_id, first_unknown}
 use Rattle.top_call.specs.Files.{Reads}
-use Rattle.top_call.specs.Meaning.{meaning}
-use Rattle.top_call.specs.Outcome.{entries, expression, memory}
-use Rattle.top_call.specs.Pairs.{Pairs, RunsBoth, RunsFit}
+use Rattle.top_call.specs.Inputs.{IsScheduleFault, IsScheduleText, IsStart, IsStartFault}
+use Rattle.top_call.specs.Outcome.{expression}
+use Rattle.top_call.specs.Pairs.{RunsBoth, RunsFit}
 use Rattle.top_call.specs.Plans.{Plan, MayReply, replies}
 use Rattle.top_call.specs.Replies.{Reply, malformed, refused, accepted, spelled, ran, bad_starts, differ, status_of}
 use Rattle.top_call.specs.Reports.{report_of}
@@ -44,6 +41,7 @@ use Rattle.top_call.specs.declared.answers.Fault.TheVariants as f
 use Rattle.top_call.specs.declared.answers.FaultKind.TheVariants as k
 use Rattle.top_call.specs.declared.answers.Status.TheVariants as s
 use Rattle.top_call.specs.declared.expressions.TheConstants.{MOST_EXPRESSION_BYTES}
+use Rattle.top_call.specs.declared.inputs.TheConstants.{MOST_INPUT_BYTES}
 use Rattle.top_call.specs.declared.answers.Answer.{Answer}
 use Rattle.top_call.specs.declared.commands.Asked.{Asked}
 use Rattle.top_call.specs.declared.commands.Asked.TheVariants as asked
@@ -101,6 +99,32 @@ pub record Fails (IsFault : List ℕ → Fault → Type 0) (before after : Shelv
   pub counted : after.calls ≡ raised before.calls 1
   pub passes : Passes before after
 
+-- A start and a schedule of a program are read, one behind the other.
+pub record TakesInputs (p : Parsed) (before after : Shelved) (start schedule m k : List ℕ) : Type 0 where
+  pub between : Shelved
+  pub start_read : Takes (IsStart p) before between start MOST_INPUT_BYTES m
+  pub schedule_read : Takes (IsScheduleText p) between after schedule MOST_INPUT_BYTES k
+
+-- One of them isn't read, and what stands behind it isn't asked for.
+abbrev pub FailsInputs : Parsed → (before after : Shelved) → (start schedule : List ℕ) → Stop → Type 0
+FailsInputs p before after start schedule stop =
+    Fails (IsStartFault p) before after start MOST_INPUT_BYTES stop
+    ⊎ ((between : Shelved) × (m : List ℕ) × Takes (IsStart p) before between start MOST_INPUT_BYTES m
+    × Fails (IsScheduleFault p) between after schedule MOST_INPUT_BYTES stop)
+
+-- Two starts and a schedule of a program are read, one behind the other.
+pub record TakesPairInputs (p : Parsed) (before after : Shelved) (first second schedule l r k : List ℕ) : Type 0 where
+  pub between : Shelved
+  pub first_read : Takes (IsStart p) before between first MOST_INPUT_BYTES l
+  pub others_read : TakesInputs p between after second schedule r k
+
+-- One of them isn't read, and what stands behind it isn't asked for.
+abbrev pub FailsPairInputs : Parsed → (before after : Shelved) → (first second schedule : List ℕ) → Stop → Type 0
+FailsPairInputs p before after first second schedule stop =
+    Fails (IsStartFault p) before after first MOST_INPUT_BYTES stop
+    ⊎ ((between : Shelved) × (l : List ℕ) × Takes (IsStart p) before between first MOST_INPUT_BYTES l
+    × FailsInputs p between after second schedule stop)
+
 -- The program that a text stands for, of which each obligation of declarations holds.
 pub record IsDeclared (p : Parsed) (program : Program) : Type 0 where
   pub is : program ≡ resolved p
@@ -142,6 +166,11 @@ pub record IsCodeOf (program : Program) (c : Parts) : Type 0 where
   pub accepted : IsAccepted program
   pub good : IsGoodCode program c
 
+-- What is answered to a program whose names are in order: it is rejected, or accepted, and then such a reply is given by its code.
+abbrev pub AnswersByCode : Program → (may_reply : Program → Parts → Reply → Type 0) → Result Answer Stop → Type 0
+AnswersByCode program may_reply (Ok answer) = (c : Parts) × IsCodeOf program c × may_reply program c (seen answer)
+AnswersByCode program may_reply (Err stop) = Stops (IsRejection program) stop
+
 -- The reply to a check of a program whose names are in order. What is accepted is secure.
 pub record JudgesProgram (program : Program) (reply : Reply) : Type 0 where
   pub verdict : reply ≡ program_verdict program (first_false (program_obligations program))
@@ -170,16 +199,6 @@ pub record PairsProgram (program : Program) (left right schedule : List ℕ) (re
 -- what follows of a program, a memory and a schedule, where an expression is read
 abbrev pub until_plan : Parsed → (memory schedule word : List ℕ) → Plan
 until_plan p memory schedule word = expression p word (λ e. replies (IsDeclaredText p) (RunsUntil p memory schedule e))
-
--- what follows of a program and a first memory, where a second one is read
-abbrev pub second_plan : Parsed → (left second schedule : List ℕ) → Plan
-second_plan p left second schedule =
-    memory p second (λ r. entries p schedule (λ k. replies (IsDeclaredText p × AreFitStarts (meaning p) left r) (Pairs p left r k)))
-
--- what follows of a program and a first memory, where a second one is read for two runs of its code
-abbrev pub second_code_plan : Parsed → (left second schedule : List ℕ) → Plan
-second_code_plan p left second schedule =
-    memory p second (λ r. entries p schedule (λ k. replies (IsAcceptedText p × AreFitStarts (meaning p) left r) (PairsCode p left r k)))
 
 -- the names of declared variables, in their order
 abbrev pub variables : List VarDecl → List (List ℕ)

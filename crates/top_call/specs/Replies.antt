@@ -1,4 +1,4 @@
--- What a call replies, and with which status.
+-- What a call replies, with which status, and the number of each status.
 use Rattle.std.specs.Prelude.{ℕ, List, Option}
 use Rattle.cov_ast.specs.declared.refusal.Refusal.{Refusal}
 use Rattle.top_call.specs.declared.answers.Fault.{Fault}
@@ -30,3 +30,16 @@ status_of (spelled text) = s.Done
 status_of (ran report) = s.Done
 status_of (bad_starts name) = s.BadStarts
 status_of (differ step what) = s.Differ
+
+-- the number with which the program exits
+abbrev pub exit_status : Status → ℕ
+exit_status s.Done = 0
+exit_status s.Refused = 1
+exit_status s.Usage = 2
+exit_status s.Malformed = 3
+exit_status s.ReadFault = 4
+exit_status s.WriteFault = 5
+exit_status s.NoMemory = 6
+exit_status s.TooLong = 7
+exit_status s.Differ = 8
+exit_status s.BadStarts = 9

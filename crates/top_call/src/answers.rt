@@ -1,34 +1,56 @@
+//! What a call can answer, the status of each answer, and its exit status.
+
 ghost use Rattle.std.specs.Prelude.{◌≡◌};
 ghost use Rattle.top_call.specs.AnswerViews.{seen};
-ghost use Rattle.top_call.specs.Replies.{status_of};
+ghost use Rattle.top_call.specs.Replies.{exit_status, status_of};
 ghost use Rattle.top_call.specs.declared.answers.Stop.TheVariants as stops;
 
 use cov_ast::Refusal;
 use cov_expr::{Blob, Name, NoMemory};
 
-/// How a call ends. The number is the exit status.
+/// How a call ends.
 #[derive(Clone, Copy, Debug, PartialEq, Eq)]
 pub enum Status {
     /// The command did all its work.
-    Done = 0,
+    Done,
     /// The program breaks a rule.
-    Refused = 1,
+    Refused,
     /// The words are none of the forms.
-    Usage = 2,
+    Usage,
     /// A file isn't in its grammar and limits.
-    Malformed = 3,
+    Malformed,
     /// A file couldn't be read.
-    ReadFault = 4,
+    ReadFault,
     /// The report couldn't be written: a proper prefix of it was.
-    WriteFault = 5,
+    WriteFault,
     /// Memory ran out, and nothing was written.
-    NoMemory = 6,
+    NoMemory,
     /// A file is longer than its limit.
-    TooLong = 7,
+    TooLong,
     /// Two runs don't agree.
-    Differ = 8,
+    Differ,
     /// Two memories aren't fit to start from.
-    BadStarts = 9,
+    BadStarts,
+}
+
+impl Status {
+    /// The number with which the program exits.
+    pub fn exit_status(self) -> u8
+        ensures { result ≡ exit_status self }
+    {
+        match self {
+            Status::Done => 0,
+            Status::Refused => 1,
+            Status::Usage => 2,
+            Status::Malformed => 3,
+            Status::ReadFault => 4,
+            Status::WriteFault => 5,
+            Status::NoMemory => 6,
+            Status::TooLong => 7,
+            Status::Differ => 8,
+            Status::BadStarts => 9,
+        }
+    }
 }
 
 /// How much an accepted program has.

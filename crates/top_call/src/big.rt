@@ -1,3 +1,5 @@
+//! `big`: a made program of so many rounds, run four times under a schedule, twice as a program and twice as code.
+
 ghost use Rattle.std.specs.Prelude.{◌≡◌, ◌++◌, ◌≤◌, IfOk, MatchResult, OnOk, codes, length, map};
 ghost use Rattle.compiled_code.specs.SecureCode.{IsSecureCode};
 ghost use Rattle.cov_ast.specs.Plain.{plain};
@@ -18,7 +20,7 @@ ghost use Rattle.top_call.specs.BigReplies as spec;
 ghost use Rattle.top_call.specs.Codes.{code_start};
 ghost use Rattle.top_call.specs.Commands as asked;
 ghost use Rattle.top_call.specs.AnswerViews.{Gets, Stops, seen};
-ghost use Rattle.top_call.specs.Inside.{CarriesOut};
+ghost use Rattle.top_call.specs.Inside.{AnswersByCode, CarriesOut};
 ghost use Rattle.top_call.specs.Outcome.{plan_of};
 ghost use Rattle.top_call.specs.Programs.{IsShownFault, SpellsProgram};
 ghost use Rattle.top_call.specs.Replies as replies;
@@ -87,13 +89,39 @@ fn sum_up_text<'w>(
     requires entries { length schedule.now ≤ most_entries }
     ensures { let p = view.parsed parsed in Gets (spec.SumsUp rounds p (spec.first_start p) (spec.second_start p) schedule.now) result }
 {
-    let left = start_with(alloc, parsed.vars.as_slice(), 1)?;
-    let right = start_with(alloc, parsed.vars.as_slice(), 2)?;
-    let memories = Memories { left, right };
+    let memories = both_starts(alloc, parsed.vars.as_slice())?;
     let program = named(alloc, parsed)?;
-    let verdict = verdict_on(alloc, &program)?;
+    sum_up_named(alloc, rounds, &program, &memories, schedule)
+}
+
+/// The two starts, which differ in the secret alone.
+fn both_starts(alloc: Global, vars: &[VarDecl]) -> Result<Memories, NoMemory>
+    ensures left { IfOk result (λ memories. memories.left ≡ spec.start_with 1 (map view.var vars.now)) }
+    ensures right { IfOk result (λ memories. memories.right ≡ spec.start_with 2 (map view.var vars.now)) }
+{
+    let left = start_with(alloc, vars, 1)?;
+    let right = start_with(alloc, vars, 2)?;
+    Ok(Memories { left, right })
+}
+
+/// Sums up the runs of a program whose names are in order, and of its code.
+fn sum_up_named<'w>(
+    alloc: Global,
+    rounds: u32,
+    program: &Program,
+    memories: &Memories,
+    schedule: &[u32],
+) -> Result<Answer<'w>, Stop<'w>>
+    requires formed { IsWellFormed (view.program program.now) }
+    requires left { IsMemory (length program.now.vars) memories.now.left }
+    requires right { IsMemory (length program.now.vars) memories.now.right }
+    requires threads { IsSchedule (length program.now.threads) schedule.now }
+    requires entries { length schedule.now ≤ most_entries }
+    ensures { AnswersByCode (view.program program.now) (λ p c. spec.RunsAll rounds p c memories.now.left memories.now.right schedule.now) result }
+{
+    let verdict = verdict_on(alloc, program)?;
     let code = compile(alloc, &verdict)?;
-    let answer = sum_up(alloc, rounds, &verdict, &code, &memories, schedule)?;
+    let answer = sum_up(alloc, rounds, &verdict, &code, memories, schedule)?;
     Ok(answer)
 }
 

@@ -1,3 +1,5 @@
+//! The top call, `covern`, with all that it promises.
+
 ghost use Rattle.std.specs.Prelude.{◌≡◌, ◌≢◌, ◌⊎◌, IfSome, IsTrue, map, string_bytes, ◌≤◌};
 ghost use Rattle.cov_io.specs.Shelves.{Passes};
 ghost use Rattle.cov_io.specs.Counters.{Rose};

@@ -1,3 +1,5 @@
+//! What the commands by code share: the verdict on a program, the code of an accepted one, and its machine.
+
 ghost use Rattle.std.specs.Prelude.{◌≡◌, IfOk, MatchResult, length, replicate};
 ghost use Rattle.cov_ast.specs.Plain.{plain};
 ghost use Rattle.cov_ast.specs.Ready.{IsReady};

@@ -1,3 +1,5 @@
+//! The command that the words of a command line ask for, and its step.
+
 ghost use Rattle.std.specs.Prelude.{◌≡◌, ◌≤◌, IfSome, map, string_bytes};
 ghost use Rattle.cov_io.specs.Shelves.{Passes};
 ghost use Rattle.top_call.specs.Asks.{Asks, files_of};

@@ -1,16 +1,20 @@
+//! `compile`: the listing of the code of an accepted program.
+
 ghost use Rattle.cov_ast.specs.Ready.{IsReady};
 ghost use Rattle.cov_ast.specs.View as view;
-ghost use Rattle.top_call.specs.Codes.{Compiles};
+ghost use Rattle.cov_ast.specs.WellFormed.{IsWellFormed};
+ghost use Rattle.top_call.specs.Codes.{Compiles, RepliesListing};
 ghost use Rattle.top_call.specs.Commands as asked;
 ghost use Rattle.top_call.specs.AnswerViews.{Gets};
-ghost use Rattle.top_call.specs.Inside.{CarriesOut};
+ghost use Rattle.top_call.specs.Inside.{AnswersByCode, CarriesOut};
 ghost use Rattle.top_call.specs.Outcome.{plan_of};
 
 use crate::answers::{Answer, Stop};
 use crate::codes::{code_of, named};
 use crate::files::read_program;
 use code_text::list;
-use cov_ast::Parsed;
+use compiled_code::compiled_is_code;
+use cov_ast::{Parsed, Program};
 use cov_io::Shelf;
 use std::alloc::Global;
 
@@ -32,6 +36,15 @@ fn compile_text<'w>(alloc: Global, parsed: Parsed) -> Result<Answer<'w>, Stop<'w
     ensures { Gets (Compiles (view.parsed parsed)) result }
 {
     let program = named(alloc, parsed)?;
-    let code = code_of(alloc, &program)?;
+    list_named(alloc, &program)
+}
+
+/// Lists the code of a program whose names are in order.
+fn list_named<'w>(alloc: Global, program: &Program) -> Result<Answer<'w>, Stop<'w>>
+    requires { IsWellFormed (view.program program.now) }
+    ensures { AnswersByCode (view.program program.now) (λ _ c. RepliesListing c) result }
+{
+    compiled_is_code();
+    let code = code_of(alloc, program)?;
     Ok(Answer::Spelled(list(alloc, &code)?))
 }

@@ -1,3 +1,5 @@
+//! The lines on two starts that are unfit and on two runs that differ, and the names that they tell.
+
 ghost use Rattle.std.specs.Prelude.{◌≡◌, ◌++◌, IfOk, OnOk, get_or, map, []};
 ghost use Rattle.cov_ast.specs.View as view;
 ghost use Rattle.top_call.specs.Pairs as pairs;

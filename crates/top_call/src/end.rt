@@ -1,3 +1,5 @@
+//! The end of a call: the report is made, and then written.
+
 ghost use Rattle.std.specs.Prelude.{◌≡◌, ◌≤◌};
 ghost use Rattle.cov_io.specs.Counters.{Rose};
 ghost use Rattle.top_call.specs.Ends.{Ends};

@@ -1,3 +1,5 @@
+//! The expression of `run-until`, over the variables of a program, from a word of the command line.
+
 ghost use Rattle.std.specs.Prelude.{◌≡◌, ◌<◌, ◌≤◌, All, IfOk, MatchResult, codes, length, nat_lt};
 ghost use Rattle.cov_ast.specs.NameTables.{number_of};
 ghost use Rattle.cov_ast.specs.View as view;

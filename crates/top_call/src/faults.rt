@@ -1,3 +1,5 @@
+//! The line of a malformed file or word, by its fault.
+
 ghost use Rattle.std.specs.Prelude.{◌≡◌, ◌++◌, IfOk, OnOk};
 ghost use Rattle.top_call.specs.Replies.{malformed};
 ghost use Rattle.top_call.specs.Reports as spec;

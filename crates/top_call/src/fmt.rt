@@ -1,3 +1,5 @@
+//! `fmt`: the canonical spelling of a program.
+
 ghost use Rattle.cov_ast.specs.View as view;
 ghost use Rattle.top_call.specs.Commands as asked;
 ghost use Rattle.top_call.specs.Format.{Formats};

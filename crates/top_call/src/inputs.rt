@@ -1,10 +1,12 @@
+//! Starts and schedules of a program, read from their files one behind the other.
+
 ghost use Rattle.std.specs.Prelude.{◌≡◌, ◌≤◌, IfOk, MatchResult, length};
 ghost use Rattle.cov_ast.specs.View as view;
 ghost use Rattle.cov_expr.specs.declared.limits.TheConstants.{MOST_THREADS};
 ghost use Rattle.cov_expr.specs.Words.{IsMemory, IsSchedule};
 ghost use Rattle.schedule_replay.specs.Schedules.{most_entries};
 ghost use Rattle.top_call.specs.Inputs as spec;
-ghost use Rattle.top_call.specs.Inside.{Fails, Takes};
+ghost use Rattle.top_call.specs.Inside.{Fails, FailsInputs, FailsPairInputs, Takes, TakesInputs, TakesPairInputs};
 
 use crate::answers::{Fault, Stop};
 use crate::files::{fetch, unread};
@@ -16,6 +18,70 @@ use std::alloc::Global;
 
 /// The most bytes of a start or a schedule.
 pub const MOST_INPUT_BYTES: usize = 4_194_304;
+
+/// What a run takes beside its program.
+#[derive(Drop)]
+pub struct RunInputs {
+    pub memory: List<u32>,
+    pub entries: List<u32>,
+}
+
+/// What two runs take beside their program.
+#[derive(Drop)]
+pub struct PairInputs {
+    pub left: List<u32>,
+    pub right: List<u32>,
+    pub entries: List<u32>,
+}
+
+/// The start and the schedule of a program that two files are.
+pub fn read_inputs<'w, S: Shelf>(
+    alloc: Global,
+    start: &'w str,
+    schedule: &'w str,
+    parsed: &Parsed,
+    shelf: &mut S,
+) -> Result<RunInputs, Stop<'w>>
+    requires { length parsed.now.threads ≤ MOST_THREADS }
+    ensures read { MatchResult result
+        (λ inputs. TakesInputs (view.parsed parsed.now) (S.shelved shelf.old) (S.shelved shelf.new) start.now schedule.now inputs.memory inputs.entries)
+        (λ stop. FailsInputs (view.parsed parsed.now) (S.shelved shelf.old) (S.shelved shelf.new) start.now schedule.now stop) }
+    ensures memory { IfOk result (λ inputs. IsMemory (length parsed.now.vars) inputs.memory) }
+    ensures threads { IfOk result (λ inputs. IsSchedule (length parsed.now.threads) inputs.entries) }
+    ensures few { IfOk result (λ inputs. length inputs.entries ≤ most_entries) }
+{
+    let memory = read_memory(alloc, start, parsed, shelf)?;
+    let entries = read_entries(alloc, schedule, parsed, shelf)?;
+    Ok(RunInputs { memory, entries })
+}
+
+/// The two starts and the schedule of a program that three files are.
+pub fn read_pair_inputs<'w, S: Shelf>(
+    alloc: Global,
+    first: &'w str,
+    second: &'w str,
+    schedule: &'w str,
+    parsed: &Parsed,
+    shelf: &mut S,
+) -> Result<PairInputs, Stop<'w>>
+    requires { length parsed.now.threads ≤ MOST_THREADS }
+    ensures read { MatchResult result
+        (λ inputs. TakesPairInputs (view.parsed parsed.now) (S.shelved shelf.old) (S.shelved shelf.new) first.now second.now schedule.now
+        inputs.left inputs.right inputs.entries)
+        (λ stop. FailsPairInputs (view.parsed parsed.now) (S.shelved shelf.old) (S.shelved shelf.new) first.now second.now schedule.now stop) }
+    ensures left { IfOk result (λ inputs. IsMemory (length parsed.now.vars) inputs.left) }
+    ensures right { IfOk result (λ inputs. IsMemory (length parsed.now.vars) inputs.right) }
+    ensures threads { IfOk result (λ inputs. IsSchedule (length parsed.now.threads) inputs.entries) }
+    ensures few { IfOk result (λ inputs. length inputs.entries ≤ most_entries) }
+{
+    let left = read_memory(alloc, first, parsed, shelf)?;
+    let others = read_inputs(alloc, second, schedule, parsed, shelf)?;
+    Ok(PairInputs {
+        left,
+        right: others.memory,
+        entries: others.entries,
+    })
+}
 
 /// The memory that a file is a start of.
 pub fn read_memory<'w, S: Shelf>(

@@ -1,3 +1,5 @@
+//! Laws of what commands reply.
+
 ghost use Rattle.cov_ast.specs.Syntax.{Parsed};
 ghost use Rattle.top_call.specs.Laws.{IsOneReply, StaysTheSame};
 

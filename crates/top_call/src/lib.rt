@@ -18,10 +18,10 @@
 //! | `check`, `compile`, `fmt`, `migrate`, `run`, `run_code`, `run_until`, `pair`, `pair_code`, `big` | `Check`, `Format`, `Runs`, `Pairs`, `Codes`, `BigReplies` | a module for each command: what it replies to what its files spell |
 //! | `codes` | `Codes` | the verdict on a program, the code of an accepted one, and its machine |
 //! | `files`, `inputs`, `expressions` | `Files`, `Programs`, `Texts`, `Inputs`, `Expressions` | how a file is fetched and read, as a program, a start or a schedule, and a word as an expression, and what is replied where it isn't |
-//! | `answers` | `Replies`, `AnswerViews` | what a call can answer, and the status of each answer; an answer of the code as the reply that it is |
+//! | `answers` | `Replies`, `AnswerViews` | what a call can answer, the status of each answer and its exit status; an answer of the code as the reply that it is |
 //! | `reports`, `refusals`, `faults`, `run_reports`, `code_reports`, `summaries`, `differences`, `lines` | `Reports`, `RunReports`, `CodeReports`, `Summaries` | the text of each answer |
 //! | `end` | `Ends` | the report is made and written |
-//! | `laws` | `Laws`, `Headline` | one reply; a program in version 2; what it says of a file that it is accepted, and of what is put that it is the listing of its code |
+//! | `laws` | `Laws`, `Headline`, `Meaning`, `AcceptedRuns` | one reply; a program in version 2; what it says of a file that it is accepted, and of what is put that it is the listing of its code; what a text means; whose two runs never differ |
 //!
 //! A command is a module of `src/` with its step, a module of `specs/` with its replies, and a row in each of `Command`,
 //! `command_of`, `plan_of`, `IsSuccess`, `HoldsSecure`, `PutsCode`, `RunsAccepted`, and of `Asked` and `carry_out` in `commands`. Definitions by command have no row

@@ -1,3 +1,5 @@
+//! Names and numbers, added to a line.
+
 ghost use Rattle.std.specs.Prelude.{◌≡◌, ◌++◌, OnOk, codes, decimal};
 ghost use Rattle.top_call.specs.RunReports as spec;
 

@@ -1,3 +1,5 @@
+//! `migrate`: the canonical spelling of a program in version 2 of the language.
+
 ghost use Rattle.top_call.specs.Commands as asked;
 ghost use Rattle.top_call.specs.Inside.{CarriesOut};
 ghost use Rattle.top_call.specs.Outcome.{plan_of};

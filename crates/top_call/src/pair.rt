@@ -1,3 +1,5 @@
+//! `pair`: two runs of a program from two starts under one schedule, side by side.
+
 ghost use Rattle.std.specs.Prelude.{◌≡◌, ◌≤◌, IfOk, length};
 ghost use Rattle.cov_ast.specs.Plain.{plain};
 ghost use Rattle.cov_ast.specs.Ready.{IsReady};
@@ -8,14 +10,14 @@ ghost use Rattle.flow_model.specs.Agreement.{AreFitStarts};
 ghost use Rattle.schedule_replay.specs.Schedules.{most_entries};
 ghost use Rattle.top_call.specs.Commands as asked;
 ghost use Rattle.top_call.specs.AnswerViews.{Gets, seen};
-ghost use Rattle.top_call.specs.Inside.{CarriesOut, PairsFit, PairsProgram, second_plan};
+ghost use Rattle.top_call.specs.Inside.{CarriesOut, PairsFit, PairsProgram};
 ghost use Rattle.top_call.specs.Outcome.{plan_of};
 ghost use Rattle.top_call.specs.Pairs.{Pairs};
 
 use crate::answers::{Answer, Stop};
 use crate::differences::{bad_name, differ_text};
 use crate::files::read_program;
-use crate::inputs::{read_entries, read_memory};
+use crate::inputs::read_pair_inputs;
 use crate::run::declared;
 use crate::run_reports::pair_report;
 use cov_ast::{Parsed, Program};
@@ -40,26 +42,14 @@ pub fn pair<'w, S: Shelf>(
         (plan_of (asked.pair program.now first.now second.now schedule.now)) result }
 {
     let parsed = read_program(alloc, program, shelf)?;
-    let left = read_memory(alloc, first, &parsed, shelf)?;
-    pair_with(alloc, parsed, left, second, schedule, shelf)
-}
-
-/// Reads the second start and the schedule, and runs what a text spells.
-fn pair_with<'w, S: Shelf>(
-    alloc: Global,
-    parsed: Parsed,
-    left: List<u32>,
-    second: &'w str,
-    schedule: &'w str,
-    shelf: &mut S,
-) -> Result<Answer<'w>, Stop<'w>>
-    requires ready { IsReady (view.parsed parsed) }
-    requires left { IsMemory (length parsed.vars) left }
-    ensures { CarriesOut (S.shelved shelf.old) (S.shelved shelf.new) (second_plan (view.parsed parsed) left second.now schedule.now) result }
-{
-    let right = read_memory(alloc, second, &parsed, shelf)?;
-    let entries = read_entries(alloc, schedule, &parsed, shelf)?;
-    pair_text(alloc, parsed, left, right, entries.as_slice())
+    let inputs = read_pair_inputs(alloc, first, second, schedule, &parsed, shelf)?;
+    pair_text(
+        alloc,
+        parsed,
+        inputs.left,
+        inputs.right,
+        inputs.entries.as_slice(),
+    )
 }
 
 /// Runs what a text spells.

@@ -1,3 +1,5 @@
+//! `pair-code`: two runs of the code of an accepted program from two starts under one schedule, side by side.
+
 ghost use Rattle.std.specs.Prelude.{◌≡◌, ◌≤◌, IfOk, length};
 ghost use Rattle.compiled_code.specs.SecureCode.{IsSecureCode};
 ghost use Rattle.cov_ast.specs.Plain.{plain};
@@ -11,7 +13,7 @@ ghost use Rattle.schedule_replay.specs.Schedules.{most_entries};
 ghost use Rattle.top_call.specs.Codes.{CodeRunsTogether, PairsCode, RunsBothCodes};
 ghost use Rattle.top_call.specs.Commands as asked;
 ghost use Rattle.top_call.specs.AnswerViews.{Gets, seen};
-ghost use Rattle.top_call.specs.Inside.{CarriesOut, second_code_plan};
+ghost use Rattle.top_call.specs.Inside.{AnswersByCode, CarriesOut};
 ghost use Rattle.top_call.specs.Outcome.{plan_of};
 ghost use Rattle.top_call.specs.Replies as replies;
 
@@ -20,7 +22,7 @@ use crate::code_reports::code_pair_report;
 use crate::codes::{code_of, named, start};
 use crate::differences::bad_name;
 use crate::files::read_program;
-use crate::inputs::{read_entries, read_memory};
+use crate::inputs::read_pair_inputs;
 use cov_ast::{Parsed, Program};
 use cov_expr::{Blob, List, NoMemory};
 use cov_io::Shelf;
@@ -42,26 +44,14 @@ pub fn pair_code<'w, S: Shelf>(
         (plan_of (asked.pair_code program.now first.now second.now schedule.now)) result }
 {
     let parsed = read_program(alloc, program, shelf)?;
-    let left = read_memory(alloc, first, &parsed, shelf)?;
-    pair_with(alloc, parsed, left, second, schedule, shelf)
-}
-
-/// Reads the second start and the schedule, and runs the code of what a text spells.
-fn pair_with<'w, S: Shelf>(
-    alloc: Global,
-    parsed: Parsed,
-    left: List<u32>,
-    second: &'w str,
-    schedule: &'w str,
-    shelf: &mut S,
-) -> Result<Answer<'w>, Stop<'w>>
-    requires ready { IsReady (view.parsed parsed) }
-    requires left { IsMemory (length parsed.vars) left }
-    ensures { CarriesOut (S.shelved shelf.old) (S.shelved shelf.new) (second_code_plan (view.parsed parsed) left second.now schedule.now) result }
-{
-    let right = read_memory(alloc, second, &parsed, shelf)?;
-    let entries = read_entries(alloc, schedule, &parsed, shelf)?;
-    pair_text(alloc, parsed, left, right, entries.as_slice())
+    let inputs = read_pair_inputs(alloc, first, second, schedule, &parsed, shelf)?;
+    pair_text(
+        alloc,
+        parsed,
+        inputs.left,
+        inputs.right,
+        inputs.entries.as_slice(),
+    )
 }
 
 /// Runs the code of what a text spells.
@@ -80,8 +70,26 @@ fn pair_text<'w>(
     ensures { Gets (PairsCode (view.parsed parsed) left right schedule.now) result }
 {
     let program = named(alloc, parsed)?;
-    let code = code_of(alloc, &program)?;
-    let answer = paired(alloc, &program, &code, left, right, schedule)?;
+    pair_named(alloc, &program, left, right, schedule)
+}
+
+/// Runs the code of a program whose names are in order.
+fn pair_named<'w>(
+    alloc: Global,
+    program: &Program,
+    left: List<u32>,
+    right: List<u32>,
+    schedule: &[u32],
+) -> Result<Answer<'w>, Stop<'w>>
+    requires formed { IsWellFormed (view.program program.now) }
+    requires left { IsMemory (length program.now.vars) left }
+    requires right { IsMemory (length program.now.vars) right }
+    requires threads { IsSchedule (length program.now.threads) schedule.now }
+    requires entries { length schedule.now ≤ most_entries }
+    ensures { AnswersByCode (view.program program.now) (λ p c. RunsBothCodes p c left right schedule.now) result }
+{
+    let code = code_of(alloc, program)?;
+    let answer = paired(alloc, program, &code, left, right, schedule)?;
     Ok(answer)
 }
 

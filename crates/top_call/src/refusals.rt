@@ -1,3 +1,5 @@
+//! The line of a refusal, by its rule and what the rule shows.
+
 ghost use Rattle.std.specs.Prelude.{◌≡◌, ◌++◌, IfOk, OnOk};
 ghost use Rattle.top_call.specs.Reports as spec;
 

@@ -1,3 +1,5 @@
+//! The report of an answer.
+
 ghost use Rattle.std.specs.Prelude.{◌≡◌, IfOk, string_bytes};
 ghost use Rattle.top_call.specs.AnswerViews.{seen};
 ghost use Rattle.top_call.specs.Inside.{IsLine};

@@ -1,3 +1,5 @@
+//! `run`: one run of a program whose declarations are in order, from a start under a schedule.
+
 ghost use Rattle.std.specs.Prelude.{◌≡◌, ◌≤◌, IfOk, MatchResult, length};
 ghost use Rattle.cov_ast.specs.Obligations.{Decides};
 ghost use Rattle.cov_ast.specs.Plain.{plain};
@@ -17,7 +19,7 @@ ghost use Rattle.top_call.specs.Runs.{Runs, declared_obligations};
 
 use crate::answers::{Answer, Stop};
 use crate::files::read_program;
-use crate::inputs::{read_entries, read_memory};
+use crate::inputs::read_inputs;
 use crate::run_reports::run_report;
 use cov_ast::{CheckFault, Parsed, Program};
 use cov_expr::{Blob, List, NoMemory};
@@ -39,9 +41,8 @@ pub fn run<'w, S: Shelf>(
     ensures { CarriesOut (S.shelved shelf.old) (S.shelved shelf.new) (plan_of (asked.run program.now start.now schedule.now)) result }
 {
     let parsed = read_program(alloc, program, shelf)?;
-    let memory = read_memory(alloc, start, &parsed, shelf)?;
-    let entries = read_entries(alloc, schedule, &parsed, shelf)?;
-    run_text(alloc, parsed, memory, entries.as_slice())
+    let inputs = read_inputs(alloc, start, schedule, &parsed, shelf)?;
+    run_text(alloc, parsed, inputs.memory, inputs.entries.as_slice())
 }
 
 /// Runs what a text spells.

@@ -1,6 +1,9 @@
+//! `run-code`: one run of the code of an accepted program, from a start under a schedule.
+
 ghost use Rattle.std.specs.Prelude.{◌≡◌, ◌≤◌, IfOk, length};
 ghost use Rattle.cov_ast.specs.Ready.{IsReady};
 ghost use Rattle.cov_ast.specs.View as view;
+ghost use Rattle.cov_ast.specs.WellFormed.{IsWellFormed};
 ghost use Rattle.cov_expr.specs.Words.{IsMemory, IsSchedule};
 ghost use Rattle.cov_expr.specs.declared.limits.TheConstants.{MOST_THREADS};
 ghost use Rattle.schedule_replay.specs.CodeReplays.{DeclaresAsMany};
@@ -8,14 +11,15 @@ ghost use Rattle.schedule_replay.specs.Schedules.{most_entries};
 ghost use Rattle.top_call.specs.Codes.{RunsCode, report_on_code};
 ghost use Rattle.top_call.specs.Commands as asked;
 ghost use Rattle.top_call.specs.AnswerViews.{Gets};
-ghost use Rattle.top_call.specs.Inside.{CarriesOut};
+ghost use Rattle.top_call.specs.Inside.{AnswersByCode, CarriesOut};
 ghost use Rattle.top_call.specs.Outcome.{plan_of};
+ghost use Rattle.top_call.specs.Replies as replies;
 
 use crate::answers::{Answer, Stop};
 use crate::code_reports::code_report;
 use crate::codes::{code_of, named, start};
 use crate::files::read_program;
-use crate::inputs::{read_entries, read_memory};
+use crate::inputs::read_inputs;
 use cov_ast::{Parsed, Program};
 use cov_expr::{Blob, List, NoMemory};
 use cov_io::Shelf;
@@ -35,9 +39,8 @@ pub fn run_code<'w, S: Shelf>(
         (plan_of (asked.run_code program.now start.now schedule.now)) result }
 {
     let parsed = read_program(alloc, program, shelf)?;
-    let memory = read_memory(alloc, start, &parsed, shelf)?;
-    let entries = read_entries(alloc, schedule, &parsed, shelf)?;
-    run_text(alloc, parsed, memory, entries.as_slice())
+    let inputs = read_inputs(alloc, start, schedule, &parsed, shelf)?;
+    run_text(alloc, parsed, inputs.memory, inputs.entries.as_slice())
 }
 
 /// Runs the code of what a text spells.
@@ -54,8 +57,24 @@ fn run_text<'w>(
     ensures { Gets (RunsCode (view.parsed parsed) memory schedule.now) result }
 {
     let program = named(alloc, parsed)?;
-    let code = code_of(alloc, &program)?;
-    let report = ran(alloc, &program, &code, memory, schedule)?;
+    run_named(alloc, &program, memory, schedule)
+}
+
+/// Runs the code of a program whose names are in order.
+fn run_named<'w>(
+    alloc: Global,
+    program: &Program,
+    memory: List<u32>,
+    schedule: &[u32],
+) -> Result<Answer<'w>, Stop<'w>>
+    requires formed { IsWellFormed (view.program program.now) }
+    requires memory { length memory ≡ length program.now.vars }
+    requires threads { IsSchedule (length program.now.threads) schedule.now }
+    requires entries { length schedule.now ≤ most_entries }
+    ensures { AnswersByCode (view.program program.now) (λ p c reply. reply ≡ replies.ran (report_on_code p c memory schedule.now)) result }
+{
+    let code = code_of(alloc, program)?;
+    let report = ran(alloc, program, &code, memory, schedule)?;
     Ok(Answer::Ran(report))
 }
 

@@ -1,3 +1,5 @@
+//! `run-until`: one run of a program up to the first step after which an expression holds.
+
 ghost use Rattle.std.specs.Prelude.{◌≡◌, ◌↔◌, ◌+◌, ◌≤◌, IfOk, IsTrue, length};
 ghost use Rattle.cov_ast.specs.Ready.{IsReady};
 ghost use Rattle.cov_ast.specs.View as view;
@@ -18,7 +20,7 @@ ghost use Rattle.top_call.specs.Replies as replies;
 use crate::answers::{Answer, Stop};
 use crate::expressions::{MOST_EXPRESSION_BYTES, read_expression};
 use crate::files::read_program;
-use crate::inputs::{read_entries, read_memory};
+use crate::inputs::read_inputs;
 use crate::run::declared;
 use crate::run_reports::stop_report;
 use cov_ast::{Parsed, Program};
@@ -43,9 +45,14 @@ pub fn run_until<'w, S: Shelf>(
         (plan_of (asked.run_until program.now start.now schedule.now expression.now)) result }
 {
     let parsed = read_program(alloc, program, shelf)?;
-    let memory = read_memory(alloc, start, &parsed, shelf)?;
-    let entries = read_entries(alloc, schedule, &parsed, shelf)?;
-    run_spelled(alloc, parsed, memory, entries.as_slice(), expression)
+    let inputs = read_inputs(alloc, start, schedule, &parsed, shelf)?;
+    run_spelled(
+        alloc,
+        parsed,
+        inputs.memory,
+        inputs.entries.as_slice(),
+        expression,
+    )
 }
 
 /// Reads the expression, and runs what a text spells. All files are read before, whatever the shelf is.

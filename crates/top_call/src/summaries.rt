@@ -1,3 +1,5 @@
+//! The parts of the summary that `big` puts.
+
 ghost use Rattle.std.specs.Prelude.{◌≡◌, ◌++◌, OnOk};
 ghost use Rattle.cov_ast.specs.View as view;
 ghost use Rattle.schedule_replay.specs.CodeReplays.{DeclaresAsMany};

@@ -1,22 +1,29 @@
-use Rattle.std.proofs.Common.{◌≡◌, ℕ, List, Err, sym, subst, rules}
+use Rattle.std.proofs.Common.{◌≡◌, ℕ, List, Err, sym, subst, rules, arith}
+use Rattle.std.proofs.lemmas.List.{length-map}
 use Rattle.cov_ast.specs.Syntax.{Parsed}
 use Rattle.cov_ast.specs.View as view
-use Rattle.cov_expr.specs.declared.limits.TheConstants.{MOST_BYTES}
+use Rattle.flow_model.specs.Agreement.{AreFitStarts}
+use Rattle.top_call.specs.AnswerViews.{Gets}
+use Rattle.top_call.specs.Check.{IsAcceptedText}
+use Rattle.top_call.specs.Codes.{PairsCode}
 use Rattle.top_call.specs.Commands.{pair_code}
-use Rattle.top_call.specs.Inputs.{IsStart, IsStartFault}
-use Rattle.top_call.specs.Inside.{CarriesOut, second_code_plan}
-use Rattle.top_call.specs.Outcome.{plan_of, memory}
-use Rattle.top_call.specs.Plans.{Plan}
-use Rattle.top_call.specs.Programs.{SpellsProgram, IsShownFault}
-use Rattle.top_call.specs.declared.inputs.TheConstants.{MOST_INPUT_BYTES}
-use Rattle.top_call.proofs.InputLaws.{start_reading}
-use Rattle.top_call.proofs.PlanLaws.{carried_on, carried_not}
-use Rattle.top_call.proofs.TextLaws.{program_reading}
+use Rattle.top_call.specs.Inside.{CarriesOut}
+use Rattle.top_call.specs.Meaning.{meaning}
+use Rattle.top_call.specs.Outcome.{plan_of}
+use Rattle.top_call.specs.Plans.{Plan, replies}
+use Rattle.top_call.proofs.PlanLaws.{carried_end}
+use Rattle.top_call.proofs.ReadLaws.{pair_read, pair_unread, program_read, program_unread, two_runs}
 use Rattle.top_call.proofs.pair_code.pair_code.Goals as goal
 
--- what follows of a program
+-- what follows of a program, two starts and a schedule
+abbrev asked : Parsed → (l r : List ℕ) → Type 0
+asked p l r = IsAcceptedText p × AreFitStarts (meaning p) l r
+
+abbrev ended : Parsed → (l r k : List ℕ) → Plan
+ended p l r k = replies (asked p l r) (PairsCode p l r k)
+
 abbrev with_program : (first second schedule : List ℕ) → Parsed → Plan
-with_program first second schedule p = memory p first (λ l. second_code_plan p l second schedule)
+with_program first second schedule p = two_runs p first second schedule (ended p)
 
 pub returns-in_err-parsed : goal.returns-in_err-parsed
 returns-in_err-parsed g c =
@@ -26,35 +33,38 @@ returns-in_err-parsed g c =
     let stop = c.in_err-parsed.field-0.0 in
     let same : c.from_residual.result ≡ Err c.in_err-parsed.field-0.0 = search rules in
     subst (CarriesOut s0 s1 (plan_of (pair_code c.args.program.now c.args.first.now c.args.second.now c.args.schedule.now))) (sym same)
-    (carried_not SpellsProgram IsShownFault c.args.program.now MOST_BYTES (with_program c.args.first.now c.args.second.now c.args.schedule.now) s0 s1 stop
-    program_reading c.in_err-parsed.ensures.read)
+    (program_unread c.args.program.now (with_program c.args.first.now c.args.second.now c.args.schedule.now) s0 s1 stop c.in_err-parsed.ensures.read)
 
-pub returns-in_err-left : goal.returns-in_err-left
-returns-in_err-left g c =
+pub returns-in_err-inputs : goal.returns-in_err-inputs
+returns-in_err-inputs g c =
     let shelved = g.S.Shelf.shelved in
     let p = view.parsed c.in_ok-parsed.parsed in
     let s0 = shelved c.args.shelf.now in
     let s1 = shelved c.read_program.new.shelf in
-    let s2 = shelved c.read_memory.new.shelf in
-    let stop = c.in_err-left.field-0.0 in
-    let same : c.from_residual-in_err-left.result ≡ Err c.in_err-left.field-0.0 = search rules in
+    let s2 = shelved c.read_pair_inputs.new.shelf in
+    let stop = c.in_err-inputs.field-0.0 in
+    let same : c.from_residual-in_err-inputs.result ≡ Err c.in_err-inputs.field-0.0 = search rules in
     subst (CarriesOut s0 s2 (plan_of (pair_code c.args.program.now c.args.first.now c.args.second.now c.args.schedule.now))) (sym same)
-    (carried_on SpellsProgram IsShownFault c.args.program.now MOST_BYTES (with_program c.args.first.now c.args.second.now c.args.schedule.now) s0 s1 s2 p (Err stop)
-    c.in_ok-parsed.ensures.read
-    (carried_not (IsStart p) (IsStartFault p) c.args.first.now MOST_INPUT_BYTES (λ l. second_code_plan p l c.args.second.now c.args.schedule.now) s1 s2 stop (start_reading p)
-    c.in_err-left.ensures.read))
+    (program_read c.args.program.now (with_program c.args.first.now c.args.second.now c.args.schedule.now) s0 s1 s2 p (Err stop) c.in_ok-parsed.ensures.read
+    (pair_unread p c.args.first.now c.args.second.now c.args.schedule.now (ended p) s1 s2 stop c.in_err-inputs.ensures.read))
 
 pub returns : goal.returns
 returns g c =
     let shelved = g.S.Shelf.shelved in
     let p = view.parsed c.in_ok-parsed.parsed in
-    let l = c.in_ok-left.left in
+    let l = c.in_ok-inputs.inputs.left in
+    let r = c.in_ok-inputs.inputs.right in
+    let k = c.in_ok-inputs.inputs.entries in
     let s0 = shelved c.args.shelf.now in
     let s1 = shelved c.read_program.new.shelf in
-    let s2 = shelved c.read_memory.new.shelf in
-    let s3 = shelved c.pair_with.new.shelf in
-    let r = c.pair_with.result in
-    carried_on SpellsProgram IsShownFault c.args.program.now MOST_BYTES (with_program c.args.first.now c.args.second.now c.args.schedule.now) s0 s1 s3 p r
-    c.in_ok-parsed.ensures.read
-    (carried_on (IsStart p) (IsStartFault p) c.args.first.now MOST_INPUT_BYTES (λ l. second_code_plan p l c.args.second.now c.args.schedule.now) s1 s2 s3 l r
-    c.in_ok-left.ensures.read c.pair_with.ensures)
+    let s2 = shelved c.read_pair_inputs.new.shelf in
+    let answered = c.pair_text.result in
+    let ends : Gets (PairsCode p l r k) answered = search rules in
+    program_read c.args.program.now (with_program c.args.first.now c.args.second.now c.args.schedule.now) s0 s1 s2 p answered c.in_ok-parsed.ensures.read
+    (pair_read p c.args.first.now c.args.second.now c.args.schedule.now (ended p) s1 s2 l r k answered c.in_ok-inputs.ensures.read
+    (carried_end s2 (asked p l r) (PairsCode p l r k) answered ends))
+
+pub read_pair_inputs-requires : goal.read_pair_inputs-requires
+read_pair_inputs-requires g c =
+    let ready = c.in_ok-parsed.ensures.ready in
+    omega (arith, length-map c.in_ok-parsed.parsed.threads view.thread, ready.limits.declared_threads)
