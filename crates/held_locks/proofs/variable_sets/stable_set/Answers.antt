@@ -5,7 +5,7 @@ use Rattle.std.proofs.lemmas.List.FromFn.{map-range_with_len_more}
 use Rattle.cov_ast.specs.Plain.{plain}
 use Rattle.cov_ast.specs.View as view
 use Rattle.mode_state.specs.Sets.{is_stable}
-use Rattle.held_locks.proofs.sets.stable_set.Goals as goal
+use Rattle.held_locks.proofs.variable_sets.stable_set.Goals as goal
 
 pub loop-x-preserved : goal.loop-x-preserved
 loop-x-preserved c t held is =
