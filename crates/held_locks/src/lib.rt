@@ -8,10 +8,8 @@
 //! `specs/LocksHeld.antt` says which locks are held, and `specs/VariableSets.antt` which variables these are.
 #![tactic(auto)]
 
-mod behind;
-mod sets;
+mod variable_sets;
 mod walk;
 
-pub use behind::{hidden_behind, stable_behind};
-pub use sets::{hidden_set, stable_set};
+pub use variable_sets::{hidden_behind, hidden_set, stable_behind, stable_set};
 pub use walk::{modes_along, pass_block};

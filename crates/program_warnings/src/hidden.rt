@@ -1,3 +1,5 @@
+//! What a text may hide from who reads it in an editor.
+
 ghost use Rattle.std.specs.Prelude.{◌≡◌, ◌<◌, ◌≤◌, ◌^◌, drop, length, IfOk};
 ghost use Rattle.program_warnings.specs.HiddenText as spec;
 
@@ -8,8 +10,8 @@ use std::alloc::Global;
 /// How many characters that an editor may show as another text are told of one by one.
 pub const MOST_SHOWN: usize = 10;
 
-/// What is warned of in bytes, of which there are fewer than 2^32.
-pub fn of_text(alloc: Global, bytes: &[u8]) -> Result<List<Warning>, NoMemory>
+/// What is warned of in bytes alone, of which there are fewer than 2^32: characters that an editor may show as another text, or not at all.
+pub fn text_warnings(alloc: Global, bytes: &[u8]) -> Result<List<Warning>, NoMemory>
     requires { length bytes.now < 2 ^ 32 }
     ensures { IfOk result (λ found. found ≡ spec.of_text bytes.now) }
 {

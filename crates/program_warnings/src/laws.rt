@@ -1,3 +1,5 @@
+//! What is warned of as empty says nothing of any run.
+
 ghost use Rattle.std.specs.Prelude.{ℕ, Contains, List, IsTrue};
 ghost use Rattle.cov_ast.specs.Declarations.{lock_at, thread_at};
 ghost use Rattle.cov_ast.specs.Plain.{Plain, plain};

@@ -1,10 +1,12 @@
+//! All warnings of a program and its text, in the order of their places.
+
 ghost use Rattle.std.specs.Prelude.{◌≡◌, ◌++◌, ◌≤◌, length, MatchResult, IfOk};
 ghost use Rattle.cov_ast.specs.Plain.{plain};
 ghost use Rattle.cov_ast.specs.View as view;
 ghost use Rattle.cov_expr.specs.declared.limits.TheConstants.{MOST_BYTES};
 ghost use Rattle.program_warnings.specs.Warnings as spec;
 
-use crate::hidden::of_text;
+use crate::hidden::text_warnings;
 use crate::unreached::add_threads;
 use crate::unused::of_declarations;
 use crate::warning::Warning;
@@ -18,7 +20,7 @@ pub fn warnings(alloc: Global, program: &Program, bytes: &[u8]) -> Result<List<W
     ensures { IfOk result (λ found. found ≡ spec.warnings (plain (view.program program.now)) bytes.now) }
 {
     let first = of_program(alloc, program)?;
-    let second = of_text(alloc, bytes)?;
+    let second = text_warnings(alloc, bytes)?;
     merged(alloc, first.as_slice(), second.as_slice())
 }
 

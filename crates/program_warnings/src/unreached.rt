@@ -1,3 +1,5 @@
+//! The statements that no run comes to.
+
 ghost use Rattle.std.specs.Prelude.{◌≡◌, ◌++◌, false, flat_map, map, OnOk};
 ghost use Rattle.cov_ast.specs.View as view;
 ghost use Rattle.cov_expr.specs.View.{term};

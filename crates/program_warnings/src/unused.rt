@@ -1,3 +1,5 @@
+//! What is warned of in declarations.
+
 ghost use Rattle.std.specs.Prelude.{◌≡◌, ◌++◌, flat_map, length, map, option_map, IfOk, OnOk};
 ghost use Rattle.cov_ast.specs.Plain.{plain};
 ghost use Rattle.cov_ast.specs.Tables.{table};

@@ -1,3 +1,5 @@
+//! Which variables the statements of a program read and write.
+
 ghost use Rattle.std.specs.Prelude.{◌≡◌, flat_map, length, map, IfOk};
 ghost use Rattle.cov_ast.specs.Plain.{plain, plain_block};
 ghost use Rattle.cov_ast.specs.Tables.{table, with_all};

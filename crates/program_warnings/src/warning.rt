@@ -1,3 +1,5 @@
+//! Warnings, and what they are about.
+
 use cov_expr::Name;
 
 /// What is warned of.

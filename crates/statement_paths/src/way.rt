@@ -1,3 +1,5 @@
+//! Ways to statements, and the steps that they are made of.
+
 ghost use Rattle.std.specs.Prelude.{◌≡◌};
 ghost use Rattle.statement_paths.specs.Paths as spec;
 

@@ -11,9 +11,13 @@ before bytes place = let all = since_feed (take place bytes) in drop (length all
 abbrev pub behind : (bytes : List ℕ) (place : ℕ) → List ℕ
 behind bytes place = take (MOST_SHOWN - length (before bytes place)) (to_feed (drop place bytes))
 
--- A byte as it is shown: a tab stays, and of the other control characters, which could change how the line looks, each is a space.
+-- A byte as it is shown. A tab stays. Of the other control characters of ASCII, which could change how the line looks, each is a space, and
+-- of the bytes of other characters, among which are such that turn the direction of text, each is a question mark: every byte has one place,
+-- and the caret stands under its own.
 abbrev pub shown : ℕ → ℕ
-shown b = if nat_lt b 32 && nat_lt 9 b || nat_lt b 9 || b == 127 then 32 else b
+shown b =
+    if nat_lt b 32 && nat_lt 9 b || nat_lt b 9 || b == 127 then 32
+    else (if nat_lt 127 b then 63 else b)
 
 -- what stands under a byte: a tab under a tab, and else a space
 abbrev pub under : ℕ → ℕ

@@ -1,3 +1,5 @@
+//! The line of a place, as it is shown, and a caret under the place.
+
 ghost use Rattle.std.specs.Prelude.{◌≡◌, ◌++◌, ◌-◌, OnOk, drop, length, map, take};
 ghost use Rattle.text_lines.specs.Excerpts as spec;
 
@@ -49,12 +51,14 @@ fn add_shown(bytes: &[u8], text: &mut Blob) -> Result<(), NoMemory>
     Ok(())
 }
 
+/// A byte as it is shown.
 fn shown(byte: u8) -> u8
     ensures { result ≡ spec.shown byte }
 {
     match byte {
         b'\t' => byte,
         0..=31 | 127 => b' ',
+        128..=255 => b'?',
         _ => byte,
     }
 }

@@ -1,3 +1,5 @@
+//! The lines of a text, which line feeds end, and where a place stands in them.
+
 ghost use Rattle.std.specs.Prelude.{◌≡◌, ◌≤◌, drop, length, take};
 ghost use Rattle.text_lines.specs.Lines as spec;
 

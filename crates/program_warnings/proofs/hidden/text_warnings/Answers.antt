@@ -1,8 +1,8 @@
 use Rattle.std.proofs.Common.{◌++◌, ◌+◌, ◌∙◌, ap, ap₂, sym, drop}
 use Rattle.program_warnings.specs.HiddenText as spec
 use Rattle.program_warnings.proofs.HiddenLaws.{goes_on_none, goes_on_one, ends_more}
-use Rattle.program_warnings.proofs.hidden.of_text.Goals as goal
-use Rattle.program_warnings.proofs.hidden.of_text.Goals.{in-Some+else-room-eq0+in_ok-push-2, in_default}
+use Rattle.program_warnings.proofs.hidden.text_warnings.Goals as goal
+use Rattle.program_warnings.proofs.hidden.text_warnings.Goals.{in-Some+else-room-eq0+in_ok-push-2, in_default}
 
 pub returns-then-room-eq0 : goal.returns-then-room-eq0
 returns-then-room-eq0 c =

@@ -3,7 +3,7 @@ use Rattle.std.specs.List.{range_with_len}
 use Rattle.cov_ast.specs.Plain.{plain}
 use Rattle.cov_ast.specs.View as view
 use Rattle.mode_state.specs.Sets.{is_stable, modes_at}
-use Rattle.held_locks.proofs.sets.stable_set.Given as goal
+use Rattle.held_locks.proofs.variable_sets.stable_set.Given as goal
 
 -- of each variable so far, whether it is stable
 abbrev pub invariant-loop-x : goal.invariant-loop-x

@@ -1,6 +1,6 @@
 use Rattle.std.proofs.Common.{◌≡◌, ◌++◌, drop}
 use Rattle.program_warnings.specs.HiddenText as spec
-use Rattle.program_warnings.proofs.hidden.of_text.Given as goal
+use Rattle.program_warnings.proofs.hidden.text_warnings.Given as goal
 
 -- what is found, and what is told of the rest, is all of it
 abbrev pub invariant-loop-i : goal.invariant-loop-i
