@@ -1,3 +1,5 @@
+//! Programs without their annotations: neither notes, states nor proofs, of which the semantics speaks.
+
 ghost use Rattle.std.specs.Prelude.{◌≡◌, [], ◌++◌, IfOk, OnOk, map, option_map};
 ghost use Rattle.cov_expr.specs.View.{term};
 ghost use Rattle.cov_ast.specs.Plain as spec;

@@ -1,3 +1,5 @@
+//! Certificates: why a goal follows from hypotheses, as trees.
+
 use cov_expr::{Expr, List};
 
 /// A certificate: why a goal follows from hypotheses. Hypotheses are numbered from 1.

@@ -1,12 +1,14 @@
+//! Programs and their declarations: variables, locks and threads.
+
 ghost use Rattle.std.specs.Prelude.{◌≡◌, ◌<◌, length, IfOk};
 ghost use Rattle.cov_ast.specs.View.{program, lock};
 ghost use Rattle.cov_ast.specs.Tables.{table};
 ghost use Rattle.cov_ast.specs.Plain.{plain};
 ghost use Rattle.cov_ast.specs.Declarations.{name_of, lists};
 
-use crate::sets::{NumberSet, has_number};
+use crate::sets::NumberSet;
 use crate::stmt::Stmt;
-use cov_expr::{Expr, List, Name, NoMemory};
+use cov_expr::{Expr, List, Name, NoMemory, has_number};
 use std::alloc::Global;
 
 /// What an observer may learn of a variable (value-dependent classification, as in COVERN).

@@ -1,3 +1,5 @@
+//! What a text spells: a program, its names and where each is used.
+
 use crate::decl::{LockDecl, ThreadDecl, VarDecl};
 use crate::names::NameTable;
 use cov_expr::List;

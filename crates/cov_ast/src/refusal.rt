@@ -1,3 +1,5 @@
+//! Why a program isn't accepted: the rule that it breaks, where, and what about.
+
 ghost use Rattle.std.specs.Prelude.{◌≡◌, false};
 ghost use Rattle.cov_ast.specs.Obligations.{declared_obligation};
 ghost use Rattle.cov_ast.specs.declared.refusal.CheckFault.TheVariants as faults;

@@ -1,3 +1,5 @@
+//! Sets of numbers of variables and locks, as one truth value for each.
+
 ghost use Rattle.std.specs.Prelude.{◌≡◌, ◌<◌, ◌||◌, ◌++◌, length, map, set, replicate, true, false, IfOk};
 ghost use Rattle.cov_expr.specs.Trees.{occurrences};
 ghost use Rattle.cov_expr.specs.Trees as tree;
@@ -134,11 +136,4 @@ pub fn first_outside(e: &Expr, set: &NumberSet) -> Option<u32>
             None => first_outside(b, set),
         },
     }
-}
-
-/// Whether a number stands in a list.
-pub fn has_number(numbers: &[u32], x: u32) -> bool
-    ensures { result ≡ tree.has_number numbers.now x }
-{
-    numbers.iter().any(|y| *y == x)
 }

@@ -1,3 +1,5 @@
+//! What a join, a loop or a note states: predicates and types.
+
 use cov_expr::{Expr, List};
 
 /// What a join, a loop or a note states. A missing join and an empty one are the same: nothing is stated.

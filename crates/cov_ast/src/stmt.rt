@@ -1,3 +1,5 @@
+//! Statements with their places and the proofs of their entailments.
+
 use crate::cert::Proof;
 use crate::state::State;
 use cov_expr::{Expr, List};

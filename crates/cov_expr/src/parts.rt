@@ -80,7 +80,8 @@ fn add_var(x: u32, found: &mut List<u32>) -> Result<(), NoMemory>
     found.push(x)
 }
 
-fn has_number(numbers: &[u32], x: u32) -> bool
+/// Whether a number stands in a list.
+pub fn has_number(numbers: &[u32], x: u32) -> bool
     ensures { result ≡ tree.has_number numbers.now x }
 {
     numbers.iter().any(|y| *y == x)

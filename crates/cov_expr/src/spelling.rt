@@ -114,7 +114,6 @@ fn beginning_with<'t>(all: &'t [(&'t [u8], Kind)], first: u8) -> &'t [(&'t [u8],
 }
 
 /// How many spellings begin with a byte below this one, which is at most 128.
-
 fn start_of(byte: u8) -> usize
     requires { byte ≤ 128 }
     ensures start { result ≡ start_of byte }

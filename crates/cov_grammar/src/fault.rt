@@ -1,3 +1,5 @@
+//! Why the tokens of a text aren't read, with the place of the first wrong one.
+
 /// Why the tokens of a text aren't read.
 #[derive(Clone, Copy, Debug, PartialEq, Eq)]
 pub enum TokenFault {

@@ -1,3 +1,5 @@
+//! The two laws of reading by the grammar: functions with no body.
+
 ghost use Rattle.cov_grammar.specs.PlacedTrees.{Rule};
 ghost use Rattle.cov_grammar.specs.Shapes.{rule};
 ghost use Rattle.cov_grammar.specs.Grammar.{program, whole};

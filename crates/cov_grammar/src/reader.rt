@@ -1,3 +1,5 @@
+//! The tokens that are still to be read, and how one is taken off.
+
 ghost use Rattle.std.specs.Prelude.{◌≡◌, ◌+◌, length, [], ◌∷◌, false, true, MatchOption, IfErr, IsTrue, ◌↔◌};
 ghost use Rattle.cov_grammar.specs.declared.stop.Stop.TheVariants as stops;
 ghost use Rattle.cov_grammar.specs.Shapes.{head};

@@ -1,3 +1,5 @@
+//! Why a reader of a part of a text stops.
+
 ghost use Rattle.std.specs.Prelude.{◌≡◌};
 ghost use Rattle.cov_grammar.specs.declared.stop.Stop.TheVariants as stops;
 

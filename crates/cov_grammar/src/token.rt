@@ -1,3 +1,5 @@
+//! Tokens as the grammar takes them, each with its kind, its place and its value.
+
 use cov_expr::Kind;
 
 /// A token of a text.

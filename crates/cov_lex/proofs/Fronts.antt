@@ -5,7 +5,7 @@ use Rattle.std.proofs.Math.Seq.{take-append_seam}
 use Rattle.std.specs.List.{prefix_len, take_while, list_all}
 use Rattle.std.proofs.lemmas.Bool.{and_parts}
 use Rattle.cov_lex.specs.declared.token.TokenKind.{TokenKind}
-use Rattle.cov_lex.specs.Lexing.{Gap, Part, piece_at, tokens_from, before, behind}
+use Rattle.cov_lex.specs.Lexing.{Gap, Part, piece_at, tokens_from, token_and_rest, piece_and_rest}
 use Rattle.cov_lex.proofs.Steps.{rest}
 
 seam : (b : ℕ) (bs more : List ℕ) (at : ℕ) → tokens_from (length (b ∷ bs) - 1) (at + 1) (bs ++ more) ≡ tokens_from 0 (at + length (b ∷ bs)) more
@@ -14,14 +14,14 @@ seam b bs more at =
     ∙ ap (tokens_from 0 (at + length (b ∷ bs))) (drop-append_seam (b ∷ bs) more)
 
 pub one_token : (text more : List ℕ) (kind : TokenKind) (at : ℕ) → 0 < length text → piece_at at (text ++ more) ≡ Ok (Part kind (length text))
-    → tokens_from 0 at (text ++ more) ≡ before (record { kind = kind; at = at; end = at + length text }) (tokens_from 0 (at + length text) more)
+    → tokens_from 0 at (text ++ more) ≡ token_and_rest (record { kind = kind; at = at; end = at + length text }) (tokens_from 0 (at + length text) more)
 one_token [] more kind at p e = let no : ⊥ = omega arith in absurd no
 one_token (b ∷ bs) more kind at p e =
-    ap (λ r. behind r at (λ k. tokens_from k (at + 1) (bs ++ more))) e ∙ ap (before (record { kind = kind; at = at; end = at + length (b ∷ bs) })) (seam b bs more at)
+    ap (λ r. piece_and_rest r at (λ k. tokens_from k (at + 1) (bs ++ more))) e ∙ ap (token_and_rest (record { kind = kind; at = at; end = at + length (b ∷ bs) })) (seam b bs more at)
 
 pub one_gap : (text more : List ℕ) (at : ℕ) → 0 < length text → piece_at at (text ++ more) ≡ Ok (Gap (length text)) → tokens_from 0 at (text ++ more) ≡ tokens_from 0 (at + length text) more
 one_gap [] more at p e = let no : ⊥ = omega arith in absurd no
-one_gap (b ∷ bs) more at p e = ap (λ r. behind r at (λ k. tokens_from k (at + 1) (bs ++ more))) e ∙ seam b bs more at
+one_gap (b ∷ bs) more at p e = ap (λ r. piece_and_rest r at (λ k. tokens_from k (at + 1) (bs ++ more))) e ∙ seam b bs more at
 
 -- Nothing of a class comes first.
 abbrev pub Stops : (ℕ → Bool) → List ℕ → Type 0

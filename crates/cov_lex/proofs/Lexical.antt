@@ -74,7 +74,7 @@ first_of : (b : Bool) (text : List ℕ) → 0 < length text → begins_with_lett
 first_of b [] some h = let no : ⊥ = omega arith in absurd no
 first_of b (c ∷ cs) some h = h
 
-kind_back : (kind : TokenKind) (bytes : List ℕ) (first : ℕ) → 0 < length bytes → get_or bytes 0 0 ≡ first → Spells bytes kind → lexical_kind (spec.kind_of kind bytes) (spec.value_of kind) first ≡ kind
+kind_back : (kind : TokenKind) (bytes : List ℕ) (first : ℕ) → 0 < length bytes → get_or bytes 0 0 ≡ first → Spells bytes kind → lexical_kind (spec.kind_of kind bytes) (spec.number_value kind) first ≡ kind
 kind_back Keyword bytes first some e is =
     let parts = keyword_parts bytes is in
     mute_kind (unwrap_or (kind_of bytes) k.Name) 0 first (spelled_is_mute bytes parts.1)

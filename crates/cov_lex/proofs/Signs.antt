@@ -136,7 +136,7 @@ word_kind run letter = ap (λ b. spec.kind_of (if b && is_some (kind_of run) the
     by None e = refl
     by (Some j) e = ap (λ o. unwrap_or o k.Name) e
 
-no_value : (b : Bool) → spec.value_of (if b then Keyword else Name) ≡ 0
+no_value : (b : Bool) → spec.number_value (if b then Keyword else Name) ≡ 0
 no_value true = refl
 no_value false = refl
 

@@ -7,7 +7,7 @@ use Rattle.std.specs.List.{All}
 use Rattle.cov_lex.specs.declared.token.Token.{Token}
 use Rattle.cov_lex.specs.declared.token.TokenKind.{TokenKind}
 use Rattle.cov_lex.specs.declared.fault.LexFault.{LexFault}
-use Rattle.cov_lex.specs.Lexing.{Piece, Gap, Part, Lexed, piece_at, tokens_from, tokens_of, before, behind}
+use Rattle.cov_lex.specs.Lexing.{Piece, Gap, Part, Lexed, piece_at, tokens_from, tokens_of, token_and_rest, piece_and_rest}
 use Rattle.cov_lex.specs.Tokens.{IsToken, AreTokens, Spells}
 use Rattle.cov_lex.proofs.Pieces.{piece_good, IsPiece}
 
@@ -25,7 +25,7 @@ none text from = record {
   behind_it = All-nil (λ t. from ≤ t.at);
 }
 
-one_more : (text : List ℕ) (from : ℕ) (t : Token) (r : Lexed) → IsToken text t → from ≤ t.at → Good text t.end r → Good text from (before t r)
+one_more : (text : List ℕ) (from : ℕ) (t : Token) (r : Lexed) → IsToken text t → from ≤ t.at → Good text t.end r → Good text from (token_and_rest t r)
 one_more text from t (Ok ts) is h g = record {
   tokens = record { each = All-cons (IsToken text) t ts is g.tokens.each; in_order = AllPairs-cons (λ u v. u.end ≤ v.at) t ts g.behind_it g.tokens.in_order };
   behind_it = All-cons (λ u. from ≤ u.at) t ts h (λ k d inside. omega (arith, g.behind_it k d inside, is.some, h));
@@ -42,7 +42,7 @@ module _ (text : List ℕ) (at : ℕ) (front : List ℕ) (is : drop at text ≡ 
   }
 
   piece_then : (from : ℕ) (r : Result Piece LexFault) (go : ℕ → Lexed) → from ≤ at → IfOk r (IsPiece front)
-      → ((n start : ℕ) → start ≤ at + 1 + (n - 1) → Good text start (go (n - 1))) → Good text from (behind r at go)
+      → ((n start : ℕ) → start ≤ at + 1 + (n - 1) → Good text start (go (n - 1))) → Good text from (piece_and_rest r at go)
   piece_then from (Ok (Gap n)) go h piece g = g n from (omega arith)
   piece_then from (Ok (Part kind n)) go h piece g =
       one_more text from (record { kind = kind; at = at; end = at + n }) (go (n - 1)) (token_is kind n piece) h (g n (at + n) (omega (arith, piece.0.0)))

@@ -8,10 +8,10 @@ use Rattle.cov_lex.specs.declared.token.Token.{Token}
 use Rattle.cov_lex.specs.declared.token.TokenKind.{TokenKind}
 use Rattle.cov_lex.specs.declared.piece.Piece.TheVariants as code
 use Rattle.cov_lex.specs.declared.fault.LexFault.{LexFault}
-use Rattle.cov_lex.specs.Classified.{kind_of, value_of, classified, all_classified}
+use Rattle.cov_lex.specs.Classified.{kind_of, number_value, classified, all_classified}
 use Rattle.cov_lex.specs.Inside.{with_kind}
 use Rattle.cov_lex.specs.Tokens.{bytes_of}
-use Rattle.cov_lex.specs.Lexing.{Piece, Gap, Part, Lexed, piece_at, tokens_from, before, behind}
+use Rattle.cov_lex.specs.Lexing.{Piece, Gap, Part, Lexed, piece_at, tokens_from, token_and_rest, piece_and_rest}
 use Rattle.cov_lex.proofs.Pieces.{piece_good, IsPiece, HasBytes}
 
 -- tokens in front of a reading
@@ -20,7 +20,7 @@ onto ts (Ok us) = Ok (ts ++ us)
 onto ts (Err fault) = Err fault
 
 -- a token in front of those of the rest
-onto_push : (text : List ℕ) (cs : List grammar.Token) (t : Token) (reading : Lexed) → onto (cs ++ classified text t ∷ []) (all_classified text reading) ≡ onto cs (all_classified text (before t reading))
+onto_push : (text : List ℕ) (cs : List grammar.Token) (t : Token) (reading : Lexed) → onto (cs ++ classified text t ∷ []) (all_classified text reading) ≡ onto cs (all_classified text (token_and_rest t reading))
 onto_push text cs t (Ok us) = ap Ok (append_assoc cs (classified text t ∷ []) (map (classified text) us))
 onto_push text cs t (Err fault) = refl
 
@@ -42,17 +42,17 @@ piece_is at (b ∷ bs) p l e = subst (λ r. IfOk r (IsPiece (b ∷ bs))) e (piec
 
 gap_step : (n at : ℕ) (bs : List ℕ) → 0 < length bs → piece_at at bs ≡ Ok (Gap n) → tokens_from 0 (at + n) (drop n bs) ≡ tokens_from 0 at bs
 gap_step n at [] l e = let no : ⊥ = omega arith in absurd no
-gap_step n at (b ∷ bs) l e = sym (rest n at b bs (piece_is at (b ∷ bs) (Gap n) l e)) ∙ sym (ap (λ r. behind r at (λ k. tokens_from k (at + 1) bs)) e)
+gap_step n at (b ∷ bs) l e = sym (rest n at b bs (piece_is at (b ∷ bs) (Gap n) l e)) ∙ sym (ap (λ r. piece_and_rest r at (λ k. tokens_from k (at + 1) bs)) e)
 
-part_step : (kind : TokenKind) (n at : ℕ) (bs : List ℕ) → 0 < length bs → piece_at at bs ≡ Ok (Part kind n) → before (record { kind = kind; at = at; end = at + n }) (tokens_from 0 (at + n) (drop n bs)) ≡ tokens_from 0 at bs
+part_step : (kind : TokenKind) (n at : ℕ) (bs : List ℕ) → 0 < length bs → piece_at at bs ≡ Ok (Part kind n) → token_and_rest (record { kind = kind; at = at; end = at + n }) (tokens_from 0 (at + n) (drop n bs)) ≡ tokens_from 0 at bs
 part_step kind n at [] l e = let no : ⊥ = omega arith in absurd no
 part_step kind n at (b ∷ bs) l e =
-    ap (before (record { kind = kind; at = at; end = at + n })) (sym (rest n at b bs (piece_is at (b ∷ bs) (Part kind n) l e).0))
-    ∙ sym (ap (λ r. behind r at (λ k. tokens_from k (at + 1) bs)) e)
+    ap (token_and_rest (record { kind = kind; at = at; end = at + n })) (sym (rest n at b bs (piece_is at (b ∷ bs) (Part kind n) l e).0))
+    ∙ sym (ap (λ r. piece_and_rest r at (λ k. tokens_from k (at + 1) bs)) e)
 
 fault_step : (fault : LexFault) (at : ℕ) (bs : List ℕ) → 0 < length bs → piece_at at bs ≡ Err fault → tokens_from 0 at bs ≡ Err fault
 fault_step fault at [] l e = let no : ⊥ = omega arith in absurd no
-fault_step fault at (b ∷ bs) l e = ap (λ r. behind r at (λ k. tokens_from k (at + 1) bs)) e
+fault_step fault at (b ∷ bs) l e = ap (λ r. piece_and_rest r at (λ k. tokens_from k (at + 1) bs)) e
 
 same_token : (j k : Kind) (v w at end : ℕ) → j ≡ k → v ≡ w → record { kind = j; at = at; end = end; value = v } ≡ (let c : grammar.Token = record { kind = k; at = at; end = end; value = w } in c)
 same_token j k v w at end p q = ap (λ i. record { kind = i; at = at; end = end; value = v }) p ∙ ap (λ u. record { kind = k; at = at; end = end; value = u }) q
@@ -73,7 +73,7 @@ record IsPart (text : List ℕ) (kind : Kind) (value n : ℕ) (r : Result Piece 
   called : TokenKind
   is : r ≡ Ok (Part called n)
   kind_is : kind ≡ kind_of called (take n text)
-  value_is : value ≡ value_of called
+  value_is : value ≡ number_value called
 
 part_of : (text : List ℕ) (kind : Kind) (value n : ℕ) (r : Result Piece LexFault) → Ok (code.Part kind value n) ≡ with_kind text r → IsPart text kind value n r
 part_of text kind value n (Ok (Gap m)) e = cc
@@ -122,12 +122,12 @@ module _ (at : ℕ) (bs : List ℕ) (inside : at < length bs) where
       let p = part_of (left at bs) kind value n (piece_at at (left at bs)) e in
       let t : Token = record { kind = p.called; at = at; end = at + n } in
       let bytes : take n (left at bs) ≡ bytes_of bs t = ap (take n) left_is ∙ ap (λ m. take m (drop at bs)) (omega arith) in
-      let same : record { kind = kind; at = at; end = at + n; value = value } ≡ classified bs t = same_token kind (kind_of p.called (bytes_of bs t)) value (value_of p.called) (at) (at + n) (p.kind_is ∙ ap (kind_of p.called) bytes) p.value_is in
+      let same : record { kind = kind; at = at; end = at + n; value = value } ≡ classified bs t = same_token kind (kind_of p.called (bytes_of bs t)) value (number_value p.called) (at) (at + n) (p.kind_is ∙ ap (kind_of p.called) bytes) p.value_is in
       let later = tokens_from 0 (at + n) (drop (at + n) bs) in
       ap (λ vs. onto vs (all_classified bs later)) (pushed ∙ ap (λ c. cs ++ c ∷ []) same)
       ∙ onto_push bs cs t later
       ∙ ap (λ r. onto cs (all_classified bs r))
-      (ap (λ vs. before t (tokens_from 0 (at + n) vs)) (sym (drop-drop n at bs)) ∙ part_step p.called n at (drop at bs) some_left (here (Ok (Part p.called n)) p.is))
+      (ap (λ vs. token_and_rest t (tokens_from 0 (at + n) vs)) (sym (drop-drop n at bs)) ∙ part_step p.called n at (drop at bs) some_left (here (Ok (Part p.called n)) p.is))
 
   pub fault_read : (cs : List grammar.Token) (fault : LexFault) → Err fault ≡ with_kind (left at bs) (piece_at at (left at bs)) → onto cs (all_classified bs (tokens_from 0 at (drop at bs))) ≡ Err fault
   fault_read cs fault e =

@@ -19,15 +19,15 @@ kind_of (Number n) bytes = k.Number
 kind_of Sign bytes = unwrap_or (spellings.kind_of bytes) k.Name
 
 -- the value of a number
-abbrev pub value_of : TokenKind → ℕ
-value_of Keyword = 0
-value_of Name = 0
-value_of (Number n) = n
-value_of Sign = 0
+abbrev pub number_value : TokenKind → ℕ
+number_value Keyword = 0
+number_value Name = 0
+number_value (Number n) = n
+number_value Sign = 0
 
 -- a token of a text
 abbrev pub classified : List ℕ → Token → grammar.Token
-classified text t = record { kind = kind_of t.kind (bytes_of text t); at = t.at; end = t.end; value = value_of t.kind }
+classified text t = record { kind = kind_of t.kind (bytes_of text t); at = t.at; end = t.end; value = number_value t.kind }
 
 abbrev pub all_classified : List ℕ → Lexed → Result (List grammar.Token) LexFault
 all_classified text (Ok ts) = Ok (map (classified text) ts)

@@ -14,7 +14,7 @@ use Rattle.cov_lex.specs.declared.piece.Class.{Class}
 use Rattle.cov_lex.specs.declared.piece.Class.TheVariants.{Word, Digit, Line}
 use Rattle.cov_lex.specs.declared.fault.LexFault.{LexFault}
 use Rattle.cov_lex.specs.Lexing.{Piece, Gap, Part}
-use Rattle.cov_lex.specs.Classified.{kind_of, value_of}
+use Rattle.cov_lex.specs.Classified.{kind_of, number_value}
 
 -- the bytes of a class of runs
 abbrev pub is_in : Class → ℕ → Bool
@@ -25,7 +25,7 @@ is_in Line b = not (b == 10)
 -- a piece at the front of a text, with its kind
 abbrev pub with_kind : List ℕ → Result Piece LexFault → Result rust.Piece LexFault
 with_kind text (Ok (Gap n)) = Ok (code.Gap n)
-with_kind text (Ok (Part kind n)) = Ok (code.Part (kind_of kind (take n text)) (value_of kind) n)
+with_kind text (Ok (Part kind n)) = Ok (code.Part (kind_of kind (take n text)) (number_value kind) n)
 with_kind text (Err fault) = Err fault
 
 -- It has a byte, and no more than there are.

@@ -51,21 +51,21 @@ piece_at at (b ∷ bs) =
 abbrev pub Lexed : Type 0
 Lexed = Result (List Token) LexFault
 
-abbrev pub before : Token → Lexed → Lexed
-before t (Ok ts) = Ok (t ∷ ts)
-before t (Err fault) = Err fault
+abbrev pub token_and_rest : Token → Lexed → Lexed
+token_and_rest t (Ok ts) = Ok (t ∷ ts)
+token_and_rest t (Err fault) = Err fault
 
 -- a piece that begins at an offset, and what is read behind the bytes that it has besides its first
-abbrev pub behind : Result Piece LexFault → ℕ → (ℕ → Lexed) → Lexed
-behind (Ok (Gap n)) at rest = rest (n - 1)
-behind (Ok (Part kind n)) at rest = before (record { kind = kind; at = at; end = at + n }) (rest (n - 1))
-behind (Err fault) at rest = Err fault
+abbrev pub piece_and_rest : Result Piece LexFault → ℕ → (ℕ → Lexed) → Lexed
+piece_and_rest (Ok (Gap n)) at rest = rest (n - 1)
+piece_and_rest (Ok (Part kind n)) at rest = token_and_rest (record { kind = kind; at = at; end = at + n }) (rest (n - 1))
+piece_and_rest (Err fault) at rest = Err fault
 
 -- The tokens of a text that begins at an offset, behind so many bytes of the piece before it. The first fault ends it.
 abbrev pub tokens_from : (skipped at : ℕ) → List ℕ → Lexed
 tokens_from skipped at [] = Ok []
 tokens_from (suc k) at (b ∷ bs) = tokens_from k (at + 1) bs
-tokens_from zero at (b ∷ bs) = behind (piece_at at (b ∷ bs)) at (λ k. tokens_from k (at + 1) bs)
+tokens_from zero at (b ∷ bs) = piece_and_rest (piece_at at (b ∷ bs)) at (λ k. tokens_from k (at + 1) bs)
 
 -- The tokens of a text, or its lexical fault of least offset.
 unfoldable pub tokens_of : List ℕ → Lexed

@@ -10,7 +10,7 @@ use Rattle.cov_lex.specs.declared.token.Token as lexed
 use Rattle.cov_lex.specs.declared.token.TokenKind.{TokenKind}
 use Rattle.cov_lex.specs.declared.token.TokenKind.TheVariants.{Keyword, Name, Number, Sign}
 use Rattle.cov_lex.specs.Lexing.{Gap, Part}
-use Rattle.cov_lex.specs.Lexing.{piece_at, tokens_from, before, word_of}
+use Rattle.cov_lex.specs.Lexing.{piece_at, tokens_from, token_and_rest, word_of}
 use Rattle.cov_lex.specs.Tokens.{bytes_of}
 use Rattle.cov_lex.proofs.Fronts.{one_token, one_gap, Stops, run_of}
 use Rattle.cov_expr.specs.declared.kind.Kind.{Kind}
@@ -59,7 +59,7 @@ module _ {all : List (List ℕ)} where
         let taken : bytes_of (front ++ (bytes ++ more)) t ≡ bytes =
         ap (λ n. take n (drop (length front) (front ++ (bytes ++ more)))) (omega arith) ∙ ap (take (length bytes)) (drop-append_seam front (bytes ++ more)) ∙ take-append_seam bytes more in (
           t ∷ r.0,
-          one_token bytes more kind (length front) some (piece fit (length front)) ∙ ap (before t) (ap (λ n. tokens_from 0 n more) (sym (length-append front bytes)) ∙ r.1),
+          one_token bytes more kind (length front) some (piece fit (length front)) ∙ ap (token_and_rest t) (ap (λ n. tokens_from 0 n more) (sym (length-append front bytes)) ∙ r.1),
           (t, r.0, subst (Shows all v kind) (sym taken) (shows fit.0), subst (λ text. Show all text vs r.0) (append_assoc front bytes more) r.2, refl),
         );
   }

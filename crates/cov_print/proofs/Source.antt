@@ -13,7 +13,7 @@ use Rattle.cov_lex.specs.declared.token.TokenKind.TheVariants as raw
 use Rattle.cov_lex.specs.Lexing.{Piece}
 use Rattle.cov_lex.specs.Lexing.{Gap, Part}
 use Rattle.cov_lex.specs.declared.fault.LexFault.{LexFault}
-use Rattle.cov_lex.specs.Lexing.{Lexed, piece_at, tokens_from, tokens_of, before, behind, word_of, number_of, sign_of}
+use Rattle.cov_lex.specs.Lexing.{Lexed, piece_at, tokens_from, tokens_of, token_and_rest, piece_and_rest, word_of, number_of, sign_of}
 use Rattle.cov_lex.specs.Tokens.{bytes_of, IsToken, Spells}
 use Rattle.cov_expr.specs.declared.kind.Kind.{Kind}
 use Rattle.cov_expr.specs.declared.kind.Kind.TheVariants as k
@@ -91,11 +91,11 @@ piece_small at b bs =
 abbrev AreSmall : List lexed.Token → Type 0
 AreSmall ts = Every (λ t. IsSmall t.kind) ts
 
-front_small : (t : lexed.Token) (r : Lexed) → IsSmall t.kind → IfOk r AreSmall → IfOk (before t r) AreSmall
+front_small : (t : lexed.Token) (r : Lexed) → IsSmall t.kind → IfOk r AreSmall → IfOk (token_and_rest t r) AreSmall
 front_small t (Ok ts) h g = (h, g)
 front_small t (Err fault) h g = tt
 
-behind_small : (p : Result Piece LexFault) (at : ℕ) (go : ℕ → Lexed) → SmallPiece p → ((n : ℕ) → IfOk (go n) AreSmall) → IfOk (behind p at go) AreSmall
+behind_small : (p : Result Piece LexFault) (at : ℕ) (go : ℕ → Lexed) → SmallPiece p → ((n : ℕ) → IfOk (go n) AreSmall) → IfOk (piece_and_rest p at go) AreSmall
 behind_small (Ok (Gap n)) at go h g = g (n - 1)
 behind_small (Ok (Part kind n)) at go h g = front_small (record { kind = kind; at = at; end = at + n }) (go (n - 1)) h (g (n - 1))
 behind_small (Err fault) at go h g = tt

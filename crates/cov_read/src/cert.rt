@@ -1,3 +1,5 @@
+//! Certificates of a text, with the places of their expressions.
+
 use crate::written::Written;
 use cov_expr::List;
 

@@ -1,3 +1,5 @@
+//! Tokens as certificates, and as expressions with their places.
+
 ghost use Rattle.std.specs.Prelude.{◌≡◌, ◌≤◌, length, map, IfOk};
 ghost use Rattle.cov_expr.specs.View.{term};
 ghost use Rattle.cov_expr.specs.declared.kind.Kind.TheVariants as kinds;

@@ -1,3 +1,5 @@
+//! Programs of a text and their declarations, with places.
+
 use crate::cert::Whole;
 use crate::stmt::{Braces, Stmt};
 use cov_expr::List;

@@ -1,3 +1,5 @@
+//! Tokens as declarations and as whole programs.
+
 ghost use Rattle.std.specs.Prelude.{◌≡◌, ◌≤◌, length, map, List, option_map};
 ghost use Rattle.cov_expr.specs.declared.kind.Kind.TheVariants as kinds;
 ghost use Rattle.cov_grammar.specs.Shapes.{opt, many};

@@ -1,3 +1,5 @@
+//! Tokens as expressions and templates, by levels of operators.
+
 ghost use Rattle.std.specs.Prelude.{◌≡◌, ◌≤◌, ◌<◌, length, take, [], IsTrue, MatchOption};
 ghost use Rattle.cov_grammar.specs.Grammar.{unary};
 ghost use Rattle.cov_grammar.specs.Reading.{reading};

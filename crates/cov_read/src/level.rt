@@ -1,3 +1,5 @@
+//! The levels of binary operators, the tightest first.
+
 ghost use Rattle.std.specs.Prelude.{◌≡◌};
 ghost use Rattle.cov_read.specs.Inside.Levels as spec;
 

@@ -1,3 +1,5 @@
+//! How far the measures of an expression and a certificate are counted.
+
 use cov_expr::{MOST_HEIGHT, MOST_NODES};
 
 /// One node above the most that an expression may have.

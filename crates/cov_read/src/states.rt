@@ -1,3 +1,5 @@
+//! Tokens as states, as types and as the proofs of a statement.
+
 ghost use Rattle.std.specs.Prelude.{◌≡◌, ◌≤◌, length, map, List, [], option_map, IfOk};
 ghost use Rattle.cov_expr.specs.declared.kind.Kind.TheVariants as kinds;
 ghost use Rattle.cov_grammar.specs.Shapes.{seq, opt};

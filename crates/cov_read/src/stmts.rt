@@ -1,3 +1,5 @@
+//! Tokens as statements and as blocks.
+
 ghost use Rattle.std.specs.Prelude.{◌≡◌, ◌≤◌, length, map, List, option_map};
 ghost use Rattle.cov_expr.specs.declared.kind.Kind.TheVariants as kinds;
 ghost use Rattle.cov_grammar.specs.PlacedTrees as trees;

@@ -1,3 +1,5 @@
+//! Expressions as they are read, with their measures, and how they are given back to memory.
+
 ghost use Rattle.std.specs.Prelude.{◌≡◌, ◌+◌, min, IfOk};
 ghost use Rattle.cov_expr.specs.declared.limits.TheConstants.{MOST_HEIGHT, MOST_NODES};
 ghost use Rattle.cov_expr.specs.Term.{const, var, neg, bin};

@@ -14,7 +14,7 @@ use Rattle.cov_expr.specs.Names.{IsName}
 use Rattle.cov_ast.specs.NameTables.{number_of, with_name}
 use Rattle.cov_text.specs.Numbered.{with_word, with_token, names_onto, value_of, word_of}
 use Rattle.cov_lex.specs.Classified.{kind_of, classified, AreClassified}
-use Rattle.cov_lex.specs.Classified.{value_of as lexical_value}
+use Rattle.cov_lex.specs.Classified.{number_value as lexical_value}
 use Rattle.cov_grammar.specs.LookAhead.{kind_is}
 use Rattle.cov_grammar.proofs.Basics.{kind_itself, kind_one}
 use Rattle.cov_expr.specs.declared.kind.Kind.TheVariants as k

@@ -13,7 +13,7 @@ use Rattle.cov_lex.specs.declared.token.TokenKind.TheVariants as raw
 use Rattle.cov_lex.specs.Lexing.{Piece}
 use Rattle.cov_lex.specs.Lexing.{Gap, Part}
 use Rattle.cov_lex.specs.declared.fault.LexFault.{LexFault}
-use Rattle.cov_lex.specs.Lexing.{Lexed, piece_at, tokens_from, tokens_of, before, behind}
+use Rattle.cov_lex.specs.Lexing.{Lexed, piece_at, tokens_from, tokens_of, token_and_rest, piece_and_rest}
 use Rattle.cov_lex.specs.Tokens.{IsToken, Spells, bytes_of}
 use Rattle.cov_lex.proofs.Spelled.{are_tokens}
 use Rattle.cov_expr.specs.declared.kind.Kind.TheVariants as k
@@ -42,11 +42,11 @@ order_wider : (low high : ℕ) (r : Lexed) → InOrder (low + 1) high r → InOr
 order_wider low high (Ok ts) h = within_wider low high (raw_places ts) h
 order_wider low high (Err fault) h = tt
 
-order_behind : (p : Result Piece LexFault) (at high : ℕ) (go : ℕ → Lexed) → ((n : ℕ) → InOrder (at + 1) high (go n)) → InOrder at high (behind p at go)
+order_behind : (p : Result Piece LexFault) (at high : ℕ) (go : ℕ → Lexed) → ((n : ℕ) → InOrder (at + 1) high (go n)) → InOrder at high (piece_and_rest p at go)
 order_behind (Ok (Gap n)) at high go h = order_wider at high (go (n - 1)) (h (n - 1))
 order_behind (Ok (Part kind n)) at high go h = by (go (n - 1)) (h (n - 1))
   where
-    by : (r : Lexed) → InOrder (at + 1) high r → InOrder at high (before (record { kind = kind; at = at; end = at + n }) r)
+    by : (r : Lexed) → InOrder (at + 1) high r → InOrder at high (token_and_rest (record { kind = kind; at = at; end = at + n }) r)
     by (Ok ts) g = (omega arith, g)
     by (Err fault) g = tt
 order_behind (Err fault) at high go h = tt

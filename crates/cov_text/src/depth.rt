@@ -1,3 +1,5 @@
+//! Where the brackets or the marks of a text nest too deep.
+
 ghost use Rattle.std.specs.Prelude.{◌≡◌};
 ghost use Rattle.cov_text.specs.Depth as spec;
 

@@ -1,3 +1,5 @@
+//! Why a text isn't read: the faults of its bytes, its tokens and its limits.
+
 ghost use Rattle.std.specs.Prelude.{◌≡◌};
 ghost use Rattle.cov_text.specs.declared.fault.ParseFault.TheVariants as faults;
 ghost use Rattle.cov_text.specs.Text.{lexical, unexpected, fault_of};
