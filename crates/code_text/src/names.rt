@@ -3,6 +3,7 @@
 ghost use Rattle.std.specs.Prelude.{◌≡◌, ◌↔◌, ℕ, ◌++◌, ◌∷◌, [], List, ◌<◌, length, IfOk, IfSome, OnOk, OnErr, IsTrue, None, Some, if◌then◌else◌, replicate};
 ghost use Rattle.cov_expr.specs.Words.{IsWord};
 ghost use Rattle.cov_expr.specs.Names.{IsName};
+ghost use Rattle.code_text.specs.declared.names.TheConstants.{GUESSES};
 ghost use Rattle.code_text.specs.Inside.Lookup.{IsIndexOf, IsRegisterOf};
 ghost use Rattle.code_text.specs.Inside.Drafts.{CanStand};
 ghost use Rattle.code_text.specs.Inside.ListingReading.{Draft, id_of, with_row};
@@ -142,14 +143,14 @@ fn add_id(ids: &mut IndexMap<Name, u32>, name: Name, next: u32) -> Result<u32, N
 }
 
 fn no_guesses() -> [Option<u32>; GUESSES]
-    ensures { result ≡ replicate 1024 None }
+    ensures { result ≡ replicate GUESSES None }
 {
     [None; GUESSES]
 }
 
 /// Which guess is for a text.
 fn guess_of(text: &[u8]) -> usize
-    ensures { result < 1024 }
+    ensures { result < GUESSES }
 {
     let mut sum: u32 = 0;
     for byte in text {

@@ -33,8 +33,8 @@ pub enum ScheduleFault {
     /// The value is no list.
     #[error("no list")]
     NotList,
-    /// It has more than 100,000 entries.
-    #[error("more than 100000 entries")]
+    /// It has more than `MOST_ENTRIES` of `cov_expr`.
+    #[error("too many entries")]
     TooMany,
     /// The entry at this index, the first, is no number of a thread. Indices are counted from 0.
     #[error("the entry at {0} is no number of a thread")]
