@@ -5,6 +5,7 @@ use Rattle.std.proofs.lemmas.List.{ext_get_or, length-map}
 use Rattle.std.proofs.lemmas.List.FromFn.{get_or-map-range_with_len, length-map-range_with_len}
 use Rattle.cov_expr.specs.Words.{IsSchedule}
 use Rattle.cov_ast.specs.Declarations.{thread_at}
+use Rattle.cov_ast.specs.LocksAlong.{no_locks}
 use Rattle.cov_ast.specs.Plain.{PlainThread, plain, plain_thread}
 use Rattle.cov_ast.specs.Syntax.{Program, Thread}
 use Rattle.flow_model.specs.Composable.{HasCompatibleModes}
@@ -13,7 +14,7 @@ use Rattle.flow_model.specs.Source.{items_then}
 use Rattle.mode_compat.specs.Compatible.{no_thread}
 use Rattle.mode_compat.specs.Declared.{IsDeclared}
 use Rattle.regalloc.specs.Plan.{start}
-use Rattle.compiled_code.specs.Compiled.{compiled, thread_code, thread_lines, no_locks}
+use Rattle.compiled_code.specs.Compiled.{compiled, thread_code, thread_lines}
 use Rattle.compiled_code.specs.LoadBound.{MeetsLoadBound, HasFewLoads}
 use Rattle.compiled_code.specs.Matches.{AreRegisters, Matches}
 use Rattle.compiled_code.specs.SecureCode.{IsSecureCode}
