@@ -17,10 +17,12 @@ use Rattle.regalloc.specs.Plan.{start}
 use Rattle.compiled_code.specs.Compiled.{compiled, thread_code, thread_lines}
 use Rattle.compiled_code.specs.LoadBound.{MeetsLoadBound, HasFewLoads}
 use Rattle.compiled_code.specs.Matches.{AreRegisters, Matches}
+use Rattle.compiled_code.specs.Records.{KeepsRecords}
 use Rattle.compiled_code.specs.SecureCode.{IsSecureCode}
 use Rattle.compiled_code.proofs.Few.{few_body}
 use Rattle.compiled_code.proofs.Forward.{Forward, body_forward}
 use Rattle.compiled_code.proofs.LaidOut.{IsTidy, body_at}
+use Rattle.compiled_code.proofs.Records.{keeps_records}
 use Rattle.compiled_code.proofs.Shape.{ItemsCode}
 use Rattle.compiled_code.proofs.Steps.{AreSets}
 use Rattle.compiled_code.proofs.Whole.{IsLaidOut, matches_after, secure_code}
@@ -86,3 +88,6 @@ module _ (p : Program) where
 
     pub secure : IsSecure (plain p) → IsSecureCode (plain p) (compiled p)
     secure h = secure_code (plain p) sets apart (compiled p) laid_out h
+
+    pub records : KeepsRecords (plain p) (compiled p)
+    records = keeps_records (plain p) sets apart (compiled p) laid_out
