@@ -5,6 +5,7 @@ use Rattle.std.proofs.lemmas.List.{ext_get_or, length-map}
 use Rattle.std.proofs.lemmas.List.FromFn.{get_or-map-range_with_len, length-map-range_with_len}
 use Rattle.cov_expr.specs.Words.{IsSchedule}
 use Rattle.cov_ast.specs.Declarations.{thread_at}
+use Rattle.cov_ast.specs.LocksAlong.{no_locks}
 use Rattle.cov_ast.specs.Plain.{PlainThread, plain, plain_thread}
 use Rattle.cov_ast.specs.Syntax.{Program, Thread}
 use Rattle.flow_model.specs.Composable.{HasCompatibleModes}
@@ -13,13 +14,15 @@ use Rattle.flow_model.specs.Source.{items_then}
 use Rattle.mode_compat.specs.Compatible.{no_thread}
 use Rattle.mode_compat.specs.Declared.{IsDeclared}
 use Rattle.regalloc.specs.Plan.{start}
-use Rattle.compiled_code.specs.Compiled.{compiled, thread_code, thread_lines, no_locks}
+use Rattle.compiled_code.specs.Compiled.{compiled, thread_code, thread_lines}
 use Rattle.compiled_code.specs.LoadBound.{MeetsLoadBound, HasFewLoads}
 use Rattle.compiled_code.specs.Matches.{AreRegisters, Matches}
+use Rattle.compiled_code.specs.Records.{KeepsRecords}
 use Rattle.compiled_code.specs.SecureCode.{IsSecureCode}
 use Rattle.compiled_code.proofs.Few.{few_body}
 use Rattle.compiled_code.proofs.Forward.{Forward, body_forward}
 use Rattle.compiled_code.proofs.LaidOut.{IsTidy, body_at}
+use Rattle.compiled_code.proofs.Records.{keeps_records}
 use Rattle.compiled_code.proofs.Shape.{ItemsCode}
 use Rattle.compiled_code.proofs.Steps.{AreSets}
 use Rattle.compiled_code.proofs.Whole.{IsLaidOut, matches_after, secure_code}
@@ -85,3 +88,6 @@ module _ (p : Program) where
 
     pub secure : IsSecure (plain p) → IsSecureCode (plain p) (compiled p)
     secure h = secure_code (plain p) sets apart (compiled p) laid_out h
+
+    pub records : KeepsRecords (plain p) (compiled p)
+    records = keeps_records (plain p) sets apart (compiled p) laid_out

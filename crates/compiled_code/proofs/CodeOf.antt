@@ -10,13 +10,14 @@ use Rattle.std.proofs.lemmas.List.Folds.{list_any-append}
 use Rattle.std.proofs.lemmas.Slice.Eq.{bytes_eq-Decides}
 use Rattle.cov_expr.specs.Words.{IsWord}
 use Rattle.cov_ast.specs.Declarations.{thread_at}
+use Rattle.cov_ast.specs.LocksAlong.{no_locks}
 use Rattle.cov_ast.specs.Plain.{plain, plain_block, plain_thread}
 use Rattle.cov_ast.specs.Syntax.{Program}
 use Rattle.cov_ast.specs.WellFormed.{IsWellFormed, IsThreadInRange, IsBodyFine, IsSilent, are_distinct, block_size, most_size}
 use Rattle.cov_ast.specs.WellFormed as formed
 use Rattle.mode_compat.specs.Compatible.{numbered, no_thread}
 use Rattle.regalloc.specs.Plan.{start}
-use Rattle.compiled_code.specs.Compiled.{compiled, thread_code, thread_lines, no_locks}
+use Rattle.compiled_code.specs.Compiled.{compiled, thread_code, thread_lines}
 use Rattle.compiled_code.proofs.Assembled.{code_count, code_at, names_are}
 use Rattle.compiled_code.proofs.Faultless.{AreFine, fine_block, PassesLine, LinesPass, block_pass}
 use Rattle.compiled_code.proofs.Sizes.{cmds_size, block_sized, block_few}

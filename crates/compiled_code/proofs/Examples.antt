@@ -412,7 +412,7 @@ stale_fails k =
 -- Codes that load too often --------------------------------------------------------------------------------------
 
 twice_small : IsSmall (plain twice) 0 (thread_at (plain twice) 0).body
-twice_small = record { straight = tt; narrow = (omega arith, (omega arith, tt)); four = omega arith }
+twice_small = record { straight = (refl, (refl, tt)); narrow = (omega arith, (omega arith, tt)); four = omega arith }
 
 -- the code of `twice` that loads a variable for each use
 abbrev loads_each_time : Parts
@@ -441,7 +441,7 @@ forgets = record {
 }
 
 copied_small : IsSmall (plain copied) 0 (thread_at (plain copied) 0).body
-copied_small = record { straight = tt; narrow = (omega arith, (omega arith, (omega arith, (omega arith, (omega arith, tt))))); four = omega arith }
+copied_small = record { straight = (refl, (refl, (refl, (refl, (refl, tt))))); narrow = (omega arith, (omega arith, (omega arith, (omega arith, (omega arith, tt))))); four = omega arith }
 
 forgets_fails : MeetsLoadBound (plain copied) forgets → ⊥
 forgets_fails k = let n : 2 ≤ 1 = (k 0 (omega arith) copied_small).assumed 0 refl in omega arith

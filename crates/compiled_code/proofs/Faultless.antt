@@ -7,13 +7,14 @@ use Rattle.cov_expr.specs.declared.expr.Op.TheVariants.{Eq}
 use Rattle.cov_expr.specs.Term.{Term, const, var, neg, bin}
 use Rattle.cov_expr.specs.Trees.{occurrences, width}
 use Rattle.cov_expr.specs.Words.{HasVarsBelow}
+use Rattle.cov_ast.specs.LocksAlong.{locks_after}
 use Rattle.cov_ast.specs.Plain.{Cmd, skip, assign, lock, unlock, branch, loop, output, Cmds, none, next, Plain, plain_stm, plain_block}
 use Rattle.cov_ast.specs.Syntax.{Stm, Block, done, more}
 use Rattle.cov_ast.specs.Syntax as annotated
 use Rattle.cov_ast.specs.WellFormed.{IsStmInRange, IsBlockInRange, IsSilentStm, IsSilent}
 use Rattle.mode_state.specs.Sets.{is_stable}
 use Rattle.regalloc.specs.Plan.{Plan, start, held, keep, stored, frees, room}
-use Rattle.compiled_code.specs.Compiled.{line, weigh, part_register, var_instr, unstable_of, load_unstable, term_instrs, fetch_at, fetched_plan, load_into, fetch_plan, fetch_instrs, expr_room, expr_plan, expr_register, expr_instrs, expr_lines, direct, eval_lines, eval_plan, eval_register, use_weight, store_from, store_plan, cmd_locks, cmd_plan, block_plan, cmd_lines, block_lines}
+use Rattle.compiled_code.specs.Compiled.{line, weigh, part_register, var_instr, unstable_of, load_unstable, term_instrs, fetch_at, fetched_plan, load_into, fetch_plan, fetch_instrs, expr_room, expr_plan, expr_register, expr_instrs, expr_lines, direct, eval_lines, eval_plan, eval_register, use_weight, store_from, store_plan, cmd_plan, block_plan, cmd_lines, block_lines}
 use Rattle.compiled_code.proofs.Gen.{fetch_some}
 use Rattle.compiled_code.proofs.Plans.{held_is, reg_low, part_in, room_long, meet_long}
 use Rattle.risc_machine.specs.Faults.{first_of, has_registers, has_variable, has_lock, has_target, has_version}
@@ -80,7 +81,7 @@ module _ (p : Plain) (t : ℕ) where
 
     block_long : (c : Cmds) (H : List Bool) (P : Plan) → length P ≡ 8 → length (block_plan p t c H P) ≡ 8
     block_long none H P l = l
-    block_long (next at c cs) H P l = block_long cs (cmd_locks c H) (cmd_plan p t c H P) (cmd_long c H P l)
+    block_long (next at c cs) H P l = block_long cs (locks_after c H) (cmd_plan p t c H P) (cmd_long c H P l)
 
 -- Ids in range ----------------------------------------------------------------------------------------------------
 
@@ -343,6 +344,6 @@ module _ (vars locks version lines : ℕ) where
       block_pass (next at c cs) H P i l k n =
           let cc = cmd_lines p t c H P i in
           let Q = cmd_plan p t c H P in
-          let ls = block_lines p t cs (cmd_locks c H) Q (i + length cc) in
+          let ls = block_lines p t cs (locks_after c H) Q (i + length cc) in
           let all : i + length (cc ++ ls) ≡ i + length cc + length ls = simp length-append (omega arith) in
-          lines_append cc ls (cmd_pass c H P i l k.0 (omega arith)) (block_pass cs (cmd_locks c H) Q (i + length cc) (cmd_long p t c H P l) k.1 (omega arith))
+          lines_append cc ls (cmd_pass c H P i l k.0 (omega arith)) (block_pass cs (locks_after c H) Q (i + length cc) (cmd_long p t c H P l) k.1 (omega arith))

@@ -1,21 +1,23 @@
 -- The load bound of whole bodies.
-use Rattle.std.proofs.Common.{◌≡◌, ◌⊎◌, ℕ, zero, suc, ◌+◌, ◌<◌, ◌≤◌, ◌==◌, ◌&&◌, not, List, [], ◌∷◌, ◌++◌, length, set, filter, Bool, true, false, cond, if◌then◌else◌, Option, Some, None, refl, sym, ◌∙◌, ap, subst, subst₂, arith, IsTrue, inl, inr, ⊎_elim, eq-eqb, eqb-true, get_or-set_other}
-use Rattle.std.specs.List.{list_any}
+use Rattle.std.proofs.Common.{◌≡◌, ◌⊎◌, ℕ, zero, suc, ◌+◌, ◌<◌, ◌≤◌, ◌==◌, ◌&&◌, not, List, [], ◌∷◌, ◌++◌, length, set, filter, Bool, true, false, cond, if◌then◌else◌, Option, Some, None, refl, sym, ◌∙◌, ap, subst, arith, IsTrue, inl, inr, ⊎_elim, eq-eqb, eqb-true, get_or-set_other}
+use Rattle.std.specs.List.{AllByRecursion, count_by, flat_map, list_any}
 use Rattle.std.proofs.lemmas.Bool.{or_left, or_right, or_cases, and_parts, and_from, false_from_ne_true, cases_lt, both_ways}
 use Rattle.std.proofs.lemmas.List.{length-map, get_or_past, get_or-replicate}
+use Rattle.std.proofs.lemmas.List.Recursion.{is_count_by}
 use Rattle.cov_expr.specs.Term.{Term}
 use Rattle.cov_expr.specs.Trees.{add_new, has_number, mentions, occurrences, width}
 use Rattle.cov_expr.proofs.Tests.{passing}
 use Rattle.cov_expr.proofs.Trees.{has_number-append}
 use Rattle.cov_ast.specs.Declarations.{assumes, lists, no_lock, under}
-use Rattle.cov_ast.specs.Plain.{skip, assign, lock, unlock, branch, loop, output, Cmds, none, next, Plain}
+use Rattle.cov_ast.specs.LocksAlong.{Located, located, locks_after, no_locks}
+use Rattle.cov_ast.specs.Plain.{Cmd, skip, assign, lock, unlock, branch, loop, output, Cmds, none, next, Plain}
 use Rattle.cov_ast.specs.Tables.{has}
 use Rattle.mode_compat.specs.Declared.{IsDeclared}
 use Rattle.mode_state.specs.Sets.{is_stable, locks_of}
 use Rattle.mode_state.proofs.HeldLaws.{any_from}
 use Rattle.regalloc.specs.Plan.{Plan, start, restrict, frees}
-use Rattle.compiled_code.specs.Compiled.{line, weigh, expr_plan, expr_register, expr_instrs, direct, store_from, eval_lines, eval_plan, eval_register, use_weight, store_plan, cmd_plan, cmd_lines, block_lines, cmd_locks, no_locks}
-use Rattle.compiled_code.specs.LoadBound.{IsStraight, IsNarrow, locks_in, reads_without, stable_uses, IsSmall, HasFewLoads}
+use Rattle.compiled_code.specs.Compiled.{line, weigh, expr_plan, expr_register, expr_instrs, direct, store_from, eval_lines, eval_plan, eval_register, use_weight, store_plan, cmd_plan, cmd_lines, block_lines}
+use Rattle.compiled_code.specs.LoadBound.{is_simple, is_lock_of, Assignment, assigned, statements, assignments, stable_uses, IsSmall, HasFewLoads}
 use Rattle.compiled_code.proofs.Loads.{IsIn, Has, Fit, three_free, fit_start, fit_below, stored_has, credit, credit_small, credit_less, loads, loads_are, loads_append, loads_weigh, expr_few, store_fit, store_more}
 use Rattle.compiled_code.proofs.Plans.{reg_low, reg_free, restricted_is, restrict_keeps}
 use Rattle.risc_machine.specs.declared.parts.Instr.TheVariants.{Store}
@@ -53,6 +55,14 @@ module _ (z : ℕ) where
   still_added (y ∷ ys) xs (inr h) =
       ⊎_elim (λ k. still_added ys (if has_number xs y then xs else xs ++ y ∷ []) (inl (one_more xs y (inr k) (has_number xs y) refl)))
       (λ k. still_added ys (if has_number xs y then xs else xs ++ y ∷ []) (inr k)) (or_cases (y == z) (has_number ys z) h)
+
+-- how many items pass a test, by recursion
+abbrev counted : {X : Type 0} → (X → Bool) → List X → ℕ
+counted test [] = 0
+counted test (x ∷ xs) = cond (test x) (1 + counted test xs) (counted test xs)
+
+counted_is : {X : Type 0} (test : X → Bool) (xs : List X) → counted test xs ≡ count_by test xs
+counted_is test xs = is_count_by (counted test) test refl (λ x xs. refl) xs
 
 -- Stable variables ------------------------------------------------------------------------------------------------
 
@@ -94,17 +104,24 @@ module _ (p : Plain) (t : ℕ) where
 
   -- Statements ----------------------------------------------------------------------------------------------------
 
-  -- the statements `lock` of a lock with x under it
-  takes : ℕ → Cmds → ℕ
-  takes x none = 0
-  takes x (next at (lock l) cs) = if under p l x then suc (takes x cs) else takes x cs
-  takes x (next at c cs) = takes x cs
+  -- The loads of x that a statement allows: the `lock` of a lock that x is under, and an assignment that reads x where it isn't
+  -- stable, one each.
+  abbrev allowed : ℕ → List Bool → Cmd → ℕ
+  allowed x H skip = 0
+  allowed x H (assign y e) = cond (mentions e x && not (is_stable p t H x)) 1 0
+  allowed x H (lock l) = cond (under p l x) 1 0
+  allowed x H (unlock l) = 0
+  allowed x H (branch e a b) = 0
+  allowed x H (loop e a) = 0
+  allowed x H (output e) = 0
 
-  -- the assignments that read x where it isn't stable
-  strays : ℕ → Cmds → List Bool → ℕ
-  strays x none H = 0
-  strays x (next at (assign y e) cs) H = if mentions e x && not (is_stable p t H x) then suc (strays x cs H) else strays x cs H
-  strays x (next at c cs) H = strays x cs (cmd_locks c H)
+  abbrev all_allowed : ℕ → List Located → ℕ
+  all_allowed x [] = 0
+  all_allowed x (s ∷ ss) = allowed x s.held s.cmd + all_allowed x ss
+
+  -- what a stable variable is read or written by
+  abbrev uses : Assignment → List ℕ
+  uses a = filter (is_stable p t a.held) (a.variable ∷ occurrences a.value)
 
   module _ (S : List ℕ) (few : length S ≤ 4) where
     -- one assignment: its loads, and what the plan owes after it
@@ -167,71 +184,83 @@ module _ (p : Plain) (t : ℕ) where
         (λ s. stable_cleared H l x s)
         (λ s k. (k.0, restrict_keeps (is_stable p t (set H l false)) P k.0 x k.1 s))
 
-    few_block : (c : Cmds) (H : List Bool) (P : Plan) (i : ℕ) → IsStraight c → IsNarrow 3 c → ((z : ℕ) → IsIn (stable_uses p t c H) z → IsIn S z) → Fit S P → (x : ℕ)
-        → loads x (block_lines p t c H P i) ≤ takes x c + strays x c H + credit (is_stable p t H) P x
-    unfolding takes strays
-    few_block none H P i s n g f x = omega arith
-    few_block (next at skip cs) H P i s n g f x = few_block cs H P (i + 1) s n g f x
-    few_block (next at (assign y e) cs) H P i s n g f x =
+    -- a statement of a small body, whose stable variables are in S
+    abbrev IsSmallCmd : List Bool → Cmd → Type 0
+    IsSmallCmd H skip = Unit {0}
+    IsSmallCmd H (assign y e) = (width e ≤ 3) × ((z : ℕ) → IsIn (y ∷ occurrences e) z → IsTrue (is_stable p t H z) → IsIn S z)
+    IsSmallCmd H (lock l) = Unit {0}
+    IsSmallCmd H (unlock l) = Unit {0}
+    IsSmallCmd H (branch e a b) = ⊥
+    IsSmallCmd H (loop e a) = ⊥
+    IsSmallCmd H (output e) = ⊥
+
+    abbrev AreSmallCmds : List Located → Type 0
+    AreSmallCmds [] = Unit {0}
+    AreSmallCmds (s ∷ ss) = IsSmallCmd s.held s.cmd × AreSmallCmds ss
+
+    few_block : (c : Cmds) (H : List Bool) (P : Plan) (i : ℕ) → AreSmallCmds (located c H) → Fit S P → (x : ℕ)
+        → loads x (block_lines p t c H P i) ≤ all_allowed x (located c H) + credit (is_stable p t H) P x
+    few_block none H P i k f x = omega arith
+    few_block (next at skip cs) H P i k f x = let b = few_block cs H P (i + 1) k.1 f x in omega arith
+    few_block (next at (assign y e) cs) H P i k f x =
         let ls = cmd_lines p t (assign y e) H P i in
         let Q = cmd_plan p t (assign y e) H P in
-        let a = assign_few y e H P i n.0 f
-        (λ z k u. g z (in_left z (filter (is_stable p t H) (y ∷ occurrences e)) (stable_uses p t cs H) (filtered_in z (is_stable p t H) (y ∷ occurrences e) k u))) in
-        let b = few_block cs H Q (i + length ls) s n.1 (λ z k. g z (in_right z (filter (is_stable p t H) (y ∷ occurrences e)) (stable_uses p t cs H) k)) a.fit x in
-        subst₂ (λ m k. m ≤ takes x cs + k + credit (is_stable p t H) P x) (sym (loads_append x ls (block_lines p t cs H Q (i + length ls)))) (counted (mentions e x && not (is_stable p t H x)) (strays x cs H))
+        let a = assign_few y e H P i k.0.0 f k.0.1 in
+        let b = few_block cs H Q (i + length ls) k.1 a.fit x in
+        subst (λ m. m ≤ cond (mentions e x && not (is_stable p t H x)) 1 0 + all_allowed x (located cs H) + credit (is_stable p t H) P x)
+        (sym (loads_append x ls (block_lines p t cs H Q (i + length ls))))
         (let c = a.counts x in omega arith)
-      where
-        counted : (b : Bool) (n : ℕ) → cond b 1 0 + n ≡ cond b (suc n) n
-        counted true n = omega arith
-        counted false n = omega arith
-    few_block (next at (lock l) cs) H P i s n g f x =
-        let b = few_block cs (set H l true) P (i + 1) s n g f x in
-        subst (λ m. loads x (block_lines p t cs (set H l true) P (i + 1)) ≤ m + strays x cs (set H l true) + credit (is_stable p t H) P x) (counted (under p l x) (takes x cs))
-        (let c = lock_less l H P x in omega arith)
-      where
-        counted : (b : Bool) (n : ℕ) → cond b 1 0 + n ≡ cond b (suc n) n
-        counted true n = omega arith
-        counted false n = omega arith
-    few_block (next at (unlock l) cs) H P i s n g f x =
+    few_block (next at (lock l) cs) H P i k f x =
+        let b = few_block cs (set H l true) P (i + 1) k.1 f x in
+        let c = lock_less l H P x in
+        omega arith
+    few_block (next at (unlock l) cs) H P i k f x =
         let K = set H l false in
         let R = restrict (is_stable p t K) P in
-        let b = few_block cs K R (i + 1) s n g (fit_below S P R f (length-map P _ ∙ f.long) (λ j y e. (restricted_is (is_stable p t K) P j y e).0)) x in
+        let b = few_block cs K R (i + 1) k.1 (fit_below S P R f (length-map P _ ∙ f.long) (λ j y e. (restricted_is (is_stable p t K) P j y e).0)) x in
         let c = unlock_less l H P x in
         omega arith
-    few_block (next at (branch e a b) cs) H P i s n g f x = absurd s
-    few_block (next at (loop e a) cs) H P i s n g f x = absurd s
-    few_block (next at (output e) cs) H P i s n g f x = absurd s
+    few_block (next at (branch e a b) cs) H P i k f x = absurd k.0
+    few_block (next at (loop e a) cs) H P i k f x = absurd k.0
+    few_block (next at (output e) cs) H P i k f x = absurd k.0
+
+    small_cmds : (c : Cmds) (H : List Bool) → AllByRecursion (λ s. IsTrue (is_simple s.cmd)) (located c H) → AllByRecursion (λ a. width a.value ≤ 3) (flat_map (λ s. assigned s.held s.cmd) (located c H))
+        → ((z : ℕ) → IsIn (flat_map uses (flat_map (λ s. assigned s.held s.cmd) (located c H))) z → IsIn S z) → AreSmallCmds (located c H)
+    small_cmds none H s n g = tt
+    small_cmds (next at skip cs) H s n g = (tt, small_cmds cs H s.1 n g)
+    small_cmds (next at (assign y e) cs) H s n g =
+        let a : Assignment = record { held = H; variable = y; value = e } in
+        let rest = flat_map uses (flat_map (λ s. assigned s.held s.cmd) (located cs H)) in (
+          (n.0, λ z k u. g z (in_left z (uses a) rest (filtered_in z (is_stable p t H) (y ∷ occurrences e) k u))),
+          small_cmds cs H s.1 n.1 (λ z k. g z (in_right z (uses a) rest k)),
+        )
+    small_cmds (next at (lock l) cs) H s n g = (tt, small_cmds cs (set H l true) s.1 n g)
+    small_cmds (next at (unlock l) cs) H s n g = (tt, small_cmds cs (set H l false) s.1 n g)
+    small_cmds (next at (branch e a b) cs) H s n g = absurd (let c : false ≡ true = s.0 in cc)
+    small_cmds (next at (loop e a) cs) H s n g = absurd (let c : false ≡ true = s.0 in cc)
+    small_cmds (next at (output e) cs) H s n g = absurd (let c : false ≡ true = s.0 in cc)
 
   -- The two counts of the bound -----------------------------------------------------------------------------------
 
   module _ (d : IsDeclared p) where
-    takes_none : (x : ℕ) (c : Cmds) → IsTrue (assumes p t x) → takes x c ≡ 0
-    unfolding takes
-    takes_none x none a = refl
-    takes_none x (next at skip cs) a = takes_none x cs a
-    takes_none x (next at (assign y e) cs) a = takes_none x cs a
-    takes_none x (next at (lock l) cs) a =
-        ap (λ b. cond b (suc (takes x cs)) (takes x cs)) (false_from_ne_true (under p l x) (λ u. absurd (both_ways (assumes p t x) (d.not_assumed l x t u) a))) ∙ takes_none x cs a
-    takes_none x (next at (unlock l) cs) a = takes_none x cs a
-    takes_none x (next at (branch e b c) cs) a = takes_none x cs a
-    takes_none x (next at (loop e b) cs) a = takes_none x cs a
-    takes_none x (next at (output e) cs) a = takes_none x cs a
-
-    strays_none : (x : ℕ) (c : Cmds) (H : List Bool) → IsTrue (assumes p t x) → strays x c H ≡ 0
-    unfolding strays
-    strays_none x none H a = refl
-    strays_none x (next at skip cs) H a = strays_none x cs H a
-    strays_none x (next at (assign y e) cs) H a =
-        ap (λ b. cond b (suc (strays x cs H)) (strays x cs H)) (none_of (mentions e x) (is_stable p t H x) (or_left _ _ a)) ∙ strays_none x cs H a
+    allowed_none : (x : ℕ) (c : Cmds) (H : List Bool) → IsTrue (assumes p t x) → all_allowed x (located c H) ≡ 0
+    allowed_none x none H a = refl
+    allowed_none x (next at skip cs) H a = let k = allowed_none x cs H a in omega arith
+    allowed_none x (next at (assign y e) cs) H a =
+        ap (λ b. cond b 1 0 + all_allowed x (located cs H)) (none_of (mentions e x) (is_stable p t H x) (or_left _ _ a))
+        ∙ (let k = allowed_none x cs H a in omega arith)
       where
         none_of : (b s : Bool) → s ≡ true → (b && not s) ≡ false
         none_of true s e = ap not e
         none_of false s e = refl
-    strays_none x (next at (lock l) cs) H a = strays_none x cs (set H l true) a
-    strays_none x (next at (unlock l) cs) H a = strays_none x cs (set H l false) a
-    strays_none x (next at (branch e b c) cs) H a = strays_none x cs (cmd_locks (branch e b c) H) a
-    strays_none x (next at (loop e b) cs) H a = strays_none x cs H a
-    strays_none x (next at (output e) cs) H a = strays_none x cs H a
+    allowed_none x (next at (lock l) cs) H a =
+        ap (λ b. cond b 1 0 + all_allowed x (located cs (set H l true)))
+        (false_from_ne_true (under p l x) (λ u. absurd (both_ways (assumes p t x) (d.not_assumed l x t u) a)))
+        ∙ (let k = allowed_none x cs (set H l true) a in omega arith)
+    allowed_none x (next at (unlock l) cs) H a = let k = allowed_none x cs (set H l false) a in omega arith
+    allowed_none x (next at (branch e b c) cs) H a = let k = allowed_none x cs (locks_after (branch e b c) H) a in omega arith
+    allowed_none x (next at (loop e b) cs) H a = let k = allowed_none x cs H a in omega arith
+    allowed_none x (next at (output e) cs) H a = let k = allowed_none x cs H a in omega arith
 
     module _ (l x : ℕ) (u : IsTrue (under p l x)) where
       same_lock : (j : ℕ) → under p j x ≡ (j == l)
@@ -250,48 +279,57 @@ module _ (p : Plain) (t : ℕ) where
               false_from_ne_true (is_stable p t H x)
               (λ s. ⊎_elim (λ a. absurd (both_ways (assumes p t x) (d.not_assumed l x t u) a)) (λ r. absurd (both_ways (has H l) e (subst (λ j. has H j ≡ true) (d.one_lock x r.0 l r.2 u) r.1))) (stable_some H x s))
 
-      takes_are : (c : Cmds) → takes x c ≡ locks_in l c
-      unfolding takes
-      takes_are none = refl
-      takes_are (next at skip cs) = takes_are cs
-      takes_are (next at (assign y e) cs) = takes_are cs
-      takes_are (next at (lock j) cs) = ap (λ b. cond b (suc (takes x cs)) (takes x cs)) (same_lock j) ∙ ap (λ n. cond (j == l) (suc n) n) (takes_are cs)
-      takes_are (next at (unlock j) cs) = takes_are cs
-      takes_are (next at (branch e b c) cs) = takes_are cs
-      takes_are (next at (loop e b) cs) = takes_are cs
-      takes_are (next at (output e) cs) = takes_are cs
+      takes : List Located → ℕ
+      takes ss = counted (λ s. is_lock_of l s.cmd) ss
 
-      strays_are : (c : Cmds) (H : List Bool) → strays x c H ≡ reads_without l x c H
-      unfolding strays
-      strays_are none H = refl
-      strays_are (next at skip cs) H = strays_are cs H
-      strays_are (next at (assign y e) cs) H =
-          ap (λ b. cond (mentions e x && not b) (suc (strays x cs H)) (strays x cs H)) (stable_is H) ∙ ap (λ n. cond (mentions e x && not (has H l)) (suc n) n) (strays_are cs H)
-      strays_are (next at (lock j) cs) H = strays_are cs (set H j true)
-      strays_are (next at (unlock j) cs) H = strays_are cs (set H j false)
-      strays_are (next at (branch e b c) cs) H = strays_are cs (cmd_locks (branch e b c) H)
-      strays_are (next at (loop e b) cs) H = strays_are cs H
-      strays_are (next at (output e) cs) H = strays_are cs H
+      reads : List Located → ℕ
+      reads ss = counted (λ a. mentions a.value x && not (has a.held l)) (flat_map (λ s. assigned s.held s.cmd) ss)
+
+      allowed_are : (c : Cmds) (H : List Bool) → all_allowed x (located c H) ≡ takes (located c H) + reads (located c H)
+      unfolding takes reads
+      allowed_are none H = omega arith
+      allowed_are (next at skip cs) H = let k = allowed_are cs H in omega arith
+      allowed_are (next at (assign y e) cs) H =
+          subst (λ b. cond (mentions e x && not b) 1 0 + all_allowed x (located cs H) ≡ takes (located cs H) + cond (mentions e x && not (has H l)) (1 + reads (located cs H)) (reads (located cs H)))
+          (sym (stable_is H)) (one_read (mentions e x && not (has H l)) _ _ _ (allowed_are cs H))
+        where
+          one_read : (b : Bool) (n m k : ℕ) → n ≡ m + k → cond b 1 0 + n ≡ m + cond b (1 + k) k
+          one_read true n m k e = omega arith
+          one_read false n m k e = omega arith
+      allowed_are (next at (lock j) cs) H =
+          subst (λ b. cond b 1 0 + all_allowed x (located cs (set H j true)) ≡ cond (j == l) (1 + takes (located cs (set H j true))) (takes (located cs (set H j true))) + reads (located cs (set H j true)))
+          (sym (same_lock j)) (one_lock (j == l) _ _ _ (allowed_are cs (set H j true)))
+        where
+          one_lock : (b : Bool) (n m k : ℕ) → n ≡ m + k → cond b 1 0 + n ≡ cond b (1 + m) m + k
+          one_lock true n m k e = omega arith
+          one_lock false n m k e = omega arith
+      allowed_are (next at (unlock j) cs) H = let k = allowed_are cs (set H j false) in omega arith
+      allowed_are (next at (branch e b c) cs) H = let k = allowed_are cs (locks_after (branch e b c) H) in omega arith
+      allowed_are (next at (loop e b) cs) H = let k = allowed_are cs H in omega arith
+      allowed_are (next at (output e) cs) H = let k = allowed_are cs H in omega arith
 
     few_loads : (c : Cmds) → IsSmall p t c → (x : ℕ)
-        → loads x (block_lines p t c (no_locks p) start 0) ≤ takes x c + strays x c (no_locks p) + credit (is_stable p t (no_locks p)) start x
+        → loads x (block_lines p t c (no_locks p) start 0) ≤ all_allowed x (statements p c) + credit (is_stable p t (no_locks p)) start x
     few_loads c k x =
-        few_block (add_new [] (stable_uses p t c (no_locks p))) k.four c (no_locks p) start 0 k.straight k.narrow
-        (λ z i. still_added z (stable_uses p t c (no_locks p)) [] (inr i)) (fit_start (add_new [] (stable_uses p t c (no_locks p)))) x
+        let S = add_new [] (stable_uses p t c) in
+        few_block S k.four c (no_locks p) start 0
+        (small_cmds S k.four c (no_locks p) k.straight k.narrow (λ z i. still_added z (stable_uses p t c) [] (inr i)))
+        (fit_start S) x
 
     pub few_body : (c : Cmds) → IsSmall p t c → HasFewLoads p t c (block_lines p t c (no_locks p) start 0)
+    unfolding takes reads
     few_body c k = record {
       assumed = λ x a.
           let b = few_loads c k x in
-          let n = takes_none x c a in
-          let m = strays_none x c (no_locks p) a in
+          let n = allowed_none x c (no_locks p) a in
           let s = credit_small (is_stable p t (no_locks p)) start x in
           let e = loads_are x (block_lines p t c (no_locks p) start 0) in
           omega arith;
       locked = λ l x u.
           let b = few_loads c k x in
-          let n = takes_are l x u c in
-          let m = strays_are l x u c (no_locks p) in
+          let n = allowed_are l x u c (no_locks p) in
+          let m = counted_is (λ s. is_lock_of l s.cmd) (statements p c) in
+          let r = counted_is (λ a. mentions a.value x && not (has a.held l)) (assignments p c) in
           let s : credit (is_stable p t (no_locks p)) start x ≡ 0 = ap (λ b. cond b 1 0) (stable_is l x u (no_locks p) ∙ get_or-replicate (length p.locks) l false false (declared_lock l x u)) in
           let e = loads_are x (block_lines p t c (no_locks p) start 0) in
           omega arith;

@@ -1,10 +1,11 @@
 -- Lines of weight 0 lead forward, or to a line of weight 1.
 use Rattle.std.proofs.Common.{◌≡◌, ◌⊎◌, ℕ, zero, suc, ◌+◌, ◌<◌, ◌≤◌, List, [], ◌∷◌, ◌++◌, length, map, Bool, Option, Some, None, refl, le_refl, sym, subst, subst₂, arith, IsTrue, inl, inr, slice_get, add-zero, zero-add}
 use Rattle.cov_expr.specs.Term.{Term}
+use Rattle.cov_ast.specs.LocksAlong.{locks_after}
 use Rattle.cov_ast.specs.Plain.{Cmd, skip, assign, lock, unlock, branch, loop, output, Cmds, none, next, Plain}
 use Rattle.mode_state.specs.Sets.{is_stable}
 use Rattle.regalloc.specs.Plan.{Plan, start}
-use Rattle.compiled_code.specs.Compiled.{line, weigh, expr_plan, expr_register, expr_instrs, expr_lines, direct, eval_lines, eval_plan, eval_register, use_weight, store_from, cmd_locks, cmd_plan, cmd_lines, block_lines}
+use Rattle.compiled_code.specs.Compiled.{line, weigh, expr_plan, expr_register, expr_instrs, expr_lines, direct, eval_lines, eval_plan, eval_register, use_weight, store_from, cmd_plan, cmd_lines, block_lines}
 use Rattle.compiled_code.proofs.Cores.{IsStraight, Straight}
 use Rattle.compiled_code.proofs.Gen.{ExprParts, expr_parts}
 use Rattle.compiled_code.proofs.LaidOut.{IsTidyExpr, IsTidyCmd, IsTidy, At, at_left, at_right, at_all}
@@ -115,9 +116,9 @@ module _ (p : Plain) (t : ℕ) (lines : List Line) where
     block_lead none H P i k h = tt
     block_lead (next at c cs) H P i k h =
         let cc = cmd_lines p t c H P i in
-        let ls = block_lines p t cs (cmd_locks c H) (cmd_plan p t c H P) (i + length cc) in
+        let ls = block_lines p t cs (locks_after c H) (cmd_plan p t c H P) (i + length cc) in
         lead_append lines i cc ls (cmd_lead c H P i k.0 (at_left lines i cc ls h))
-        (block_lead cs (cmd_locks c H) (cmd_plan p t c H P) (i + length cc) k.1 (at_right lines i cc ls h))
+        (block_lead cs (locks_after c H) (cmd_plan p t c H P) (i + length cc) k.1 (at_right lines i cc ls h))
 
 -- the property of a thread's lines
 abbrev pub Forward : List Line → Type 0

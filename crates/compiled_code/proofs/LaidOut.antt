@@ -2,12 +2,13 @@
 use Rattle.std.proofs.Common.{◌≡◌, ℕ, suc, ◌+◌, ◌<◌, ◌≤◌, List, [], ◌∷◌, ◌++◌, length, map, set, Bool, true, false, Option, Some, None, refl, subst, arith, IsTrue, slice_get, length-append, append_assoc, add-zero, inl, inr, subst₂}
 use Rattle.cov_expr.specs.Term.{Term}
 use Rattle.cov_expr.specs.Trees.{mentions, width}
+use Rattle.cov_ast.specs.LocksAlong.{locks_after, locks_at_end}
 use Rattle.cov_ast.specs.Plain.{Cmd, skip, assign, lock, unlock, branch, loop, output, Cmds, none, next, Plain}
 use Rattle.cov_ast.specs.Tables.{has}
 use Rattle.flow_model.specs.Source.{items_then}
 use Rattle.mode_state.specs.Sets.{is_stable, may_write}
 use Rattle.regalloc.specs.Plan.{Plan, start, meet, restrict}
-use Rattle.compiled_code.specs.Compiled.{line, weigh, expr_plan, expr_register, expr_instrs, expr_lines, direct, eval_lines, eval_plan, eval_register, use_weight, store_from, store_plan, cmd_locks, block_locks, cmd_plan, block_plan, cmd_lines, block_lines}
+use Rattle.compiled_code.specs.Compiled.{line, weigh, expr_plan, expr_register, expr_instrs, expr_lines, direct, eval_lines, eval_plan, eval_register, use_weight, store_from, store_plan, cmd_plan, block_plan, cmd_lines, block_lines}
 use Rattle.compiled_code.proofs.Gen.{ExprParts, expr_parts, direct_right, store_from_direct, store_plan_right}
 use Rattle.compiled_code.proofs.Plans.{meet_is, restricted_is}
 use Rattle.compiled_code.proofs.Shape.{LineIs, Reach, here, hop, LinesFrom, AfterStore, ExprCode, EvalCode, CmdCode, BlockCode, ItemsCode, Follow, block_map, block_then}
@@ -29,14 +30,14 @@ module _ (p : Plain) (t : ℕ) where
     IsTidyCmd (assign x e) H = IsTrue (may_write p t H x) × IsTidyExpr H e × (x < length p.vars)
     IsTidyCmd (lock l) H = l < length p.locks
     IsTidyCmd (unlock l) H = (l < length p.locks) × IsTrue (has H l)
-    IsTidyCmd (branch e a b) H = IsTidyExpr H e × IsTidy a H × IsTidy b H × (block_locks a H ≡ block_locks b H)
-    IsTidyCmd (loop e a) H = IsTidyExpr H e × IsTidy a H × (block_locks a H ≡ H)
+    IsTidyCmd (branch e a b) H = IsTidyExpr H e × IsTidy a H × IsTidy b H × (locks_at_end a H ≡ locks_at_end b H)
+    IsTidyCmd (loop e a) H = IsTidyExpr H e × IsTidy a H × (locks_at_end a H ≡ H)
     IsTidyCmd (output e) H = IsTidyExpr H e
 
     -- statements under held locks, as far as the code rests on the rules
     pub IsTidy : Cmds → List Bool → Type 0
     IsTidy none H = Unit {0}
-    IsTidy (next at c cs) H = IsTidyCmd c H × IsTidy cs (cmd_locks c H)
+    IsTidy (next at c cs) H = IsTidyCmd c H × IsTidy cs (locks_after c H)
 
 -- Lines in code ---------------------------------------------------------------------------------------------------
 
@@ -106,7 +107,7 @@ module _ (p : Plain) (t : ℕ) (lines : List Line) where
 
   mutual
     cmd_at : (c : Cmd) (H : List Bool) (P : Plan) (i : ℕ) (N : List Bool → Plan → ℕ → Type 0) → Follow p t lines N N → IsTidyCmd p t c H → At lines i (cmd_lines p t c H P i)
-        → N (cmd_locks c H) (cmd_plan p t c H P) (i + length (cmd_lines p t c H P i)) → CmdCode p t lines c H P i N
+        → N (locks_after c H) (cmd_plan p t c H P) (i + length (cmd_lines p t c H P i)) → CmdCode p t lines c H P i N
     cmd_at skip H P i N f k h n = (h.0, subst (N H P) (omega arith) n)
     cmd_at (assign x e) H P i N f k h n =
         let st = is_stable p t H in
@@ -143,15 +144,15 @@ module _ (p : Plain) (t : ℕ) (lines : List Line) where
         let h2 = at_right lines at_a ca (last ∷ cb) h1.1 in
         let A = block_plan p t a H Q in
         let B = block_plan p t b H Q in
-        let m : N (block_locks a H) (meet A B) (at_b + length cb) = subst (N (block_locks a H) (meet A B)) (branch_end i ce ca cb j last) n in
-        let m' : N (block_locks b H) (meet A B) (at_b + length cb) = subst (λ K. N K (meet A B) (at_b + length cb)) k.3 m in
+        let m : N (locks_at_end a H) (meet A B) (at_b + length cb) = subst (N (locks_at_end a H) (meet A B)) (branch_end i ce ca cb j last) n in
+        let m' : N (locks_at_end b H) (meet A B) (at_b + length cb) = subst (λ K. N K (meet A B) (at_b + length cb)) k.3 m in
         eval_at H P e i (λ w Q d j. (z : ℕ) × LineIs lines j w (Jz d z) × BlockCode p t lines a H Q (suc j) N × BlockCode p t lines b H Q z N) k.0 o (λ s q. q)
         (at_left lines i ce (j ∷ (ca ++ (last ∷ cb))) h) (
           at_b,
           h1.0,
           block_at a H Q at_a N f k.1 (at_left lines at_a ca (last ∷ cb) h1.1)
-              (hop h2.0 (here (f (block_locks a H) (meet A B) A (at_b + length cb) (λ j y e. (meet_is A B j y e).0) m))),
-          block_at b H Q at_b N f k.2 h2.1 (here (f (block_locks b H) (meet A B) B (at_b + length cb) (λ j y e. (meet_is A B j y e).1) m')),
+              (hop h2.0 (here (f (locks_at_end a H) (meet A B) A (at_b + length cb) (λ j y e. (meet_is A B j y e).0) m))),
+          block_at b H Q at_b N f k.2 h2.1 (here (f (locks_at_end b H) (meet A B) B (at_b + length cb) (λ j y e. (meet_is A B j y e).1) m')),
         )
     cmd_at (loop e a) H P i N f k h n =
         let st = is_stable p t H in
@@ -184,16 +185,16 @@ module _ (p : Plain) (t : ℕ) (lines : List Line) where
         )
 
     block_at : (c : Cmds) (H : List Bool) (P : Plan) (i : ℕ) (N : List Bool → Plan → ℕ → Type 0) → Follow p t lines N N → IsTidy p t c H → At lines i (block_lines p t c H P i)
-        → Reach lines (N (block_locks c H) (block_plan p t c H P)) (i + length (block_lines p t c H P i)) → BlockCode p t lines c H P i N
+        → Reach lines (N (locks_at_end c H) (block_plan p t c H P)) (i + length (block_lines p t c H P i)) → BlockCode p t lines c H P i N
     block_at none H P i N f k h n = subst (Reach lines (N H P)) (add-zero i) n
     block_at (next at c cs) H P i N f k h n =
         let cc = cmd_lines p t c H P i in
-        let K = cmd_locks c H in
+        let K = locks_after c H in
         let Q = cmd_plan p t c H P in
         let ls = block_lines p t cs K Q (i + length cc) in
         here (cmd_at c H P i (λ L R k. BlockCode p t lines cs L R k N) (λ L R S k x v. block_map p t lines cs L R S k N N x f v) k.0 (at_left lines i cc ls h)
         (block_at cs K Q (i + length cc) N f k.1 (at_right lines i cc ls h)
-        (subst (Reach lines (N (block_locks cs K) (block_plan p t cs K Q))) (simp length-append (omega arith)) n)))
+        (subst (Reach lines (N (locks_at_end cs K) (block_plan p t cs K Q))) (simp length-append (omega arith)) n)))
 
 -- the whole body of a thread
 pub body_at : (p : Plain) (t : ℕ) (c : Cmds) (H : List Bool) → IsTidy p t c H → ItemsCode p t (block_lines p t c H start 0) (items_then c []) H start 0

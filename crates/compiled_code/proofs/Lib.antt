@@ -10,6 +10,7 @@ mod LaidOut
 mod Forward
 mod Progress
 mod Whole
+mod Records
 mod Loads
 mod Few
 mod Tidied

@@ -6,6 +6,7 @@ use Rattle.cov_ast.specs.Tables.{has}
 use Rattle.flow_model.specs.Source.{Item, run, put, test, emit, items_then}
 use Rattle.mode_state.specs.Sets.{is_stable, may_write}
 use Rattle.regalloc.specs.Plan.{Plan, start}
+use Rattle.regalloc.specs.TrueRecord.{IsTrueRecord}
 use Rattle.compiled_code.proofs.Cores.{exec_one, exec, IsStraight, Straight}
 use Rattle.compiled_code.proofs.Plans.{Below}
 use Rattle.risc_machine.specs.declared.parts.Instr.{Instr}
@@ -46,9 +47,9 @@ module _ (p : Plain) (t : ℕ) where
   abbrev pub IsStable : List Bool → ℕ → Type 0
   IsStable H x = IsTrue (is_stable p t H x)
 
-  -- the plan is true: what it keeps is stable, and the register has the variable's word
+  -- the plan is true where these locks are held
   abbrev pub Record : Plan → List Bool → List ℕ → List ℕ → Type 0
-  Record P H r m = (j x : ℕ) → get_or P j None ≡ Some x → IsStable H x × (get_or r j 0 ≡ get_or m x 0)
+  Record P H r m = IsTrueRecord (IsStable H) P r m
 
   -- what is left of P is stable under H
   abbrev pub Left : List Bool → Plan → Plan → Type 0

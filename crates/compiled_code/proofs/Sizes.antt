@@ -3,13 +3,14 @@ use Rattle.std.proofs.Common.{◌≡◌, ℕ, suc, ◌+◌, ◌*◌, ◌≤◌, 
 use Rattle.std.proofs.lemmas.List.{length-map}
 use Rattle.cov_expr.specs.Term.{Term, const, var, neg, bin}
 use Rattle.cov_expr.specs.Trees.{nodes, occurrences, width}
+use Rattle.cov_ast.specs.LocksAlong.{locks_after}
 use Rattle.cov_ast.specs.Plain.{Cmd, skip, assign, lock, unlock, branch, loop, output, Cmds, none, next, Plain, plain_stm, plain_block}
 use Rattle.cov_ast.specs.Syntax.{Stm, Block, done, more}
 use Rattle.cov_ast.specs.Syntax as annotated
 use Rattle.cov_ast.specs.WellFormed.{stm_size, block_size}
 use Rattle.mode_state.specs.Sets.{is_stable}
 use Rattle.regalloc.specs.Plan.{Plan, start}
-use Rattle.compiled_code.specs.Compiled.{line, weigh, unstable_of, load_unstable, term_instrs, fetch_at, fetched_plan, load_into, fetch_instrs, expr_room, expr_plan, expr_register, expr_instrs, expr_lines, direct, eval_lines, eval_plan, eval_register, use_weight, store_from, cmd_locks, cmd_plan, cmd_lines, block_lines}
+use Rattle.compiled_code.specs.Compiled.{line, weigh, unstable_of, load_unstable, term_instrs, fetch_at, fetched_plan, load_into, fetch_instrs, expr_room, expr_plan, expr_register, expr_instrs, expr_lines, direct, eval_lines, eval_plan, eval_register, use_weight, store_from, cmd_plan, cmd_lines, block_lines}
 use Rattle.risc_machine.specs.declared.parts.Instr.{Instr}
 use Rattle.risc_machine.specs.declared.parts.Instr.TheVariants.{Store, Jump, Jz, Out}
 
@@ -151,8 +152,8 @@ module _ (p : Plain) (t : ℕ) where
     block_few none H P i = omega arith
     block_few (next at c cs) H P i =
         let cc = cmd_lines p t c H P i in
-        let ls = block_lines p t cs (cmd_locks c H) (cmd_plan p t c H P) (i + length cc) in
+        let ls = block_lines p t cs (locks_after c H) (cmd_plan p t c H P) (i + length cc) in
         let k = cmd_few c H P i in
-        let n = block_few cs (cmd_locks c H) (cmd_plan p t c H P) (i + length cc) in
+        let n = block_few cs (locks_after c H) (cmd_plan p t c H P) (i + length cc) in
         let all : length (cc ++ ls) ≡ length cc + length ls = length-append cc ls in
         omega arith

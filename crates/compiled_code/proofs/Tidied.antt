@@ -11,6 +11,7 @@ use Rattle.cov_expr.specs.Trees.{has_number, occurrences, width}
 use Rattle.cov_expr.proofs.Tests.{each_below}
 use Rattle.cov_expr.proofs.Trees.{occurs}
 use Rattle.cov_ast.specs.Declarations.{thread_at}
+use Rattle.cov_ast.specs.LocksAlong.{locks_at_end, no_locks}
 use Rattle.cov_ast.specs.Obligations.{Obligation, all_hold}
 use Rattle.cov_ast.specs.Plain.{Cmds, Plain, plain, plain_stm, plain_block, plain_thread}
 use Rattle.cov_ast.specs.Syntax.{Proof, Stm, skip, assign, lock, unlock, branch, loop, note, output, Block, done, more, Program}
@@ -26,7 +27,6 @@ use Rattle.typing_rules.proofs.Soundness.Sound.{agreed}
 use Rattle.typing_state.specs.After.{start, with_guard, meet}
 use Rattle.typing_state.specs.Point.{Point}
 use Rattle.verify.specs.Accepted.{IsAccepted}
-use Rattle.compiled_code.specs.Compiled.{block_locks, no_locks}
 use Rattle.compiled_code.proofs.LaidOut.{IsTidyExpr, IsTidy}
 
 -- At most one that passes a test ----------------------------------------------------------------------------------
@@ -106,17 +106,17 @@ module _ (p : Plain) (t : ℕ) where
 
   -- The points have the locks that the plain statements have.
   mutual
-    stm_locks : (s : Stm) (at : ℕ) (rest : Cmds) (a : Point) → block_locks (plain_stm s at rest) a.held ≡ block_locks rest (after_stm p t s a).held
+    stm_locks : (s : Stm) (at : ℕ) (rest : Cmds) (a : Point) → locks_at_end (plain_stm s at rest) a.held ≡ locks_at_end rest (after_stm p t s a).held
     stm_locks skip at rest a = refl
     stm_locks (assign x e q retypes) at rest a = refl
     stm_locks (lock l) at rest a = refl
     stm_locks (unlock l) at rest a = refl
-    stm_locks (branch e yes_block no_block join) at rest a = ap (block_locks rest) (held_behind yes_block (with_guard p t a e))
+    stm_locks (branch e yes_block no_block join) at rest a = ap (locks_at_end rest) (held_behind yes_block (with_guard p t a e))
     stm_locks (loop e inv b) at rest a = refl
     stm_locks (note j) at rest a = refl
     stm_locks (output e) at rest a = refl
 
-    held_behind : (b : Block) (a : Point) → block_locks (plain_block b) a.held ≡ (after_block p t b a).held
+    held_behind : (b : Block) (a : Point) → locks_at_end (plain_block b) a.held ≡ (after_block p t b a).held
     held_behind done a = refl
     held_behind (more at s proofs b) a = stm_locks s at (plain_block b) a ∙ held_behind b (after_stm p t s a)
 

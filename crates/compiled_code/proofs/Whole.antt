@@ -7,6 +7,7 @@ use Rattle.std.proofs.lemmas.List.Elements.{All-get_or}
 use Rattle.std.proofs.lemmas.Option.{slice_get_past}
 use Rattle.cov_expr.specs.Words.{AreWords, IsSchedule}
 use Rattle.cov_ast.specs.Declarations.{thread_at, no_thread}
+use Rattle.cov_ast.specs.LocksAlong.{no_locks}
 use Rattle.cov_ast.specs.Plain.{Plain}
 use Rattle.cov_ast.specs.Tables.{has}
 use Rattle.flow_model.specs.Agreement.{StatesAgree}
@@ -14,7 +15,6 @@ use Rattle.flow_model.specs.Composable.{HasCompatibleModes}
 use Rattle.flow_model.specs.Secure.{IsSecure}
 use Rattle.flow_model.specs.Source.{Item, Run, holder, is_held_by, run_from, items_of, begin, after, items_then}
 use Rattle.regalloc.specs.Plan.{start}
-use Rattle.compiled_code.specs.Compiled.{no_locks}
 use Rattle.compiled_code.specs.Matches.{AreRegisters, IsFinished, MatchesAfter, entries_of}
 use Rattle.compiled_code.specs.SecureCode.{CodesAgree, IsSecureCode}
 use Rattle.compiled_code.proofs.Cores.{core_of, core_step, core_from, core_lifted, same_from, same_lifted}
@@ -26,7 +26,7 @@ use Rattle.compiled_code.proofs.Progress.{count_of, counts_entries, IsPast, none
 use Rattle.compiled_code.proofs.SecureRuns.{twins_run}
 use Rattle.compiled_code.proofs.Shape.{ItemsCode}
 use Rattle.compiled_code.proofs.Steps.{AreSets, ready}
-use Rattle.risc_machine.specs.Machine.{CodeState, code_begin, code_from, code_after, line_of, lines_of, position}
+use Rattle.risc_machine.specs.Machine.{CodeState, code_begin, code_after, lines_of, position}
 use Rattle.risc_machine.specs.Machine as machine
 use Rattle.risc_machine.specs.declared.parts.Parts.{Parts}
 
@@ -47,11 +47,11 @@ pub record IsLaidOut (p : Plain) (c : Parts) : Type 0 where
   pub each : (t : ℕ) → t < length p.threads → ItemsCode p t (lines_of c t) (items_then (thread_at p t).body []) (no_locks p) start 0
 
 module _ (p : Plain) (sets : (t : ℕ) → AreSets p t) (apart : HasCompatibleModes p) (c : Parts) (k : IsLaidOut p c) where
-  first_items : List (List Item)
+  pub first_items : List (List Item)
   first_items = map (λ t. items_then t.body []) p.threads
 
   module _ (m : List ℕ) (R : List (List ℕ)) (regs : AreRegisters (length p.threads) R) (wide : length m ≡ length p.vars) where
-    coupled_start : Coupled p sets apart c (code_begin c m R) first_items
+    pub coupled_start : Coupled p sets apart c (code_begin c m R) first_items
     unfolding first_items
     coupled_start = record {
       locks = length-replicate (length c.locks) None ∙ k.locks;

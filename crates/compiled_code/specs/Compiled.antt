@@ -3,12 +3,13 @@
 -- A register keeps a stable variable, so that it is loaded once while it is stable; nothing else is kept, since others may
 -- write it. (After the compiler of Sison and Murray, whose registers have the same record; here its assumptions change along
 -- the text, with the locks.)
-use Rattle.std.specs.Prelude.{ℕ, suc, ◌+◌, List, [], ◌∷◌, ◌++◌, length, get_or, set, map, replicate, Bool, true, false, if◌then◌else◌, Option, Some, None}
+use Rattle.std.specs.Prelude.{ℕ, suc, ◌+◌, List, [], ◌∷◌, ◌++◌, length, get_or, set, map, Bool, true, false, if◌then◌else◌, Option, Some, None}
 use Rattle.std.specs.List.{range_with_len}
 use Rattle.cov_expr.specs.declared.expr.Op.TheVariants.{Eq}
 use Rattle.cov_expr.specs.Term.{Term, const, var, neg, bin}
 use Rattle.cov_expr.specs.Trees.{occurrences, width}
 use Rattle.cov_ast.specs.Declarations.{thread_at}
+use Rattle.cov_ast.specs.LocksAlong.{locks_after, no_locks}
 use Rattle.cov_ast.specs.Plain.{Cmd, skip, assign, lock, unlock, branch, loop, output, Cmds, none, next, Plain, plain}
 use Rattle.cov_ast.specs.Syntax.{Program}
 use Rattle.mode_state.specs.Sets.{is_stable}
@@ -149,21 +150,6 @@ store_plan false plan x r = stored plan x
 
 -- Statements -----------------------------------------------------------------------------------------------------
 
-abbrev mutual
-  -- the locks that are held after a statement
-  pub cmd_locks : Cmd → List Bool → List Bool
-  cmd_locks skip locks = locks
-  cmd_locks (assign x e) locks = locks
-  cmd_locks (lock l) locks = set locks l true
-  cmd_locks (unlock l) locks = set locks l false
-  cmd_locks (branch e a b) locks = block_locks a locks
-  cmd_locks (loop e a) locks = locks
-  cmd_locks (output e) locks = locks
-
-  pub block_locks : Cmds → List Bool → List Bool
-  block_locks none locks = locks
-  block_locks (next at c cs) locks = block_locks cs (cmd_locks c locks)
-
 module _ (p : Plain) (t : ℕ) where
   abbrev mutual
     -- The plan after a statement. Both arms of a branch begin with the plan after the guard, and behind it stands what both
@@ -185,7 +171,7 @@ module _ (p : Plain) (t : ℕ) where
 
     pub block_plan : Cmds → List Bool → Plan → Plan
     block_plan none locks plan = plan
-    block_plan (next at c cs) locks plan = block_plan cs (cmd_locks c locks) (cmd_plan c locks plan)
+    block_plan (next at c cs) locks plan = block_plan cs (locks_after c locks) (cmd_plan c locks plan)
 
   abbrev mutual
     -- the lines of a statement that begins at line i
@@ -219,13 +205,9 @@ module _ (p : Plain) (t : ℕ) where
     block_lines none locks plan i = []
     block_lines (next at c cs) locks plan i =
         let lines = cmd_lines c locks plan i in
-        lines ++ block_lines cs (cmd_locks c locks) (cmd_plan c locks plan) (i + length lines)
+        lines ++ block_lines cs (locks_after c locks) (cmd_plan c locks plan) (i + length lines)
 
 -- Programs -------------------------------------------------------------------------------------------------------
-
--- no lock is held
-abbrev pub no_locks : Plain → List Bool
-no_locks p = replicate (length p.locks) false
 
 -- the lines of a thread
 abbrev pub thread_lines : Plain → (t : ℕ) → List Line

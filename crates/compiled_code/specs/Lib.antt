@@ -3,3 +3,4 @@ pub mod Matches
 pub mod SecureCode
 pub mod LoadBound
 pub mod GoodCode
+pub mod Records

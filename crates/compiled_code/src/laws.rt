@@ -1,3 +1,5 @@
+//! Laws of the code of a program: that it is code, and, where the program is accepted, what its runs are.
+
 ghost use Rattle.cov_ast.specs.Plain.{plain};
 ghost use Rattle.cov_ast.specs.Syntax as syntax;
 ghost use Rattle.cov_ast.specs.WellFormed.{IsWellFormed};
@@ -5,6 +7,7 @@ ghost use Rattle.compiled_code.specs.Compiled.{compiled};
 ghost use Rattle.compiled_code.specs.GoodCode.{IsGoodCode};
 ghost use Rattle.compiled_code.specs.LoadBound.{MeetsLoadBound};
 ghost use Rattle.compiled_code.specs.Matches.{Matches};
+ghost use Rattle.compiled_code.specs.Records.{KeepsRecords};
 ghost use Rattle.compiled_code.specs.SecureCode.{IsSecureCode};
 ghost use Rattle.risc_machine.specs.Faults.{AreGood};
 ghost use Rattle.verify.specs.Accepted.{IsAccepted};
@@ -42,6 +45,16 @@ pub fn loads_are_few()
     ensures { (p : syntax.Program) → IsAccepted p → MeetsLoadBound (plain p) (compiled p) }
 {
     true_declarations_are_declared();
+}
+
+/// What registers keep for a thread lasts while others run: at each state of a run of the code of an accepted program, a plan
+/// whose record is true for a thread stays true under steps of other threads. Each variable that it keeps is stable for the
+/// thread, so that no other may write it, and the locks that make it stable stay with the thread.
+pub fn records_last()
+    ensures { (p : syntax.Program) → IsWellFormed p → IsAccepted p → KeepsRecords (plain p) (compiled p) }
+{
+    sets_are_holdings();
+    writable_and_stable_are_disjoint();
 }
 
 /// The code of an accepted program is good.

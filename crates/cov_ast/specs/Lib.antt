@@ -1,5 +1,6 @@
 pub mod Syntax
 pub mod Plain
+pub mod LocksAlong
 pub mod Declarations
 pub mod View
 pub mod NameTables

@@ -1,3 +1,4 @@
 pub mod Plan
 pub mod PartRegisters
 pub mod Stable
+pub mod TrueRecord

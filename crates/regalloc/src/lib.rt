@@ -4,8 +4,9 @@
 //!   needed, and which ones are free for the parts of an expression.
 //! - [`width`]: how many registers an expression needs for its parts.
 //!
-//! Contracts see a plan as the list of `specs/Plan.antt`, and each call is the definition of the same name there. What a
-//! record means, and that it stays true while others run, are laws about the code that is made.
+//! Contracts see a plan as the list of `specs/Plan.antt`, and each call is the definition of the same name there. When a record
+//! is true of registers and memory is said in `specs/TrueRecord.antt`; that it stays true while others run is a law about the
+//! code that is made, `records_last` of `compiled_code`.
 #![tactic(auto)]
 
 mod measures;

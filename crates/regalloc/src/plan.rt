@@ -1,3 +1,5 @@
+//! The record of which variable each of the eight registers is kept for.
+
 ghost use Rattle.std.specs.Prelude.{◌≡◌, ℕ, ◌<◌, ◌≤◌, length, IfSome, IsSome};
 ghost use Rattle.regalloc.specs.PartRegisters.{IsForPart};
 ghost use Rattle.regalloc.specs.Plan as spec;

@@ -4,6 +4,7 @@ use Rattle.std.proofs.Math.Seq.{set-append_seam}
 use Rattle.std.proofs.lemmas.List.{append-nil}
 use Rattle.cov_expr.specs.Term.{Term}
 use Rattle.cov_expr.specs.Words.{HasVarsBelow}
+use Rattle.cov_ast.specs.LocksAlong.{locks_after, locks_at_end}
 use Rattle.cov_ast.specs.Plain.{Plain, Cmd, Cmds, none, next, plain_stm, plain_block}
 use Rattle.cov_ast.specs.Plain as plain
 use Rattle.cov_ast.specs.Syntax.{State, Stm, Block, done, more, skip, assign, lock, unlock, branch, loop, note, output}
@@ -11,8 +12,8 @@ use Rattle.cov_ast.specs.WellFormed.{IsBlockInRange, IsStmInRange}
 use Rattle.mode_state.specs.Sets.{Sets, is_stable, modes_at}
 use Rattle.regalloc.specs.Plan.{Plan, start, restrict, meet}
 use Rattle.regalloc.specs.Stable.{KeepsBelow, KeepsStable}
-use Rattle.compiled_code.specs.Compiled.{block_lines, block_locks, block_plan, cmd_lines, cmd_locks, cmd_plan, direct, eval_lines, eval_plan, eval_register, line, store_from}
-use Rattle.risc_compile.specs.Inside.{AddsBlock, AddsGuarded, Stands, WhereStable, after, after_guarded, evaluated_by, value_of, with_lines}
+use Rattle.compiled_code.specs.Compiled.{block_lines, block_plan, cmd_lines, cmd_plan, direct, eval_lines, eval_plan, eval_register, line, store_from}
+use Rattle.risc_compile.specs.Inside.{AddsBlock, AddsGuarded, Stands, WhereStable, after, after_guarded, evaluated_by, used_value, with_lines}
 use Rattle.risc_compile.specs.declared.expressions.Value.{Value}
 use Rattle.risc_compile.specs.declared.emitter.Emitter.{Emitter}
 use Rattle.risc_compile.proofs.PlanLaws.{below_less, eval_below, expr_below, meet_less, restrict_less, start_below, store_below}
@@ -39,7 +40,7 @@ module _ (p : Plain) (t : ℕ) where
         let stable = is_stable p t locks in
         let inside = eval_plan stable plan e (direct stable plan e) in
         let kept = eval_below (length p.vars) stable e plan (direct stable plan e) range.0 below in
-        go (block_locks (plain_block a) locks) _
+        go (locks_at_end (plain_block a) locks) _
         (below_less (length p.vars) _ (block_plan p t (plain_block a) locks inside) (meet_less (block_plan p t (plain_block a) locks inside) (block_plan p t (plain_block b) locks inside))
         (block_below a range.1 locks inside kept))
     stm_below (loop e inv b) rest at range locks plan below go =
@@ -66,7 +67,7 @@ module _ (p : Plain) (t : ℕ) where
   then_rest : (c : Cmd) (cs : Cmds) (at : ℕ) (e : Emitter) → after p t (next at c cs) e ≡ after p t cs (after p t (next 0 c none) e)
   then_rest c cs at e =
       let lines = cmd_lines p t c e.modes.held e.plan (length e.lines) in
-      let rest = λ (i : ℕ). block_lines p t cs (cmd_locks c e.modes.held) (cmd_plan p t c e.modes.held e.plan) i in
+      let rest = λ (i : ℕ). block_lines p t cs (locks_after c e.modes.held) (cmd_plan p t c e.modes.held e.plan) i in
       let same : e.lines ++ (lines ++ rest (length e.lines + length lines)) ≡ (e.lines ++ (lines ++ [])) ++ rest (length (e.lines ++ (lines ++ []))) =
       ap (λ (n : ℕ). e.lines ++ (lines ++ rest n)) (sym (length-append e.lines lines)) ∙ sym (append_assoc e.lines lines (rest (length (e.lines ++ lines))))
       ∙ ap (λ (ls : List Line). (e.lines ++ ls) ++ rest (length (e.lines ++ ls))) (sym (append-nil lines)) in
@@ -143,7 +144,7 @@ module _ (p : Plain) (t : ℕ) where
   evaluated_stands e a from inside h = record { modes = h.modes; below = eval_below (length p.vars) (is_stable p t e.modes.held) a e.plan from inside h.below }
 
   pub branch_code : (a : Term) (then_block else_block : Block) (join : State) (value : Value) (jump end : ℕ) (kept : Plan) (old one m two n q : Emitter)
-      → WhereStable old.modes a (λ stable. let from = direct stable old.plan a in (one ≡ evaluated_by stable a from old) × (value ≡ value_of stable a from old))
+      → WhereStable old.modes a (λ stable. let from = direct stable old.plan a in (one ≡ evaluated_by stable a from old) × (value ≡ used_value stable a from old))
       → AddsGuarded value then_block 0 one m → length m.lines ≡ jump + 1 → two ≡ record one { lines = m.lines } → AddsBlock else_block two n → end ≡ length n.lines
       → q ≡ record n { lines = set n.lines jump (line 0 (Jump end)) } → kept ≡ meet m.plan q.plan
       → Stands p t old → IsStmInRange (length p.vars) (length p.locks) (branch a then_block else_block join)
@@ -153,7 +154,7 @@ module _ (p : Plain) (t : ℕ) where
       let from = direct stable old.plan a in
       let begun = eval p t h.modes range.0 in
       let inside = evaluated_by stable a from old in
-      let used = value_of stable a from old in
+      let used = used_value stable a from old in
       let stands : Stands p t inside = evaluated_stands old a from range.0 h in
       let yes_cmds = plain_block then_block in
       let no_cmds = plain_block else_block in
@@ -191,7 +192,7 @@ module _ (p : Plain) (t : ℕ) where
       (λ i. let r : Emitter = record { lines = lines i; plan = plan i; modes = (first i).modes } in r)
 
   pub loop_code : (a : Term) (b : Block) (inv : State) (value : Value) (head : ℕ) (old one m : Emitter) → head ≡ length old.lines
-      → WhereStable old.modes a (λ stable. (one ≡ evaluated_by stable a None (record old { plan = start })) × (value ≡ value_of stable a None (record old { plan = start })))
+      → WhereStable old.modes a (λ stable. (one ≡ evaluated_by stable a None (record old { plan = start })) × (value ≡ used_value stable a None (record old { plan = start })))
       → AddsGuarded value b head one m
       → Stands p t old → IsStmInRange (length p.vars) (length p.locks) (loop a inv b)
       → ◌≡◌ {A = Emitter} (record { lines = m.lines; plan = one.plan; modes = one.modes }) (after p t (next 0 (plain.loop a (plain_block b)) none) old)
@@ -200,7 +201,7 @@ module _ (p : Plain) (t : ℕ) where
       let begun = eval p t h.modes range.0 in
       let empty : Emitter = record old { plan = start } in
       let inside = evaluated_by stable a None empty in
-      let used = value_of stable a None empty in
+      let used = used_value stable a None empty in
       let stands : Stands p t inside = evaluated_stands empty a None range.0 (record { modes = h.modes; below = start_below (length p.vars) }) in
       let cmds = plain_block b in
       let first : m ≡ after_guarded p t used cmds (length old.lines) inside =

@@ -2,6 +2,7 @@
 use Rattle.std.proofs.Common.{◌≡◌, ℕ, ◌<◌, List, [], length, get_or, map, Option, Some, None, refl, sym, ◌∙◌, ap, arith}
 use Rattle.std.proofs.lemmas.List.{get_or-map, length-map}
 use Rattle.cov_ast.specs.Declarations.{no_thread, thread_at}
+use Rattle.cov_ast.specs.LocksAlong.{no_locks}
 use Rattle.cov_ast.specs.Plain.{Plain, plain, plain_block, plain_thread}
 use Rattle.cov_ast.specs.Syntax.{Block}
 use Rattle.cov_ast.specs.View as view
@@ -10,7 +11,7 @@ use Rattle.cov_ast.specs.declared.decl.Program as decl
 use Rattle.cov_ast.specs.declared.decl.ThreadDecl.{ThreadDecl}
 use Rattle.mode_state.specs.Sets.{Sets, modes_at}
 use Rattle.regalloc.specs.Plan.{start}
-use Rattle.compiled_code.specs.Compiled.{block_lines, no_locks, thread_code}
+use Rattle.compiled_code.specs.Compiled.{block_lines, thread_code}
 use Rattle.risc_compile.specs.Inside.{AddsBlock, Stands, after}
 use Rattle.risc_compile.specs.declared.emitter.Emitter.{Emitter}
 use Rattle.risc_compile.proofs.PlanLaws.{start_below}

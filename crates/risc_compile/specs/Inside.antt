@@ -5,10 +5,11 @@ use Rattle.cov_ast.specs.Syntax.{Block, Stm}
 use Rattle.cov_ast.specs.WellFormed.{IsBlockInRange, IsStmInRange}
 use Rattle.cov_expr.specs.Term.{Term}
 use Rattle.cov_expr.specs.Words.{HasVarsBelow}
+use Rattle.cov_ast.specs.LocksAlong.{locks_at_end}
 use Rattle.mode_state.specs.Sets.{Sets, modes_at, is_stable}
 use Rattle.regalloc.specs.Plan.{Plan}
 use Rattle.regalloc.specs.Stable.{KeepsBelow}
-use Rattle.compiled_code.specs.Compiled.{line, block_lines, block_locks, block_plan, eval_lines, eval_plan, eval_register, expr_lines, expr_plan, expr_room, fetch_instrs, fetch_plan, use_weight}
+use Rattle.compiled_code.specs.Compiled.{line, block_lines, block_plan, eval_lines, eval_plan, eval_register, expr_lines, expr_plan, expr_room, fetch_instrs, fetch_plan, use_weight}
 use Rattle.risc_compile.specs.declared.emitter.Emitter.{Emitter}
 use Rattle.risc_compile.specs.declared.expressions.Value.{Value}
 use Rattle.risc_machine.specs.declared.parts.Instr.{Instr}
@@ -55,8 +56,8 @@ abbrev pub evaluated_by : (stable : ℕ → Bool) → Term → (direct : Option 
 evaluated_by stable t direct e = record e { lines = e.lines ++ eval_lines stable e.plan t direct; plan = eval_plan stable e.plan t direct }
 
 -- where its value is, and for how many steps the instruction stands that uses it
-abbrev pub value_of : (stable : ℕ → Bool) → Term → (direct : Option ℕ) → Emitter → Value
-value_of stable t direct e = record { register = eval_register stable e.plan t direct; weight = use_weight direct }
+abbrev pub used_value : (stable : ℕ → Bool) → Term → (direct : Option ℕ) → Emitter → Value
+used_value stable t direct e = record { register = eval_register stable e.plan t direct; weight = use_weight direct }
 
 -- Statements -----------------------------------------------------------------------------------------------------
 
@@ -66,7 +67,7 @@ module _ (p : Plain) (t : ℕ) where
   after cmds e = record {
     lines = e.lines ++ block_lines p t cmds e.modes.held e.plan (length e.lines);
     plan = block_plan p t cmds e.modes.held e.plan;
-    modes = modes_at p t (block_locks cmds e.modes.held);
+    modes = modes_at p t (locks_at_end cmds e.modes.held);
   }
 
   -- the lines from i on: statements that are left out where a value is 0, and behind them a jump
@@ -80,7 +81,7 @@ module _ (p : Plain) (t : ℕ) where
   after_guarded value cmds target e = record {
     lines = e.lines ++ guarded_lines value cmds target e.modes.held e.plan (length e.lines);
     plan = block_plan p t cmds e.modes.held e.plan;
-    modes = modes_at p t (block_locks cmds e.modes.held);
+    modes = modes_at p t (locks_at_end cmds e.modes.held);
   }
 
 -- This is the code of statements, whatever thread it is of.

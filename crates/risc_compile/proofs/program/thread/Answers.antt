@@ -1,12 +1,13 @@
 use Rattle.std.proofs.Common.{◌≡◌, ap, arith, false, get_or, length, map, replicate, sym, subst, ◌∙◌}
 use Rattle.std.proofs.lemmas.List.{length-map}
+use Rattle.cov_ast.specs.LocksAlong.{no_locks}
 use Rattle.cov_ast.specs.Plain.{plain, plain_block}
 use Rattle.cov_ast.specs.View as view
 use Rattle.cov_ast.specs.WellFormed.{IsBlockInRange, IsBodyFine, IsThreadInRange, block_size}
 use Rattle.cov_ast.proofs.WellFormedLaws.{seen_item}
 use Rattle.mode_state.specs.Sets.{modes_at}
 use Rattle.regalloc.specs.Plan.{start}
-use Rattle.compiled_code.specs.Compiled.{block_lines, no_locks}
+use Rattle.compiled_code.specs.Compiled.{block_lines}
 use Rattle.risc_compile.specs.declared.emitter.Emitter.{Emitter}
 use Rattle.risc_compile.proofs.ThreadLaws.{thread_is, whole_lines}
 use Rattle.risc_compile.proofs.program.thread.Goals as goal
