@@ -213,7 +213,7 @@ fn add_source_runs(
     ensures agree { OnOk result (let p = plain (view.program program.now) in
         AgreeThroughout p (begin p memories.now.left) (begin p memories.now.right) schedule.now) }
     ensures text { OnOk result (text.new ≡ text.old
-        ++ spec.source_told (view.program program.now) memories.now.left memories.now.right schedule.now) }
+        ++ spec.source_summary (view.program program.now) memories.now.left memories.now.right schedule.now) }
 {
     let mut first = source_at(alloc, program, &memories.left, schedule.len())?;
     let stayed = run(&mut first, schedule);
@@ -260,7 +260,7 @@ fn add_code_runs(
     ensures agree { OnOk result (CodeAgreesThroughout (plain (view.program program.now)) code.now
         (code_start code.now memories.now.left) (code_start code.now memories.now.right) schedule.now) }
     ensures text { OnOk result (text.new ≡ text.old
-        ++ spec.code_told (view.program program.now) code.now memories.now.left memories.now.right schedule.now) }
+        ++ spec.code_summary (view.program program.now) code.now memories.now.left memories.now.right schedule.now) }
 {
     let mut left = code_at(alloc, code, &memories.left, schedule.len())?;
     let mut right = code_at(alloc, code, &memories.right, schedule.len())?;
