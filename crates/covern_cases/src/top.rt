@@ -24,7 +24,7 @@ pub fn add_shown(
     let mut shelf = shelf_of(alloc, files, outside.cut, list_of(alloc, outside.fetch)?)?;
     let fails = list_of(alloc, outside.put)?;
     let mut sink = MemSink::new(alloc, outside.room, outside.step, fails)?;
-    let status = covern(alloc, words.as_slice(), &mut shelf, &mut sink).exit_status();
+    let status = covern(alloc, words.as_slice(), &mut shelf, &mut sink) as u8;
     out.extend_from_slice(sink.bytes())?;
     if status > 0 {
         let line = format!(in alloc; "[{status}]\n")?;

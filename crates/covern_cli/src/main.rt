@@ -4,30 +4,15 @@
 
 use cov_io::{FileShelf, StdSink};
 use std::process::ExitCode;
-use std::{env, io};
-use top_call::covern;
-
-/// The exit status where a word of the command line isn't text.
-const BAD_WORDS: u8 = 10;
-
-/// The exit status where there is no memory for the command line.
-const NO_MEMORY: u8 = 6;
+use top_call::{command_line, covern};
 
 fn main(rt: HostRuntime) -> ExitCode {
     let words = match command_line(&rt) {
         Ok(words) => words,
-        Err(error) if error.kind() == io::ErrorKind::OutOfMemory => {
-            return ExitCode::from(NO_MEMORY);
-        }
-        Err(_) => return ExitCode::from(BAD_WORDS),
+        Err(status) => return ExitCode::from(status),
     };
     let mut shelf = FileShelf::new(&rt);
     let mut sink = StdSink::new(&rt);
     let status = covern(rt.alloc(), words.as_slice(), &mut shelf, &mut sink);
     ExitCode::from(status.exit_status())
-}
-
-/// The words behind the program's name.
-fn command_line(rt: &HostRuntime) -> io::Result<Vec<String>> {
-    Ok(env::args(rt)?.skip(1).collect(rt.alloc())?)
 }

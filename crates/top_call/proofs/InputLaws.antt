@@ -19,7 +19,7 @@ use Rattle.schedule_replay.specs.declared.fault.ScheduleFault.{ScheduleFault}
 use Rattle.schedule_replay.specs.declared.fault.ScheduleFault.TheVariants as schedules
 use Rattle.schedule_replay.specs.declared.fault.StartFault.{StartFault}
 use Rattle.schedule_replay.specs.declared.fault.StartFault.TheVariants as starts
-use Rattle.top_call.specs.Inputs.{named, start_shown, schedule_shown, IsStart, IsStartFault, IsScheduleText, IsScheduleFault}
+use Rattle.top_call.specs.Inputs.{declaration_of, start_shown, schedule_shown, IsStart, IsStartFault, IsScheduleText, IsScheduleFault}
 use Rattle.top_call.specs.AnswerViews.{Stops}
 use Rattle.top_call.specs.Inside.{IsUnread}
 use Rattle.top_call.specs.Replies.{malformed}
@@ -67,7 +67,7 @@ start_fault_said found said h fault e = h
 
 -- a start is one of names alone
 abbrev renamed : List VarDecl → List VarDecl
-renamed vs = map named (map view.var vs)
+renamed vs = map declaration_of (map view.var vs)
 
 same_missing : (ms : Members) (vs : List VarDecl) → m.first_missing ms (renamed vs) ≡ m.first_missing ms vs
 same_missing ms [] = refl
@@ -194,7 +194,7 @@ schedule_fine threads (Some d) entries h = by (as_array d) h
 -- Readings -----------------------------------------------------------------------------------------------------
 
 pub start_reading : (p : Parsed) → IsReading (IsStart p) (IsStartFault p)
-start_reading p = given_reading (λ bytes. m.start_of (map named p.vars) (value_of bytes)) start_shown
+start_reading p = given_reading (λ bytes. m.start_of (map declaration_of p.vars) (value_of bytes)) start_shown
 
 pub schedule_reading : (p : Parsed) → IsReading (IsScheduleText p) (IsScheduleFault p)
 schedule_reading p = given_reading (λ bytes. k.schedule_of (length p.threads) (value_of bytes)) schedule_shown

@@ -30,19 +30,19 @@ second_start p = start_with 2 p.vars
 -- Replies ------------------------------------------------------------------------------------------------------
 
 -- what is told of two runs of a program from two memories under a schedule
-abbrev pub source_told : Program → (left right schedule : List ℕ) → List ℕ
-source_told p left right schedule =
+abbrev pub source_summary : Program → (left right schedule : List ℕ) → List ℕ
+source_summary p left right schedule =
     source_part p (length schedule) (stayed (plain p) left schedule) (after (plain p) left schedule) (after (plain p) right schedule)
 
 -- what is told of two runs of its code from there
-abbrev pub code_told : Program → Parts → (left right schedule : List ℕ) → List ℕ
-code_told p c left right schedule = code_part p (length schedule) (code_end c left schedule) (code_end c right schedule)
+abbrev pub code_summary : Program → Parts → (left right schedule : List ℕ) → List ℕ
+code_summary p c left right schedule = code_part p (length schedule) (code_end c left schedule) (code_end c right schedule)
 
 -- The runs of a program from two memories agree after each step of a schedule, and so do those of its code.
 pub record AllRunTogether (rounds : ℕ) (p : Program) (c : Parts) (left right schedule : List ℕ) (reply : Reply) : Type 0 where
   pub agree : AgreeThroughout (plain p) (begin (plain p) left) (begin (plain p) right) schedule
   pub code_agree : CodeAgreesThroughout (plain p) c (code_start c left) (code_start c right) schedule
-  pub is : reply ≡ ran (head rounds p ++ source_told p left right schedule ++ code_told p c left right schedule)
+  pub is : reply ≡ ran (head rounds p ++ source_summary p left right schedule ++ code_summary p c left right schedule)
 
 -- the reply to these four runs
 abbrev pub RunsAll : (rounds : ℕ) → Program → Parts → (left right schedule : List ℕ) → Reply → Type 0

@@ -3,7 +3,7 @@ use Rattle.std.specs.Prelude.{ℕ, List, ◌++◌, flat_map, Option, Some, None,
 use Rattle.cov_ast.specs.Syntax.{Thread, Program}
 use Rattle.risc_machine.specs.Machine.{CodeState, line_of, position}
 use Rattle.risc_machine.specs.declared.parts.Parts.{Parts}
-use Rattle.top_call.specs.RunReports.{lines_from, lock_line, numbered, output_line, pair_line, told, var_line}
+use Rattle.top_call.specs.RunReports.{declaration_line, lines_from, lock_line, number_line, output_line, pair_line, var_line}
 
 -- the position of a thread, if it isn't finished
 abbrev pub next_position : Parts → CodeState → (t : ℕ) → Option ℕ
@@ -15,7 +15,7 @@ position_text (Some i) = codes "pc " ++ decimal i
 
 -- a finished thread is done, and another is at a position, counted from 0
 abbrev pub code_thread_line : Parts → CodeState → ℕ → Thread → List ℕ
-code_thread_line c s t thread = told (codes "thread ") thread.name (position_text (next_position c s t))
+code_thread_line c s t thread = declaration_line (codes "thread ") thread.name (position_text (next_position c s t))
 
 -- the locks, the threads and the outputs of a state
 abbrev pub code_state_lines : Program → Parts → CodeState → List ℕ
@@ -25,7 +25,7 @@ code_state_lines p c s =
 -- the report on a run of so many steps, of which so many stayed, and on the state after it
 abbrev pub code_report : Program → Parts → (steps stayed : ℕ) → CodeState → List ℕ
 code_report p c steps stayed s =
-    numbered (codes "steps ") steps ++ numbered (codes "stayed ") stayed ++ lines_from (var_line s.memory) 0 p.vars ++ code_state_lines p c s
+    number_line (codes "steps ") steps ++ number_line (codes "stayed ") stayed ++ lines_from (var_line s.memory) 0 p.vars ++ code_state_lines p c s
 
 -- the report on two runs that agree after each of so many steps; what else they agree on is told of the first
 abbrev pub code_pair_report : Program → Parts → (steps : ℕ) → (left right : CodeState) → List ℕ

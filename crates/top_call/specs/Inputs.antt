@@ -16,8 +16,8 @@ use Rattle.top_call.specs.declared.answers.Fault.TheVariants as f
 -- Starts -------------------------------------------------------------------------------------------------------
 
 -- a declaration with the name of a variable
-abbrev pub named : Var → VarDecl
-named v = record { name = v.name; at = v.at; class = classes.Low }
+abbrev pub declaration_of : Var → VarDecl
+declaration_of v = record { name = v.name; at = v.at; class = classes.Low }
 
 -- a fault of a start as reports show it; want of memory is none
 abbrev pub start_shown : StartFault → Option Fault
@@ -30,11 +30,11 @@ start_shown starts.NoMemory = None
 
 -- The bytes are a start: an object with a word for each declared variable, and for nothing else.
 abbrev pub IsStart : Parsed → (bytes memory : List ℕ) → Type 0
-IsStart p bytes memory = start_of (map named p.vars) (value_of bytes) ≡ Ok memory
+IsStart p bytes memory = start_of (map declaration_of p.vars) (value_of bytes) ≡ Ok memory
 
 -- The first fault of the bytes, which are no start, is shown so.
 abbrev pub IsStartFault : Parsed → (bytes : List ℕ) → Fault → Type 0
-IsStartFault p bytes fault = (found : StartFault) × (start_of (map named p.vars) (value_of bytes) ≡ Err found) × (start_shown found ≡ Some fault)
+IsStartFault p bytes fault = (found : StartFault) × (start_of (map declaration_of p.vars) (value_of bytes) ≡ Err found) × (start_shown found ≡ Some fault)
 
 -- Schedules ----------------------------------------------------------------------------------------------------
 

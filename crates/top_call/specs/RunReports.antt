@@ -12,12 +12,12 @@ module _ {A : Type 0} (line : ℕ → A → List ℕ) where
   lines_from number (x ∷ xs) = line number x ++ lines_from (number + 1) xs
 
 -- a line on a declaration: of what kind it is, its name, and what is told of it
-abbrev pub told : (kind name what : List ℕ) → List ℕ
-told kind name what = kind ++ name ++ codes " " ++ what ++ codes "\n"
+abbrev pub declaration_line : (kind name what : List ℕ) → List ℕ
+declaration_line kind name what = kind ++ name ++ codes " " ++ what ++ codes "\n"
 
 -- a line with a number
-abbrev pub numbered : (kind : List ℕ) → ℕ → List ℕ
-numbered kind n = kind ++ decimal n ++ codes "\n"
+abbrev pub number_line : (kind : List ℕ) → ℕ → List ℕ
+number_line kind n = kind ++ decimal n ++ codes "\n"
 
 -- States -------------------------------------------------------------------------------------------------------
 
@@ -34,20 +34,20 @@ place_text None = codes "done"
 place_text (Some at) = codes "at " ++ decimal at
 
 abbrev pub var_line : (memory : List ℕ) → ℕ → Var → List ℕ
-var_line memory x var = told (codes "var ") var.name (decimal (get_or memory x 0))
+var_line memory x var = declaration_line (codes "var ") var.name (decimal (get_or memory x 0))
 
 abbrev pub pair_line : (left right : List ℕ) → ℕ → Var → List ℕ
-pair_line left right x var = told (codes "var ") var.name (decimal (get_or left x 0) ++ codes " " ++ decimal (get_or right x 0))
+pair_line left right x var = declaration_line (codes "var ") var.name (decimal (get_or left x 0) ++ codes " " ++ decimal (get_or right x 0))
 
 abbrev pub lock_line : List Thread → Holders → ℕ → Lock → List ℕ
-lock_line threads holders l lock = told (codes "lock ") lock.name (holder_text threads (holder holders l))
+lock_line threads holders l lock = declaration_line (codes "lock ") lock.name (holder_text threads (holder holders l))
 
 -- a finished thread is done, and another is at the place of its statement
 abbrev pub thread_line : Run → ℕ → Thread → List ℕ
-thread_line state t thread = told (codes "thread ") thread.name (place_text (first_place (items_of state t)))
+thread_line state t thread = declaration_line (codes "thread ") thread.name (place_text (first_place (items_of state t)))
 
 abbrev pub output_line : ℕ → List ℕ
-output_line word = numbered (codes "output ") word
+output_line word = number_line (codes "output ") word
 
 -- the locks, the threads and the outputs of a state
 abbrev pub state_lines : Program → Run → List ℕ
@@ -59,11 +59,11 @@ state_lines p state =
 -- the report on a run of so many steps, of which so many stayed, and on the state after it
 abbrev pub run_report : Program → (steps stayed : ℕ) → Run → List ℕ
 run_report p steps stayed state =
-    numbered (codes "steps ") steps ++ numbered (codes "stayed ") stayed ++ lines_from (var_line state.memory) 0 p.vars ++ state_lines p state
+    number_line (codes "steps ") steps ++ number_line (codes "stayed ") stayed ++ lines_from (var_line state.memory) 0 p.vars ++ state_lines p state
 
 -- how a run ended that was to stop where an expression holds
 abbrev pub stop_line : (hit : Bool) → (steps : ℕ) → List ℕ
-stop_line hit steps = if hit then numbered (codes "stopped after ") steps else codes "not reached\n"
+stop_line hit steps = if hit then number_line (codes "stopped after ") steps else codes "not reached\n"
 
 -- the report on two runs that agree after each of so many steps; what else they agree on is told of the first
 abbrev pub pair_report : Program → (steps : ℕ) → (left right : Run) → List ℕ

@@ -6,12 +6,12 @@ use Rattle.risc_machine.specs.Machine.{CodeState}
 use Rattle.verify.specs.Verdicts.{counts}
 use Rattle.top_call.specs.Replies.{accepted}
 use Rattle.top_call.specs.Reports.{report_of}
-use Rattle.top_call.specs.RunReports.{lines_from, numbered, pair_line}
+use Rattle.top_call.specs.RunReports.{lines_from, number_line, pair_line}
 
 -- the number of rounds, and the line of a check that accepts the program
 abbrev pub head : (rounds : ℕ) → Program → List ℕ
 head rounds p =
-    numbered (codes "big ") rounds ++ report_of (accepted (length p.threads) (counts p).statements (counts p).entailments)
+    number_line (codes "big ") rounds ++ report_of (accepted (length p.threads) (counts p).statements (counts p).entailments)
 
 -- the line that two runs agree after each of so many steps
 abbrev pub agreement : (which : List ℕ) → (steps : ℕ) → List ℕ
@@ -19,7 +19,7 @@ agreement which steps = which ++ decimal steps ++ codes " steps\n"
 
 -- that two runs of a program agree after each of so many steps, and how often the first stayed
 abbrev pub source_head : (steps stayed : ℕ) → List ℕ
-source_head steps stayed = agreement (codes "source agrees: ") steps ++ numbered (codes "stayed ") stayed
+source_head steps stayed = agreement (codes "source agrees: ") steps ++ number_line (codes "stayed ") stayed
 
 -- two runs of a program, of which the first stayed so often
 abbrev pub source_part : Program → (steps stayed : ℕ) → (left right : Run) → List ℕ

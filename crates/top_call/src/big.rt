@@ -213,15 +213,31 @@ fn add_source_runs(
     ensures agree { OnOk result (let p = plain (view.program program.now) in
         AgreeThroughout p (begin p memories.now.left) (begin p memories.now.right) schedule.now) }
     ensures text { OnOk result (text.new ≡ text.old
-        ++ spec.source_told (view.program program.now) memories.now.left memories.now.right schedule.now) }
+        ++ spec.source_summary (view.program program.now) memories.now.left memories.now.right schedule.now) }
 {
-    let mut first = source_at(alloc, program, &memories.left, schedule.len())?;
-    let stayed = run(&mut first, schedule);
+    let stayed = stayed_from(alloc, program, &memories.left, schedule)?;
     let mut left = source_at(alloc, program, &memories.left, schedule.len())?;
     let mut right = source_at(alloc, program, &memories.right, schedule.len())?;
     let apart = pair(program, &mut left, &mut right, schedule);
     prove!(apart.is_none());
     add_source_part(program, &left, &right, schedule.len() as u32, stayed, text)
+}
+
+/// How many steps stay of a run of a program from a memory.
+fn stayed_from(
+    alloc: Global,
+    program: &Program,
+    memory: &List<u32>,
+    schedule: &[u32],
+) -> Result<u32, NoMemory>
+    requires formed { IsWellFormed (view.program program.now) }
+    requires memory { length memory.now ≡ length program.now.vars }
+    requires threads { IsSchedule (length program.now.threads) schedule.now }
+    requires entries { length schedule.now ≤ most_entries }
+    ensures { IfOk result (λ steps. steps ≡ stayed (plain (view.program program.now)) memory.now schedule.now) }
+{
+    let mut source = source_at(alloc, program, memory, schedule.len())?;
+    Ok(run(&mut source, schedule))
 }
 
 /// A program at its start from a copy of a memory.
@@ -260,7 +276,7 @@ fn add_code_runs(
     ensures agree { OnOk result (CodeAgreesThroughout (plain (view.program program.now)) code.now
         (code_start code.now memories.now.left) (code_start code.now memories.now.right) schedule.now) }
     ensures text { OnOk result (text.new ≡ text.old
-        ++ spec.code_told (view.program program.now) code.now memories.now.left memories.now.right schedule.now) }
+        ++ spec.code_summary (view.program program.now) code.now memories.now.left memories.now.right schedule.now) }
 {
     let mut left = code_at(alloc, code, &memories.left, schedule.len())?;
     let mut right = code_at(alloc, code, &memories.right, schedule.len())?;

@@ -5,7 +5,7 @@ ghost use Rattle.cov_ast.specs.View as view;
 ghost use Rattle.cov_expr.specs.declared.limits.TheConstants.{MOST_THREADS};
 ghost use Rattle.schedule_replay.specs.CodeReplays.{DeclaresAsMany};
 ghost use Rattle.top_call.specs.CodeReports as spec;
-ghost use Rattle.top_call.specs.RunReports.{lines_from, told};
+ghost use Rattle.top_call.specs.RunReports.{declaration_line, lines_from};
 
 use crate::lines::{add_name, add_number, add_numbered};
 use crate::run_reports::{add_locks, add_outputs, add_pairs, add_vars};
@@ -93,7 +93,7 @@ fn add_code_thread(
     thread: &ThreadDecl,
     text: &mut Blob,
 ) -> Result<(), NoMemory>
-    ensures { OnOk result (text.new ≡ text.old ++ told (codes "thread ") (view.thread thread.now).name (spec.position_text position)) }
+    ensures { OnOk result (text.new ≡ text.old ++ declaration_line (codes "thread ") (view.thread thread.now).name (spec.position_text position)) }
 {
     add_name(b"thread ", &thread.name, text)?;
     match position {

@@ -6,7 +6,7 @@
 //! as it was.
 //!
 //! A program that tells more than `check` does has its pieces: [`fetch`] gets a file, [`check_bytes`] judges its bytes, and
-//! [`report`] and [`status_for`] say how `check` reports the answer.
+//! [`report`] and [`status_for`] say how `check` reports the answer. [`command_line`] gets the words from the system.
 //!
 //! A call goes from top to bottom:
 //!
@@ -35,6 +35,7 @@ mod call;
 mod check;
 mod code_reports;
 mod codes;
+mod command_line;
 mod commands;
 mod compile;
 mod differences;
@@ -60,6 +61,7 @@ mod summaries;
 pub use answers::{Answer, Fault, FaultKind, Status, Stop, Totals, status_for};
 pub use call::covern;
 pub use check::check_bytes;
+pub use command_line::command_line;
 pub use files::fetch;
 pub use laws::{migrated_stays, one_outcome};
 pub use reports::report;

@@ -24,7 +24,7 @@ pub fn add_number(n: u32, line: &mut Blob) -> Result<(), NoMemory>
 
 /// Adds a line with a number.
 pub fn add_numbered(kind: &[u8], n: u32, text: &mut Blob) -> Result<(), NoMemory>
-    ensures { OnOk result (text.new ≡ text.old ++ spec.numbered kind.now n) }
+    ensures { OnOk result (text.new ≡ text.old ++ spec.number_line kind.now n) }
 {
     text.extend_from_slice(kind)?;
     add_number(n, text)?;

@@ -129,7 +129,7 @@ pub fn add_vars(vars: &[VarDecl], memory: &[u32], text: &mut Blob) -> Result<(),
 }
 
 fn add_var(word: u32, var: &VarDecl, text: &mut Blob) -> Result<(), NoMemory>
-    ensures { OnOk result (text.new ≡ text.old ++ spec.told (codes "var ") (view.var var.now).name (decimal word)) }
+    ensures { OnOk result (text.new ≡ text.old ++ spec.declaration_line (codes "var ") (view.var var.now).name (decimal word)) }
 {
     add_name(b"var ", &var.name, text)?;
     add_numbered(b" ", word, text)
@@ -153,7 +153,7 @@ pub fn add_pairs(
 }
 
 fn add_pair(left: u32, right: u32, var: &VarDecl, text: &mut Blob) -> Result<(), NoMemory>
-    ensures { OnOk result (text.new ≡ text.old ++ spec.told (codes "var ") (view.var var.now).name (decimal left ++ codes " " ++ decimal right)) }
+    ensures { OnOk result (text.new ≡ text.old ++ spec.declaration_line (codes "var ") (view.var var.now).name (decimal left ++ codes " " ++ decimal right)) }
 {
     add_name(b"var ", &var.name, text)?;
     text.extend_from_slice(b" ")?;
@@ -185,7 +185,7 @@ fn add_lock(
     text: &mut Blob,
 ) -> Result<(), NoMemory>
     ensures { OnOk result (text.new ≡ text.old
-        ++ spec.told (codes "lock ") (view.lock lock.now).name (spec.holder_text (map view.thread threads.now) (held_by holder))) }
+        ++ spec.declaration_line (codes "lock ") (view.lock lock.now).name (spec.holder_text (map view.thread threads.now) (held_by holder))) }
 {
     add_name(b"lock ", &lock.name, text)?;
     text.extend_from_slice(b" ")?;
@@ -224,7 +224,7 @@ fn add_threads(threads: &[ThreadDecl], source: &Source<'_>, text: &mut Blob) -> 
 }
 
 fn add_thread(place: Option<u32>, thread: &ThreadDecl, text: &mut Blob) -> Result<(), NoMemory>
-    ensures { OnOk result (text.new ≡ text.old ++ spec.told (codes "thread ") (view.thread thread.now).name (spec.place_text place)) }
+    ensures { OnOk result (text.new ≡ text.old ++ spec.declaration_line (codes "thread ") (view.thread thread.now).name (spec.place_text place)) }
 {
     add_name(b"thread ", &thread.name, text)?;
     match place {

@@ -97,3 +97,22 @@ fn each_fetch_of_two_runs_fails(rt: HostRuntime) -> Result<(), Fail> {
         b"agree: 0 steps\nvar a 0 0\nthread t at 23\n",
     )
 }
+
+#[test]
+fn statuses(rt: HostRuntime) {
+    let numbers = [
+        (Status::Done, 0),
+        (Status::Refused, 1),
+        (Status::Usage, 2),
+        (Status::Malformed, 3),
+        (Status::ReadFault, 4),
+        (Status::WriteFault, 5),
+        (Status::NoMemory, 6),
+        (Status::TooLong, 7),
+        (Status::Differ, 8),
+        (Status::BadStarts, 9),
+    ];
+    for (status, number) in numbers {
+        assert_eq!(rt; status as u8, number);
+    }
+}

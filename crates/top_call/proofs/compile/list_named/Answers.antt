@@ -1,8 +1,15 @@
-use Rattle.std.proofs.Common.{ap, subst, sym}
+use Rattle.std.proofs.Common.{◌≡◌, Err, ap, subst, sym, rules}
 use Rattle.cov_ast.specs.View as view
 use Rattle.risc_machine.specs.Faults.{AreGood}
+use Rattle.top_call.specs.Codes.{RepliesListing}
+use Rattle.top_call.specs.Inside.{AnswersByCode}
 use Rattle.top_call.specs.Replies.{spelled}
 use Rattle.top_call.proofs.compile.list_named.Goals as goal
+
+pub returns-in_err-code : goal.returns-in_err-code
+returns-in_err-code c =
+    let same : c.from_residual.result ≡ Err c.in_err-code.field-0.0 = search rules in
+    subst (AnswersByCode (view.program c.args.program.now) (λ p d. RepliesListing d)) (sym same) c.in_err-code.ensures.code
 
 pub returns : goal.returns
 returns c = (

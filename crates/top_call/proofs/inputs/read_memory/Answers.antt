@@ -4,7 +4,7 @@ use Rattle.cov_io.specs.Shelves.{Gives}
 use Rattle.cov_io.specs.declared.shelf.Fetched.TheVariants.{Whole}
 use Rattle.schedule_replay.specs.Json.{value_of}
 use Rattle.schedule_replay.specs.Starts as m
-use Rattle.top_call.specs.Inputs.{named, IsStartFault, start_shown}
+use Rattle.top_call.specs.Inputs.{declaration_of, IsStartFault, start_shown}
 use Rattle.top_call.specs.AnswerViews.{Stops}
 use Rattle.top_call.specs.Replies.{malformed}
 use Rattle.top_call.specs.declared.answers.Fault.{Fault}
@@ -40,7 +40,7 @@ returns-clause-read g c =
     let p = view.parsed c.args.parsed.now in
     let read = c.as_slice.result.now in
     record {
-      stops = given_unread (λ bytes. m.start_of (map named p.vars) (value_of bytes)) start_shown (shelved c.args.shelf.now) (shelved c.fetch.new.shelf) c.args.name.now MOST_INPUT_BYTES read c.in-Err.fault c.unread.result
+      stops = given_unread (λ bytes. m.start_of (map declaration_of p.vars) (value_of bytes)) start_shown (shelved c.args.shelf.now) (shelved c.fetch.new.shelf) c.args.name.now MOST_INPUT_BYTES read c.in-Err.fault c.unread.result
           (subst (λ bytes. Gives (shelved c.args.shelf.now) (shelved c.fetch.new.shelf) c.args.name.now MOST_INPUT_BYTES (Ok (Whole bytes))) (sym c.as_slice.ensures)
           c.in_ok-bytes.ensures.answer)
           (λ fault e. same_start c.args.parsed.now.vars (value_of read) ∙ start_fault_said c.in-Err.fault _ c.in-Err.ensures fault e)
