@@ -1,5 +1,5 @@
 -- What could stand behind the tokens of a few texts, and a few lines of it, by computation.
-use Rattle.std.proofs.Common.{◌≡◌, [], ◌∷◌, codes, refl}
+use Rattle.std.proofs.Common.{◌≡◌, [], ◌∷◌, codes, true, false, refl}
 use Rattle.std.specs.List.{filter}
 use Rattle.cov_expr.specs.Spellings.{spellings}
 use Rattle.cov_expr.specs.declared.kind.Kind.TheVariants as k
@@ -7,7 +7,7 @@ use Rattle.cov_grammar.specs.LookAhead.{kind_is}
 use Rattle.cov_grammar.specs.Reading.{rule_of}
 use Rattle.cov_grammar.specs.Grammar.{names, atom, template_atom, unary, prod, sum, band, bxor, bor, cmp, both, either, part, arguments, last_certs, more_certs, certificate, proof, proofs, types, state, retype, assigned, branched, looped, statement, braces, class, var_decl, lock_decl, modes_behind, two_modes, thread_decl, version, program, body}
 use Rattle.expected_tokens.specs.ExpectedTokens.{token_of, candidates, is_front, is_whole}
-use Rattle.expected_tokens.specs.ExpectedLines.{expected_line, line_front, spelling_of}
+use Rattle.expected_tokens.specs.ExpectedLines.{line_of, line_front, spelling_of}
 use Rattle.expected_tokens.specs.Inside.{could_follow}
 use Rattle.expected_tokens.specs.declared.next.Next.TheVariants as n
 
@@ -55,13 +55,18 @@ behind_fault = refl
 
 -- Lines --------------------------------------------------------------------------------------------------------
 
-three : expected_line (n.Token k.Name ∷ n.Token k.Semicolon ∷ n.Token k.As ∷ n.End ∷ []) ≡ codes "  here could stand: a name, `;`, `as`, the end of the text\n"
+three : line_of false (n.Token k.Name ∷ n.Token k.Semicolon ∷ n.Token k.As ∷ n.End ∷ []) ≡ codes "  here could stand: a name, `;`, `as`, the end of the text\n"
 unfolding kind_is spellings spelling_of line_front
 three = refl
 
-one : expected_line (n.Token k.Number ∷ []) ≡ codes "  here could stand: a number\n"
+one : line_of false (n.Token k.Number ∷ []) ≡ codes "  here could stand: a number\n"
 unfolding kind_is spellings spelling_of line_front
 one = refl
 
-none : expected_line [] ≡ []
+none : line_of false [] ≡ []
 none = refl
+
+-- behind `version`
+two : line_of true (n.Token k.Number ∷ []) ≡ codes "  here could stand: the number 2\n"
+unfolding kind_is spellings spelling_of line_front
+two = refl

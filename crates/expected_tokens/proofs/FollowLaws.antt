@@ -11,9 +11,11 @@ use Rattle.cov_lex.specs.Lexing.{tokens_of}
 use Rattle.cov_lex.specs.declared.fault.LexFault.{LexFault}
 use Rattle.cov_parse.specs.Reads.{AreRead}
 use Rattle.cov_parse.specs.declared.tokens.Tokens.{Tokens}
-use Rattle.cov_text.specs.Text.{numbered_of, words_of}
+use Rattle.cov_text.specs.Numbered as numbered
+use Rattle.cov_text.specs.Text.{or_none, lexed_of, numbered_of, words_of}
 use Rattle.cov_text.specs.Versioned.{versioned, of_first, foreign, behind_version, is_other_number}
-use Rattle.expected_tokens.specs.ExpectedTokens.{is_front, is_whole, token_of, could_stand, of_kinds, candidates, behind}
+use Rattle.expected_tokens.specs.ExpectedLines.{are_version}
+use Rattle.expected_tokens.specs.ExpectedTokens.{is_front, is_whole, token_of, could_stand, of_kinds, candidates, following}
 use Rattle.expected_tokens.specs.Inside.{fitted, names_version, could_follow}
 use Rattle.expected_tokens.specs.declared.next.Next.{Next}
 use Rattle.expected_tokens.specs.declared.next.Next.TheVariants as n
@@ -134,17 +136,25 @@ follows_alike front ws same (n.Token j) = ap (λ us. is_front (us ++ fitted us j
 follows_alike front ws same n.End = ap is_whole same
 
 -- behind bytes that have tokens
-pub behind_tokens : (front : List ℕ) (r : Tokens) → AreRead front (Ok r) → filter (could_follow r.tokens) candidates ≡ behind front
-unfolding behind
+pub behind_tokens : (front : List ℕ) (r : Tokens) → AreRead front (Ok r) → filter (could_follow r.tokens) candidates ≡ following front
+unfolding following
 behind_tokens front r read =
     filter_alike (could_follow r.tokens) (λ next. is_ok (tokens_of front) && could_stand front next)
     (λ next. follows_alike front r.tokens read.2 next ∙ sym (ap (λ b. b && could_stand front next) (ap is_ok read.0))) candidates
 
 -- behind bytes that have none
-pub behind_fault : (front : List ℕ) (e : LexFault) → tokens_of front ≡ Err e → [] ≡ behind front
-unfolding behind
+pub behind_fault : (front : List ℕ) (e : LexFault) → tokens_of front ≡ Err e → [] ≡ following front
+unfolding following
 behind_fault front e h =
     sym (filter_none (λ next. is_ok (tokens_of front) && could_stand front next) (λ next. ap (λ b. b && could_stand front next) (ap is_ok h)) candidates)
+
+-- whether bytes are `version` alone, by their tokens
+pub version_read : (front : List ℕ) (r : Tokens) → AreRead front (Ok r) → are_version r.tokens ≡ are_version (words_of front)
+version_read front r read = ap are_version read.2
+
+pub version_fault : (front : List ℕ) (e : LexFault) → tokens_of front ≡ Err e → false ≡ are_version (words_of front)
+unfolding words_of numbered_of lexed_of
+version_fault front e h = sym (ap (λ r. are_version (versioned (numbered.words_of front (or_none r)))) h)
 
 -- Candidates ---------------------------------------------------------------------------------------------------
 

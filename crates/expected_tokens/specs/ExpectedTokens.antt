@@ -66,9 +66,9 @@ abbrev pub candidates : List Next
 candidates = n.Token k.Name ∷ n.Token k.Number ∷ (of_kinds spellings ++ n.End ∷ [])
 
 -- What could stand behind bytes; nothing where they have no tokens.
-unfoldable pub behind : (bytes : List ℕ) → List Next
-behind bytes = filter (λ next. is_ok (tokens_of bytes) && could_stand bytes next) candidates
+unfoldable pub following : (bytes : List ℕ) → List Next
+following bytes = filter (λ next. is_ok (tokens_of bytes) && could_stand bytes next) candidates
 
 -- What could stand at a place of a text.
 abbrev pub expected : (bytes : List ℕ) (at : ℕ) → List Next
-expected bytes at = behind (take at bytes)
+expected bytes at = following (take at bytes)

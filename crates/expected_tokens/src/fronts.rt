@@ -1,3 +1,5 @@
+//! Whether tokens are the front of a program, or a whole one, read by the reader of programs.
+
 ghost use Rattle.std.specs.Prelude.{◌≡◌, IfOk};
 ghost use Rattle.expected_tokens.specs.ExpectedTokens as spec;
 

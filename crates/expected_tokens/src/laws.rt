@@ -1,3 +1,5 @@
+//! What is looked at is what the grammar says.
+
 ghost use Rattle.std.specs.Prelude.{List, IsTrue, ◌↔◌};
 ghost use Rattle.cov_grammar.specs.declared.token.Token.{Token};
 ghost use Rattle.cov_grammar.specs.Grammar.{program};

@@ -1,10 +1,11 @@
+//! The line that says what could stand at a place.
+
 ghost use Rattle.std.specs.Prelude.{◌≡◌, ◌≤◌, ◌++◌, ◌∷◌, length, map, flat_map, OnOk};
 ghost use Rattle.cov_expr.specs.declared.limits.TheConstants.{MOST_BYTES};
 ghost use Rattle.expected_tokens.specs.ExpectedLines as spec;
-ghost use Rattle.expected_tokens.specs.ExpectedTokens.{expected};
 
 use crate::next::Next;
-use crate::places::expected;
+use crate::places::{expected, is_behind_version};
 use cov_expr::{Blob, Kind, NoMemory, SPELLINGS};
 use cov_grammar::is;
 use std::alloc::Global;
@@ -12,29 +13,30 @@ use std::alloc::Global;
 /// Adds a line that says what could stand at a place of a text of at most 1 MiB; none where nothing could.
 pub fn add_expected(alloc: Global, bytes: &[u8], at: u32, text: &mut Blob) -> Result<(), NoMemory>
     requires { length bytes.now ≤ MOST_BYTES }
-    ensures { OnOk result (text.new ≡ text.old ++ spec.expected_line (expected bytes.now at)) }
+    ensures { OnOk result (text.new ≡ text.old ++ spec.expected_line bytes.now at) }
 {
+    let of_version = is_behind_version(alloc, bytes, at)?;
     let found = expected(alloc, bytes, at)?;
-    add_line(found.as_slice(), text)
+    add_line(of_version, found.as_slice(), text)
 }
 
 /// Adds a line that has what could stand at a place.
-fn add_line(found: &[Next], text: &mut Blob) -> Result<(), NoMemory>
-    ensures { OnOk result (text.new ≡ text.old ++ spec.expected_line found.now) }
+fn add_line(of_version: bool, found: &[Next], text: &mut Blob) -> Result<(), NoMemory>
+    ensures { OnOk result (text.new ≡ text.old ++ spec.line_of of_version found.now) }
 {
     match found {
         [] => Ok(()),
-        [first, others @ ..] => add_some(*first, others, text),
+        [first, others @ ..] => add_some(of_version, *first, others, text),
     }
 }
 
 /// Adds a line that has the first of what could stand at a place, and the others.
-fn add_some(first: Next, others: &[Next], text: &mut Blob) -> Result<(), NoMemory>
-    ensures { OnOk result (text.new ≡ text.old ++ spec.expected_line (first ∷ others.now)) }
+fn add_some(of_version: bool, first: Next, others: &[Next], text: &mut Blob) -> Result<(), NoMemory>
+    ensures { OnOk result (text.new ≡ text.old ++ spec.line_of of_version (first ∷ others.now)) }
 {
     add_line_front(text)?;
-    add_phrase(first, text)?;
-    add_others(others, text)?;
+    add_phrase(of_version, first, text)?;
+    add_others(of_version, others, text)?;
     text.extend_from_slice(b"\n")
 }
 
@@ -47,39 +49,50 @@ fn add_line_front(text: &mut Blob) -> Result<(), NoMemory>
 }
 
 /// Adds what else could stand there.
-fn add_others(others: &[Next], text: &mut Blob) -> Result<(), NoMemory>
-    ensures { OnOk result (text.new ≡ text.old ++ flat_map spec.other others.now) }
+fn add_others(of_version: bool, others: &[Next], text: &mut Blob) -> Result<(), NoMemory>
+    ensures { OnOk result (text.new ≡ text.old ++ flat_map (spec.other of_version) others.now) }
 {
     for next in others {
         text.extend_from_slice(b", ")?;
-        add_phrase(*next, text)?;
+        add_phrase(of_version, *next, text)?;
     }
     Ok(())
 }
 
 /// Adds the words for what could stand at a place.
-fn add_phrase(next: Next, text: &mut Blob) -> Result<(), NoMemory>
-    ensures { OnOk result (text.new ≡ text.old ++ spec.phrase next) }
+fn add_phrase(of_version: bool, next: Next, text: &mut Blob) -> Result<(), NoMemory>
+    ensures { OnOk result (text.new ≡ text.old ++ spec.phrase of_version next) }
 {
     match next {
-        Next::Token(kind) => add_kind(kind, text),
+        Next::Token(kind) => add_kind(of_version, kind, text),
         Next::End => text.extend_from_slice(b"the end of the text"),
     }
 }
 
 /// Adds the words for a token of a kind.
-fn add_kind(kind: Kind, text: &mut Blob) -> Result<(), NoMemory>
-    ensures { OnOk result (text.new ≡ text.old ++ spec.kind_phrase kind) }
+fn add_kind(of_version: bool, kind: Kind, text: &mut Blob) -> Result<(), NoMemory>
+    ensures { OnOk result (text.new ≡ text.old ++ spec.kind_phrase of_version kind) }
 {
     if is(Kind::Name, kind) {
         return text.extend_from_slice(b"a name");
     }
     if is(Kind::Number, kind) {
-        return text.extend_from_slice(b"a number");
+        return text.extend_from_slice(number_phrase(of_version).as_bytes());
     }
     text.extend_from_slice(b"`")?;
     text.extend_from_slice(spelling_of(kind))?;
     text.extend_from_slice(b"`")
+}
+
+/// The words for a number.
+fn number_phrase(of_version: bool) -> &'static str
+    ensures { result.now ≡ spec.number_phrase of_version }
+{
+    if of_version {
+        "the number 2"
+    } else {
+        "a number"
+    }
 }
 
 /// The spelling of a keyword or a sign.

@@ -1,3 +1,5 @@
+//! What could stand at a place.
+
 use cov_expr::Kind;
 
 /// What could stand at a place of a text.

@@ -1,7 +1,11 @@
-ghost use Rattle.std.specs.Prelude.{◌≡◌, ◌≤◌, ◌++◌, ◌∷◌, [], length, map, IfOk, OnOk};
+//! What could stand at a place, by the bytes in front of it.
+
+ghost use Rattle.std.specs.Prelude.{◌≡◌, ◌≤◌, ◌++◌, ◌∷◌, [], length, map, take, IfOk, OnOk};
 ghost use Rattle.std.specs.List.{filter};
 ghost use Rattle.cov_expr.specs.declared.limits.TheConstants.{MOST_BYTES};
 ghost use Rattle.cov_expr.specs.Spellings.{spellings};
+ghost use Rattle.cov_text.specs.Text.{words_of};
+ghost use Rattle.expected_tokens.specs.ExpectedLines.{are_version};
 ghost use Rattle.expected_tokens.specs.ExpectedTokens as spec;
 ghost use Rattle.expected_tokens.specs.Inside as inside;
 
@@ -21,14 +25,40 @@ pub fn expected(alloc: Global, bytes: &[u8], at: u32) -> Result<List<Next>, NoMe
     ensures { IfOk result (λ found. found ≡ spec.expected bytes.now at) }
 {
     let (front, _) = halves(bytes, at as usize);
-    behind(alloc, front)
+    following(alloc, front)
+}
+
+/// Whether `version` alone stands in front of a place of a text of at most 1 MiB.
+#[tactic(auto, using(crate::proofs::FollowLaws::version_read, crate::proofs::FollowLaws::version_fault))]
+pub fn is_behind_version(alloc: Global, bytes: &[u8], at: u32) -> Result<bool, NoMemory>
+    requires { length bytes.now ≤ MOST_BYTES }
+    ensures { IfOk result (λ following. following ≡ are_version (words_of (take at bytes.now))) }
+{
+    let (front, _) = halves(bytes, at as usize);
+    match read_tokens(alloc, front) {
+        Ok(read) => Ok(are_version(read.tokens.as_slice())),
+        Err(LexFault::NoMemory) => Err(NoMemory),
+        Err(LexFault::BadByte(_) | LexFault::NumberTooLarge(_) | LexFault::NameTooLong(_)) => {
+            Ok(false)
+        }
+    }
+}
+
+/// Whether tokens are `version` alone.
+fn are_version(tokens: &[Token]) -> bool
+    ensures { result ≡ are_version tokens.now }
+{
+    match tokens {
+        [first] => is(Kind::Version, first.kind),
+        _ => false,
+    }
 }
 
 /// What could stand behind bytes.
-#[tactic(auto, unfolding(crate::specs::ExpectedTokens::behind), using(crate::proofs::FollowLaws::behind_tokens, crate::proofs::FollowLaws::behind_fault))]
-fn behind(alloc: Global, front: &[u8]) -> Result<List<Next>, NoMemory>
+#[tactic(auto, unfolding(crate::specs::ExpectedTokens::following), using(crate::proofs::FollowLaws::behind_tokens, crate::proofs::FollowLaws::behind_fault))]
+fn following(alloc: Global, front: &[u8]) -> Result<List<Next>, NoMemory>
     requires { length front.now ≤ MOST_BYTES }
-    ensures { IfOk result (λ found. found ≡ spec.behind front.now) }
+    ensures { IfOk result (λ found. found ≡ spec.following front.now) }
 {
     match read_tokens(alloc, front) {
         Ok(read) => {

@@ -1,7 +1,7 @@
 -- What is hidden in a text, one byte on.
 use Rattle.std.proofs.Common.{◌≡◌, ◌≢◌, arith, ℕ, zero, suc, ◌+◌, ◌-◌, ◌<◌, List, [], ◌∷◌, ◌++◌, length, drop, Option, Some, None, true, false, true≢false, is_some, refl, sym, ap, ◌∙◌, append_assoc}
 use Rattle.std.proofs.lemmas.List.{at_drop_more}
-use Rattle.program_warnings.specs.HiddenText.{at_front, at_place, hidden_from, first_of}
+use Rattle.program_warnings.specs.HiddenText.{at_front, at_place, hidden_from, listed}
 use Rattle.program_warnings.specs.Unused.{warned}
 use Rattle.program_warnings.specs.declared.warning.Warning.{Warning}
 use Rattle.program_warnings.specs.declared.warning.Cause.{Cause}
@@ -35,28 +35,28 @@ count_one bs i inside some = ap length (hidden_at bs i inside) ∙ of_some (at_f
     of_some (Some cause) h = omega arith
 
 -- where there is room for one more, it is told
-first_of_more : (room : ℕ) (w : Warning) (ws : List Warning) → room ≢ 0 → first_of room (w ∷ ws) ≡ w ∷ first_of (room - 1) ws
+first_of_more : (room : ℕ) (w : Warning) (ws : List Warning) → room ≢ 0 → listed room (w ∷ ws) ≡ w ∷ listed (room - 1) ws
 first_of_more zero w ws some = absurd (some refl)
-first_of_more (suc room) w ws some = ap (λ r. w ∷ first_of r ws) (omega arith)
+first_of_more (suc room) w ws some = ap (λ r. w ∷ listed r ws) (omega arith)
 
 module _ (bs : List ℕ) (i : ℕ) (found all : List Warning) (room : ℕ) (inside : i < length bs)
-    (so_far : found ++ first_of room (hidden_from i (drop i bs)) ≡ all) where
-  pub goes_on_none : at_front (drop i bs) ≡ None → found ++ first_of room (hidden_from (i + 1) (drop (i + 1) bs)) ≡ all
-  goes_on_none none = ap (λ ws. found ++ first_of room ws) (sym (none_hidden bs i inside none)) ∙ so_far
+    (so_far : found ++ listed room (hidden_from i (drop i bs)) ≡ all) where
+  pub goes_on_none : at_front (drop i bs) ≡ None → found ++ listed room (hidden_from (i + 1) (drop (i + 1) bs)) ≡ all
+  goes_on_none none = ap (λ ws. found ++ listed room ws) (sym (none_hidden bs i inside none)) ∙ so_far
 
   module _ (cause : Cause) (some : at_front (drop i bs) ≡ Some cause) where
-    pub goes_on_one : room ≢ 0 → (found ++ warned i cause ∷ []) ++ first_of (room - 1) (hidden_from (i + 1) (drop (i + 1) bs)) ≡ all
+    pub goes_on_one : room ≢ 0 → (found ++ warned i cause ∷ []) ++ listed (room - 1) (hidden_from (i + 1) (drop (i + 1) bs)) ≡ all
     goes_on_one left =
-        append_assoc found (warned i cause ∷ []) (first_of (room - 1) (hidden_from (i + 1) (drop (i + 1) bs)))
+        append_assoc found (warned i cause ∷ []) (listed (room - 1) (hidden_from (i + 1) (drop (i + 1) bs)))
         ∙ ap (λ ws. found ++ ws) (sym (first_of_more room (warned i cause) (hidden_from (i + 1) (drop (i + 1) bs)) left))
-        ∙ ap (λ ws. found ++ first_of room ws) (sym (one_hidden bs i cause inside some))
+        ∙ ap (λ ws. found ++ listed room ws) (sym (one_hidden bs i cause inside some))
         ∙ so_far
 
     pub ends_more : (count : ℕ) → room ≡ 0 → count ≡ length (hidden_from i (drop i bs)) → found ++ warned i (c.More count) ∷ [] ≡ all
     ends_more count none is =
         ap (λ n. found ++ warned i (c.More n) ∷ []) (is ∙ ap length here)
-        ∙ ap (λ ws. found ++ first_of 0 ws) (sym here)
-        ∙ ap (λ r. found ++ first_of r (hidden_from i (drop i bs))) (sym none)
+        ∙ ap (λ ws. found ++ listed 0 ws) (sym here)
+        ∙ ap (λ r. found ++ listed r (hidden_from i (drop i bs))) (sym none)
         ∙ so_far
       where
         here : hidden_from i (drop i bs) ≡ warned i cause ∷ hidden_from (i + 1) (drop (i + 1) bs)

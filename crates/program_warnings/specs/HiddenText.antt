@@ -66,11 +66,11 @@ hidden_from place [] = []
 hidden_from place (b ∷ bs) = at_place place (at_front (b ∷ bs)) ++ hidden_from (place + 1) bs
 
 -- so many at most, and where more come, how many more there are, at the first of these
-abbrev pub first_of : (room : ℕ) → List Warning → List Warning
-first_of room [] = []
-first_of zero (w ∷ ws) = warned w.place (c.More (length (w ∷ ws))) ∷ []
-first_of (suc room) (w ∷ ws) = w ∷ first_of room ws
+abbrev pub listed : (room : ℕ) → List Warning → List Warning
+listed room [] = []
+listed zero (w ∷ ws) = warned w.place (c.More (length (w ∷ ws))) ∷ []
+listed (suc room) (w ∷ ws) = w ∷ listed room ws
 
 -- what is warned of in bytes
 abbrev pub of_text : List ℕ → List Warning
-of_text bytes = first_of MOST_SHOWN (hidden_from 0 bytes)
+of_text bytes = listed MOST_SHOWN (hidden_from 0 bytes)

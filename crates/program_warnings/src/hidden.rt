@@ -18,7 +18,7 @@ pub fn text_warnings(alloc: Global, bytes: &[u8]) -> Result<List<Warning>, NoMem
     let mut found = List::new(alloc);
     let mut room = MOST_SHOWN;
     for i in 0..bytes.len() {
-        if let Some(cause) = at_front(behind(bytes, i)) {
+        if let Some(cause) = at_front(rest_from(bytes, i)) {
             let place = i as u32;
             if room == 0 {
                 let cause = Cause::More(count_from(bytes, i));
@@ -39,7 +39,7 @@ fn count_from(bytes: &[u8], start: usize) -> usize
 {
     let mut count = 0;
     for i in start..bytes.len() {
-        if at_front(behind(bytes, i)).is_some() {
+        if at_front(rest_from(bytes, i)).is_some() {
             count += 1;
         }
     }
@@ -47,7 +47,7 @@ fn count_from(bytes: &[u8], start: usize) -> usize
 }
 
 /// The bytes from a place on.
-fn behind(bytes: &[u8], place: usize) -> &[u8]
+fn rest_from(bytes: &[u8], place: usize) -> &[u8]
     requires { place ≤ length bytes.now }
     ensures { result.now ≡ drop place bytes.now }
 {

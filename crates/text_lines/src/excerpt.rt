@@ -18,12 +18,12 @@ pub fn add_excerpt(bytes: &[u8], place: usize, text: &mut Blob) -> Result<(), No
     ensures { OnOk result (text.new ≡ text.old ++ spec.excerpt bytes.now place) }
 {
     let (front, rest) = halves(bytes, place);
-    let before = last_of(since_feed(front));
-    let behind = first_of(to_feed(rest), MOST_SHOWN.saturating_sub(before.len()));
-    add_shown(before, text)?;
-    add_shown(behind, text)?;
+    let line_front = last_of(since_feed(front));
+    let line_rest = front_of(to_feed(rest), MOST_SHOWN.saturating_sub(line_front.len()));
+    add_shown(line_front, text)?;
+    add_shown(line_rest, text)?;
     text.extend_from_slice(b"\n")?;
-    add_under(before, text)?;
+    add_under(line_front, text)?;
     text.extend_from_slice(b"^\n")
 }
 
@@ -35,7 +35,7 @@ fn last_of(line: &[u8]) -> &[u8]
 }
 
 /// The front of a line, so many bytes at most.
-fn first_of(line: &[u8], most: usize) -> &[u8]
+fn front_of(line: &[u8], most: usize) -> &[u8]
     ensures { result.now ≡ take most line.now }
 {
     &line[..most.min(line.len())]

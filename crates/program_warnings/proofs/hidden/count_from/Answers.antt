@@ -8,7 +8,7 @@ pub loop-i-preserved : goal.loop-i-preserved
 loop-i-preserved c =
     let bs = c.args.bytes.now in
     let i = c.loop-i.i in
-    let test = sym (ap is_some (c.at_front.ensures ∙ ap spec.at_front c.behind.ensures)) ∙ sym c.is_some.ensures in
+    let test = sym (ap is_some (c.at_front.ensures ∙ ap spec.at_front c.rest_from.ensures)) ∙ sym c.is_some.ensures in
     elim c.if-is_some.branch [
       | then-is_some w ↦
           let step = count_one bs i c.loop-i-test.true (test ∙ w.if-is_some.true) in
