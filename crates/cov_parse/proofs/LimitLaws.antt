@@ -4,8 +4,8 @@ use Rattle.cov_grammar.specs.PlacedTrees.{stms, Placed, Stm}
 use Rattle.cov_text.specs.declared.fault.Counted.{Counted}
 use Rattle.cov_text.specs.declared.fault.Limit.TheVariants.{TooMany}
 use Rattle.cov_text.specs.declared.fault.Excess.{Excess}
-use Rattle.cov_parse.specs.declared.numbers.Counting.{Counting}
-use Rattle.cov_parse.specs.declared.numbers.Counting.TheVariants.{Left, Past}
+use Rattle.cov_parse.specs.declared.counts.Counting.{Counting}
+use Rattle.cov_parse.specs.declared.counts.Counting.TheVariants.{Left, Past}
 use Rattle.cov_text.specs.Limits.{sooner, least, in_stm, in_stms, past, places, places_in}
 use Rattle.cov_parse.specs.Inside.Measures.{counted, onward}
 use Rattle.cov_parse.proofs.Items.{item_ahead}

@@ -1,3 +1,5 @@
+//! Certificates, proofs, types and states as callers get them, without places.
+
 ghost use Rattle.std.specs.Prelude.{◌≡◌, map, option_map, IfOk};
 ghost use Rattle.cov_ast.specs.View as ast;
 ghost use Rattle.cov_text.specs.GivenTrees as spec;
@@ -30,16 +32,24 @@ fn cert_of(alloc: Global, cert: Cert) -> Result<cov_ast::Cert, NoMemory>
         Cert::Hyp(i) => cov_ast::Cert::Hyp(i),
         Cert::Clash(i) => cov_ast::Cert::Clash(i),
         Cert::Absurd(i, j) => cov_ast::Cert::Absurd(i, j),
-        Cert::And(c, d) => cov_ast::Cert::And(part_of(alloc, c)?, part_of(alloc, d)?),
+        Cert::And(c, d) => {
+            let (c, d) = parts_of(alloc, c, d)?;
+            cov_ast::Cert::And(c, d)
+        }
         Cert::Left(c) => cov_ast::Cert::Left(part_of(alloc, c)?),
         Cert::Right(c) => cov_ast::Cert::Right(part_of(alloc, c)?),
         Cert::Unpack(i, c) => cov_ast::Cert::Unpack(i, part_of(alloc, c)?),
-        Cert::Cases(i, c, d) => cov_ast::Cert::Cases(i, part_of(alloc, c)?, part_of(alloc, d)?),
+        Cert::Cases(i, c, d) => {
+            let (c, d) = parts_of(alloc, c, d)?;
+            cov_ast::Cert::Cases(i, c, d)
+        }
         Cert::Split(e, c, d) => {
-            cov_ast::Cert::Split(expr_of(e), part_of(alloc, c)?, part_of(alloc, d)?)
+            let (c, d) = parts_of(alloc, c, d)?;
+            cov_ast::Cert::Split(expr_of(e), c, d)
         }
         Cert::Have(e, c, d) => {
-            cov_ast::Cert::Have(expr_of(e), part_of(alloc, c)?, part_of(alloc, d)?)
+            let (c, d) = parts_of(alloc, c, d)?;
+            cov_ast::Cert::Have(expr_of(e), c, d)
         }
         Cert::Not(c) => cov_ast::Cert::Not(part_of(alloc, c)?),
         Cert::Contra(c) => cov_ast::Cert::Contra(part_of(alloc, c)?),
@@ -58,6 +68,21 @@ fn part_of(alloc: Global, part: Box<Cert>) -> Result<Box<cov_ast::Cert>, NoMemor
 {
     let cert = cert_of(alloc, Box::into_inner(part))?;
     boxed(alloc, cert)
+}
+
+/// Two parts of a certificate.
+#[cycle(made)]
+fn parts_of(
+    alloc: Global,
+    first: Box<Cert>,
+    second: Box<Cert>,
+) -> Result<(Box<cov_ast::Cert>, Box<cov_ast::Cert>), NoMemory>
+    ensures first { IfOk result (λ made. ast.cert made.0.value ≡ spec.cert_of (certs.cert first.value)) }
+    ensures second { IfOk result (λ made. ast.cert made.1.value ≡ spec.cert_of (certs.cert second.value)) }
+{
+    let first = part_of(alloc, first)?;
+    let second = part_of(alloc, second)?;
+    Ok((first, second))
 }
 
 /// A proof without its place.

@@ -1,3 +1,5 @@
+//! The faults of too many: the first variable, lock, thread or statement past the most.
+
 ghost use Rattle.std.specs.Prelude.{◌≡◌, map, flat_map};
 ghost use Rattle.cov_grammar.specs.PlacedTrees.{stms};
 ghost use Rattle.cov_text.specs.Limits as spec;

@@ -1,3 +1,5 @@
+//! Expressions as callers get them, without places.
+
 ghost use Rattle.std.specs.Prelude.{◌≡◌, map, option_map, IfOk};
 ghost use Rattle.cov_expr.specs.View.{term};
 ghost use Rattle.cov_text.specs.GivenTrees as spec;

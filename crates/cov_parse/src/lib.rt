@@ -6,10 +6,10 @@
 #![tactic(auto)]
 
 mod annotations;
+mod counts;
 mod exprs;
 mod limits;
 mod measures;
-mod numbers;
 mod programs;
 mod text;
 mod tokens;

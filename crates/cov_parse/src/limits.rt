@@ -1,3 +1,5 @@
+//! The fault of least place of the limits that a program doesn't keep.
+
 ghost use Rattle.std.specs.Prelude.{◌≡◌, map, option_map};
 ghost use Rattle.cov_grammar.specs.PlacedTrees.{stms};
 ghost use Rattle.cov_text.specs.Limits as spec;
@@ -6,8 +8,8 @@ ghost use Rattle.cov_read.specs.StateViews as states;
 ghost use Rattle.cov_read.specs.StmtViews as stmts;
 ghost use Rattle.cov_read.specs.DeclViews as decls;
 
+use crate::counts::{past_locks, past_statements, past_threads, past_variables};
 use crate::measures::{cert_height, cert_nodes};
-use crate::numbers::{past_locks, past_statements, past_threads, past_variables};
 use cov_expr::{
     MOST_BLOCKS, MOST_CERT_NODES, MOST_HEIGHT, MOST_NODES, MOST_PREDICATES, MOST_TYPES,
 };

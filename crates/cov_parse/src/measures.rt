@@ -1,3 +1,5 @@
+//! Nodes and heights of certificates, up to one above the most.
+
 ghost use Rattle.std.specs.Prelude.{◌≡◌, ◌+◌, min};
 ghost use Rattle.cov_expr.specs.declared.limits.TheConstants.{MOST_CERT_NODES, MOST_HEIGHT};
 ghost use Rattle.cov_text.specs.Limits as spec;

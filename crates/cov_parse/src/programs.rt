@@ -1,8 +1,13 @@
-ghost use Rattle.std.specs.Prelude.{◌≡◌, [], ◌∷◌, ◌++◌, ◌<◌, length, map, All, IfOk, OnOk};
+//! Programs as callers get them, made of what was read.
+
+ghost use Rattle.std.specs.Prelude.{◌≡◌, [], ◌∷◌, ◌++◌, ◌<◌, length, map, option_map, All, IfOk, OnOk};
+ghost use Rattle.cov_ast.specs.Syntax as syntax;
 ghost use Rattle.cov_ast.specs.View as ast;
 ghost use Rattle.cov_grammar.specs.PlacedTrees.{stms};
 ghost use Rattle.cov_text.specs.Inside.Named.{AreNamed};
 ghost use Rattle.cov_text.specs.GivenTrees as spec;
+ghost use Rattle.cov_read.specs.CertViews as certs;
+ghost use Rattle.cov_read.specs.StateViews as states;
 ghost use Rattle.cov_read.specs.StmtViews as stmts;
 ghost use Rattle.cov_read.specs.DeclViews as decls;
 
@@ -11,7 +16,9 @@ use crate::exprs::{expr_of, option_of};
 use crate::turned::turned;
 use cov_ast::{Class, LockDecl, Modes, NameTable, NameUse, Parsed, ThreadDecl, VarDecl};
 use cov_expr::{List, Name, NoMemory};
-use cov_read::{ClassDecl, Lock, Pair, PlacedProgram, Stmt, StmtKind, Thread, Variable};
+use cov_read::{
+    ClassDecl, Lock, Pair, PlacedProgram, Proof, State, Stmt, StmtKind, Thread, Variable, Whole,
+};
 use std::alloc::Global;
 
 /// Statements without the places of their braces.
@@ -34,59 +41,82 @@ fn add_stmt(alloc: Global, stmt: Stmt, made: &mut List<cov_ast::Stmt>) -> Result
 {
     let Stmt { at, kind } = stmt;
     match kind {
-        StmtKind::Skip => add_made(made, at, cov_ast::StmtKind::Skip, List::new(alloc)),
+        StmtKind::Skip => add_made(alloc, made, at, cov_ast::StmtKind::Skip, List::new(alloc)),
         StmtKind::Assign(x, e, class, retypes, proofs) => {
             let retypes = retypes_of(alloc, retypes)?;
-            let proofs = proofs_of(alloc, proofs)?;
             let kind = cov_ast::StmtKind::Assign(x, expr_of(e), option_of(class), retypes);
-            add_made(made, at, kind, proofs)
+            add_made(alloc, made, at, kind, proofs)
         }
-        StmtKind::Lock(lock) => add_made(made, at, cov_ast::StmtKind::Lock(lock), List::new(alloc)),
+        StmtKind::Lock(lock) => {
+            let kind = cov_ast::StmtKind::Lock(lock);
+            add_made(alloc, made, at, kind, List::new(alloc))
+        }
         StmtKind::Unlock(lock, proofs) => {
-            let proofs = proofs_of(alloc, proofs)?;
-            add_made(made, at, cov_ast::StmtKind::Unlock(lock), proofs)
+            let kind = cov_ast::StmtKind::Unlock(lock);
+            add_made(alloc, made, at, kind, proofs)
         }
         StmtKind::If(e, _, first, _, second, join, proofs) => {
-            let first = stmts_of(alloc, first)?;
-            let second = stmts_of(alloc, second)?;
-            let join = state_or_none(alloc, join)?;
-            let proofs = proofs_of(alloc, proofs)?;
-            let kind = cov_ast::StmtKind::If(expr_of(e), first, second, join);
-            add_made(made, at, kind, proofs)
+            let kind = branched_of(alloc, e, first, second, join)?;
+            add_made(alloc, made, at, kind, proofs)
         }
         StmtKind::While(e, inv, _, body, proofs) => {
-            let body = stmts_of(alloc, body)?;
-            let inv = state_or_none(alloc, inv)?;
-            let proofs = proofs_of(alloc, proofs)?;
-            add_made(
-                made,
-                at,
-                cov_ast::StmtKind::While(expr_of(e), inv, body),
-                proofs,
-            )
+            let kind = looped_of(alloc, e, inv, body)?;
+            add_made(alloc, made, at, kind, proofs)
         }
         StmtKind::Note(state, proofs) => {
-            let state = state_of(alloc, state)?;
-            let proofs = proofs_of(alloc, proofs)?;
-            add_made(made, at, cov_ast::StmtKind::Note(state), proofs)
+            let kind = cov_ast::StmtKind::Note(state_of(alloc, state)?);
+            add_made(alloc, made, at, kind, proofs)
         }
         StmtKind::Output(e, proofs) => {
-            let proofs = proofs_of(alloc, proofs)?;
-            add_made(made, at, cov_ast::StmtKind::Output(expr_of(e)), proofs)
+            let kind = cov_ast::StmtKind::Output(expr_of(e));
+            add_made(alloc, made, at, kind, proofs)
         }
     }
 }
 
-/// Adds a statement whose parts are made.
-#[inline(always)]
+/// An `if`, without its places.
+#[cycle(made)]
+fn branched_of(
+    alloc: Global,
+    e: Whole,
+    first: List<Stmt>,
+    second: List<Stmt>,
+    join: Option<Box<State>>,
+) -> Result<cov_ast::StmtKind, NoMemory>
+    ensures { IfOk result (λ made. ast.kind made ≡ syntax.branch (spec.expr_of (certs.whole e)) (spec.stms_of (stms (map stmts.stmt first))) (spec.stms_of (stms (map stmts.stmt second))) (spec.state_or_none (option_map (λ j. states.state j.value) join))) }
+{
+    let first = stmts_of(alloc, first)?;
+    let second = stmts_of(alloc, second)?;
+    let join = state_or_none(alloc, join)?;
+    Ok(cov_ast::StmtKind::If(expr_of(e), first, second, join))
+}
+
+/// A loop, without its places.
+#[cycle(made)]
+fn looped_of(
+    alloc: Global,
+    e: Whole,
+    inv: Option<Box<State>>,
+    body: List<Stmt>,
+) -> Result<cov_ast::StmtKind, NoMemory>
+    ensures { IfOk result (λ made. ast.kind made ≡ syntax.loop (spec.expr_of (certs.whole e)) (spec.state_or_none (option_map (λ j. states.state j.value) inv)) (spec.stms_of (stms (map stmts.stmt body)))) }
+{
+    let body = stmts_of(alloc, body)?;
+    let inv = state_or_none(alloc, inv)?;
+    Ok(cov_ast::StmtKind::While(expr_of(e), inv, body))
+}
+
+/// Adds a statement that is made, with its proofs.
 fn add_made(
+    alloc: Global,
     made: &mut List<cov_ast::Stmt>,
     at: u32,
     kind: cov_ast::StmtKind,
-    proofs: List<cov_ast::Proof>,
+    proofs: List<Proof>,
 ) -> Result<(), NoMemory>
-    ensures { OnOk result (map ast.stmt made.new ≡ map ast.stmt made.old ++ (record { at = at; stm = ast.kind kind; proofs = map ast.proof proofs }) ∷ []) }
+    ensures { OnOk result (map ast.stmt made.new ≡ map ast.stmt made.old ++ (record { at = at; stm = ast.kind kind; proofs = map spec.proof_of (map states.proof proofs) }) ∷ []) }
 {
+    let proofs = proofs_of(alloc, proofs)?;
     made.push(cov_ast::Stmt { at, kind, proofs })
 }
 
@@ -203,6 +233,27 @@ fn threads_of(
     Ok(made)
 }
 
+/// The declarations of a program as callers get them.
+fn declarations_of(
+    alloc: Global,
+    names: &NameTable,
+    vars: List<Variable>,
+    locks: List<Lock>,
+    threads: List<Thread>,
+) -> Result<(List<VarDecl>, List<LockDecl>, List<ThreadDecl>), NoMemory>
+    requires vars { All (λ v. v.name.0 < length names.now) (map decls.var vars) }
+    requires locks { All (λ l. l.name.0 < length names.now) (map decls.lock locks) }
+    requires threads { All (λ h. h.name.0 < length names.now) (map decls.thread threads) }
+    ensures vars { IfOk result (λ made. map ast.var made.0 ≡ map (spec.var_of names.now) (map decls.var vars)) }
+    ensures locks { IfOk result (λ made. map ast.lock made.1 ≡ map (spec.lock_of names.now) (map decls.lock locks)) }
+    ensures threads { IfOk result (λ made. map ast.thread made.2 ≡ map (spec.thread_of names.now) (map decls.thread threads)) }
+{
+    let vars = vars_of(alloc, names, vars)?;
+    let locks = locks_of(alloc, names, locks)?;
+    let threads = threads_of(alloc, names, threads)?;
+    Ok((vars, locks, threads))
+}
+
 /// The tree that callers get, of a program within its limits whose declarations are named by numbers of names. What was read
 /// is moved into it.
 pub fn parsed_of(
@@ -214,11 +265,15 @@ pub fn parsed_of(
     requires { AreNamed (length names) (decls.program program) }
     ensures { IfOk result (λ made. ast.parsed made ≡ spec.parsed_of names uses (decls.program program)) }
 {
-    let vars = vars_of(alloc, &names, program.vars)?;
-    let locks = locks_of(alloc, &names, program.locks)?;
-    let threads = threads_of(alloc, &names, program.threads)?;
+    let PlacedProgram {
+        version,
+        vars,
+        locks,
+        threads,
+    } = program;
+    let (vars, locks, threads) = declarations_of(alloc, &names, vars, locks, threads)?;
     Ok(Parsed {
-        version: program.version,
+        version,
         names,
         uses,
         vars,

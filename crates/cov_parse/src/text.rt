@@ -1,3 +1,5 @@
+//! Texts as programs and as expressions, or their first fault.
+
 ghost use Rattle.std.specs.Prelude.{◌≡◌, ◌≤◌, ◌<◌, length, All, IfOk};
 ghost use Rattle.cov_expr.specs.declared.limits.TheConstants.{MOST_BYTES};
 ghost use Rattle.cov_ast.specs.Ready.{HasUsesInOrder, IsReady};

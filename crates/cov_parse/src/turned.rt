@@ -1,3 +1,5 @@
+//! Lists from the last item to the first, to be moved out of item by item.
+
 ghost use Rattle.std.specs.Prelude.{◌≡◌, reverse};
 
 use cov_expr::List;

@@ -1,3 +1,5 @@
+//! Where a text uses names, in its order.
+
 ghost use Rattle.std.specs.Prelude.{◌≡◌, ◌++◌, IfOk, OnOk};
 ghost use Rattle.cov_text.specs.Uses as spec;
 

@@ -1,3 +1,5 @@
+//! Which tokens the version of a text doesn't have.
+
 ghost use Rattle.std.specs.Prelude.{◌≡◌, ◌++◌, map, take, drop};
 ghost use Rattle.cov_text.specs.Versioned.{versioned, of_first, behind_version, is_other_number};
 

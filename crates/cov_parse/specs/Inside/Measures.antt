@@ -1,7 +1,7 @@
 -- Numbers of statements. These are words of the code's contracts.
 use Rattle.std.specs.Prelude.{ℕ, zero, suc, List, [], ◌∷◌}
-use Rattle.cov_parse.specs.declared.numbers.Counting.{Counting}
-use Rattle.cov_parse.specs.declared.numbers.Counting.TheVariants.{Left, Past}
+use Rattle.cov_parse.specs.declared.counts.Counting.{Counting}
+use Rattle.cov_parse.specs.declared.counts.Counting.TheVariants.{Left, Past}
 
 -- how many places may still come, or the first one that is too many
 abbrev pub counted : ℕ → List ℕ → Counting

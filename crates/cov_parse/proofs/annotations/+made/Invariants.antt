@@ -4,7 +4,10 @@ use Rattle.cov_text.specs.Limits.{cert_nodes}
 use Rattle.cov_parse.proofs.annotations.+made.Given as goal
 
 abbrev pub decreases-cert_of : goal.decreases-cert_of
-decreases-cert_of l = 2 * cert_nodes (certs.cert l.cert)
+decreases-cert_of l = 3 * cert_nodes (certs.cert l.cert)
 
 abbrev pub decreases-part_of : goal.decreases-part_of
-decreases-part_of l = 2 * cert_nodes (certs.cert l.part.value) + 1
+decreases-part_of l = 3 * cert_nodes (certs.cert l.part.value) + 1
+
+abbrev pub decreases-parts_of : goal.decreases-parts_of
+decreases-parts_of l = 3 * (cert_nodes (certs.cert l.first.value) + cert_nodes (certs.cert l.second.value)) + 2

@@ -5,7 +5,7 @@ use Rattle.cov_text.specs.Limits.{places, places_in}
 use Rattle.cov_parse.specs.Inside.Measures.{counted, onward}
 use Rattle.cov_read.specs.StmtViews as views
 use Rattle.cov_parse.proofs.LimitLaws.{counted_append, stmts_go, stmts_past}
-use Rattle.cov_parse.proofs.numbers.+count.Goals as goal
+use Rattle.cov_parse.proofs.counts.+count.Goals as goal
 
 pub count_stmts-returns-in-Past : goal.count_stmts-returns-in-Past
 count_stmts-returns-in-Past t c =

@@ -5,7 +5,7 @@ use Rattle.cov_parse.specs.Inside.Measures.{counted}
 use Rattle.cov_read.specs.StmtViews.{stmt}
 use Rattle.cov_read.specs.DeclViews as views
 use Rattle.cov_parse.proofs.LimitLaws.{lists_go, lists_past}
-use Rattle.cov_parse.proofs.numbers.count_threads.Goals as goal
+use Rattle.cov_parse.proofs.counts.count_threads.Goals as goal
 
 pub returns-in-Past : goal.returns-in-Past
 returns-in-Past c =

@@ -2,7 +2,7 @@ use Rattle.std.proofs.Common.{◌≡◌, map, drop, flat_map}
 use Rattle.cov_text.specs.Limits as spec
 use Rattle.cov_parse.specs.Inside.Measures.{counted}
 use Rattle.cov_read.specs.DeclViews as views
-use Rattle.cov_parse.proofs.numbers.count_threads.Given as goal
+use Rattle.cov_parse.proofs.counts.count_threads.Given as goal
 
 abbrev pub invariant-loop-thread : goal.invariant-loop-thread
 invariant-loop-thread l =

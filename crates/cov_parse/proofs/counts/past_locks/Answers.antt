@@ -3,7 +3,7 @@ use Rattle.cov_text.specs.declared.fault.Counted.TheVariants.{Locks}
 use Rattle.cov_text.specs.Limits.{past, past_locks}
 use Rattle.cov_read.specs.DeclViews as views
 use Rattle.cov_parse.proofs.LimitLaws.{past_none, past_some}
-use Rattle.cov_parse.proofs.numbers.past_locks.Goals as goal
+use Rattle.cov_parse.proofs.counts.past_locks.Goals as goal
 
 pub returns-then-locks-le-MOST_LOCKS : goal.returns-then-locks-le-MOST_LOCKS
 unfolding past_locks

@@ -4,7 +4,7 @@ use Rattle.cov_text.specs.Limits.{places_of, past_statements}
 use Rattle.cov_parse.specs.Inside.Measures.{counted}
 use Rattle.cov_read.specs.DeclViews as views
 use Rattle.cov_parse.proofs.LimitLaws.{excess_of, past_counted}
-use Rattle.cov_parse.proofs.numbers.past_statements.Goals as goal
+use Rattle.cov_parse.proofs.counts.past_statements.Goals as goal
 
 pub returns-in-Left : goal.returns-in-Left
 unfolding past_statements

@@ -3,7 +3,7 @@ use Rattle.cov_text.specs.declared.fault.Counted.TheVariants.{Threads}
 use Rattle.cov_text.specs.Limits.{past, past_threads}
 use Rattle.cov_read.specs.DeclViews as views
 use Rattle.cov_parse.proofs.LimitLaws.{past_none, past_some}
-use Rattle.cov_parse.proofs.numbers.past_threads.Goals as goal
+use Rattle.cov_parse.proofs.counts.past_threads.Goals as goal
 
 pub returns-then-threads-le-MOST_THREADS : goal.returns-then-threads-le-MOST_THREADS
 unfolding past_threads

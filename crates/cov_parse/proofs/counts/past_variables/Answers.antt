@@ -3,7 +3,7 @@ use Rattle.cov_text.specs.declared.fault.Counted.TheVariants.{Variables}
 use Rattle.cov_text.specs.Limits.{past, past_variables}
 use Rattle.cov_read.specs.DeclViews as views
 use Rattle.cov_parse.proofs.LimitLaws.{past_none, past_some}
-use Rattle.cov_parse.proofs.numbers.past_variables.Goals as goal
+use Rattle.cov_parse.proofs.counts.past_variables.Goals as goal
 
 pub returns-then-vars-le-MOST_VARIABLES : goal.returns-then-vars-le-MOST_VARIABLES
 unfolding past_variables

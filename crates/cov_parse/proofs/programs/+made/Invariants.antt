@@ -10,8 +10,14 @@ use Rattle.cov_parse.proofs.programs.+made.Given as goal
 abbrev pub decreases-stmts_of : goal.decreases-stmts_of
 decreases-stmts_of l = 3 * length (places (stms (map stmts.stmt l.body)))
 
+abbrev pub decreases-branched_of : goal.decreases-branched_of
+decreases-branched_of l = 3 * (length (places (stms (map stmts.stmt l.first))) + length (places (stms (map stmts.stmt l.second)))) + 1
+
+abbrev pub decreases-looped_of : goal.decreases-looped_of
+decreases-looped_of l = 3 * length (places (stms (map stmts.stmt l.body))) + 1
+
 abbrev pub decreases-add_stmt : goal.decreases-add_stmt
-decreases-add_stmt l = 3 * length (places_in (stmts.stmt l.stmt).1) + 1
+decreases-add_stmt l = 3 * length (places_in (stmts.stmt l.stmt).1) + 2
 
 abbrev pub invariant-stmts_of-loop-stmt : goal.invariant-stmts_of-loop-stmt
 invariant-stmts_of-loop-stmt l = record {
