@@ -12,7 +12,7 @@ use Rattle.code_text.specs.Inside.ListingReading.{Draft}
 use Rattle.code_text.specs.declared.fault.CodeFault.{CodeFault}
 use Rattle.code_text.specs.declared.fault.CodeFault.TheVariants.{Line, Bad, NoMemory}
 use Rattle.code_text.proofs.ChainLaws.{Chain}
-use Rattle.code_text.proofs.Complete.{complete, named, same_fault, faultless_same}
+use Rattle.code_text.proofs.Complete.{complete, repeated_is_fault, same_fault, faultless_same}
 use Rattle.code_text.proofs.Filled.{HasListing, has_listing, is_listed, filled_whole, reached, begun_listing}
 use Rattle.code_text.proofs.LineLaws.{faulty_line, unlisted, one_or_two}
 use Rattle.code_text.proofs.PhaseLaws.{first_parts}
@@ -69,4 +69,4 @@ module _ (bs : List ℕ) where
 
   -- a name that equals an earlier one is the first fault
   pub same_name : (p : Parts) → read_text (pieces 10 bs) ≡ Ok p → (n : List ℕ) → repeated [] (names_of p) ≡ Some n → fault_of p ≡ Some (bad.SameName n)
-  same_name p h n e = let g = has_listing p (listing_read p h).listed in named p g p g.version n e
+  same_name p h n e = let g = has_listing p (listing_read p h).listed in repeated_is_fault p g p g.version n e

@@ -193,13 +193,13 @@ module _ (p : Parts) (h : HasListing p) where
   no_version_fault q (inl e) = ap (λ v. if v == 1 || v == 2 then None else Some (bad.BadVersion v)) e
   no_version_fault q (inr e) = ap (λ v. if v == 1 || v == 2 then None else Some (bad.BadVersion v)) e
 
-  pub named : (q : Parts) → (q.version ≡ 1) ⊎ (q.version ≡ 2) → (n : List ℕ) → repeated [] (names_of q) ≡ Some n → fault_of q ≡ Some (bad.SameName n)
-  named q v n e =
+  pub repeated_is_fault : (q : Parts) → (q.version ≡ 1) ⊎ (q.version ≡ 2) → (n : List ℕ) → repeated [] (names_of q) ≡ Some n → fault_of q ≡ Some (bad.SameName n)
+  repeated_is_fault q v n e =
       ap (λ o. first_of o (first_of (name_fault (repeated [] (names_of q))) (first_in (thread_fault q) 0 q.threads))) (no_version_fault q v)
       ∙ ap (λ o. first_of (name_fault o) (first_in (thread_fault q) 0 q.threads)) e
 
   first_named : (n : List ℕ) → repeated [] (names_of p) ≡ Some n → fault_of (first_parts p) ≡ Some (bad.SameName n)
-  first_named n e = named (first_parts p) h.version n (ap (λ ns. repeated [] ((p.vars ++ p.locks) ++ ns)) (same_names p.version p.vars p.locks p.threads) ∙ e)
+  first_named n e = repeated_is_fault (first_parts p) h.version n (ap (λ ns. repeated [] ((p.vars ++ p.locks) ++ ns)) (same_names p.version p.vars p.locks p.threads) ∙ e)
 
   -- the first fault is the same
   pub same_fault : fault_of (first_parts p) ≡ fault_of p
@@ -207,7 +207,7 @@ module _ (p : Parts) (h : HasListing p) where
     where
       by : (o : Option (List ℕ)) → repeated [] (names_of p) ≡ o → fault_of (first_parts p) ≡ fault_of p
       by None e = ap fault_of (unrepeated e)
-      by (Some n) e = first_named n e ∙ sym (named p h.version n e)
+      by (Some n) e = first_named n e ∙ sym (repeated_is_fault p h.version n e)
 
   -- parts without a fault are read as they are
   pub faultless_same : fault_of (first_parts p) ≡ None → first_parts p ≡ p

@@ -59,18 +59,18 @@ on_err (Err e) h = h
 module _ {S : Type 0} where
   -- what doesn't change the entries
   pub still_indexed : (index next : IndexMap (List ℕ) ℕ S) (names : List (List ℕ)) → IsUnchanged index next → IsIndexOf index names → IsIndexOf next names
-  still_indexed index next names e is = record { named = is.named; ids = λ f. ap (lookup (bytes_eq f)) e ∙ is.ids f }
+  still_indexed index next names e is = record { are_names = is.are_names; ids = λ f. ap (lookup (bytes_eq f)) e ∙ is.ids f }
 
   pub none_indexed : (index : IndexMap (List ℕ) ℕ S) → IsEmpty index → IsIndexOf index []
-  none_indexed index e = record { named = All-nil IsName; ids = λ f. ap (lookup (bytes_eq f)) e }
+  none_indexed index e = record { are_names = All-nil IsName; ids = λ f. ap (lookup (bytes_eq f)) e }
 
   module _ (index : IndexMap (List ℕ) ℕ S) (names : List (List ℕ)) (n : List ℕ) (is : IsIndexOf index names) (named : IsName n) where
     all_named : All IsName (names ++ n ∷ [])
-    all_named = All-append IsName names (n ∷ []) is.named (all_from IsName (n ∷ []) (named, tt))
+    all_named = All-append IsName names (n ∷ []) is.are_names (all_from IsName (n ∷ []) (named, tt))
 
     -- a name that isn't there yet
     pub indexed_new : (next : IndexMap (List ℕ) ℕ S) → None ≡ get bytes_eq index n → Updates bytes_eq index next n (Some (length names)) → IsIndexOf next (names ++ n ∷ [])
-    indexed_new next none u = record { named = all_named; ids = λ f. u.0 f ∙ by f (bytes_eq n f) refl ∙ sym (id_more names n f) }
+    indexed_new next none u = record { are_names = all_named; ids = λ f. u.0 f ∙ by f (bytes_eq n f) refl ∙ sym (id_more names n f) }
       where
         by : (f : List ℕ) (b : Bool) → bytes_eq n f ≡ b → cond b (Some (length names)) (get bytes_eq index f) ≡ first_of (id_of names f) (if bytes_eq f n then Some (length names) else None)
         by f true e =
@@ -82,7 +82,7 @@ module _ {S : Type 0} where
 
     -- a name that is there keeps its id
     pub indexed_old : (k : ℕ) → Some k ≡ get bytes_eq index n → IsIndexOf index (names ++ n ∷ [])
-    indexed_old there some = record { named = all_named; ids = λ f. is.ids f ∙ by f (bytes_eq f n) refl (id_of names f) refl ∙ sym (id_more names n f) }
+    indexed_old there some = record { are_names = all_named; ids = λ f. is.ids f ∙ by f (bytes_eq f n) refl (id_of names f) refl ∙ sym (id_more names n f) }
       where
         by : (f : List ℕ) (b : Bool) → bytes_eq f n ≡ b → (o : Option ℕ) → id_of names f ≡ o → o ≡ first_of o (if b then Some (length names) else None)
         by f b e (Some k) is_k = refl

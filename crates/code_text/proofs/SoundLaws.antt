@@ -42,8 +42,8 @@ line_row d (w ∷ fs) r some h =
     subst (IsRow d (w ∷ fs)) m.4
     (ap (λ x. x ∷ fs) (weight_is w m.0 m.2) ∙ ap (λ x. decimal m.0 ∷ x) i.same, some, record { weight = weight_ranges w m.0 m.2; instr = i.listed })
 
-named : (w v n m : List ℕ) → bytes_eq w v ≡ true → n ≡ m → w ∷ n ∷ [] ≡ declared v m
-named w v n m h e = ap (λ x. x ∷ n ∷ []) (same_word w v h) ∙ ap (λ x. v ∷ x ∷ []) e
+declared_row : (w v n m : List ℕ) → bytes_eq w v ≡ true → n ≡ m → w ∷ n ∷ [] ≡ declared v m
+declared_row w v n m h e = ap (λ x. x ∷ n ∷ []) (same_word w v h) ∙ ap (λ x. v ∷ x ∷ []) e
 
 name_row_is : (d : Draft) (w n : List ℕ) (r : Row) → d.left ≡ 0 → name_row d.parts w n ≡ Some r → IsRow d (w ∷ n ∷ []) r
 name_row_is d w n r z h = elim (chosen (bytes_eq w (codes "var") && is_none d.parts.locks && is_none d.parts.threads) _ _ r h) [
@@ -51,12 +51,12 @@ name_row_is d w n r z h = elim (chosen (bytes_eq w (codes "var") && is_none d.pa
       let p = and_parts (bytes_eq w (codes "var") && is_none d.parts.locks) (is_none d.parts.threads) c.0 in
       let q = and_parts (bytes_eq w (codes "var")) (is_none d.parts.locks) p.0 in
       let m = map_is row.Var (name_of n) r c.1 in
-      subst (IsRow d (w ∷ n ∷ [])) m.2 (named w (codes "var") n m.0 q.0 (name_is n m.0 m.1), z, none_there d.parts.locks q.1, none_there d.parts.threads p.1, name_ranges n m.0 m.1))
+      subst (IsRow d (w ∷ n ∷ [])) m.2 (declared_row w (codes "var") n m.0 q.0 (name_is n m.0 m.1), z, none_there d.parts.locks q.1, none_there d.parts.threads p.1, name_ranges n m.0 m.1))
   | inr h ↦ (elim (chosen (bytes_eq w (codes "lock") && is_none d.parts.threads) _ _ r h) [
     | inl c ↦ (
         let p = and_parts (bytes_eq w (codes "lock")) (is_none d.parts.threads) c.0 in
         let m = map_is row.Lock (name_of n) r c.1 in
-        subst (IsRow d (w ∷ n ∷ [])) m.2 (named w (codes "lock") n m.0 p.0 (name_is n m.0 m.1), z, none_there d.parts.threads p.1, name_ranges n m.0 m.1))
+        subst (IsRow d (w ∷ n ∷ [])) m.2 (declared_row w (codes "lock") n m.0 p.0 (name_is n m.0 m.1), z, none_there d.parts.threads p.1, name_ranges n m.0 m.1))
     | inr h ↦ absurd cc
   ])
 ]

@@ -115,6 +115,6 @@ IsRead bytes (Err unread.Json) = value_of bytes ≡ None
 IsRead bytes (Err unread.NoMemory) = Unit {0}
 
 -- numbers in front of what a reading gives
-abbrev pub onto : {E : Type 0} → List ℕ → Result (List ℕ) E → Result (List ℕ) E
-onto ns (Ok more) = Ok (ns ++ more)
-onto ns (Err fault) = Err fault
+abbrev pub prefixed : {E : Type 0} → List ℕ → Result (List ℕ) E → Result (List ℕ) E
+prefixed ns (Ok more) = Ok (ns ++ more)
+prefixed ns (Err fault) = Err fault

@@ -11,7 +11,7 @@ use Rattle.code_text.specs.declared.names.Register.{Register}
 
 -- The index has the id of each name: that of its first declaration.
 pub record IsIndexOf {S : Type 0} (index : IndexMap (List ℕ) ℕ S) (names : List (List ℕ)) : Type 0 where
-  pub named : All IsName names
+  pub are_names : All IsName names
   pub ids : (f : List ℕ) → get bytes_eq index f ≡ id_of names f
 
 -- A guess, where there is one, is the id of the first declaration of the name that stands there.

@@ -37,10 +37,14 @@ outer (b ∷ bs) = bs
 abbrev mutual
   -- how many frames a thread has at most while it runs a statement, and a block
   pub stm_height : Stm → ℕ
+  stm_height s.skip = 1
+  stm_height (s.assign x e q retypes) = 1
+  stm_height (s.lock l) = 1
+  stm_height (s.unlock l) = 1
   stm_height (s.branch e a b join) = 1 + max (height a) (height b)
   stm_height (s.loop e inv b) = 1 + height b
   stm_height (s.note j) = 0
-  stm_height _ = 1
+  stm_height (s.output e) = 1
 
   pub height : Block → ℕ
   height done = 0
@@ -51,8 +55,14 @@ abbrev mutual
 -- The block begins with a statement that takes a step.
 abbrev pub IsReady : Block → Type 0
 IsReady done = ⊥
+IsReady (more at s.skip proofs b) = Unit {0}
+IsReady (more at (s.assign x e q retypes) proofs b) = Unit {0}
+IsReady (more at (s.lock l) proofs b) = Unit {0}
+IsReady (more at (s.unlock l) proofs b) = Unit {0}
+IsReady (more at (s.branch e x y join) proofs b) = Unit {0}
+IsReady (more at (s.loop e inv x) proofs b) = Unit {0}
 IsReady (more at (s.note j) proofs b) = ⊥
-IsReady (more at _ proofs b) = Unit {0}
+IsReady (more at (s.output e) proofs b) = Unit {0}
 
 -- Each frame is in range and begins with a statement that takes a step, and there is room for all that it enters.
 module _ (vars locks room : ℕ) where
