@@ -15,7 +15,7 @@ use Rattle.cov_ast.specs.Obligations.{Obligation, first_false, Decides}
 use Rattle.cov_ast.specs.Syntax.{Parsed}
 use Rattle.cov_ast.specs.WellFormed.{are_distinct, names_of}
 use Rattle.policy_class.specs.declared.names.Declared.{Declared}
-use Rattle.policy_class.specs.Inside.DeclaredNames.{IsTableOf, named}
+use Rattle.policy_class.specs.Inside.DeclaredNames.{IsTableOf, declared_name}
 use Rattle.policy_class.specs.Resolved.{Named, is_among, without_value, w1_obligation, w1_from, declared_names, var_named, lock_named, thread_named}
 use Rattle.policy_class.proofs.PositionLaws.{is_inside, absent}
 
@@ -77,35 +77,35 @@ texts_declared p =
         map-append (λ n. n.name) (map var_named p.vars) (map lock_named p.locks)
         ∙ (λ i. over (λ v. v.name) var_named p.vars (λ v. refl) i ++ over (λ l. l.name) lock_named p.locks (λ l. refl) i)
 
-texts_named : (ds : List Declared) → texts (map named ds) ≡ map (λ d. d.name) ds
+texts_named : (ds : List Declared) → texts (map declared_name ds) ≡ map (λ d. d.name) ds
 texts_named [] = refl
 texts_named (d ∷ ds) = ap (λ ts. d.name ∷ ts) (texts_named ds)
 
 -- what the names of declarations in one table are
-pub table_is : (p : Parsed) (ds : List Declared) (r : Result (List (List ℕ)) CheckFault) → map named ds ≡ declared_names p
-    → Decides (w1_from [] (map named ds)) (without_value r) → IfOk r (λ t. t ≡ map (λ d. d.name) ds) → IfOk r (All IsName) → IfOk r (IsTableOf p)
+pub table_is : (p : Parsed) (ds : List Declared) (r : Result (List (List ℕ)) CheckFault) → map declared_name ds ≡ declared_names p
+    → Decides (w1_from [] (map declared_name ds)) (without_value r) → IfOk r (λ t. t ≡ map (λ d. d.name) ds) → IfOk r (All IsName) → IfOk r (IsTableOf p)
 table_is p ds (Err fault) e decided names named_all = tt
 table_is p ds (Ok t) e decided names named_all =
     record {
       names = names ∙ sym (texts_named ds) ∙ ap texts e ∙ texts_declared p;
       texts = named_all;
-      differ = ap (are_distinct bytes_eq) (names ∙ sym (texts_named ds)) ∙ names_differ (map named ds) decided;
+      differ = ap (are_distinct bytes_eq) (names ∙ sym (texts_named ds)) ∙ names_differ (map declared_name ds) decided;
     }
 
 -- One more declaration -------------------------------------------------------------------------------------------
 
 -- at a step of a loop over declarations
 pub declared_more : {X D : Type 0} (v : X → D) (f : D → Named) (made new : List Declared) (xs : List X) (i : ℕ) (x : X) (d : Declared)
-    → i < length xs → x ≡ get_or xs i x → new ≡ made ++ d ∷ [] → named d ≡ f (v x)
-    → map named new ++ map f (map v (drop (i + 1) xs)) ≡ map named made ++ map f (map v (drop i xs))
+    → i < length xs → x ≡ get_or xs i x → new ≡ made ++ d ∷ [] → declared_name d ≡ f (v x)
+    → map declared_name new ++ map f (map v (drop (i + 1) xs)) ≡ map declared_name made ++ map f (map v (drop i xs))
 declared_more v f made new xs i x d inside is pushed same =
     let rest = map f (map v (drop (i + 1) xs)) in
-    ap (λ ds. map named ds ++ rest) pushed
-    ∙ ap (λ ns. ns ++ rest) (map-append named made (d ∷ []))
-    ∙ append_assoc (map named made) (named d ∷ []) rest
-    ∙ (λ j. map named made ++ same j ∷ rest)
-    ∙ (λ j. map named made ++ f (v (is j)) ∷ rest)
-    ∙ sym (ap (λ ns. map named made ++ ns) (at_drop_more (λ ys. map f (map v ys)) xs i x inside))
+    ap (λ ds. map declared_name ds ++ rest) pushed
+    ∙ ap (λ ns. ns ++ rest) (map-append declared_name made (d ∷ []))
+    ∙ append_assoc (map declared_name made) (declared_name d ∷ []) rest
+    ∙ (λ j. map declared_name made ++ same j ∷ rest)
+    ∙ (λ j. map declared_name made ++ f (v (is j)) ∷ rest)
+    ∙ sym (ap (λ ns. map declared_name made ++ ns) (at_drop_more (λ ys. map f (map v ys)) xs i x inside))
 
 -- Looking a name up ----------------------------------------------------------------------------------------------
 

@@ -35,9 +35,9 @@ module _ {X : Type 0} (p : X → Bool) where
       go rest false h = ap (λ n. 1 + n) (rest h)
 
   -- else the first of the second list is
-  pub behind : (xs ys : List X) → list_any p xs ≡ false → position_or_len p (xs ++ ys) ≡ length xs + position_or_len p ys
-  behind [] ys h = omega arith
-  behind (x ∷ xs) ys h = go (λ k. behind xs ys k) (p x) h
+  pub position_in_rest : (xs ys : List X) → list_any p xs ≡ false → position_or_len p (xs ++ ys) ≡ length xs + position_or_len p ys
+  position_in_rest [] ys h = omega arith
+  position_in_rest (x ∷ xs) ys h = go (λ k. position_in_rest xs ys k) (p x) h
     where
       go : (list_any p xs ≡ false → position_or_len p (xs ++ ys) ≡ length xs + position_or_len p ys) → (b : Bool) → (b || list_any p xs) ≡ false
           → cond (not b) (1 + position_or_len p (xs ++ ys)) 0 ≡ length (x ∷ xs) + position_or_len p ys
@@ -53,7 +53,7 @@ module _ {X : Type 0} (p : X → Bool) where
 
   -- from the position in both lists: within the first list, and past it
   pub among_first : (xs ys : List X) → position_or_len p (xs ++ ys) < length xs → list_any p xs ≡ true
-  among_first xs ys h = elim (cases_Bool (list_any p xs)) [ inl a ↦ a | inr a ↦ absurd (omega (arith, behind xs ys a)) ]
+  among_first xs ys h = elim (cases_Bool (list_any p xs)) [ inl a ↦ a | inr a ↦ absurd (omega (arith, position_in_rest xs ys a)) ]
 
   pub not_among_first : (xs ys : List X) → length xs ≤ position_or_len p (xs ++ ys) → list_any p xs ≡ false
   not_among_first xs ys h = elim (cases_Bool (list_any p xs)) [ inl a ↦ absurd (omega (arith, front xs ys a, present xs a)) | inr a ↦ a ]
@@ -65,4 +65,4 @@ module _ {X : Type 0} (p : X → Bool) where
   position_outside xs ys h = sym (absent xs (not_among_first xs ys h))
 
   pub position_behind : (xs ys : List X) → length xs ≤ position_or_len p (xs ++ ys) → position_or_len p (xs ++ ys) ≡ length xs + position_or_len p ys
-  position_behind xs ys h = behind xs ys (not_among_first xs ys h)
+  position_behind xs ys h = position_in_rest xs ys (not_among_first xs ys h)

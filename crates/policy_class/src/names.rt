@@ -6,7 +6,7 @@ ghost use Rattle.cov_ast.specs.View as view;
 ghost use Rattle.cov_ast.specs.Ready.{IsReady};
 ghost use Rattle.cov_ast.specs.Obligations.{Decides};
 ghost use Rattle.policy_class.specs.Resolved as spec;
-ghost use Rattle.policy_class.specs.Inside.DeclaredNames.{IsTableOf, named};
+ghost use Rattle.policy_class.specs.Inside.DeclaredNames.{IsTableOf, declared_name};
 
 use cov_ast::{
     CheckFault, Detail, LockDecl, NameTable, Parsed, Rule, ThreadDecl, VarDecl, refused,
@@ -34,7 +34,7 @@ pub fn declared_names(alloc: Global, p: &Parsed) -> Result<NameTable, CheckFault
 
 /// The declarations in the order of the text.
 fn declarations(alloc: Global, p: &Parsed) -> Result<List<Declared>, NoMemory>
-    ensures { IfOk result (λ made. map named made ≡ spec.declared_names (view.parsed p.now)) }
+    ensures { IfOk result (λ made. map declared_name made ≡ spec.declared_names (view.parsed p.now)) }
 {
     let mut made = List::new(alloc);
     add_vars(&mut made, p.vars.as_slice())?;
@@ -44,7 +44,7 @@ fn declarations(alloc: Global, p: &Parsed) -> Result<List<Declared>, NoMemory>
 }
 
 fn add_vars(made: &mut List<Declared>, vars: &[VarDecl]) -> Result<(), NoMemory>
-    ensures { OnOk result (map named made.new ≡ map named made.old ++ map spec.var_named (map view.var vars.now)) }
+    ensures { OnOk result (map declared_name made.new ≡ map declared_name made.old ++ map spec.var_named (map view.var vars.now)) }
 {
     for var in vars {
         made.push(Declared {
@@ -56,7 +56,7 @@ fn add_vars(made: &mut List<Declared>, vars: &[VarDecl]) -> Result<(), NoMemory>
 }
 
 fn add_locks(made: &mut List<Declared>, locks: &[LockDecl]) -> Result<(), NoMemory>
-    ensures { OnOk result (map named made.new ≡ map named made.old ++ map spec.lock_named (map view.lock locks.now)) }
+    ensures { OnOk result (map declared_name made.new ≡ map declared_name made.old ++ map spec.lock_named (map view.lock locks.now)) }
 {
     for lock in locks {
         made.push(Declared {
@@ -68,7 +68,7 @@ fn add_locks(made: &mut List<Declared>, locks: &[LockDecl]) -> Result<(), NoMemo
 }
 
 fn add_threads(made: &mut List<Declared>, threads: &[ThreadDecl]) -> Result<(), NoMemory>
-    ensures { OnOk result (map named made.new ≡ map named made.old ++ map spec.thread_named (map view.thread threads.now)) }
+    ensures { OnOk result (map declared_name made.new ≡ map declared_name made.old ++ map spec.thread_named (map view.thread threads.now)) }
 {
     for thread in threads {
         made.push(Declared {
@@ -82,7 +82,7 @@ fn add_threads(made: &mut List<Declared>, threads: &[ThreadDecl]) -> Result<(), 
 /// The table of names that are to differ.
 fn table_of(alloc: Global, declarations: &[Declared]) -> Result<NameTable, CheckFault>
     requires { length declarations.now < 4294967295 }
-    ensures decided { Decides (spec.w1_from [] (map named declarations.now)) (spec.without_value result) }
+    ensures decided { Decides (spec.w1_from [] (map declared_name declarations.now)) (spec.without_value result) }
     ensures names { IfOk result (λ table. table ≡ map (λ d. d.name) declarations.now) }
     ensures texts { IfOk result (All IsName) }
 {
@@ -99,7 +99,7 @@ fn table_of(alloc: Global, declarations: &[Declared]) -> Result<NameTable, Check
 /// text there is none that is declared.
 fn declare(table: &mut NameTable, declared: &Declared) -> Result<(), CheckFault>
     requires { length table.old < 4294967295 }
-    ensures decided { Decides (spec.w1_obligation table.old (named declared.now) ∷ []) result }
+    ensures decided { Decides (spec.w1_obligation table.old (declared_name declared.now) ∷ []) result }
     ensures added { OnOk result (table.new ≡ table.old ++ declared.now.name ∷ []) }
     ensures text { IsName declared.now.name }
 {

@@ -12,6 +12,7 @@ mod LargeTypes
 mod ReadTypes
 pub mod StatementLaws
 pub mod Counting
+mod CertificateLaws
 pub mod Bounds
 mod Parts
 mod Ranges

@@ -72,9 +72,9 @@ end_held p t place held none = ap (λ l. first_false (thread_obligation t place 
 abbrev pub names : {X : Type 0} → (X → ℕ × Term) → List X → List ℕ
 names g xs = map (λ x. (g x).0) xs
 
-named : {X : Type 0} (g : X → ℕ × Term) (xs : List X) (z : ℕ) → has_number (names g xs) z ≡ list_any (λ x. (g x).0 == z) xs
-named g [] z = refl
-named g (x ∷ xs) z = ap (λ b. ((g x).0 == z) || b) (named g xs z)
+number_among : {X : Type 0} (g : X → ℕ × Term) (xs : List X) (z : ℕ) → has_number (names g xs) z ≡ list_any (λ x. (g x).0 == z) xs
+number_among g [] z = refl
+number_among g (x ∷ xs) z = ap (λ b. ((g x).0 == z) || b) (number_among g xs z)
 
 or_swap : (a b : Bool) → (a || (b || false)) ≡ (b || a)
 or_swap true true = refl
@@ -105,27 +105,27 @@ module _ {X : Type 0} (g : X → ℕ × Term) (xs : List X) (i : ℕ) (x : X) (i
   module _ (p : Plain) (t at : ℕ) (test : ℕ → Bool) (held : List Bool) (named_before : Bool)
       (tells : named_before ≡ list_any (λ y. (g y).0 == (g x).0) (take i xs))
       (kept : first_false (type_obligations p t at test held (reverse (names g (take i xs))) (map g (drop i xs))) ≡ first_false (type_obligations p t at test held [] (map g xs))) where
-    before : List ℕ
-    before = reverse (names g (take i xs))
+    earlier : List ℕ
+    earlier = reverse (names g (take i xs))
 
     here : Bool → List Obligation
     here named_here = one_type p t at held (test (g x).0 && not named_here) (g x)
 
-    same : here named_before ≡ here (has_number before (g x).0)
-    unfolding before
-    same = ap here (tells ∙ sym (has-reverse (names g (take i xs)) (g x).0 ∙ named g (take i xs) (g x).0))
+    same : here named_before ≡ here (has_number earlier (g x).0)
+    unfolding earlier
+    same = ap here (tells ∙ sym (has-reverse (names g (take i xs)) (g x).0 ∙ number_among g (take i xs) (g x).0))
 
     pub type_refused : (fault : CheckFault) → Decides (one_type p t at held (test (g x).0 && not named_before) (g x)) (Err fault)
         → Decides (type_obligations p t at test held [] (map g xs)) (Err fault)
-    unfolding before here
+    unfolding earlier here
     type_refused fault h =
-        loop_refused (λ ys. type_obligations p t at test held before (map g ys)) (λ ys. type_obligations p t at test held ((g x).0 ∷ before) (map g ys))
-        (here (has_number before (g x).0)) (type_obligations p t at test held [] (map g xs)) xs i x inside is (λ ys. refl) kept fault (subst (λ es. Decides es (Err fault)) same h)
+        loop_refused (λ ys. type_obligations p t at test held earlier (map g ys)) (λ ys. type_obligations p t at test held ((g x).0 ∷ earlier) (map g ys))
+        (here (has_number earlier (g x).0)) (type_obligations p t at test held [] (map g xs)) xs i x inside is (λ ys. refl) kept fault (subst (λ es. Decides es (Err fault)) same h)
 
     pub type_more : first_false (one_type p t at held (test (g x).0 && not named_before) (g x)) ≡ None
         → first_false (type_obligations p t at test held (reverse (names g (take (i + 1) xs))) (map g (drop (i + 1) xs))) ≡ first_false (type_obligations p t at test held [] (map g xs))
-    unfolding before here
+    unfolding earlier here
     type_more h =
         ap (λ ns. first_false (type_obligations p t at test held ns (map g (drop (i + 1) xs)))) names_more
-        ∙ loop_more (λ ys. type_obligations p t at test held before (map g ys)) (λ ys. type_obligations p t at test held ((g x).0 ∷ before) (map g ys))
-        (here (has_number before (g x).0)) (type_obligations p t at test held [] (map g xs)) xs i x inside is (λ ys. refl) kept (sym (ap first_false same) ∙ h)
+        ∙ loop_more (λ ys. type_obligations p t at test held earlier (map g ys)) (λ ys. type_obligations p t at test held ((g x).0 ∷ earlier) (map g ys))
+        (here (has_number earlier (g x).0)) (type_obligations p t at test held [] (map g xs)) xs i x inside is (λ ys. refl) kept (sym (ap first_false same) ∙ h)

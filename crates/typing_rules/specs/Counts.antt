@@ -5,15 +5,38 @@ use Rattle.cov_ast.specs.Obligations.{Obligation, Decides, first_false}
 use Rattle.cov_ast.specs.WellFormed.{places}
 use Rattle.cov_ast.specs.declared.refusal.CheckFault.{CheckFault}
 use Rattle.cov_ast.specs.declared.refusal.Rule.{Rule}
-use Rattle.cov_ast.specs.declared.refusal.Rule.TheVariants.{V9}
+use Rattle.cov_ast.specs.declared.refusal.Rule.TheVariants.{W1, W2, W3, W4, W5, W6, W7, W8, W9, V1, V2, V3, V4, V5, V6, V7, V8, V9, V10, V11, V12, V13, V14, V15, V16}
 use Rattle.mode_compat.specs.Compatible.{numbered}
 use Rattle.typing_rules.specs.ThreadObligations.{thread_obligations}
 use Rattle.typing_rules.specs.declared.count.Count.{Count}
 
 -- whether a rule asks that something follows
 abbrev pub is_entailment : Rule → Bool
+is_entailment W1 = false
+is_entailment W2 = false
+is_entailment W3 = false
+is_entailment W4 = false
+is_entailment W5 = false
+is_entailment W6 = false
+is_entailment W7 = false
+is_entailment W8 = false
+is_entailment W9 = false
+is_entailment V1 = false
+is_entailment V2 = false
+is_entailment V3 = false
+is_entailment V4 = false
+is_entailment V5 = false
+is_entailment V6 = false
+is_entailment V7 = false
+is_entailment V8 = false
 is_entailment V9 = true
-is_entailment _ = false
+is_entailment V10 = false
+is_entailment V11 = false
+is_entailment V12 = false
+is_entailment V13 = false
+is_entailment V14 = false
+is_entailment V15 = false
+is_entailment V16 = false
 
 -- how many of the obligations ask that something follows
 abbrev pub entailment_count : List Obligation → ℕ

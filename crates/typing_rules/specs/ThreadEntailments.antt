@@ -1,20 +1,21 @@
 -- The entailments of a thread: what has to follow, at which statement and by which number there, and how far they are
 -- reached. None of it depends on a certificate.
-use Rattle.std.specs.Prelude.{ℕ, suc, ◌==◌, ◌&&◌, ◌||◌, List, [], ◌∷◌, ◌++◌, length, take, map, Bool, true, false, if◌then◌else◌, Option, Some, None}
+use Rattle.std.specs.Prelude.{ℕ, suc, ◌==◌, ◌&&◌, ◌||◌, List, [], ◌∷◌, ◌++◌, length, take, map, filter, Bool, true, false, if◌then◌else◌, Option, Some, None}
 use Rattle.cov_expr.specs.Term.{neg}
 use Rattle.cov_expr.specs.View.{term}
-use Rattle.cov_ast.specs.Syntax.{Stm, skip, assign, lock, unlock, branch, loop, note, output, Block, done, more, Program}
+use Rattle.cov_ast.specs.Syntax.{Proof, Stm, skip, assign, lock, unlock, branch, loop, note, output, Block, done, more, Program}
 use Rattle.cov_ast.specs.Obligations.{Obligation}
 use Rattle.cov_ast.specs.Plain.{Plain, plain}
 use Rattle.cov_ast.specs.declared.refusal.Rule.{Rule}
-use Rattle.cov_ast.specs.declared.refusal.Rule.TheVariants.{V9, V13}
+use Rattle.cov_ast.specs.declared.refusal.Rule.TheVariants.{W1, W2, W3, W4, W5, W6, W7, W8, W9, V1, V2, V3, V4, V5, V6, V7, V8, V9, V10, V11, V12, V13, V14, V15, V16}
+use Rattle.cov_ast.specs.declared.refusal.Detail.TheVariants.{Number}
 use Rattle.mode_compat.specs.Compatible.{numbered}
 use Rattle.typing_state.specs.Point.{Point}
 use Rattle.typing_state.specs.After.{start, with_guard, meet}
 use Rattle.typing_rules.specs.Blocks.{after_stm, after_block}
-use Rattle.typing_rules.specs.Counts.{entailment_count}
-use Rattle.typing_rules.specs.Entailments.{Entailment, state_follows, guard_follows, assign_entailments, unlock_entailments}
-use Rattle.typing_rules.specs.ThreadObligations.{thread_obligations}
+use Rattle.typing_rules.specs.Counts.{entailment_count, is_entailment}
+use Rattle.typing_rules.specs.Entailments.{Entailment, is_proved, state_follows, guard_follows, assign_entailments, unlock_entailments}
+use Rattle.typing_rules.specs.ThreadObligations.{thread_obligation, thread_obligations}
 use Rattle.typing_rules.specs.declared.entail.Entail.{Entail}
 
 -- an entailment, with the place of its statement and its number among those of the statement
@@ -61,9 +62,31 @@ module _ (p : Plain) (t : ℕ) where
 
 -- whether a rule is about certificates: which one an entailment has (V9), and by which number it is given (V13)
 abbrev pub is_about_certificates : Rule → Bool
+is_about_certificates W1 = false
+is_about_certificates W2 = false
+is_about_certificates W3 = false
+is_about_certificates W4 = false
+is_about_certificates W5 = false
+is_about_certificates W6 = false
+is_about_certificates W7 = false
+is_about_certificates W8 = false
+is_about_certificates W9 = false
+is_about_certificates V1 = false
+is_about_certificates V2 = false
+is_about_certificates V3 = false
+is_about_certificates V4 = false
+is_about_certificates V5 = false
+is_about_certificates V6 = false
+is_about_certificates V7 = false
+is_about_certificates V8 = false
 is_about_certificates V9 = true
+is_about_certificates V10 = false
+is_about_certificates V11 = false
+is_about_certificates V12 = false
 is_about_certificates V13 = true
-is_about_certificates _ = false
+is_about_certificates V14 = false
+is_about_certificates V15 = false
+is_about_certificates V16 = false
 
 -- whether an obligation holds, or is about certificates
 abbrev pub is_passed : Obligation → Bool
@@ -88,6 +111,39 @@ all_entailments p t = block_entailments (plain p) t (numbered p t).body (start (
 -- count.
 abbrev pub thread_entailments : Program → (t : ℕ) → List PlacedEntailment
 thread_entailments p t = reached_entailments (thread_obligations p t) (all_entailments p t)
+
+-- Their certificates ---------------------------------------------------------------------------------------------
+
+abbrev mutual
+  -- the proofs of nested statements, each with the place of its statement
+  pub proofs_within : Stm → List (ℕ × List Proof)
+  proofs_within skip = []
+  proofs_within (assign x e q retypes) = []
+  proofs_within (lock l) = []
+  proofs_within (unlock l) = []
+  proofs_within (branch e yes_block no_block join) = placed_proofs yes_block ++ placed_proofs no_block
+  proofs_within (loop e inv b) = placed_proofs b
+  proofs_within (note j) = []
+  proofs_within (output e) = []
+
+  -- the proofs of statements and of those in them, each with the place of its statement
+  pub placed_proofs : Block → List (ℕ × List Proof)
+  placed_proofs done = []
+  placed_proofs (more at s proofs b) = (at, proofs) ∷ proofs_within s ++ placed_proofs b
+
+-- the first at a place, or none
+abbrev pub proofs_among : List (ℕ × List Proof) → (place : ℕ) → List Proof
+proofs_among [] place = []
+proofs_among (q ∷ qs) place = if q.0 == place then q.1 else proofs_among qs place
+
+-- V9 of an entailment of a body: it has a valid certificate among the proofs of the statement at its place
+abbrev pub certificate_obligation : (t : ℕ) → Block → PlacedEntailment → Obligation
+certificate_obligation t body g =
+    thread_obligation t g.place V9 (Number g.number) (is_proved (proofs_among (placed_proofs body) g.place) g.number g.entailment)
+
+-- of obligations, those of V9
+abbrev pub certificate_obligations : List Obligation → List Obligation
+certificate_obligations obligations = filter (λ e. is_entailment e.refusal.rule) obligations
 
 -- the first of entailments with this number of the statement at this place
 abbrev pub entailment_among : List PlacedEntailment → (place number : ℕ) → Option PlacedEntailment

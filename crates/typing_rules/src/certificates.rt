@@ -102,12 +102,11 @@ fn is_proved(
     ensures { IfOk result (λ proved. (p : Plain) → (t : ℕ) → AtPoint p t point.now (λ a.
         proved ≡ spec.is_proved (map view.proof proofs.now) number (entailment_of a.preds entailment.now))) }
 {
-    let auto = Cert::Auto;
     is_proved_by(
         alloc,
         point,
         entailment,
-        cert_for(proofs, number, &auto),
+        cert_for(proofs, number, &Cert::Auto),
         next,
     )
 }

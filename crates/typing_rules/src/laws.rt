@@ -1,18 +1,27 @@
 //! What the rules of statements give: a thread of which every obligation holds is secure.
 
-ghost use Rattle.std.specs.Prelude.{◌≡◌, ℕ, ◌<◌, length, IsTrue, false};
+ghost use Rattle.std.specs.Prelude.{◌≡◌, ℕ, ◌<◌, length, map, IsTrue, false};
 ghost use Rattle.cov_ast.specs.Syntax as syntax;
 ghost use Rattle.cov_ast.specs.Obligations.{all_hold};
 ghost use Rattle.cov_ast.specs.Plain.{plain};
 ghost use Rattle.cov_ast.specs.Tables.{has};
 ghost use Rattle.cov_ast.specs.WellFormed.{IsWellFormed};
 ghost use Rattle.flow_model.specs.Game.{IsSecureThread};
+ghost use Rattle.mode_compat.specs.Compatible.{numbered};
 ghost use Rattle.mode_compat.specs.Declared.{IsDeclared, declaration_obligations};
+ghost use Rattle.typing_rules.specs.ThreadEntailments.{all_entailments, certificate_obligation, certificate_obligations};
 ghost use Rattle.typing_rules.specs.ThreadObligations.{thread_obligations, end_point};
 
 /// A thread of which every obligation holds has given back each lock at its end.
 pub fn threads_end_without_locks()
     ensures { (p : syntax.Program) → (t : ℕ) → IsTrue (all_hold (thread_obligations p t)) → (l : ℕ) → l < length p.locks → has (end_point p t).held l ≡ false }
+{}
+
+/// What is asked of certificates in a thread (V9) is, in this order, that each of its entailments has a valid one: at the place of
+/// the entailment's statement, with the entailment's number, and true exactly where a certificate that is given there, or `auto`, is valid.
+pub fn entailments_are_obligations()
+    ensures { (p : syntax.Program) → IsWellFormed p → (t : ℕ) → t < length p.threads
+        → certificate_obligations (thread_obligations p t) ≡ map (certificate_obligation t (numbered p t).body) (all_entailments p t) }
 {}
 
 /// Where every obligation of the declarations holds, the declarations are as the rules say.

@@ -9,8 +9,9 @@
 //!   [`Count`]: how many statements and entailments it has.
 //! - [`entailments`]: what has to follow at the statements of a thread, whatever certificates it has. [`Entail`]: one of these.
 //!   [`entailment_at`]: one of them alone, by its place and number.
-//! - [`threads_end_without_locks`], [`true_declarations_are_declared`], [`true_obligations_are_secure`]: laws, without a body. The
-//!   last is the soundness of the rules.
+//! - [`subst_nodes_left`]: how many nodes an expression would have with a part in the place of a variable, counted without making it.
+//! - [`threads_end_without_locks`], [`entailments_are_obligations`], [`true_declarations_are_declared`],
+//!   [`true_obligations_are_secure`]: laws, without a body. The last is the soundness of the rules.
 //!
 //! `Walk` of `walk.rt` goes over the statements: those without blocks stand in `statements.rt`, branches and loops in
 //! `branches.rt`. There is one walk for two purposes (`purpose.rt`). To judge, it tries each obligation and keeps nothing. To
@@ -66,6 +67,8 @@ mod writes;
 pub use count::Count;
 pub use entail::Entail;
 pub use laws::{
-    threads_end_without_locks, true_declarations_are_declared, true_obligations_are_secure,
+    entailments_are_obligations, threads_end_without_locks, true_declarations_are_declared,
+    true_obligations_are_secure,
 };
+pub use sizes::subst_nodes_left;
 pub use thread::{check_thread, entailment_at, entailments};

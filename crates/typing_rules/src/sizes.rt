@@ -35,7 +35,7 @@ pub fn small_subst(alloc: Global, e: &Expr, x: u32, part: &Expr) -> Result<Optio
 
 /// How many nodes of a budget are left by the expression with a part in the place of each occurrence of a variable, or
 /// nothing where it has more.
-fn subst_nodes_left(e: &Expr, x: u32, part: &Expr, budget: u32) -> Option<u32>
+pub fn subst_nodes_left(e: &Expr, x: u32, part: &Expr, budget: u32) -> Option<u32>
     ensures { MatchOption result (budget < tree.nodes (tree.subst (term e.now) x (term part.now)))
         (λ left. left + tree.nodes (tree.subst (term e.now) x (term part.now)) ≡ budget) }
 {

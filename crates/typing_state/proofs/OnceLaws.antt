@@ -102,11 +102,11 @@ module _ (p : Term → Bool) (ts : List Term) (i : ℕ) (d : Term) (before : (k 
 
 -- whether one passes is told by whether there is a first one
 pub found_is_there : (p : Term → Bool) (ts : List Term) → is_some (position p ts) ≡ list_any p ts
-found_is_there p ts = told (nat_lt (position_or_len p ts) (length ts)) (position_or_len p ts) ∙ any ts
+found_is_there p ts = is_some_where (nat_lt (position_or_len p ts) (length ts)) (position_or_len p ts) ∙ any ts
   where
-    told : (b : Bool) (n : ℕ) → is_some (cond b (Some n) None) ≡ b
-    told true n = refl
-    told false n = refl
+    is_some_where : (b : Bool) (n : ℕ) → is_some (cond b (Some n) None) ≡ b
+    is_some_where true n = refl
+    is_some_where false n = refl
 
     next : (b : Bool) (n m : ℕ) → nat_lt (cond (not b) (1 + n) 0) (suc m) ≡ (b || nat_lt n m)
     next true n m = lt-ltb 0 (suc m) (omega arith)

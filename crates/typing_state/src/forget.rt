@@ -236,10 +236,30 @@ pub fn assign_types(
         → map (option_map term) types.new ≡ after.retyped (after.assigned_type (plain (view.program p.now)) t held x (term q) (map view.retype retypes.now))
         (map (option_map term) types.old))) }
 {
-    if !variables.is_control(x) {
-        assign_type(alloc, types, x, q)?;
+    if variables.is_control(x) {
+        retype(alloc, p, modes, variables, x, retypes, types)?;
         return Ok(());
     }
+    assign_type(alloc, types, x, q)?;
+    Ok(())
+}
+
+/// The types after a control has a new value.
+fn retype(
+    alloc: Global,
+    p: &Program,
+    modes: &ModeState,
+    variables: &Variables,
+    x: u32,
+    retypes: &[Retype],
+    types: &mut Types,
+) -> Result<(), NoMemory>
+    requires formed { IsWellFormed (view.program p.now) }
+    requires small { x < 256 }
+    ensures { OnOk result (AtEach (plain (view.program p.now)) modes.now variables.now (λ t held. length types.old ≤ length p.now.vars
+        → map (option_map term) types.new ≡ after.retyped (λ z g. after.listed_or (map view.retype retypes.now) z (after.forgotten_type (plain (view.program p.now)) t held x z g))
+        (map (option_map term) types.old))) }
+{
     forget_types(p, modes, variables, x, types)?;
     put_retypes(alloc, types, retypes)?;
     Ok(())

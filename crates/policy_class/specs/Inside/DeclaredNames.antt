@@ -7,8 +7,9 @@ use Rattle.cov_ast.specs.WellFormed.{are_distinct, names_of}
 use Rattle.policy_class.specs.declared.names.Declared.{Declared}
 use Rattle.policy_class.specs.Resolved.{Named}
 
-abbrev pub named : Declared → Named
-named d = record { name = d.name; at = d.at }
+-- a declaration's name with its place
+abbrev pub declared_name : Declared → Named
+declared_name d = record { name = d.name; at = d.at }
 
 -- A table has the names of variables, then of locks, then of threads, which all differ.
 pub record IsTableOf (p : Parsed) (table : List (List ℕ)) : Type 0 where
