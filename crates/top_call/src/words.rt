@@ -14,7 +14,7 @@ const BAD_WORDS: u8 = 10;
 pub fn command_line<R: Env + AllocGlobal>(rt: &R) -> Result<Vec<String>, u8>
     ensures { IfErr result (λ status. (status ≡ exit_status Status.NoMemory) ⊎ (status ≡ 10)) }
 {
-    match words(rt) {
+    match all_words(rt) {
         Ok(words) => Ok(words),
         Err(error) if error.kind() == io::ErrorKind::OutOfMemory => {
             Err(Status::NoMemory.exit_status())
@@ -23,6 +23,6 @@ pub fn command_line<R: Env + AllocGlobal>(rt: &R) -> Result<Vec<String>, u8>
     }
 }
 
-fn words<R: Env + AllocGlobal>(rt: &R) -> io::Result<Vec<String>> {
+fn all_words<R: Env + AllocGlobal>(rt: &R) -> io::Result<Vec<String>> {
     Ok(env::args(rt)?.skip(1).collect(rt.alloc())?)
 }
