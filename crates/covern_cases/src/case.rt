@@ -1,5 +1,7 @@
+//! Cases as the lines of a file say them.
+
 use crate::failure::Failure;
-use crate::lines::add_line;
+use crate::lines::{add_line, copy_of};
 use cov_expr::{Blob, List, Name, NoMemory};
 use std::alloc::Global;
 
@@ -28,9 +30,8 @@ enum Owner {
     Call,
 }
 
-/// The cases of a file.
-pub fn cases_of(alloc: Global, bytes: &[u8]) -> Result<Vec<Case>, Failure> {
-    let mut cases = Vec::new(alloc);
+/// Adds the cases of a file.
+pub fn add_cases(alloc: Global, bytes: &[u8], cases: &mut Vec<Case>) -> Result<(), Failure> {
     let mut owner = Owner::Comment;
     for line in bytes.split_inclusive(|byte| *byte == b'\n') {
         match line.strip_prefix(b"//// ") {
@@ -45,13 +46,13 @@ pub fn cases_of(alloc: Global, bytes: &[u8]) -> Result<Vec<Case>, Failure> {
             }
         }
     }
-    Ok(cases)
+    Ok(())
 }
 
 /// A case with an empty file `p`.
 fn case_named(alloc: Global, name: &[u8]) -> Result<Case, Failure> {
     let mut case = Case {
-        name: text_of(alloc, name)?,
+        name: copy_of(alloc, name.trim_ascii())?,
         files: Vec::new(alloc),
         calls: Vec::new(alloc),
     };
@@ -104,7 +105,7 @@ fn begin_call(
 ) -> Result<(), NoMemory> {
     let call = Call {
         is_whole,
-        words: text_of(alloc, words)?,
+        words: copy_of(alloc, words.trim_ascii())?,
         due: List::new(alloc),
     };
     Ok(case.calls.push(call)?)
@@ -115,11 +116,4 @@ fn begin_file(alloc: Global, name: &[u8], case: &mut Case) -> Result<(), Failure
         return Err(Failure::Usage);
     };
     Ok(case.files.push((name, List::new(alloc)))?)
-}
-
-/// What stands in a line, without what is blank at its ends.
-fn text_of(alloc: Global, line: &[u8]) -> Result<Blob, NoMemory> {
-    let mut text = List::new(alloc);
-    text.extend_from_slice(line.trim_ascii())?;
-    Ok(text)
 }

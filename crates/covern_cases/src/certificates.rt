@@ -1,3 +1,4 @@
+//! What the certificates of a text are worth, a line for each.
 ghost use Rattle.std.specs.Prelude.{◌≡◌, ◌++◌, ◌≤◌, OnOk, length, map};
 ghost use Rattle.cov_expr.specs.declared.limits.TheConstants.{MOST_BYTES};
 ghost use Rattle.cov_ast.specs.View as view;

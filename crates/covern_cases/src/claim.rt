@@ -1,3 +1,4 @@
+//! What a note with a proof claims.
 ghost use Rattle.std.specs.Prelude.{◌≡◌, IfOk, map, option_map};
 ghost use Rattle.cov_expr.specs.View.{term};
 ghost use Rattle.cov_ast.specs.View as view;

@@ -1,3 +1,5 @@
+//! Why the program ends with another status than 0.
+
 use cov_expr::NoMemory;
 use std::alloc::{AllocError, AllocFailed};
 use std::io;

@@ -1,5 +1,14 @@
-use cov_expr::{Blob, NoMemory};
+//! Lines of a case, and what a line that is repeated stands for.
+
+use cov_expr::{Blob, List, NoMemory};
 use std::alloc::Global;
+
+/// A copy of bytes.
+pub fn copy_of(alloc: Global, bytes: &[u8]) -> Result<Blob, NoMemory> {
+    let mut copy = List::new(alloc);
+    copy.extend_from_slice(bytes)?;
+    Ok(copy)
+}
 
 /// Adds a line, or what a line `@N TEXT` stands for.
 pub fn add_line(alloc: Global, line: &[u8], text: &mut Blob) -> Result<(), NoMemory> {

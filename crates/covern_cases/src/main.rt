@@ -21,7 +21,7 @@
 //!   call meets outside: `fetch=N` and `put=N`, that the fetch or the put of this number fails; `step=N`, that a put takes N bytes;
 //!   `room=N`, that the output has room for N bytes; `cut=N`, that there are only N bytes of the file `p`.
 //! - `% PART` calls a part of the product by itself on the text of `p`: `tokens`, `parsed`, `declared`, `certificates` or `listing`
-//!   ([`parts`] says what each shows).
+//!   ([`parts`] says what each shows). `cut=N` may stand in front of it as well.
 //! - An empty line behind a call ends what it has to show. What stands between there and the next case is a comment.
 //! - `@N TEXT`, in a file or in what a call has to show, stands for TEXT N times, without a line feed at the end. In TEXT `#` is the
 //!   number of the turn, from 0, and `~` a line feed.
@@ -53,23 +53,27 @@ use std::env;
 
 fn main(rt: HostRuntime) -> Result<(), Failure> {
     let words: Vec<String> = env::args(&rt)?.skip(1).collect(rt.alloc())?;
+    write_shown(&rt, words.as_slice())
+}
+
+/// Writes out what words ask for, and how it ended.
+fn write_shown(rt: &HostRuntime, words: &[String]) -> Result<(), Failure> {
     let mut shown = List::new(rt.alloc());
-    let done = match words.as_slice() {
+    let done = add_asked(rt, words, &mut shown);
+    write_whole(&mut StdSink::new(rt), shown.as_slice()).or(Err(Failure::Unwritten))?;
+    done
+}
+
+/// Adds what words ask for.
+fn add_asked(rt: &HostRuntime, words: &[String], shown: &mut Blob) -> Result<(), Failure> {
+    match words {
         [form, part, times, name] if form.as_str() == "--times" => {
             let times = times.as_str().parse::<u32>().or(Err(Failure::Usage))?;
-            let text = fetch(&rt, name.as_str())?;
-            add_part(
-                rt.alloc(),
-                part.as_str(),
-                times,
-                text.as_slice(),
-                &mut shown,
-            )
+            let text = fetch(rt, name.as_str())?;
+            add_part(rt.alloc(), part.as_str(), times, text.as_slice(), shown)
         }
-        names => play_each(&rt, names, &mut shown),
-    };
-    write_whole(&mut StdSink::new(&rt), shown.as_slice()).or(Err(Failure::Unwritten))?;
-    done
+        names => play_each(rt, names, shown),
+    }
 }
 
 /// Plays the cases of each file.

@@ -1,3 +1,5 @@
+//! What a call meets outside of it, as the words in front of a command say.
+
 /// How many bytes a report may have.
 const ROOM: usize = 4_194_304;
 
@@ -45,5 +47,14 @@ impl Outside {
             _ => return false,
         }
         true
+    }
+}
+
+/// What there is of bytes that are cut behind so many.
+pub fn cut_at(bytes: &[u8], cut: usize) -> &[u8] {
+    if cut < bytes.len() {
+        &bytes[..cut]
+    } else {
+        bytes
     }
 }

@@ -3,11 +3,12 @@ ghost use Rattle.std.specs.Prelude.{◌≤◌, length};
 ghost use Rattle.cov_expr.specs.declared.limits.TheConstants.{MOST_BYTES, MOST_LISTING_BYTES};
 ghost use Rattle.cov_ast.specs.View as view;
 ghost use Rattle.cov_ast.specs.Ready.{IsReady};
+ghost use Rattle.cov_ast.specs.WellFormed.{IsWellFormed};
 
 use crate::certificates::add_claims;
 use crate::failure::Failure;
 use code_text::{CodeFault, list, read_code};
-use cov_ast::{CheckFault, Parsed};
+use cov_ast::{CheckFault, Parsed, Program};
 use cov_expr::{Blob, MOST_BYTES, MOST_LISTING_BYTES};
 use cov_lex::{LexFault, lex};
 use cov_parse::parse;
@@ -15,7 +16,7 @@ use cov_text::ParseFault;
 use lock_spec::check_locks;
 use mode_compat::check_modes;
 use policy_class::{check_policy, resolve};
-use risc_machine::CodeBad;
+use risc_machine::{Code, CodeBad};
 use std::alloc::{AllocError, Global};
 
 /// Adds what a part of the product shows of a text. What is measured is done so many times, and at least once.
@@ -54,8 +55,10 @@ fn add_tokens(alloc: Global, text: &[u8], out: &mut Blob) -> Result<(), Failure>
     match lex(alloc, text) {
         Ok(tokens) => {
             for token in tokens.as_slice() {
-                let line = format!(in alloc; "{:?} {} {}\n", token.kind, token.at, token.end)?;
-                out.extend_from_slice(line.as_bytes())?;
+                add_text(
+                    format!(in alloc; "{:?} {} {}\n", token.kind, token.at, token.end),
+                    out,
+                )?;
             }
             Ok(())
         }
@@ -71,7 +74,12 @@ fn add_listing(alloc: Global, times: u32, text: &[u8], out: &mut Blob) -> Result
     for _ in 1..times {
         let _ = read_code(alloc, text);
     }
-    match &read_code(alloc, text) {
+    let found = read_code(alloc, text);
+    add_code(alloc, &found, out)
+}
+
+fn add_code(alloc: Global, found: &Result<Code, CodeFault>, out: &mut Blob) -> Result<(), Failure> {
+    match found {
         Ok(code) => Ok(out.extend_from_slice(list(alloc, code)?.as_slice())?),
         Err(CodeFault::NoMemory) => Err(Failure::NoMemory),
         Err(CodeFault::Bad(CodeBad::SameName(name))) => {
@@ -86,10 +94,10 @@ fn add_listing(alloc: Global, times: u32, text: &[u8], out: &mut Blob) -> Result
 fn add_parsed(alloc: Global, text: &[u8], out: &mut Blob) -> Result<(), Failure>
     requires { length text.now ≤ MOST_BYTES }
 {
-    match parse(alloc, text) {
-        Ok(_) => Ok(out.extend_from_slice(b"parsed\n")?),
-        Err(ParseFault::NoMemory) => Err(Failure::NoMemory),
-        Err(fault) => add_text(format!(in alloc; "{fault:?}\n"), out),
+    match parse(alloc, text).err() {
+        None => Ok(out.extend_from_slice(b"parsed\n")?),
+        Some(ParseFault::NoMemory) => Err(Failure::NoMemory),
+        Some(fault) => add_text(format!(in alloc; "{fault:?}\n"), out),
     }
 }
 
@@ -113,12 +121,18 @@ fn declare(alloc: Global, times: u32, parsed: Parsed) -> Result<(), CheckFault>
     requires { IsReady (view.parsed parsed) }
 {
     let program = resolve(alloc, parsed)?;
-    check_policy(alloc, &program)?;
-    check_locks(alloc, &program)?;
+    check_declarations(alloc, times, &program)
+}
+
+fn check_declarations(alloc: Global, times: u32, program: &Program) -> Result<(), CheckFault>
+    requires { IsWellFormed (view.program program.now) }
+{
+    check_policy(alloc, program)?;
+    check_locks(alloc, program)?;
     for _ in 1..times {
-        check_modes(alloc, &program)?;
+        check_modes(alloc, program)?;
     }
-    check_modes(alloc, &program)
+    check_modes(alloc, program)
 }
 
 fn add_text(text: Result<String, AllocError>, out: &mut Blob) -> Result<(), Failure> {

@@ -1,8 +1,10 @@
+//! The top call on files in memory, and what it shows.
 ghost use Rattle.std.specs.Prelude.{IsNone, IsTrue};
 ghost use Rattle.cov_io.specs.Shelves.{IsDistinctByName, held};
 
 use crate::failure::Failure;
-use crate::outside::Outside;
+use crate::lines::copy_of;
+use crate::outside::{Outside, cut_at};
 use cov_expr::{Blob, List, Name};
 use cov_io::{MemShelf, MemSink};
 use std::alloc::Global;
@@ -17,26 +19,58 @@ pub fn add_shown(
     out: &mut Blob,
 ) -> Result<(), Failure> {
     let mut outside = Outside::ordinary();
-    let words = words_of(alloc, words, &mut outside)?;
+    let mut given = Vec::new(alloc);
+    add_words(alloc, words, &mut outside, &mut given)?;
+    add_called(alloc, given.as_slice(), files, &outside, out)
+}
+
+/// Adds what the product shows of words and files, where outside of it things are as they are said to be.
+fn add_called(
+    alloc: Global,
+    words: &[String],
+    files: &[(Name, Blob)],
+    outside: &Outside,
+    out: &mut Blob,
+) -> Result<(), Failure> {
+    let mut shelf = shelf_of(alloc, files, outside)?;
+    add_reply(alloc, words, &mut shelf, outside, out)
+}
+
+/// Adds what is put where the product is called with words on a shelf, and its status.
+fn add_reply(
+    alloc: Global,
+    words: &[String],
+    shelf: &mut MemShelf,
+    outside: &Outside,
+    out: &mut Blob,
+) -> Result<(), Failure> {
     if outside.step == 0 {
         return Err(Failure::Usage);
     }
-    let mut shelf = shelf_of(alloc, files, outside.cut, list_of(alloc, outside.fetch)?)?;
     let fails = list_of(alloc, outside.put)?;
     let mut sink = MemSink::new(alloc, outside.room, outside.step, fails)?;
-    let status = covern(alloc, words.as_slice(), &mut shelf, &mut sink) as u8;
+    let status = covern(alloc, words, shelf, &mut sink) as u8;
     out.extend_from_slice(sink.bytes())?;
-    if status > 0 {
-        let line = format!(in alloc; "[{status}]\n")?;
-        out.extend_from_slice(line.as_bytes())?;
-    }
-    Ok(())
+    add_status(alloc, status, out)
 }
 
-/// The words of a line: those between apostrophes, and what stands between blanks elsewhere. What they say of the outside in front of the
-/// command goes there.
-fn words_of(alloc: Global, line: &str, outside: &mut Outside) -> Result<Vec<String>, Failure> {
-    let mut words = Vec::new(alloc);
+/// Adds the status, where it isn't 0.
+fn add_status(alloc: Global, status: u8, out: &mut Blob) -> Result<(), Failure> {
+    if status == 0 {
+        return Ok(());
+    }
+    let line = format!(in alloc; "[{status}]\n")?;
+    Ok(out.extend_from_slice(line.as_bytes())?)
+}
+
+/// Adds the words of a line: those between apostrophes, and what stands between blanks elsewhere. What they say of the outside in front of
+/// the command goes there.
+fn add_words(
+    alloc: Global,
+    line: &str,
+    outside: &mut Outside,
+    words: &mut Vec<String>,
+) -> Result<(), Failure> {
     for (i, piece) in line.split('\'').enumerate() {
         if i % 2 == 1 {
             words.push(String::from_str(alloc, piece)?)?;
@@ -48,7 +82,7 @@ fn words_of(alloc: Global, line: &str, outside: &mut Outside) -> Result<Vec<Stri
             }
         }
     }
-    Ok(words)
+    Ok(())
 }
 
 /// A list of at most one number.
@@ -60,29 +94,32 @@ fn list_of(alloc: Global, number: Option<u64>) -> Result<List<u64>, Failure> {
     Ok(list)
 }
 
-/// A shelf of files, no two of which have one name, of which `p` is cut behind so many bytes, and of which the calls of these numbers
-/// fail.
-pub fn shelf_of(
-    alloc: Global,
-    files: &[(Name, Blob)],
-    cut: usize,
-    fails: List<u64>,
-) -> Result<MemShelf, Failure> {
-    let mut copies = List::new(alloc);
-    for (name, text) in files {
-        let mut copy = List::new(alloc);
-        let bytes = text.as_slice();
-        if name.text() == b"p".as_slice() && cut < bytes.len() {
-            copy.extend_from_slice(&bytes[..cut])?;
-        } else {
-            copy.extend_from_slice(bytes)?;
-        }
-        copies.push((*name, copy))?;
-    }
+/// A shelf of files, no two of which have one name. What is cut, and which call fails, says the outside.
+fn shelf_of(alloc: Global, files: &[(Name, Blob)], outside: &Outside) -> Result<MemShelf, Failure> {
+    let fails = list_of(alloc, outside.fetch)?;
+    let copies = copies_of(alloc, files, outside.cut)?;
     if !are_distinct(copies.as_slice()) {
         return Err(Failure::Usage);
     }
     Ok(MemShelf::new(copies, fails))
+}
+
+/// Copies of files, of which `p` is cut behind so many bytes.
+fn copies_of(
+    alloc: Global,
+    files: &[(Name, Blob)],
+    cut: usize,
+) -> Result<List<(Name, Blob)>, Failure> {
+    let mut copies = List::new(alloc);
+    for (name, text) in files {
+        let bytes = if name.text() == b"p".as_slice() {
+            cut_at(text.as_slice(), cut)
+        } else {
+            text.as_slice()
+        };
+        copies.push((*name, copy_of(alloc, bytes)?))?;
+    }
+    Ok(copies)
 }
 
 /// Whether no two files have one name.
