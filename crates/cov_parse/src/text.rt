@@ -13,8 +13,8 @@ ghost use Rattle.cov_expr.specs.Words.{HasVarsBelow};
 ghost use Rattle.cov_read.specs.CertViews as certs;
 ghost use Rattle.cov_read.specs.DeclViews as decls;
 ghost use Rattle.cov_text.specs.Limits as limits;
-ghost use Rattle.cov_text.specs.Text.{IsText, Answers, Only, program_of, expression_of};
-ghost use Rattle.cov_parse.specs.Reads.{Reads, parsed_expr};
+ghost use Rattle.cov_text.specs.Text.{IsShallow, IsText, Answers, Only, program_of, expression_of, words_of};
+ghost use Rattle.cov_parse.specs.Reads.{Finds, Reads, parsed_expr};
 ghost use Rattle.cov_text.specs.Uses.{AreUsesOf};
 
 use crate::exprs::expr_of;
@@ -60,14 +60,29 @@ fn read_program_text(alloc: Global, bytes: &[u8]) -> Result<Parsed, ParseFault>
     ensures { Answers grammar.program limits.in_program bytes.now ast.parsed (program_of bytes.now) result }
 {
     let Tokens { names, tokens } = read_text(alloc, bytes)?;
-    let program = tokens_as_program(alloc, tokens.as_slice(), bytes.len() as u32)?;
-    if let Some(excess) = in_program(&program) {
-        return Err(ParseFault::from(excess));
-    }
-    let uses = uses(alloc, tokens.as_slice())?;
+    let (program, uses) = tree_of(alloc, tokens.as_slice(), bytes)?;
     // (the tree takes their memory)
     drop(tokens);
     Ok(parsed_of(alloc, names, uses, program)?)
+}
+
+/// The program that the tokens of a text are, within the limits, and where it uses names.
+fn tree_of(
+    alloc: Global,
+    tokens: &[Token],
+    bytes: &[u8],
+) -> Result<(PlacedProgram, List<NameUse>), ParseFault>
+    requires short { length bytes.now ≤ MOST_BYTES }
+    requires shallow { IsShallow bytes.now }
+    requires tokens { tokens.now ≡ words_of bytes.now }
+    ensures { Finds bytes.now result }
+{
+    let program = tokens_as_program(alloc, tokens, bytes.len() as u32)?;
+    if let Some(excess) = in_program(&program) {
+        return Err(ParseFault::from(excess));
+    }
+    let uses = uses(alloc, tokens)?;
+    Ok((program, uses))
 }
 
 /// The expression that a text of at most 1 MiB spells, or its first fault.

@@ -1,3 +1,5 @@
+//! Certificates and proofs as they are spelled.
+
 ghost use Rattle.std.specs.Prelude.{◌≡◌, ◌++◌, OnOk, map, codes, decimal};
 ghost use Rattle.cov_expr.specs.View.{term};
 ghost use Rattle.cov_ast.specs.View as view;

@@ -1,3 +1,5 @@
+//! Declarations of variables, locks and threads as they are spelled.
+
 ghost use Rattle.std.specs.Prelude.{◌≡◌, ◌++◌, OnOk, map};
 ghost use Rattle.cov_ast.specs.View as view;
 ghost use Rattle.cov_print.specs.Spelling as spec;

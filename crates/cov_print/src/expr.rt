@@ -1,3 +1,5 @@
+//! Expressions as they are spelled, with the parentheses that they need.
+
 ghost use Rattle.std.specs.Prelude.{◌≡◌, ◌++◌, OnOk, map, option_map, codes};
 ghost use Rattle.cov_expr.specs.View.{term};
 ghost use Rattle.cov_print.specs.Spelling as spec;

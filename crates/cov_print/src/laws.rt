@@ -1,3 +1,5 @@
+//! The law that the spelling of a program in version 2 spells it there: a function with no body.
+
 ghost use Rattle.cov_ast.specs.Syntax.{Parsed};
 ghost use Rattle.cov_print.specs.Spelling.{spelling};
 ghost use Rattle.cov_print.specs.ReadBack.{SpellsInSecond, in_second};

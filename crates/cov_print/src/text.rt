@@ -1,3 +1,5 @@
+//! Names, numbers and blanks at the end of a text.
+
 ghost use Rattle.std.specs.Prelude.{◌≡◌, ◌++◌, OnOk, decimal};
 ghost use Rattle.cov_print.specs.Spelling as spec;
 
