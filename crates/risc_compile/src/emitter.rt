@@ -1,3 +1,5 @@
+//! The code of a thread while it is made: its lines, the record of its registers, and its modes.
+
 ghost use Rattle.std.specs.Prelude.{◌≡◌, ◌∷◌, ◌++◌, ◌<◌, ◌^◌, List, [], length, map, slice_set, OnOk};
 ghost use Rattle.compiled_code.specs.Compiled as spec;
 ghost use Rattle.regalloc.specs.Plan as plan;

@@ -1,3 +1,5 @@
+//! The code of a program, thread by thread.
+
 ghost use Rattle.std.specs.Prelude.{◌≡◌, ◌<◌, length, map, IfOk};
 ghost use Rattle.std.specs.List.{range_with_len};
 ghost use Rattle.cov_ast.specs.Plain.{plain};
@@ -27,7 +29,7 @@ pub fn compile(alloc: Global, v: &Verdict<'_>) -> Result<Code, NoMemory>
     compiled_is_good();
     match Code::with_distinct_names(parts) {
         Ok(code) => Ok(code),
-        Err(_) => Err(NoMemory),
+        Err(_) => unreachable!(),
     }
 }
 

@@ -1,4 +1,4 @@
-use Rattle.std.proofs.Common.{◌≡◌, ◌∙◌, None, ap, subst, sym}
+use Rattle.std.proofs.Common.{◌≡◌, ◌∙◌, ap, subst, sym}
 use Rattle.cov_ast.specs.View as view
 use Rattle.compiled_code.specs.Compiled.{compiled}
 use Rattle.compiled_code.specs.GoodCode.{IsGoodCode}
@@ -20,8 +20,16 @@ with_distinct_names-requires-clause-distinct c =
     let p = view.program c.program-program.result.now in
     names_distinct _ _ _ (ap fault_of c.in_ok-parts.ensures ∙ (c.compiled_is_code.ensures p (well_formed p c.program-program.ensures.formed)).faultless)
 
-pub returns-in-Ok-clause-good : goal.returns-in-Ok-clause-good
-returns-in-Ok-clause-good c =
+-- the parts have no fault
+pub unreachable-requires : goal.unreachable-requires
+unreachable-requires c =
+    let p = view.program c.program-program.result.now in
+    let none = ap fault_of c.in_ok-parts.ensures ∙ (c.compiled_is_code.ensures p (well_formed p c.program-program.ensures.formed)).faultless in
+    let some = c.in-Err.ensures.1 in
+    cc
+
+pub returns-clause-good : goal.returns-clause-good
+returns-clause-good c =
     let p = view.program c.program-program.result.now in
     let formed = well_formed p c.program-program.ensures.formed in
     let is : c.in-Ok.code ≡ compiled p = c.in-Ok.ensures.0 ∙ c.in_ok-parts.ensures in
