@@ -11,18 +11,18 @@ use Rattle.entail_questions.specs.declared.kinds.Question.{Question}
 use Rattle.entail_questions.specs.declared.kinds.Question.TheVariants as q
 
 -- what stands in front of the name or of the number; all of it where there is none
-abbrev pub before : Question → List ℕ
-before q.Written = codes "the type behind `as` gives the type that the value has by its variables"
-before (q.Shown x) = codes "where "
-before (q.Controlled y) = codes "where "
-before (q.Retyped z) = codes "where the new type of "
-before (q.Invariant l) = codes "the invariant of "
-before (q.Freed x) = codes "where "
-before q.Guard = codes "the guard is public"
-before q.HeadGuard = codes "the guard is public at the head of the loop"
-before q.Printed = codes "the value is public"
-before (q.Predicate end i) = codes "predicate "
-before (q.TypeOf end z) = codes "where the type listed for "
+abbrev pub question_front : Question → List ℕ
+question_front q.Written = codes "the type behind `as` gives the type that the value has by its variables"
+question_front (q.Shown x) = codes "where "
+question_front (q.Controlled y) = codes "where "
+question_front (q.Retyped z) = codes "where the new type of "
+question_front (q.Invariant l) = codes "the invariant of "
+question_front (q.Freed x) = codes "where "
+question_front q.Guard = codes "the guard is public"
+question_front q.HeadGuard = codes "the guard is public at the head of the loop"
+question_front q.Printed = codes "the value is public"
+question_front (q.Predicate end i) = codes "predicate "
+question_front (q.TypeOf end z) = codes "where the type listed for "
 
 -- the name of the variable or of the lock, or the number of the predicate
 abbrev pub subject : Plain → Question → List ℕ
@@ -55,22 +55,22 @@ behind_type e.SecondBlock = codes " holds, that variable is public at the end of
 behind_type e.Body = codes " holds, that variable is public at the end of the block"
 
 -- what stands behind the name or the number
-abbrev pub behind : Question → List ℕ
-behind q.Written = []
-behind (q.Shown x) = codes " is low, the value is public"
-behind (q.Controlled y) = codes " is low after the assignment, it is public before"
-behind (q.Retyped z) = codes " holds after the assignment, that variable is public before"
-behind (q.Invariant l) = codes " holds"
-behind (q.Freed x) = codes " is low, it is public, since the lock hides it no longer"
-behind q.Guard = []
-behind q.HeadGuard = []
-behind q.Printed = []
-behind (q.Predicate end i) = behind_number end
-behind (q.TypeOf end z) = behind_type end
+abbrev pub question_end : Question → List ℕ
+question_end q.Written = []
+question_end (q.Shown x) = codes " is low, the value is public"
+question_end (q.Controlled y) = codes " is low after the assignment, it is public before"
+question_end (q.Retyped z) = codes " holds after the assignment, that variable is public before"
+question_end (q.Invariant l) = codes " holds"
+question_end (q.Freed x) = codes " is low, it is public, since the lock hides it no longer"
+question_end q.Guard = []
+question_end q.HeadGuard = []
+question_end q.Printed = []
+question_end (q.Predicate end i) = behind_number end
+question_end (q.TypeOf end z) = behind_type end
 
 -- what is asked, as a sentence
 abbrev pub sentence : Plain → Question → List ℕ
-sentence p question = before question ++ subject p question ++ behind question
+sentence p question = question_front question ++ subject p question ++ question_end question
 
 -- which entailment it is, of how many
 abbrev pub numbers : (number of : ℕ) → List ℕ

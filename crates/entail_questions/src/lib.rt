@@ -16,18 +16,18 @@
 //! `specs/Controls.antt` has the set of the variables that classes mention.
 #![tactic(auto)]
 
-mod asked;
 mod assignments;
 mod kinds;
 mod laws;
 mod lines;
+mod numbered;
 mod statements;
 mod states;
 
-pub use asked::{body_of, question};
 pub use assignments::{control_set, is_control};
 pub use kinds::{Asked, End, Question};
 pub use laws::{
     each_entailment_has_a_question, held_locks_are_those_of_points, what_is_listed_is_asked,
 };
 pub use lines::add_question;
+pub use numbered::{body_of, question};

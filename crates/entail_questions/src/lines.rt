@@ -6,8 +6,8 @@ ghost use Rattle.cov_ast.specs.View as view;
 ghost use Rattle.cov_ast.specs.WellFormed.{IsWellFormed};
 ghost use Rattle.entail_questions.specs.QuestionLines as spec;
 
-use crate::asked::question;
 use crate::kinds::{Asked, End, Question};
+use crate::numbered::question;
 use cov_ast::Program;
 use cov_expr::{Blob, NoMemory};
 use std::alloc::Global;
@@ -57,9 +57,9 @@ fn add_numbers(number: usize, of: usize, text: &mut Blob) -> Result<(), NoMemory
 fn add_sentence(p: &Program, question: Question, text: &mut Blob) -> Result<(), NoMemory>
     ensures { OnOk result (text.new ≡ text.old ++ spec.sentence (plain (view.program p.now)) question) }
 {
-    text.extend_from_slice(before(question).as_bytes())?;
+    text.extend_from_slice(question_front(question).as_bytes())?;
     add_subject(p, question, text)?;
-    text.extend_from_slice(behind(question).as_bytes())
+    text.extend_from_slice(question_end(question).as_bytes())
 }
 
 /// Adds the name of the variable or of the lock, or the number of the predicate.
@@ -78,8 +78,8 @@ fn add_subject(p: &Program, question: Question, text: &mut Blob) -> Result<(), N
 }
 
 /// What stands in front of the name or of the number; all of it where there is none.
-fn before(question: Question) -> &'static str
-    ensures { result.now ≡ spec.before question }
+fn question_front(question: Question) -> &'static str
+    ensures { result.now ≡ spec.question_front question }
 {
     match question {
         Question::Written =>
@@ -96,8 +96,8 @@ fn before(question: Question) -> &'static str
 }
 
 /// What stands behind the name or the number.
-fn behind(question: Question) -> &'static str
-    ensures { result.now ≡ spec.behind question }
+fn question_end(question: Question) -> &'static str
+    ensures { result.now ≡ spec.question_end question }
 {
     match question {
         Question::Shown(_) => " is low, the value is public",

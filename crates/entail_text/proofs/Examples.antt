@@ -8,7 +8,7 @@ use Rattle.cov_ast.specs.Syntax as s
 use Rattle.entail_text.specs.Given.{cert_of}
 use Rattle.entail_text.specs.Nodes.{node, node_at}
 use Rattle.entail_text.specs.Dropped.{dropped_line}
-use Rattle.entail_text.specs.EntailmentLines.{told, place_of, indent}
+use Rattle.entail_text.specs.EntailmentLines.{entailment_text, place_of, indent}
 use Rattle.entail_text.specs.OtherCertificates.{first_valid}
 
 abbrev names : List (List ℕ)
@@ -22,30 +22,30 @@ hyps = bin Le (var 0) (const 2) ∷ is_zero (var 1) ∷ []
 
 -- What is told ---------------------------------------------------------------------------------------------------
 
-nothing_known : told names [] [] (const 0) None ≡ codes "  goal:         0\n  hypotheses:   none\n  certificate:  none given\n"
+nothing_known : entailment_text names [] [] (const 0) None ≡ codes "  goal:         0\n  hypotheses:   none\n  certificate:  none given, and `auto` doesn't show it\n"
 nothing_known = simp (decimal_digit 0 (lit< tt))
 
 -- the template at 0 isn't the goal of the node
-other_template : told names hyps [] (const 0) (Some (s.have (is_zero (const 1)) (s.rev 2 (is_zero (var HOLE)) s.auto) s.auto))
+other_template : entailment_text names hyps [] (const 0) (Some (s.have (is_zero (const 1)) (s.rev 2 (is_zero (var HOLE)) s.auto) s.auto))
     ≡ codes "  goal:         0\n  hypotheses:   1  flight <= 2\n                2  head == 0\n  certificate:  given; fails at node 1: rev 2 [_ == 0] (the goal there is 1 == 0, and hypothesis 2 is head == 0)\n"
 other_template = simp (decimal_digit 0 (lit< tt), decimal_digit 1 (lit< tt), decimal_digit 2 (lit< tt))
 
 -- a number that names no hypothesis
-no_hypothesis : told names (var 1 ∷ []) [] (var 0) (Some (s.hyp 2))
+no_hypothesis : entailment_text names (var 1 ∷ []) [] (var 0) (Some (s.hyp 2))
     ≡ codes "  goal:         flight\n  hypotheses:   1  head\n  certificate:  given; fails at the root: hyp 2 (the goal there is flight, and there is no hypothesis 2)\n"
 no_hypothesis = simp (decimal_digit 1 (lit< tt), decimal_digit 2 (lit< tt))
 
-fine : told names (var 1 ∷ []) [] (var 1) (Some s.auto) ≡ codes "  goal:         head\n  hypotheses:   1  head\n  certificate:  given; valid\n"
+fine : entailment_text names (var 1 ∷ []) [] (var 1) (Some s.auto) ≡ codes "  goal:         head\n  hypotheses:   1  head\n  certificate:  given; valid\n"
 fine = simp (decimal_digit 1 (lit< tt))
 
 -- remarks: of the second hypothesis none, and one more than there are hypotheses
-remarked : told names hyps (codes "note, line 3" ∷ [] ∷ codes "more" ∷ []) (const 0) None
-    ≡ codes "  goal:         0\n  hypotheses:   1  flight <= 2   (note, line 3)\n                2  head == 0\n  certificate:  none given\n"
+remarked : entailment_text names hyps (codes "note, line 3" ∷ [] ∷ codes "more" ∷ []) (const 0) None
+    ≡ codes "  goal:         0\n  hypotheses:   1  flight <= 2   (note, line 3)\n                2  head == 0\n  certificate:  none given, and `auto` doesn't show it\n"
 remarked = simp (decimal_digit 0 (lit< tt), decimal_digit 1 (lit< tt), decimal_digit 2 (lit< tt))
 
 -- fewer remarks than hypotheses
-remark_missing : told names hyps (codes "guard" ∷ []) (const 0) None
-    ≡ codes "  goal:         0\n  hypotheses:   1  flight <= 2   (guard)\n                2  head == 0\n  certificate:  none given\n"
+remark_missing : entailment_text names hyps (codes "guard" ∷ []) (const 0) None
+    ≡ codes "  goal:         0\n  hypotheses:   1  flight <= 2   (guard)\n                2  head == 0\n  certificate:  none given, and `auto` doesn't show it\n"
 remark_missing = simp (decimal_digit 0 (lit< tt), decimal_digit 1 (lit< tt), decimal_digit 2 (lit< tt))
 
 -- a number of two digits stands one place to the left

@@ -54,19 +54,19 @@ place_of [] = codes "the root"
 place_of (n ∷ ns) = codes "node " ++ decimal n ++ flat_map (λ m. codes "." ++ decimal m) ns
 
 -- a hypothesis that a certificate names by its number
-abbrev pub named : Names → ℕ → Option Term → List ℕ
-named names i None = codes ", and there is no hypothesis " ++ decimal i
-named names i (Some h) = codes ", and hypothesis " ++ decimal i ++ codes " is " ++ whole names h
+abbrev pub hypothesis_phrase : Names → ℕ → Option Term → List ℕ
+hypothesis_phrase names i None = codes ", and there is no hypothesis " ++ decimal i
+hypothesis_phrase names i (Some h) = codes ", and hypothesis " ++ decimal i ++ codes " is " ++ whole names h
 
 -- the hypotheses that the own condition of a node speaks of
 abbrev pub spoken_of : Names → List Term → Cert → List ℕ
-spoken_of names hyps (by.hyp i) = named names i (numbered hyps i)
-spoken_of names hyps (by.clash i) = named names i (numbered hyps i)
-spoken_of names hyps (by.unpack i c) = named names i (numbered hyps i)
-spoken_of names hyps (by.cases i c d) = named names i (numbered hyps i)
-spoken_of names hyps (by.absurdity i j) = named names i (numbered hyps i) ++ named names j (numbered hyps j)
-spoken_of names hyps (by.fwd i t c) = named names i (numbered hyps i)
-spoken_of names hyps (by.rev i t c) = named names i (numbered hyps i)
+spoken_of names hyps (by.hyp i) = hypothesis_phrase names i (numbered hyps i)
+spoken_of names hyps (by.clash i) = hypothesis_phrase names i (numbered hyps i)
+spoken_of names hyps (by.unpack i c) = hypothesis_phrase names i (numbered hyps i)
+spoken_of names hyps (by.cases i c d) = hypothesis_phrase names i (numbered hyps i)
+spoken_of names hyps (by.absurdity i j) = hypothesis_phrase names i (numbered hyps i) ++ hypothesis_phrase names j (numbered hyps j)
+spoken_of names hyps (by.fwd i t c) = hypothesis_phrase names i (numbered hyps i)
+spoken_of names hyps (by.rev i t c) = hypothesis_phrase names i (numbered hyps i)
 spoken_of names hyps cert = []
 
 -- a node: the front of the certificate there, and what its own condition is asked of
@@ -83,7 +83,7 @@ verdict names root None = codes "given; valid"
 verdict names root (Some path) = codes "given; fails at " ++ place_of path ++ node_text_of names (node_at path root)
 
 abbrev pub certificate : Names → List Term → Term → Option Cert → List ℕ
-certificate names hyps goal None = codes "none given"
+certificate names hyps goal None = codes "none given, and `auto` doesn't show it"
 certificate names hyps goal (Some cert) = verdict names (node hyps goal cert) (first_bad hyps goal cert)
 
 -- The whole ----------------------------------------------------------------------------------------------------
@@ -96,5 +96,5 @@ certificate_line names hyps goal cert = codes "  certificate:  " ++ certificate 
 
 -- what is told of an entailment with these hypotheses, which have these remarks, and this goal, for which this certificate is given, if
 -- one is
-abbrev pub told : Names → List Term → (remarks : List (List ℕ)) → Term → Option Cert → List ℕ
-told names hyps remarks goal cert = goal_line names goal ++ hypothesis_lines names remarks hyps ++ certificate_line names hyps goal cert
+abbrev pub entailment_text : Names → List Term → (remarks : List (List ℕ)) → Term → Option Cert → List ℕ
+entailment_text names hyps remarks goal cert = goal_line names goal ++ hypothesis_lines names remarks hyps ++ certificate_line names hyps goal cert

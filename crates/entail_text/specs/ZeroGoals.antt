@@ -3,7 +3,7 @@ use Rattle.std.specs.Prelude.{ℕ, ◌==◌, List, [], codes, if◌then◌else�
 use Rattle.cov_expr.specs.Term.{Term, const, var, neg, bin}
 
 abbrev pub zero_text : List ℕ
-zero_text = codes "  a goal of 0 follows only where the hypotheses can't all hold: else no certificate helps, and a hypothesis is missing or what is asked isn't so\n"
+zero_text = codes "  a goal of 0 follows only where the hypotheses can't all hold: where they can, no certificate helps, and more has to be known there, of values or of types, or less to be asked\n"
 
 -- nothing of any other goal
 abbrev pub zero_line : (goal : Term) → List ℕ

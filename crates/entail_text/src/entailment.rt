@@ -34,7 +34,7 @@ pub fn add_told(
     cert: Option<&Cert>,
     text: &mut Blob,
 ) -> Result<(), NoMemory>
-    ensures { OnOk result (text.new ≡ text.old ++ spec.told names.now (map term hyps.now) remarks.now (term goal.now) (option_map (λ c. view.cert c.now) cert.entry)) }
+    ensures { OnOk result (text.new ≡ text.old ++ spec.entailment_text names.now (map term hyps.now) remarks.now (term goal.now) (option_map (λ c. view.cert c.now) cert.entry)) }
 {
     add_goal(names, goal, text)?;
     add_hypotheses(names, hyps.as_slice(), remarks, text)?;
@@ -162,7 +162,7 @@ fn add_certificate(
 {
     match cert {
         Some(cert) => add_given(alloc, names, hyps, goal, cert, text),
-        None => text.extend_from_slice(b"none given"),
+        None => text.extend_from_slice(b"none given, and `auto` doesn't show it"),
     }
 }
 
@@ -269,7 +269,7 @@ fn add_named(
     number: u32,
     text: &mut Blob,
 ) -> Result<(), NoMemory>
-    ensures { OnOk result (text.new ≡ text.old ++ spec.named names.now number (numbered (seen node.now).hyps number)) }
+    ensures { OnOk result (text.new ≡ text.old ++ spec.hypothesis_phrase names.now number (numbered (seen node.now).hyps number)) }
 {
     match node.hypothesis(number) {
         Some(h) => add_known(names, number, h.expr(), text),
@@ -287,7 +287,7 @@ fn add_missing(number: u32, text: &mut Blob) -> Result<(), NoMemory>
 
 /// Adds a hypothesis with its number.
 fn add_known(names: &NameTable, number: u32, h: &Expr, text: &mut Blob) -> Result<(), NoMemory>
-    ensures { OnOk result (text.new ≡ text.old ++ spec.named names.now number (Some (term h.now))) }
+    ensures { OnOk result (text.new ≡ text.old ++ spec.hypothesis_phrase names.now number (Some (term h.now))) }
 {
     text.extend_from_slice(b", and hypothesis ")?;
     add_number(number as usize, text)?;

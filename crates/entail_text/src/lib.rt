@@ -10,7 +10,7 @@
 //!
 //! | `src/` | `specs/` | what it has |
 //! |---|---|---|
-//! | `told` | `EntailmentLines` | the text |
+//! | `entailment` | `EntailmentLines` | the text |
 //! | `node` | `Nodes` | the hypotheses and the goal of each node of a certificate |
 //! | `names` | `VariableNames` | the names of variables, by their ids |
 //! | `given` | `Given` | the certificate of a number at a place |
@@ -20,18 +20,18 @@
 #![tactic(auto)]
 
 mod dropped;
+mod entailment;
 mod given;
 mod laws;
 mod names;
 mod node;
 mod other;
-mod told;
 mod zero;
 
 pub use dropped::{add_dropped, has_same};
+pub use entailment::add_told;
 pub use given::cert_of;
 pub use laws::failing_node_is_there;
 pub use names::variable_names;
 pub use other::add_other;
-pub use told::add_told;
 pub use zero::add_zero;

@@ -23,7 +23,7 @@ fn add_where_zero(k: u32, text: &mut Blob) -> Result<(), NoMemory>
 {
     if k == 0 {
         text.extend_from_slice(
-            b"  a goal of 0 follows only where the hypotheses can't all hold: else no certificate helps, and a hypothesis is missing or what is asked isn't so\n",
+            b"  a goal of 0 follows only where the hypotheses can't all hold: where they can, no certificate helps, and more has to be known there, of values or of types, or less to be asked\n",
         )
     } else {
         Ok(())

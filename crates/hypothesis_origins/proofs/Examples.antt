@@ -8,7 +8,7 @@ use Rattle.cov_ast.specs.Syntax as s
 use Rattle.statement_paths.specs.Paths.{Step, passed, yes, no, head}
 use Rattle.hypothesis_origins.specs.Origins.{origin, at_place}
 use Rattle.hypothesis_origins.specs.Remarks.{remarks}
-use Rattle.hypothesis_origins.specs.declared.origin.Source.TheVariants.{Assigned, Invariant, Join, LoopLeft, LoopState, Noted, GuardHolds, GuardFails}
+use Rattle.hypothesis_origins.specs.declared.origin.HypothesisSource.TheVariants.{Assigned, Invariant, Join, LoopLeft, LoopState, Noted, GuardHolds, GuardFails}
 
 -- lock door has the invariant x <= 2, and lock bell none
 abbrev program : Plain

@@ -17,8 +17,8 @@ use Rattle.typing_state.specs.Terms.{with_term, with_terms, with_option, distinc
 use Rattle.hypothesis_origins.specs.Origins.{Given, given, each, by_invariant, given_by, first_given, at_place, origin_at, origin}
 use Rattle.hypothesis_origins.specs.Points.{after_step, after_steps, point_behind}
 use Rattle.hypothesis_origins.specs.declared.origin.Origin.{Origin}
-use Rattle.hypothesis_origins.specs.declared.origin.Source.{Source}
-use Rattle.hypothesis_origins.specs.declared.origin.Source.TheVariants as by
+use Rattle.hypothesis_origins.specs.declared.origin.HypothesisSource.{HypothesisSource}
+use Rattle.hypothesis_origins.specs.declared.origin.HypothesisSource.TheVariants as by
 
 -- Tests --------------------------------------------------------------------------------------------------------
 
@@ -84,7 +84,7 @@ in_with_term_if false es e h k = inl k
 -- What a step gives --------------------------------------------------------------------------------------------
 
 abbrev pub AreGiving : List Given → (h : Term) → Type 0
-AreGiving gs h = (k : Source) × (first_given gs h ≡ Some k)
+AreGiving gs h = (k : HypothesisSource) × (first_given gs h ≡ Some k)
 
 gives_first : (g : Given) (gs : List Given) (h : Term) → same g.term h ≡ true → AreGiving (g ∷ gs) h
 gives_first g gs h e = (g.source, ap (λ b. if b then Some g.source else first_given gs h) e)
@@ -92,11 +92,11 @@ gives_first g gs h e = (g.source, ap (λ b. if b then Some g.source else first_g
 gives_later : (g : Given) (gs : List Given) (h : Term) → AreGiving gs h → AreGiving (g ∷ gs) h
 gives_later g gs h m = by_case (same g.term h)
   where
-    by_case : (b : Bool) → (k : Source) × ((if b then Some g.source else first_given gs h) ≡ Some k)
+    by_case : (b : Bool) → (k : HypothesisSource) × ((if b then Some g.source else first_given gs h) ≡ Some k)
     by_case true = (g.source, refl)
     by_case false = m
 
-gives_each : (source : Source) (es : List Term) (h : Term) → has_term es h ≡ true → AreGiving (each source es) h
+gives_each : (source : HypothesisSource) (es : List Term) (h : Term) → has_term es h ≡ true → AreGiving (each source es) h
 gives_each source [] h k = let c : ◌≡◌ {A = Bool} false true = k in cc
 gives_each source (e ∷ es) h k = from (λ m. gives_each source es h m) (or_cases (same e h) (has_term es h) k)
   where
@@ -105,7 +105,7 @@ gives_each source (e ∷ es) h k = from (λ m. gives_each source es h m) (or_cas
     from rest (inr m) = gives_later (given source e) (each source es) h (rest m)
 
 -- of what is there with one predicate more
-one_more : (b : Bool) (source : Source) (es : List Term) (e h : Term) → has_term (with_term_if b es e) h ≡ true
+one_more : (b : Bool) (source : HypothesisSource) (es : List Term) (e h : Term) → has_term (with_term_if b es e) h ≡ true
     → (has_term es h ≡ true) ⊎ AreGiving (given source e ∷ []) h
 one_more b source es e h k = from (in_with_term_if b es e h k)
   where

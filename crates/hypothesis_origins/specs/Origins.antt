@@ -13,21 +13,21 @@ use Rattle.cov_ast.specs.Plain.{Plain}
 use Rattle.cov_ast.specs.Syntax.{State, Stm, skip, assign, lock, unlock, branch, loop, note, output}
 use Rattle.statement_paths.specs.Paths.{Step, passed, yes, no, head, place_of}
 use Rattle.hypothesis_origins.specs.declared.origin.Origin.{Origin}
-use Rattle.hypothesis_origins.specs.declared.origin.Source.{Source}
-use Rattle.hypothesis_origins.specs.declared.origin.Source.TheVariants as by
+use Rattle.hypothesis_origins.specs.declared.origin.HypothesisSource.{HypothesisSource}
+use Rattle.hypothesis_origins.specs.declared.origin.HypothesisSource.TheVariants as by
 
 -- What a step may give --------------------------------------------------------------------------------------------
 
 -- a predicate that a step may give, with what in the step does
 pub record Given : Type 0 where
-  pub source : Source
+  pub source : HypothesisSource
   pub term : Term
 
-abbrev pub given : Source → Term → Given
+abbrev pub given : HypothesisSource → Term → Given
 given source e = record { source = source; term = e }
 
 -- predicates that one source gives
-abbrev pub each : Source → List Term → List Given
+abbrev pub each : HypothesisSource → List Term → List Given
 each source [] = []
 each source (e ∷ es) = given source e ∷ each source es
 
@@ -61,11 +61,11 @@ given_by p (head at inv) = each by.LoopState inv.preds
 -- The origin of a hypothesis -----------------------------------------------------------------------------------
 
 -- the source of the first that equals a hypothesis
-abbrev pub first_given : List Given → (hypothesis : Term) → Option Source
+abbrev pub first_given : List Given → (hypothesis : Term) → Option HypothesisSource
 first_given [] h = None
 first_given (g ∷ gs) h = if same g.term h then Some g.source else first_given gs h
 
-abbrev pub at_place : (at : ℕ) → Source → Origin
+abbrev pub at_place : (at : ℕ) → HypothesisSource → Origin
 at_place at source = record { source = source; at = at }
 
 -- the origin in one step, if that gives the hypothesis

@@ -7,14 +7,14 @@ use Rattle.statement_paths.specs.Paths.{Step}
 use Rattle.text_lines.specs.Lines.{line}
 use Rattle.hypothesis_origins.specs.Origins.{origin}
 use Rattle.hypothesis_origins.specs.declared.origin.Origin.{Origin}
-use Rattle.hypothesis_origins.specs.declared.origin.Source.{Source}
-use Rattle.hypothesis_origins.specs.declared.origin.Source.TheVariants.{Assigned, Invariant, Join, LoopLeft, LoopState, Noted, GuardHolds, GuardFails}
+use Rattle.hypothesis_origins.specs.declared.origin.HypothesisSource.{HypothesisSource}
+use Rattle.hypothesis_origins.specs.declared.origin.HypothesisSource.TheVariants.{Assigned, Invariant, Join, LoopLeft, LoopState, Noted, GuardHolds, GuardFails}
 
 abbrev pub invariant_of : Plain → (l : ℕ) → List ℕ
 invariant_of p l = codes "invariant of " ++ (lock_at p l).name
 
 -- what gives a hypothesis
-abbrev pub source_text : Plain → Source → List ℕ
+abbrev pub source_text : Plain → HypothesisSource → List ℕ
 source_text p Assigned = codes "assignment"
 source_text p (Invariant l) = invariant_of p l
 source_text p Join = codes "join of the `if`"

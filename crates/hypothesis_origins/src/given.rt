@@ -12,7 +12,7 @@ ghost use Rattle.statement_paths.specs.Paths as paths;
 ghost use Rattle.hypothesis_origins.specs.GivenViews as spec;
 ghost use Rattle.hypothesis_origins.specs.Origins as origins;
 
-use crate::origin::Source;
+use crate::origin::HypothesisSource;
 use cov_ast::{Program, State, StmtKind};
 use cov_expr::{Expr, List, NoMemory, Op, boxed, copy, same};
 use statement_paths::Step;
@@ -32,7 +32,7 @@ pub enum GivenTerm<'p> {
 /// A predicate that a step may give, with what in the step does.
 #[derive(Clone, Copy)]
 pub struct Given<'p> {
-    pub source: Source,
+    pub source: HypothesisSource,
     pub term: GivenTerm<'p>,
 }
 
@@ -70,9 +70,17 @@ pub fn add_given<'p>(
 {
     match step {
         Step::Passed(stmt) => add_behind(p, &stmt.kind, all),
-        Step::Yes(_, guard) => add_one(Source::GuardHolds, GivenTerm::Written(guard), all),
-        Step::No(_, guard) => add_one(Source::GuardFails, GivenTerm::Negation(guard), all),
-        Step::Head(_, inv) => add_each(Source::LoopState, inv, all),
+        Step::Yes(_, guard) => add_one(
+            HypothesisSource::GuardHolds,
+            GivenTerm::Written(guard),
+            all,
+        ),
+        Step::No(_, guard) => add_one(
+            HypothesisSource::GuardFails,
+            GivenTerm::Negation(guard),
+            all,
+        ),
+        Step::Head(_, inv) => add_each(HypothesisSource::LoopState, inv, all),
     }
 }
 
@@ -87,12 +95,16 @@ fn add_behind<'p>(
     match kind {
         StmtKind::Skip | StmtKind::Unlock(_) | StmtKind::Output(_) => Ok(()),
         StmtKind::Assign(x, value, _, _) => {
-            add_one(Source::Assigned, GivenTerm::Equation(*x, value), all)
+            add_one(
+                HypothesisSource::Assigned,
+                GivenTerm::Equation(*x, value),
+                all,
+            )
         }
         StmtKind::Lock(l) => add_invariant(*l, invariant_of(p, *l), all),
-        StmtKind::If(_, _, _, join) => add_each(Source::Join, join, all),
+        StmtKind::If(_, _, _, join) => add_each(HypothesisSource::Join, join, all),
         StmtKind::While(guard, inv, _) => add_behind_loop(guard, inv, all),
-        StmtKind::Note(note) => add_each(Source::Noted, note, all),
+        StmtKind::Note(note) => add_each(HypothesisSource::Noted, note, all),
     }
 }
 
@@ -104,13 +116,13 @@ fn add_behind_loop<'p>(
 ) -> Result<(), NoMemory>
     ensures { OnOk result (map spec.given all.new ≡ map spec.given all.old ++ origins.given_behind_loop (term guard.now) (view.state inv.now)) }
 {
-    add_one(Source::LoopLeft, GivenTerm::Negation(guard), all)?;
-    add_each(Source::LoopState, inv, all)
+    add_one(HypothesisSource::LoopLeft, GivenTerm::Negation(guard), all)?;
+    add_each(HypothesisSource::LoopState, inv, all)
 }
 
 /// Adds one predicate.
 fn add_one<'p>(
-    source: Source,
+    source: HypothesisSource,
     made: GivenTerm<'p>,
     all: &mut List<Given<'p>>,
 ) -> Result<(), NoMemory>
@@ -120,7 +132,11 @@ fn add_one<'p>(
 }
 
 /// Adds the predicates of a state.
-fn add_each<'p>(source: Source, state: &'p State, all: &mut List<Given<'p>>) -> Result<(), NoMemory>
+fn add_each<'p>(
+    source: HypothesisSource,
+    state: &'p State,
+    all: &mut List<Given<'p>>,
+) -> Result<(), NoMemory>
     ensures { OnOk result (map spec.given all.new ≡ map spec.given all.old ++ origins.each source (view.state state.now).preds) }
 {
     for pred in state.preds.as_slice() {
@@ -138,7 +154,7 @@ fn add_invariant<'p>(
     ensures { OnOk result (map spec.given all.new ≡ map spec.given all.old ++ origins.by_invariant l (option_map (λ e. term e.now) invariant.entry)) }
 {
     match invariant {
-        Some(e) => add_one(Source::Invariant(l), GivenTerm::Written(e), all),
+        Some(e) => add_one(HypothesisSource::Invariant(l), GivenTerm::Written(e), all),
         None => Ok(()),
     }
 }

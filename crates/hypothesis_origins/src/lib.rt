@@ -1,6 +1,6 @@
 //! Where each hypothesis of an entailment comes from.
 //!
-//! - [`add_given`]: the predicates that a step may give ([`Given`], [`GivenTerm`], [`Source`]).
+//! - [`add_given`]: the predicates that a step may give ([`Given`], [`GivenTerm`], [`HypothesisSource`]).
 //! - [`origin_of`]: the last step on the way to a statement that gives a hypothesis ([`Origin`]).
 //! - [`remarks`]: a few words on each hypothesis of an entailment, with the line of its origin.
 //! - [`add_origin`]: the words on one origin.
@@ -21,5 +21,5 @@ mod remark;
 
 pub use given::{Given, GivenTerm, add_given};
 pub use laws::predicates_have_origins;
-pub use origin::{Origin, Source, origin_of};
+pub use origin::{HypothesisSource, Origin, origin_of};
 pub use remark::{add_origin, remarks};

@@ -16,7 +16,7 @@ use std::alloc::Global;
 
 /// What gives a hypothesis.
 #[derive(Clone, Copy, Debug, PartialEq, Eq)]
-pub enum Source {
+pub enum HypothesisSource {
     /// An assignment: the variable equals the value that it is given.
     Assigned,
     /// This lock, which is taken: its invariant.
@@ -38,7 +38,7 @@ pub enum Source {
 /// Where a hypothesis comes from: what gives it, and the byte offset of the statement that does.
 #[derive(Clone, Copy, Debug, PartialEq, Eq)]
 pub struct Origin {
-    pub source: Source,
+    pub source: HypothesisSource,
     pub at: u32,
 }
 
@@ -82,7 +82,7 @@ fn origin_at<'p>(
 }
 
 /// The source of the first predicate that equals a hypothesis.
-fn first_given(all: &[Given<'_>], hypothesis: &Expr) -> Option<Source>
+fn first_given(all: &[Given<'_>], hypothesis: &Expr) -> Option<HypothesisSource>
     ensures { result ≡ spec.first_given (map given all.now) (term hypothesis.now) }
 {
     for one in all {

@@ -7,7 +7,7 @@ ghost use Rattle.cov_ast.specs.View as view;
 ghost use Rattle.statement_paths.specs.Paths as paths;
 ghost use Rattle.hypothesis_origins.specs.Remarks as spec;
 
-use crate::origin::{Origin, Source, origin_of};
+use crate::origin::{HypothesisSource, Origin, origin_of};
 use cov_ast::Program;
 use cov_expr::{Blob, Expr, List, NoMemory};
 use statement_paths::Step;
@@ -90,18 +90,17 @@ pub fn add_origin(
 }
 
 /// Adds what gives a hypothesis.
-fn add_source(p: &Program, source: Source, text: &mut Blob) -> Result<(), NoMemory>
+fn add_source(p: &Program, source: HypothesisSource, text: &mut Blob) -> Result<(), NoMemory>
     ensures { OnOk result (text.new ≡ text.old ++ spec.source_text (plain (view.program p.now)) source) }
 {
     match source {
-        Source::Assigned => text.extend_from_slice(b"assignment"),
-        Source::Invariant(l) => add_invariant_of(p, l, text),
-        Source::Join => text.extend_from_slice(b"join of the `if`"),
-        Source::LoopState => text.extend_from_slice(b"inv of the `while`"),
-        Source::Noted => text.extend_from_slice(b"note"),
-        Source::LoopLeft | Source::GuardHolds | Source::GuardFails => {
-            text.extend_from_slice(b"guard")
-        }
+        HypothesisSource::Assigned => text.extend_from_slice(b"assignment"),
+        HypothesisSource::Invariant(l) => add_invariant_of(p, l, text),
+        HypothesisSource::Join => text.extend_from_slice(b"join of the `if`"),
+        HypothesisSource::LoopState => text.extend_from_slice(b"inv of the `while`"),
+        HypothesisSource::Noted => text.extend_from_slice(b"note"),
+        HypothesisSource::LoopLeft | HypothesisSource::GuardHolds | HypothesisSource::GuardFails =>
+            { text.extend_from_slice(b"guard") }
     }
 }
 

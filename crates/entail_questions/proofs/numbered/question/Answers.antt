@@ -12,7 +12,7 @@ use Rattle.held_locks.specs.VariableSets.{hidden}
 use Rattle.entail_questions.specs.Questions.{asked_among, asked_behind, of_statement}
 use Rattle.entail_questions.proofs.InRange.{statement_in_range}
 use Rattle.entail_questions.proofs.SameQuestions.{of_table}
-use Rattle.entail_questions.proofs.asked.question.Goals as goal
+use Rattle.entail_questions.proofs.numbered.question.Goals as goal
 
 pub questions-requires-clause-range : goal.questions-requires-clause-range
 questions-requires-clause-range c =

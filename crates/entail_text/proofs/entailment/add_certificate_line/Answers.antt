@@ -3,7 +3,7 @@ use Rattle.cov_expr.specs.View.{term}
 use Rattle.cov_ast.specs.View as view
 use Rattle.entail_text.specs.EntailmentLines.{certificate}
 use Rattle.entail_text.proofs.Pieces.{three_added}
-use Rattle.entail_text.proofs.told.add_certificate_line.Goals as goal
+use Rattle.entail_text.proofs.entailment.add_certificate_line.Goals as goal
 
 pub returns : goal.returns
 returns c =

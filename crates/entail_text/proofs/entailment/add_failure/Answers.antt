@@ -3,7 +3,7 @@ use Rattle.entail_text.specs.Inside.{seen}
 use Rattle.entail_text.specs.Nodes.{node_at}
 use Rattle.entail_text.specs.EntailmentLines.{place_of, node_text_of}
 use Rattle.entail_text.proofs.Pieces.{three_added}
-use Rattle.entail_text.proofs.told.add_failure.Goals as goal
+use Rattle.entail_text.proofs.entailment.add_failure.Goals as goal
 
 pub returns : goal.returns
 returns c =

@@ -1,7 +1,7 @@
 use Rattle.std.proofs.Common.{◌≡◌, ◌+◌, ◌++◌, drop, map}
 use Rattle.cov_expr.specs.View.{term}
 use Rattle.entail_text.specs.EntailmentLines as spec
-use Rattle.entail_text.proofs.told.add_hypotheses.Given as goal
+use Rattle.entail_text.proofs.entailment.add_hypotheses.Given as goal
 
 -- the lines so far, and those of what is left, are all of them
 abbrev pub invariant-loop-i : goal.invariant-loop-i

@@ -2,7 +2,7 @@ use Rattle.cov_expr.specs.View.{term}
 use Rattle.cov_print.specs.Spelling.{whole}
 use Rattle.entail_text.specs.EntailmentLines.{front_of, line_end}
 use Rattle.entail_text.proofs.Pieces.{three_added}
-use Rattle.entail_text.proofs.told.add_hypothesis.Goals as goal
+use Rattle.entail_text.proofs.entailment.add_hypothesis.Goals as goal
 
 pub returns : goal.returns
 returns c =

@@ -2,7 +2,7 @@ use Rattle.std.proofs.Common.{◌++◌, ◌∙◌, ap, append_assoc, codes, deci
 use Rattle.cov_expr.specs.View.{term}
 use Rattle.cov_print.specs.Spelling.{whole}
 use Rattle.entail_text.proofs.Pieces.{three_added}
-use Rattle.entail_text.proofs.told.add_known.Goals as goal
+use Rattle.entail_text.proofs.entailment.add_known.Goals as goal
 
 pub returns : goal.returns
 returns c =

@@ -1,6 +1,6 @@
 use Rattle.std.proofs.Common.{◌≡◌, ◌++◌, drop, codes, decimal, flat_map}
 use Rattle.entail_text.specs.EntailmentLines as spec
-use Rattle.entail_text.proofs.told.add_path.Given as goal
+use Rattle.entail_text.proofs.entailment.add_path.Given as goal
 
 -- what is written, and what is left, are the whole path
 abbrev pub invariant-loop-step : goal.invariant-loop-step
