@@ -2,8 +2,10 @@
 use Rattle.std.specs.Prelude.{◌≡◌, ℕ, ◌+◌, ◌*◌, ◌/◌, ◌%◌, ◌^◌, nat_lt, List, [], ◌∷◌, Bool, false, if◌then◌else◌}
 use Rattle.std.specs.Ordering.{is_lt}
 use Rattle.std.specs.declared.cmp.Ordering.TheVariants.{Less}
+use Rattle.entail_ring.specs.declared.forms.Operation.{Operation}
+use Rattle.entail_ring.specs.declared.forms.Operation.TheVariants.{Sum, Difference, Product}
 use Rattle.entail_ring.specs.declared.monomials.Monomial.{Monomial}
-use Rattle.entail_ring.specs.Polys.{term_of, order}
+use Rattle.entail_ring.specs.Polys.{difference, order, product, sum, term_of}
 
 -- a term with its coefficient modulo 2^32
 abbrev pub reduced : Monomial → Monomial
@@ -27,3 +29,9 @@ AreUpTo a (t ∷ p) = (is_lt (order a t.atoms) ≡ false) × AreUpTo a p
 abbrev pub AreBefore : List ℕ → List Monomial → Type 0
 AreBefore a [] = Unit {0}
 AreBefore a (t ∷ p) = (order t.atoms a ≡ Less) × AreBefore a p
+
+-- what an operation makes of two polynomials
+abbrev pub applied : Operation → List Monomial → List Monomial → List Monomial
+applied Sum = sum
+applied Difference = difference
+applied Product = product

@@ -1,6 +1,6 @@
 -- The obligations of V9 are those of the entailments, in their order.
 use Rattle.std.proofs.Common.{◌≡◌, ℕ, suc, ◌+◌, ◌<◌, ◌==◌, ◌&&◌, List, [], ◌∷◌, ◌++◌, length, map, not, Bool, true, false, cond, refl, sym, ap, subst, ◌∙◌, arith, eq-eqb}
-use Rattle.std.specs.List.{list_any}
+use Rattle.std.specs.List.{list_all, list_any}
 use Rattle.std.proofs.lemmas.Bool.{and_parts, not-true, or_parts}
 use Rattle.std.proofs.lemmas.List.{append-nil, map-append}
 use Rattle.std.proofs.lemmas.List.Elements.{filter-append}
@@ -18,9 +18,11 @@ use Rattle.typing_state.specs.After.{start, with_guard, meet}
 use Rattle.typing_rules.specs.Blocks.{after_stm, after_block}
 use Rattle.typing_rules.specs.Counts.{entailment_count, is_entailment}
 use Rattle.typing_rules.specs.Entailments.{Entailment, is_proved, guard_follows, state_follows, assign_entailments, unlock_entailments}
-use Rattle.typing_rules.specs.ThreadEntailments.{PlacedEntailment, all_entailments, block_entailments, certificate_obligation, certificate_obligations, placed_from, placed_proofs, proofs_among, proofs_within, stm_entailments}
-use Rattle.typing_rules.specs.ThreadObligations.{block_obligations, flat, obligation, proved, stm_parts, thread_obligation, thread_obligations}
-use Rattle.typing_rules.proofs.Counting.{count_cons, count_guard, count_numbers, count_reads, count_stable, count_state, count_types}
+use Rattle.typing_rules.specs.ThreadEntailments.{PlacedEntailment, all_entailments, block_entailments, certificate_obligation, certificate_obligations, is_passed, placed_from, placed_proofs, proofs_among, proofs_within, stm_entailments, thread_entailments}
+use Rattle.typing_rules.specs.ThreadObligations.{block_obligations, end_obligation, end_point, flat, obligation, proved, stm_parts, thread_obligation, thread_obligations}
+use Rattle.typing_rules.proofs.Counting.{count_append, count_cons, count_guard, count_numbers, count_reads, count_stable, count_state, count_types}
+use Rattle.typing_rules.proofs.Others.{block_counted}
+use Rattle.typing_rules.proofs.Reaching.{all_reached}
 
 -- lists of equal parts are equal
 joined : {X : Type 0} (a b c d : List X) → a ≡ b → c ≡ d → (a ++ c) ≡ (b ++ d)
@@ -198,3 +200,12 @@ of_thread p formed t inside =
     filter-append (λ e. is_entailment e.refusal.rule) (block_obligations (plain p) t body from) _
     ∙ append-nil (certificate_obligations (block_obligations (plain p) t body from))
     ∙ of_block (plain p) t given body from (found (placed_proofs body) differ)
+
+pub reached_whole : (p : Program) (t : ℕ) → list_all is_passed (thread_obligations p t) ≡ true → thread_entailments p t ≡ all_entailments p t
+reached_whole p t passing =
+    let from = start (plain p) t in
+    let of_body = block_obligations (plain p) t (numbered p t).body from in
+    let of_end = end_obligation (plain p) t (numbered p t).end (end_point p t).held ∷ [] in
+    let counted : entailment_count (thread_obligations p t) ≡ length (all_entailments p t) =
+    omega (arith, count_append of_body of_end, block_counted (plain p) t (numbered p t).body from) in
+    all_reached (thread_obligations p t) (all_entailments p t) passing counted

@@ -137,7 +137,7 @@ reached_few (e ∷ es) = go (reached_few es) (is_passed e)
 
 -- Entailments that are reached ---------------------------------------------------------------------------------------
 
-all_reached : (o : List Obligation) (a : List PlacedEntailment) → are_passed o ≡ true → entailment_count o ≡ length a → reached_entailments o a ≡ a
+pub all_reached : (o : List Obligation) (a : List PlacedEntailment) → are_passed o ≡ true → entailment_count o ≡ length a → reached_entailments o a ≡ a
 all_reached o a h is = ap (λ es. take (entailment_count es) a) (reached_all o h) ∙ take_all (entailment_count o) a (omega (arith, is))
 
 reached_then : (o1 o2 : List Obligation) (a1 a2 : List PlacedEntailment) → are_passed o1 ≡ true → entailment_count o1 ≡ length a1

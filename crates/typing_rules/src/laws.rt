@@ -1,6 +1,7 @@
 //! What the rules of statements give: a thread of which every obligation holds is secure.
 
-ghost use Rattle.std.specs.Prelude.{◌≡◌, ℕ, ◌<◌, length, map, IsTrue, false};
+ghost use Rattle.std.specs.Prelude.{◌≡◌, ℕ, ◌<◌, length, map, IsTrue, true, false};
+ghost use Rattle.std.specs.List.{list_all};
 ghost use Rattle.cov_ast.specs.Syntax as syntax;
 ghost use Rattle.cov_ast.specs.Obligations.{all_hold};
 ghost use Rattle.cov_ast.specs.Plain.{plain};
@@ -9,7 +10,7 @@ ghost use Rattle.cov_ast.specs.WellFormed.{IsWellFormed};
 ghost use Rattle.flow_model.specs.Game.{IsSecureThread};
 ghost use Rattle.mode_compat.specs.Compatible.{numbered};
 ghost use Rattle.mode_compat.specs.Declared.{IsDeclared, declaration_obligations};
-ghost use Rattle.typing_rules.specs.ThreadEntailments.{all_entailments, certificate_obligation, certificate_obligations};
+ghost use Rattle.typing_rules.specs.ThreadEntailments.{all_entailments, certificate_obligation, certificate_obligations, is_passed, thread_entailments};
 ghost use Rattle.typing_rules.specs.ThreadObligations.{thread_obligations, end_point};
 
 /// A thread of which every obligation holds has given back each lock at its end.
@@ -19,9 +20,11 @@ pub fn threads_end_without_locks()
 
 /// What is asked of certificates in a thread (V9) is, in this order, that each of its entailments has a valid one: at the place of
 /// the entailment's statement, with the entailment's number, and true exactly where a certificate that is given there, or `auto`, is valid.
+/// And where no other rule than those of certificates (V9, V13) fails, each entailment of the thread is among those that are reached.
 pub fn entailments_are_obligations()
-    ensures { (p : syntax.Program) → IsWellFormed p → (t : ℕ) → t < length p.threads
+    ensures obligations { (p : syntax.Program) → IsWellFormed p → (t : ℕ) → t < length p.threads
         → certificate_obligations (thread_obligations p t) ≡ map (certificate_obligation t (numbered p t).body) (all_entailments p t) }
+    ensures reached { (p : syntax.Program) → (t : ℕ) → list_all is_passed (thread_obligations p t) ≡ true → thread_entailments p t ≡ all_entailments p t }
 {}
 
 /// Where every obligation of the declarations holds, the declarations are as the rules say.
