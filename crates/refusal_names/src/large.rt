@@ -1,5 +1,4 @@
-ghost use Rattle.std.specs.Prelude.{◌≡◌, ◌+◌, ◌<◌, ◌≤◌, [], ◌++◌, MatchOption, OnOk, Some, length, map, option_map};
-ghost use Rattle.cov_expr.specs.Trees as tree;
+ghost use Rattle.std.specs.Prelude.{◌≡◌, ◌≤◌, [], ◌++◌, OnOk, Some, length, map, option_map};
 ghost use Rattle.cov_expr.specs.View.{term};
 ghost use Rattle.cov_ast.specs.Plain.{class_term};
 ghost use Rattle.cov_ast.specs.View as view;
@@ -9,8 +8,9 @@ ghost use Rattle.statement_paths.specs.Paths.{step};
 use crate::guarantees::add_line_of;
 use crate::reads::add_variable;
 use cov_ast::{Class, NameTable, NumberSet, Retype, Stmt, StmtKind, VarDecl};
-use cov_expr::{Blob, Expr, MOST_NODES, NoMemory, mentions, nodes_at_most, nodes_left};
+use cov_expr::{Blob, Expr, MOST_NODES, NoMemory, mentions, nodes_at_most};
 use statement_paths::Step;
+use typing_rules::subst_nodes_left;
 
 /// What is made on the way: its place, and words for it.
 type Made = (u32, &'static [u8]);
@@ -85,23 +85,6 @@ fn is_large_with(e: &Expr, x: u32, value: &Expr) -> bool
     ensures { result ≡ spec.is_large_with x (term value.now) (term e.now) }
 {
     mentions(e, x) && subst_nodes_left(e, x, value, MOST_NODES).is_none()
-}
-
-/// How many nodes of a budget are left by the expression with a part in the place of each occurrence of a variable, or
-/// nothing where it has more.
-fn subst_nodes_left(e: &Expr, x: u32, part: &Expr, budget: u32) -> Option<u32>
-    ensures { MatchOption result (budget < tree.nodes (tree.subst (term e.now) x (term part.now)))
-        (λ left. left + tree.nodes (tree.subst (term e.now) x (term part.now)) ≡ budget) }
-{
-    match e {
-        Expr::Var(y) if *y == x => nodes_left(part, budget),
-        Expr::Const(_) | Expr::Var(_) => budget.checked_sub(1),
-        Expr::Not(a) => subst_nodes_left(a, x, part, budget.checked_sub(1)?),
-        Expr::Bin(_, a, b) => {
-            let left = subst_nodes_left(a, x, part, budget.checked_sub(1)?)?;
-            subst_nodes_left(b, x, part, left)
-        }
-    }
 }
 
 /// The last that steps make and that is too large.
