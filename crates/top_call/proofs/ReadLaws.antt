@@ -1,5 +1,5 @@
 -- Laws of the files of a run, and of two runs: which plan is carried out where all are read, and where one isn't.
-use Rattle.std.proofs.Common.{◌≡◌, ℕ, List, Result, Err, inl, inr}
+use Rattle.std.proofs.Common.{ℕ, List, Result, Err, inl, inr}
 use Rattle.cov_ast.specs.Syntax.{Parsed}
 use Rattle.cov_expr.specs.declared.limits.TheConstants.{MOST_BYTES}
 use Rattle.cov_io.specs.Shelves.{Shelved}
