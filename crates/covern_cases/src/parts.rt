@@ -3,13 +3,12 @@ ghost use Rattle.std.specs.Prelude.{◌≤◌, length};
 ghost use Rattle.cov_expr.specs.declared.limits.TheConstants.{MOST_BYTES};
 ghost use Rattle.cov_ast.specs.View as view;
 ghost use Rattle.cov_ast.specs.Ready.{IsReady};
-ghost use Rattle.cov_ast.specs.WellFormed.{IsWellFormed};
 ghost use Rattle.code_text.specs.declared.limits.TheConstants.{MOST_LISTING_BYTES};
 
 use crate::certificates::add_claims;
 use crate::failure::Failure;
 use code_text::{CodeFault, MOST_LISTING_BYTES, list, read_code};
-use cov_ast::{CheckFault, Parsed, Program};
+use cov_ast::{CheckFault, Parsed};
 use cov_expr::{Blob, MOST_BYTES};
 use cov_lex::{LexFault, lex};
 use cov_parse::parse;
@@ -122,18 +121,12 @@ fn declare(alloc: Global, times: u32, parsed: Parsed) -> Result<(), CheckFault>
     requires { IsReady (view.parsed parsed) }
 {
     let program = resolve(alloc, parsed)?;
-    check_declarations(alloc, times, &program)
-}
-
-fn check_declarations(alloc: Global, times: u32, program: &Program) -> Result<(), CheckFault>
-    requires { IsWellFormed (view.program program.now) }
-{
-    check_policy(alloc, program)?;
-    check_locks(alloc, program)?;
+    check_policy(alloc, &program)?;
+    check_locks(alloc, &program)?;
     for _ in 1..times {
-        check_modes(alloc, program)?;
+        check_modes(alloc, &program)?;
     }
-    check_modes(alloc, program)
+    check_modes(alloc, &program)
 }
 
 fn add_text(text: Result<String, AllocError>, out: &mut Blob) -> Result<(), Failure> {
