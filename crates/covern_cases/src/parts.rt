@@ -3,12 +3,11 @@ ghost use Rattle.std.specs.Prelude.{◌≤◌, length};
 ghost use Rattle.cov_expr.specs.declared.limits.TheConstants.{MOST_BYTES, MOST_LISTING_BYTES};
 ghost use Rattle.cov_ast.specs.View as view;
 ghost use Rattle.cov_ast.specs.Ready.{IsReady};
-ghost use Rattle.cov_ast.specs.WellFormed.{IsWellFormed};
 
 use crate::certificates::add_claims;
 use crate::failure::Failure;
 use code_text::{CodeFault, list, read_code};
-use cov_ast::{CheckFault, Parsed, Program};
+use cov_ast::{CheckFault, Parsed};
 use cov_expr::{Blob, MOST_BYTES, MOST_LISTING_BYTES};
 use cov_lex::{LexFault, lex};
 use cov_parse::parse;
@@ -121,18 +120,12 @@ fn declare(alloc: Global, times: u32, parsed: Parsed) -> Result<(), CheckFault>
     requires { IsReady (view.parsed parsed) }
 {
     let program = resolve(alloc, parsed)?;
-    check_declarations(alloc, times, &program)
-}
-
-fn check_declarations(alloc: Global, times: u32, program: &Program) -> Result<(), CheckFault>
-    requires { IsWellFormed (view.program program.now) }
-{
-    check_policy(alloc, program)?;
-    check_locks(alloc, program)?;
+    check_policy(alloc, &program)?;
+    check_locks(alloc, &program)?;
     for _ in 1..times {
-        check_modes(alloc, program)?;
+        check_modes(alloc, &program)?;
     }
-    check_modes(alloc, program)
+    check_modes(alloc, &program)
 }
 
 fn add_text(text: Result<String, AllocError>, out: &mut Blob) -> Result<(), Failure> {

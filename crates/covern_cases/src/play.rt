@@ -59,16 +59,17 @@ fn add_found(alloc: Global, case: &Case, call: &Call, found: &mut Blob) -> Resul
     }
 }
 
-/// Adds what a part shows of a text. Words in front of its name may say that there is less of the text.
+/// Adds what a part shows of a text. A word in front of its name may say that there is less of the text.
 fn add_part_of(alloc: Global, words: &str, text: &[u8], found: &mut Blob) -> Result<(), Failure> {
     let mut outside = Outside::ordinary();
-    let mut part = "";
-    for word in words.split_whitespace() {
-        if !outside.reads(word) {
-            part = word;
-        }
+    let Some((front, part)) = words.split_once(' ') else {
+        return add_part(alloc, words, 1, text, found);
+    };
+    if outside.reads(front) {
+        add_part(alloc, part, 1, cut_at(text, outside.cut), found)
+    } else {
+        Err(Failure::Usage)
     }
-    add_part(alloc, part, 1, cut_at(text, outside.cut), found)
 }
 
 /// Adds what a call has to show and what it shows, where they differ.

@@ -6,6 +6,7 @@ use Rattle.std.specs.Str.{IsUtf8, is_utf8, IsAscii}
 use Rattle.std.proofs.lemmas.Bool.{and_parts, cases_Bool, cond-true, cond-false, lt-ltb, le-ltb}
 use Rattle.std.proofs.lemmas.Bool.Decides.{nat_tests}
 use Rattle.std.proofs.lemmas.Str.{IsUtf8-from_ascii, IsUtf8-from_is_utf8, is_utf8-from_IsUtf8}
+use Rattle.cov_expr.specs.declared.limits.TheConstants.{MOST_ENTRIES}
 use Rattle.cov_expr.specs.Bytes.{is_lower, is_word}
 use Rattle.cov_expr.specs.Names.{IsName, is_word_text}
 use Rattle.serde_json.specs.Data.{Data}
@@ -14,7 +15,7 @@ use Rattle.serde_json.specs.View.{items_view}
 use Rattle.serde_json.specs.declared.value.Value.{Value}
 use Rattle.serde_json.proofs.Views.{items_len-items_view}
 use Rattle.schedule_replay.specs.Json.{value_of}
-use Rattle.schedule_replay.specs.Schedules.{most_entries, entries_from, schedule_at}
+use Rattle.schedule_replay.specs.Schedules.{entries_from, schedule_at}
 use Rattle.schedule_replay.specs.declared.fault.ScheduleFault.TheVariants as faults
 
 -- Names --------------------------------------------------------------------------------------------------------
@@ -53,11 +54,11 @@ unread_is bytes h =
 -- Schedules ----------------------------------------------------------------------------------------------------
 
 module _ (threads : ℕ) (vs : List Value) where
-  as_length : schedule_at threads (Some (items_view vs)) ≡ (if nat_lt most_entries (length vs) then Err faults.TooMany else entries_from threads 0 (items_view vs))
-  as_length = ap (λ n. if nat_lt most_entries n then Err faults.TooMany else entries_from threads 0 (items_view vs)) (items_len-items_view vs)
+  as_length : schedule_at threads (Some (items_view vs)) ≡ (if nat_lt MOST_ENTRIES (length vs) then Err faults.TooMany else entries_from threads 0 (items_view vs))
+  as_length = ap (λ n. if nat_lt MOST_ENTRIES n then Err faults.TooMany else entries_from threads 0 (items_view vs)) (items_len-items_view vs)
 
-  pub too_many : most_entries < length vs → schedule_at threads (Some (items_view vs)) ≡ Err faults.TooMany
-  too_many l = as_length ∙ cond-true _ (Err faults.TooMany) (entries_from threads 0 (items_view vs)) (lt-ltb most_entries (length vs) l)
+  pub too_many : MOST_ENTRIES < length vs → schedule_at threads (Some (items_view vs)) ≡ Err faults.TooMany
+  too_many l = as_length ∙ cond-true _ (Err faults.TooMany) (entries_from threads 0 (items_view vs)) (lt-ltb MOST_ENTRIES (length vs) l)
 
-  pub not_too_many : length vs ≤ most_entries → schedule_at threads (Some (items_view vs)) ≡ entries_from threads 0 (items_view vs)
-  not_too_many l = as_length ∙ cond-false _ (Err faults.TooMany) (entries_from threads 0 (items_view vs)) (le-ltb most_entries (length vs) l)
+  pub not_too_many : length vs ≤ MOST_ENTRIES → schedule_at threads (Some (items_view vs)) ≡ entries_from threads 0 (items_view vs)
+  not_too_many l = as_length ∙ cond-false _ (Err faults.TooMany) (entries_from threads 0 (items_view vs)) (le-ltb MOST_ENTRIES (length vs) l)

@@ -8,10 +8,6 @@ use Rattle.schedule_replay.specs.Json.{number_below, prepended}
 use Rattle.schedule_replay.specs.declared.fault.ScheduleFault.{ScheduleFault}
 use Rattle.schedule_replay.specs.declared.fault.ScheduleFault.TheVariants as faults
 
--- the most entries of a schedule
-abbrev pub most_entries : ℕ
-most_entries = MOST_ENTRIES
-
 abbrev pub with_entry : ℕ → Option ℕ → Result (List ℕ) ScheduleFault → Result (List ℕ) ScheduleFault
 with_entry i None rest = Err (faults.BadEntry i)
 with_entry i (Some entry) rest = prepended entry rest
@@ -23,7 +19,7 @@ entries_from threads i (item d ds) = with_entry i (number_below threads d) (entr
 
 abbrev pub schedule_at : (threads : ℕ) → Option Items → Result (List ℕ) ScheduleFault
 schedule_at threads None = Err faults.NotList
-schedule_at threads (Some ds) = if nat_lt most_entries (items_len ds) then Err faults.TooMany else entries_from threads 0 ds
+schedule_at threads (Some ds) = if nat_lt MOST_ENTRIES (items_len ds) then Err faults.TooMany else entries_from threads 0 ds
 
 -- The entries, or the first fault. There may be no value.
 abbrev pub schedule_of : (threads : ℕ) → Option Data → Result (List ℕ) ScheduleFault

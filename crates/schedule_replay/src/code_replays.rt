@@ -1,6 +1,7 @@
 //! Replays of a schedule on code: on one machine, or on two side by side.
 
 ghost use Rattle.std.specs.Prelude.{◌≡◌, ℕ, ◌+◌, ◌<◌, ◌≤◌, length, IsTrue, MatchOption};
+ghost use Rattle.cov_expr.specs.declared.limits.TheConstants.{MOST_ENTRIES};
 ghost use Rattle.cov_expr.specs.Words.{IsSchedule};
 ghost use Rattle.cov_ast.specs.Plain.{plain};
 ghost use Rattle.cov_ast.specs.View as view;
@@ -10,7 +11,6 @@ ghost use Rattle.schedule_replay.specs.CodeReplays.{CodeAgreesThroughout, CodeDi
 ghost use Rattle.schedule_replay.specs.Inside.{HasSameFront, HasSteppedCode, KeepsCodeAgreement};
 ghost use Rattle.schedule_replay.specs.Inside as inside;
 ghost use Rattle.schedule_replay.specs.Replays.{count_of, part_run};
-ghost use Rattle.schedule_replay.specs.Schedules.{most_entries};
 
 use crate::replays::{Found, count, has_moved, same_words};
 use cov_ast::Program;
@@ -21,7 +21,7 @@ use risc_machine::{Instr, Line, Risc};
 /// that the thread doesn't hold. It takes no memory.
 pub fn run_code(m: &mut Risc<'_>, schedule: &[u32]) -> u32
     requires threads { IsSchedule (length (m.old).parts.threads) schedule.now }
-    requires entries { length schedule.now ≤ most_entries }
+    requires entries { length schedule.now ≤ MOST_ENTRIES }
     requires room { length (m.old).state.outputs + length schedule.now ≤ (m.old).room }
     ensures parts { (m.new).parts ≡ (m.old).parts }
     ensures room { (m.new).room ≡ (m.old).room }
@@ -50,7 +50,7 @@ pub fn pair_code<'c>(
     requires equal { (b.old).parts ≡ (a.old).parts }
     requires declared { DeclaresAsMany (a.old).parts p.now }
     requires threads { IsSchedule (length p.now.threads) schedule.now }
-    requires entries { length schedule.now ≤ most_entries }
+    requires entries { length schedule.now ≤ MOST_ENTRIES }
     requires first_room { length (a.old).state.outputs + length schedule.now ≤ (a.old).room }
     requires second_room { length (b.old).state.outputs + length schedule.now ≤ (b.old).room }
     ensures found { MatchOption result (CodeAgreesThroughout (plain (view.program p.now)) (a.old).parts (a.old).state (b.old).state schedule.now)

@@ -1,6 +1,7 @@
 //! Replays of a schedule on programs: on one machine, until an expression holds, or on two side by side.
 
 ghost use Rattle.std.specs.Prelude.{◌≡◌, ◌↔◌, ◌+◌, ◌<◌, ◌≤◌, false, length, take, IsNone, IsTrue, MatchOption};
+ghost use Rattle.cov_expr.specs.declared.limits.TheConstants.{MOST_ENTRIES};
 ghost use Rattle.watch.specs.Watches.{expr_of, words_of};
 ghost use Rattle.cov_expr.specs.Entailment.{Holds};
 ghost use Rattle.cov_expr.specs.Words.{IsSchedule};
@@ -12,7 +13,6 @@ ghost use Rattle.flow_model.specs.FirstDifference.{first_difference};
 ghost use Rattle.flow_model.specs.Source as spec;
 ghost use Rattle.schedule_replay.specs.Inside.{HasSameFront, HasStepped, KeepsAgreement, next_stays};
 ghost use Rattle.schedule_replay.specs.Inside as inside;
-ghost use Rattle.schedule_replay.specs.Schedules.{most_entries};
 ghost use Rattle.schedule_replay.specs.Replays.{AgreeThroughout, DiffersIn, IsFirstStepApart, StopsAt, count_of, part_run};
 ghost use Rattle.source_machine.specs.SourceMachine.{run_of};
 
@@ -44,7 +44,7 @@ pub struct Found {
 /// Runs a whole schedule, and answers how many of its steps stayed. It takes no memory.
 pub fn run(s: &mut Source<'_>, schedule: &[u32]) -> u32
     requires threads { IsSchedule (length (s.old).program.threads) schedule.now }
-    requires entries { length schedule.now ≤ most_entries }
+    requires entries { length schedule.now ≤ MOST_ENTRIES }
     requires room { length (run_of s.old).outputs + length schedule.now ≤ (s.old).room }
     ensures program { (s.new).program ≡ (s.old).program }
     ensures room { (s.new).room ≡ (s.old).room }
@@ -63,7 +63,7 @@ pub fn run(s: &mut Source<'_>, schedule: &[u32]) -> u32
 /// after each step that stored, and takes no memory itself.
 pub fn run_until(s: &mut Source<'_>, schedule: &[u32], w: &Watch) -> Until
     requires threads { IsSchedule (length (s.old).program.threads) schedule.now }
-    requires entries { length schedule.now ≤ most_entries }
+    requires entries { length schedule.now ≤ MOST_ENTRIES }
     requires room { length (run_of s.old).outputs + length schedule.now ≤ (s.old).room }
     requires words { words_of w.now ≡ length (s.old).program.vars }
     ensures program { (s.new).program ≡ (s.old).program }
@@ -106,7 +106,7 @@ pub fn pair<'p>(
     requires first { (a.old).program ≡ p.now }
     requires second { (b.old).program ≡ p.now }
     requires threads { IsSchedule (length p.now.threads) schedule.now }
-    requires entries { length schedule.now ≤ most_entries }
+    requires entries { length schedule.now ≤ MOST_ENTRIES }
     requires first_room { length (run_of a.old).outputs + length schedule.now ≤ (a.old).room }
     requires second_room { length (run_of b.old).outputs + length schedule.now ≤ (b.old).room }
     ensures found { MatchOption result (AgreeThroughout (plain (view.program p.now)) (run_of a.old) (run_of b.old) schedule.now)

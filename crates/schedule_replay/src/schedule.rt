@@ -1,6 +1,7 @@
 //! The entries of a schedule, from a JSON list.
 
 ghost use Rattle.std.specs.Prelude.{◌≡◌, ◌≤◌, length, Some};
+ghost use Rattle.cov_expr.specs.declared.limits.TheConstants.{MOST_ENTRIES};
 ghost use Rattle.serde_json.specs.View.{items_view};
 ghost use Rattle.schedule_replay.specs.Json.{value_of};
 ghost use Rattle.schedule_replay.specs.Schedules as spec;
@@ -39,7 +40,7 @@ fn read_items(alloc: Global, items: &[Value], threads: u32) -> Result<List<u32>,
 
 /// The entries, or the first that is no number of a thread.
 fn read_entries(alloc: Global, items: &[Value], threads: u32) -> Result<List<u32>, ScheduleFault>
-    requires { length items.now ≤ spec.most_entries }
+    requires { length items.now ≤ MOST_ENTRIES }
     ensures { spec.GivesSchedule result (spec.entries_from threads 0 (items_view items.now)) }
 {
     let mut entries = List::with_capacity(alloc, items.len())?;

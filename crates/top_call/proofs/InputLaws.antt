@@ -3,6 +3,7 @@ use Rattle.std.proofs.Common.{◌≡◌, ℕ, suc, ◌^◌, ◌<◌, ◌≤◌, 
 use Rattle.std.specs.Prelude.{option_and_then, is_some}
 use Rattle.std.specs.Str.{bytes_eq}
 use Rattle.std.proofs.lemmas.Bool.Decides.{nat_tests}
+use Rattle.cov_expr.specs.declared.limits.TheConstants.{MOST_ENTRIES}
 use Rattle.cov_ast.specs.Syntax.{Parsed}
 use Rattle.cov_ast.specs.View as view
 use Rattle.cov_ast.specs.declared.decl.VarDecl.{VarDecl}
@@ -174,22 +175,22 @@ entries_fine threads i (item d ds) entries h = go (number_below threads d) refl 
 
 pub record IsFineSchedule (threads : ℕ) (entries : List ℕ) : Type 0 where
   pub threads_below : IsSchedule threads entries
-  pub few : length entries ≤ k.most_entries
+  pub few : length entries ≤ MOST_ENTRIES
 
 pub schedule_fine : (threads : ℕ) (d : Option Data) (entries : List ℕ) → k.schedule_of threads d ≡ Ok entries → IsFineSchedule threads entries
 schedule_fine threads None entries h = cc
 schedule_fine threads (Some d) entries h = by (as_array d) h
   where
-    go : (ds : Items) (b : Bool) → nat_lt k.most_entries (items_len ds) ≡ b → cond b (Err schedules.TooMany) (k.entries_from threads 0 ds) ≡ Ok entries
+    go : (ds : Items) (b : Bool) → nat_lt MOST_ENTRIES (items_len ds) ≡ b → cond b (Err schedules.TooMany) (k.entries_from threads 0 ds) ≡ Ok entries
         → IsFineSchedule threads entries
     go ds true is h = cc
     go ds false is h =
         let fine = entries_fine threads 0 ds entries h in
-        record { threads_below = fine.threads_below; few = subst (λ n. n ≤ k.most_entries) (sym fine.sized) (grind (arith, nat_tests)) }
+        record { threads_below = fine.threads_below; few = subst (λ n. n ≤ MOST_ENTRIES) (sym fine.sized) (grind (arith, nat_tests)) }
 
     by : (o : Option Items) → k.schedule_at threads o ≡ Ok entries → IsFineSchedule threads entries
     by None h = cc
-    by (Some ds) h = go ds (nat_lt k.most_entries (items_len ds)) refl h
+    by (Some ds) h = go ds (nat_lt MOST_ENTRIES (items_len ds)) refl h
 
 -- Readings -----------------------------------------------------------------------------------------------------
 

@@ -1,7 +1,7 @@
 -- Laws of the files of a run, and of two runs: which plan is carried out where all are read, and where one isn't.
 use Rattle.std.proofs.Common.{ℕ, List, Result, Err, inl, inr}
 use Rattle.cov_ast.specs.Syntax.{Parsed}
-use Rattle.cov_expr.specs.declared.limits.TheConstants.{MOST_BYTES}
+use Rattle.cov_expr.specs.declared.limits.TheConstants.{MOST_BYTES, MOST_INPUT_BYTES}
 use Rattle.cov_io.specs.Shelves.{Shelved}
 use Rattle.top_call.specs.Inputs.{IsStart, IsStartFault, IsScheduleText, IsScheduleFault}
 use Rattle.top_call.specs.Inside.{CarriesOut, Fails, FailsInputs, FailsPairInputs, Takes, TakesInputs, TakesPairInputs}
@@ -10,7 +10,6 @@ use Rattle.top_call.specs.Plans.{Plan}
 use Rattle.top_call.specs.Programs.{SpellsProgram, IsShownFault}
 use Rattle.top_call.specs.declared.answers.Answer.{Answer}
 use Rattle.top_call.specs.declared.answers.Stop.{Stop}
-use Rattle.top_call.specs.declared.inputs.TheConstants.{MOST_INPUT_BYTES}
 use Rattle.top_call.proofs.InputLaws.{start_reading, schedule_reading}
 use Rattle.top_call.proofs.PlanLaws.{carried_on, carried_not}
 use Rattle.top_call.proofs.TextLaws.{program_reading}

@@ -2,8 +2,7 @@
 use Rattle.std.specs.Prelude.{ℕ, List, [], ◌∷◌, length, nat_le, Bool, ◌&&◌, Option, Some, None, codes, decimal, if◌then◌else◌}
 use Rattle.std.specs.Str.{bytes_eq}
 use Rattle.std.specs.Str.Parse.{digits_value}
-use Rattle.cov_expr.specs.declared.limits.TheConstants.{MOST_ROUNDS}
-use Rattle.top_call.specs.declared.expressions.TheConstants.{MOST_EXPRESSION_BYTES}
+use Rattle.cov_expr.specs.declared.limits.TheConstants.{MOST_EXPRESSION_BYTES, MOST_ROUNDS}
 
 -- a command, with the words that it takes: names of files, an expression, and a number of rounds
 pub data Command : Type 0 where

@@ -9,7 +9,7 @@ use Rattle.cov_ast.specs.declared.refusal.Refusal.{Refusal}
 use Rattle.cov_expr.specs.Term.{Term}
 use Rattle.cov_expr.specs.View.{term}
 use Rattle.cov_expr.specs.declared.expr.Expr.{Expr}
-use Rattle.cov_expr.specs.declared.limits.TheConstants.{MOST_ROUNDS}
+use Rattle.cov_expr.specs.declared.limits.TheConstants.{MOST_EXPRESSION_BYTES, MOST_INPUT_BYTES, MOST_ROUNDS}
 use Rattle.cov_io.specs.Counters.{raised}
 use Rattle.cov_io.specs.Shelves.{Shelved, Gives, Passes}
 use Rattle.cov_io.specs.declared.shelf.Fetched.TheVariants.{Whole}
@@ -40,8 +40,6 @@ use Rattle.top_call.specs.declared.answers.Fault.{Fault}
 use Rattle.top_call.specs.declared.answers.Fault.TheVariants as f
 use Rattle.top_call.specs.declared.answers.FaultKind.TheVariants as k
 use Rattle.top_call.specs.declared.answers.Status.TheVariants as s
-use Rattle.top_call.specs.declared.expressions.TheConstants.{MOST_EXPRESSION_BYTES}
-use Rattle.top_call.specs.declared.inputs.TheConstants.{MOST_INPUT_BYTES}
 use Rattle.top_call.specs.declared.answers.Answer.{Answer}
 use Rattle.top_call.specs.declared.commands.Asked.{Asked}
 use Rattle.top_call.specs.declared.commands.Asked.TheVariants as asked

@@ -3,7 +3,7 @@ use Rattle.std.specs.Prelude.{◌≡◌, ◌⊎◌, ℕ, List, codes}
 use Rattle.cov_ast.specs.Syntax.{Parsed}
 use Rattle.cov_io.specs.Shelves.{File, Shelved}
 use Rattle.cov_expr.specs.Term.{Term}
-use Rattle.cov_expr.specs.declared.limits.TheConstants.{MOST_BYTES}
+use Rattle.cov_expr.specs.declared.limits.TheConstants.{MOST_BYTES, MOST_INPUT_BYTES}
 use Rattle.cov_gen.specs.Big as gen
 use Rattle.flow_model.specs.Agreement.{AreFitStarts}
 use Rattle.top_call.specs.BigReplies.{SumsUp, first_start, second_start}
@@ -21,7 +21,6 @@ use Rattle.top_call.specs.Replies.{Reply, usage}
 use Rattle.top_call.specs.Runs.{IsDeclaredText, Runs, RunsUntil}
 use Rattle.top_call.specs.declared.answers.Status.{Status}
 use Rattle.top_call.specs.declared.answers.Status.TheVariants as s
-use Rattle.top_call.specs.declared.inputs.TheConstants.{MOST_INPUT_BYTES}
 
 -- a file that spells a program
 abbrev pub program : (name : List ℕ) → (next : Parsed → Plan) → Plan

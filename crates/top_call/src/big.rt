@@ -8,13 +8,12 @@ ghost use Rattle.cov_ast.specs.View as view;
 ghost use Rattle.cov_ast.specs.WellFormed.{IsWellFormed};
 ghost use Rattle.cov_expr.specs.Words.{IsMemory, IsSchedule};
 ghost use Rattle.cov_gen.specs.Big as gen;
-ghost use Rattle.cov_expr.specs.declared.limits.TheConstants.{MOST_ROUNDS};
+ghost use Rattle.cov_expr.specs.declared.limits.TheConstants.{MOST_ENTRIES, MOST_ROUNDS};
 ghost use Rattle.flow_model.specs.Agreement.{AreFitStarts};
 ghost use Rattle.flow_model.specs.Secure.{IsSecure};
 ghost use Rattle.flow_model.specs.Source.{begin, stayed};
 ghost use Rattle.schedule_replay.specs.CodeReplays.{CodeAgreesThroughout, DeclaresAsMany};
 ghost use Rattle.schedule_replay.specs.Replays.{AgreeThroughout};
-ghost use Rattle.schedule_replay.specs.Schedules.{most_entries};
 ghost use Rattle.source_machine.specs.SourceMachine.{run_of};
 ghost use Rattle.top_call.specs.BigReplies as spec;
 ghost use Rattle.top_call.specs.Codes.{code_start};
@@ -86,7 +85,7 @@ fn sum_up_text<'w>(
 ) -> Result<Answer<'w>, Stop<'w>>
     requires ready { IsReady (view.parsed parsed) }
     requires threads { IsSchedule (length parsed.threads) schedule.now }
-    requires entries { length schedule.now ≤ most_entries }
+    requires entries { length schedule.now ≤ MOST_ENTRIES }
     ensures { let p = view.parsed parsed in Gets (spec.SumsUp rounds p (spec.first_start p) (spec.second_start p) schedule.now) result }
 {
     let memories = both_starts(alloc, parsed.vars.as_slice())?;
@@ -116,7 +115,7 @@ fn sum_up_named<'w>(
     requires left { IsMemory (length program.now.vars) memories.now.left }
     requires right { IsMemory (length program.now.vars) memories.now.right }
     requires threads { IsSchedule (length program.now.threads) schedule.now }
-    requires entries { length schedule.now ≤ most_entries }
+    requires entries { length schedule.now ≤ MOST_ENTRIES }
     ensures { AnswersByCode (view.program program.now) (λ p c. spec.RunsAll rounds p c memories.now.left memories.now.right schedule.now) result }
 {
     let verdict = verdict_on(alloc, program)?;
@@ -152,7 +151,7 @@ fn sum_up<'w>(
     requires left { IsMemory (length verdict.now.program.now.vars) memories.now.left }
     requires right { IsMemory (length verdict.now.program.now.vars) memories.now.right }
     requires threads { IsSchedule (length verdict.now.program.now.threads) schedule.now }
-    requires entries { length schedule.now ≤ most_entries }
+    requires entries { length schedule.now ≤ MOST_ENTRIES }
     ensures { IfOk result (λ answer.
         spec.RunsAll rounds (view.program verdict.now.program.now) code.now memories.now.left memories.now.right schedule.now (seen answer)) }
 {
@@ -183,7 +182,7 @@ fn run_all(
     requires right { IsMemory (length verdict.now.program.now.vars) memories.now.right }
     requires fit { AreFitStarts (plain (view.program verdict.now.program.now)) memories.now.left memories.now.right }
     requires threads { IsSchedule (length verdict.now.program.now.threads) schedule.now }
-    requires entries { length schedule.now ≤ most_entries }
+    requires entries { length schedule.now ≤ MOST_ENTRIES }
     ensures { IfOk result (λ text. spec.AllRunTogether rounds (view.program verdict.now.program.now) code.now memories.now.left memories.now.right
         schedule.now (replies.ran text)) }
 {
@@ -209,7 +208,7 @@ fn add_source_runs(
     requires right { IsMemory (length program.now.vars) memories.now.right }
     requires fit { AreFitStarts (plain (view.program program.now)) memories.now.left memories.now.right }
     requires threads { IsSchedule (length program.now.threads) schedule.now }
-    requires entries { length schedule.now ≤ most_entries }
+    requires entries { length schedule.now ≤ MOST_ENTRIES }
     ensures agree { OnOk result (let p = plain (view.program program.now) in
         AgreeThroughout p (begin p memories.now.left) (begin p memories.now.right) schedule.now) }
     ensures text { OnOk result (text.new ≡ text.old
@@ -233,7 +232,7 @@ fn stayed_from(
     requires formed { IsWellFormed (view.program program.now) }
     requires memory { length memory.now ≡ length program.now.vars }
     requires threads { IsSchedule (length program.now.threads) schedule.now }
-    requires entries { length schedule.now ≤ most_entries }
+    requires entries { length schedule.now ≤ MOST_ENTRIES }
     ensures { IfOk result (λ steps. steps ≡ stayed (plain (view.program program.now)) memory.now schedule.now) }
 {
     let mut source = source_at(alloc, program, memory, schedule.len())?;
@@ -272,7 +271,7 @@ fn add_code_runs(
     requires right { IsMemory (length program.now.vars) memories.now.right }
     requires fit { AreFitStarts (plain (view.program program.now)) memories.now.left memories.now.right }
     requires threads { IsSchedule (length program.now.threads) schedule.now }
-    requires entries { length schedule.now ≤ most_entries }
+    requires entries { length schedule.now ≤ MOST_ENTRIES }
     ensures agree { OnOk result (CodeAgreesThroughout (plain (view.program program.now)) code.now
         (code_start code.now memories.now.left) (code_start code.now memories.now.right) schedule.now) }
     ensures text { OnOk result (text.new ≡ text.old

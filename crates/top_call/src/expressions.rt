@@ -5,7 +5,7 @@ ghost use Rattle.cov_ast.specs.NameTables.{number_of};
 ghost use Rattle.cov_ast.specs.View as view;
 ghost use Rattle.cov_expr.specs.View.{term};
 ghost use Rattle.cov_expr.specs.Words.{HasVarsBelow};
-ghost use Rattle.cov_expr.specs.declared.limits.TheConstants.{MOST_VARIABLES};
+ghost use Rattle.cov_expr.specs.declared.limits.TheConstants.{MOST_EXPRESSION_BYTES, MOST_VARIABLES};
 ghost use Rattle.cov_parse.specs.Reads.{parsed_expr};
 ghost use Rattle.cov_text.specs.Uses.{AreUsesOf};
 ghost use Rattle.top_call.specs.Expressions as spec;
@@ -19,9 +19,6 @@ use cov_ast::{NameTable, NameUse, Parsed, VarDecl};
 use cov_expr::{Expr, Name};
 use cov_parse::{ParsedExpr, parse_expr};
 use std::alloc::Global;
-
-/// The most bytes of an expression among the words.
-pub const MOST_EXPRESSION_BYTES: usize = 4_096;
 
 /// The expression over the variables of a program that a word spells.
 pub fn read_expression<'w>(alloc: Global, word: &str, parsed: &Parsed) -> Result<Expr, Stop<'w>>

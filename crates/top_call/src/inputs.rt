@@ -2,22 +2,18 @@
 
 ghost use Rattle.std.specs.Prelude.{◌≡◌, ◌≤◌, IfOk, MatchResult, length};
 ghost use Rattle.cov_ast.specs.View as view;
-ghost use Rattle.cov_expr.specs.declared.limits.TheConstants.{MOST_THREADS};
+ghost use Rattle.cov_expr.specs.declared.limits.TheConstants.{MOST_ENTRIES, MOST_INPUT_BYTES, MOST_THREADS};
 ghost use Rattle.cov_expr.specs.Words.{IsMemory, IsSchedule};
-ghost use Rattle.schedule_replay.specs.Schedules.{most_entries};
 ghost use Rattle.top_call.specs.Inputs as spec;
 ghost use Rattle.top_call.specs.Inside.{Fails, FailsInputs, FailsPairInputs, Takes, TakesInputs, TakesPairInputs};
 
 use crate::answers::{Fault, Stop};
 use crate::files::{fetch, unread};
 use cov_ast::Parsed;
-use cov_expr::List;
+use cov_expr::{List, MOST_INPUT_BYTES};
 use cov_io::Shelf;
 use schedule_replay::{ScheduleFault, StartFault, read_schedule, read_start};
 use std::alloc::Global;
-
-/// The most bytes of a start or a schedule.
-pub const MOST_INPUT_BYTES: usize = 4_194_304;
 
 /// What a run takes beside its program.
 #[derive(Drop)]
@@ -48,7 +44,7 @@ pub fn read_inputs<'w, S: Shelf>(
         (λ stop. FailsInputs (view.parsed parsed.now) (S.shelved shelf.old) (S.shelved shelf.new) start.now schedule.now stop) }
     ensures memory { IfOk result (λ inputs. IsMemory (length parsed.now.vars) inputs.memory) }
     ensures threads { IfOk result (λ inputs. IsSchedule (length parsed.now.threads) inputs.entries) }
-    ensures few { IfOk result (λ inputs. length inputs.entries ≤ most_entries) }
+    ensures few { IfOk result (λ inputs. length inputs.entries ≤ MOST_ENTRIES) }
 {
     let memory = read_memory(alloc, start, parsed, shelf)?;
     let entries = read_entries(alloc, schedule, parsed, shelf)?;
@@ -72,7 +68,7 @@ pub fn read_pair_inputs<'w, S: Shelf>(
     ensures left { IfOk result (λ inputs. IsMemory (length parsed.now.vars) inputs.left) }
     ensures right { IfOk result (λ inputs. IsMemory (length parsed.now.vars) inputs.right) }
     ensures threads { IfOk result (λ inputs. IsSchedule (length parsed.now.threads) inputs.entries) }
-    ensures few { IfOk result (λ inputs. length inputs.entries ≤ most_entries) }
+    ensures few { IfOk result (λ inputs. length inputs.entries ≤ MOST_ENTRIES) }
 {
     let left = read_memory(alloc, first, parsed, shelf)?;
     let others = read_inputs(alloc, second, schedule, parsed, shelf)?;
@@ -114,7 +110,7 @@ pub fn read_entries<'w, S: Shelf>(
         (λ entries. Takes (spec.IsScheduleText (view.parsed parsed.now)) (S.shelved shelf.old) (S.shelved shelf.new) name.now MOST_INPUT_BYTES entries)
         (λ stop. Fails (spec.IsScheduleFault (view.parsed parsed.now)) (S.shelved shelf.old) (S.shelved shelf.new) name.now MOST_INPUT_BYTES stop) }
     ensures threads { IfOk result (λ entries. IsSchedule (length parsed.now.threads) entries) }
-    ensures few { IfOk result (λ entries. length entries ≤ most_entries) }
+    ensures few { IfOk result (λ entries. length entries ≤ MOST_ENTRIES) }
 {
     let bytes = fetch(alloc, name, MOST_INPUT_BYTES, shelf)?;
     match read_schedule(alloc, bytes.as_slice(), parsed.threads.len() as u32) {

@@ -1,13 +1,13 @@
 //! `pair`: two runs of a program from two starts under one schedule, side by side.
 
 ghost use Rattle.std.specs.Prelude.{◌≡◌, ◌≤◌, IfOk, length};
+ghost use Rattle.cov_expr.specs.declared.limits.TheConstants.{MOST_ENTRIES};
 ghost use Rattle.cov_ast.specs.Plain.{plain};
 ghost use Rattle.cov_ast.specs.Ready.{IsReady};
 ghost use Rattle.cov_ast.specs.View as view;
 ghost use Rattle.cov_ast.specs.WellFormed.{IsWellFormed};
 ghost use Rattle.cov_expr.specs.Words.{IsMemory, IsSchedule};
 ghost use Rattle.flow_model.specs.Agreement.{AreFitStarts};
-ghost use Rattle.schedule_replay.specs.Schedules.{most_entries};
 ghost use Rattle.top_call.specs.Commands as asked;
 ghost use Rattle.top_call.specs.AnswerViews.{Gets, seen};
 ghost use Rattle.top_call.specs.Inside.{CarriesOut, PairsFit, PairsProgram};
@@ -64,7 +64,7 @@ fn pair_text<'w>(
     requires left { IsMemory (length parsed.vars) left }
     requires right { IsMemory (length parsed.vars) right }
     requires threads { IsSchedule (length parsed.threads) schedule.now }
-    requires entries { length schedule.now ≤ most_entries }
+    requires entries { length schedule.now ≤ MOST_ENTRIES }
     ensures { Gets (Pairs (view.parsed parsed) left right schedule.now) result }
 {
     let program = declared(alloc, parsed)?;
@@ -84,7 +84,7 @@ fn paired<'w>(
     requires left { IsMemory (length program.now.vars) left }
     requires right { IsMemory (length program.now.vars) right }
     requires threads { IsSchedule (length program.now.threads) schedule.now }
-    requires entries { length schedule.now ≤ most_entries }
+    requires entries { length schedule.now ≤ MOST_ENTRIES }
     ensures { IfOk result (λ answer. PairsProgram (view.program program.now) left right schedule.now (seen answer)) }
 {
     match starts(program, left.as_slice(), right.as_slice()) {
@@ -106,7 +106,7 @@ fn run_both<'w>(
     requires right { IsMemory (length program.now.vars) right }
     requires fit { AreFitStarts (plain (view.program program.now)) left right }
     requires threads { IsSchedule (length program.now.threads) schedule.now }
-    requires entries { length schedule.now ≤ most_entries }
+    requires entries { length schedule.now ≤ MOST_ENTRIES }
     ensures { IfOk result (λ answer. PairsFit (view.program program.now) left right schedule.now (seen answer)) }
 {
     accepted_is_secure();

@@ -1,6 +1,7 @@
 //! `pair-code`: two runs of the code of an accepted program from two starts under one schedule, side by side.
 
 ghost use Rattle.std.specs.Prelude.{◌≡◌, ◌≤◌, IfOk, length};
+ghost use Rattle.cov_expr.specs.declared.limits.TheConstants.{MOST_ENTRIES};
 ghost use Rattle.compiled_code.specs.SecureCode.{IsSecureCode};
 ghost use Rattle.cov_ast.specs.Plain.{plain};
 ghost use Rattle.cov_ast.specs.Ready.{IsReady};
@@ -9,7 +10,6 @@ ghost use Rattle.cov_ast.specs.WellFormed.{IsWellFormed};
 ghost use Rattle.cov_expr.specs.Words.{IsMemory, IsSchedule};
 ghost use Rattle.flow_model.specs.Agreement.{AreFitStarts};
 ghost use Rattle.schedule_replay.specs.CodeReplays.{DeclaresAsMany};
-ghost use Rattle.schedule_replay.specs.Schedules.{most_entries};
 ghost use Rattle.top_call.specs.Codes.{CodeRunsTogether, PairsCode, RunsBothCodes};
 ghost use Rattle.top_call.specs.Commands as asked;
 ghost use Rattle.top_call.specs.AnswerViews.{Gets, seen};
@@ -66,7 +66,7 @@ fn pair_text<'w>(
     requires left { IsMemory (length parsed.vars) left }
     requires right { IsMemory (length parsed.vars) right }
     requires threads { IsSchedule (length parsed.threads) schedule.now }
-    requires entries { length schedule.now ≤ most_entries }
+    requires entries { length schedule.now ≤ MOST_ENTRIES }
     ensures { Gets (PairsCode (view.parsed parsed) left right schedule.now) result }
 {
     let program = named(alloc, parsed)?;
@@ -85,7 +85,7 @@ fn pair_named<'w>(
     requires left { IsMemory (length program.now.vars) left }
     requires right { IsMemory (length program.now.vars) right }
     requires threads { IsSchedule (length program.now.threads) schedule.now }
-    requires entries { length schedule.now ≤ most_entries }
+    requires entries { length schedule.now ≤ MOST_ENTRIES }
     ensures { AnswersByCode (view.program program.now) (λ p c. RunsBothCodes p c left right schedule.now) result }
 {
     let code = code_of(alloc, program)?;
@@ -108,7 +108,7 @@ fn paired<'w>(
     requires left { IsMemory (length program.now.vars) left }
     requires right { IsMemory (length program.now.vars) right }
     requires threads { IsSchedule (length program.now.threads) schedule.now }
-    requires entries { length schedule.now ≤ most_entries }
+    requires entries { length schedule.now ≤ MOST_ENTRIES }
     ensures { IfOk result (λ answer. RunsBothCodes (view.program program.now) code.now left right schedule.now (seen answer)) }
 {
     match starts(program, left.as_slice(), right.as_slice()) {
@@ -136,7 +136,7 @@ fn run_both(
     requires right { IsMemory (length program.now.vars) right }
     requires fit { AreFitStarts (plain (view.program program.now)) left right }
     requires threads { IsSchedule (length program.now.threads) schedule.now }
-    requires entries { length schedule.now ≤ most_entries }
+    requires entries { length schedule.now ≤ MOST_ENTRIES }
     ensures { IfOk result (λ text. CodeRunsTogether (view.program program.now) code.now left right schedule.now (replies.ran text)) }
 {
     let mut first = start(alloc, code, left, schedule.len())?;

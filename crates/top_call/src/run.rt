@@ -1,6 +1,7 @@
 //! `run`: one run of a program whose declarations are in order, from a start under a schedule.
 
 ghost use Rattle.std.specs.Prelude.{◌≡◌, ◌≤◌, IfOk, MatchResult, length};
+ghost use Rattle.cov_expr.specs.declared.limits.TheConstants.{MOST_ENTRIES};
 ghost use Rattle.cov_ast.specs.Obligations.{Decides};
 ghost use Rattle.cov_ast.specs.Plain.{plain};
 ghost use Rattle.cov_ast.specs.Ready.{IsReady};
@@ -9,7 +10,6 @@ ghost use Rattle.cov_ast.specs.WellFormed.{IsWellFormed};
 ghost use Rattle.cov_expr.specs.Words.{IsMemory, IsSchedule};
 ghost use Rattle.flow_model.specs.Source.{after, stayed};
 ghost use Rattle.policy_class.specs.Resolved.{resolved, without_value};
-ghost use Rattle.schedule_replay.specs.Schedules.{most_entries};
 ghost use Rattle.top_call.specs.Commands as asked;
 ghost use Rattle.top_call.specs.AnswerViews.{Gets, Stops};
 ghost use Rattle.top_call.specs.Inside.{CarriesOut, IsDeclared, IsRefusal};
@@ -55,7 +55,7 @@ fn run_text<'w>(
     requires ready { IsReady (view.parsed parsed) }
     requires memory { IsMemory (length parsed.vars) memory }
     requires threads { IsSchedule (length parsed.threads) schedule.now }
-    requires entries { length schedule.now ≤ most_entries }
+    requires entries { length schedule.now ≤ MOST_ENTRIES }
     ensures { Gets (Runs (view.parsed parsed) memory schedule.now) result }
 {
     let program = declared(alloc, parsed)?;
@@ -95,7 +95,7 @@ fn ran(
     requires formed { IsWellFormed (view.program program.now) }
     requires memory { length memory ≡ length program.now.vars }
     requires threads { IsSchedule (length program.now.threads) schedule.now }
-    requires entries { length schedule.now ≤ most_entries }
+    requires entries { length schedule.now ≤ MOST_ENTRIES }
     ensures { let p = plain (view.program program.now) in IfOk result (λ text.
         text ≡ reports.run_report (view.program program.now) (length schedule.now) (stayed p memory schedule.now) (after p memory schedule.now)) }
 {

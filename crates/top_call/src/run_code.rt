@@ -5,9 +5,8 @@ ghost use Rattle.cov_ast.specs.Ready.{IsReady};
 ghost use Rattle.cov_ast.specs.View as view;
 ghost use Rattle.cov_ast.specs.WellFormed.{IsWellFormed};
 ghost use Rattle.cov_expr.specs.Words.{IsMemory, IsSchedule};
-ghost use Rattle.cov_expr.specs.declared.limits.TheConstants.{MOST_THREADS};
+ghost use Rattle.cov_expr.specs.declared.limits.TheConstants.{MOST_ENTRIES, MOST_THREADS};
 ghost use Rattle.schedule_replay.specs.CodeReplays.{DeclaresAsMany};
-ghost use Rattle.schedule_replay.specs.Schedules.{most_entries};
 ghost use Rattle.top_call.specs.Codes.{RunsCode, report_on_code};
 ghost use Rattle.top_call.specs.Commands as asked;
 ghost use Rattle.top_call.specs.AnswerViews.{Gets};
@@ -53,7 +52,7 @@ fn run_text<'w>(
     requires ready { IsReady (view.parsed parsed) }
     requires memory { IsMemory (length parsed.vars) memory }
     requires threads { IsSchedule (length parsed.threads) schedule.now }
-    requires entries { length schedule.now ≤ most_entries }
+    requires entries { length schedule.now ≤ MOST_ENTRIES }
     ensures { Gets (RunsCode (view.parsed parsed) memory schedule.now) result }
 {
     let program = named(alloc, parsed)?;
@@ -70,7 +69,7 @@ fn run_named<'w>(
     requires formed { IsWellFormed (view.program program.now) }
     requires memory { length memory ≡ length program.now.vars }
     requires threads { IsSchedule (length program.now.threads) schedule.now }
-    requires entries { length schedule.now ≤ most_entries }
+    requires entries { length schedule.now ≤ MOST_ENTRIES }
     ensures { AnswersByCode (view.program program.now) (λ p c reply. reply ≡ replies.ran (report_on_code p c memory schedule.now)) result }
 {
     let code = code_of(alloc, program)?;
@@ -90,7 +89,7 @@ fn ran(
     requires few { length program.now.threads ≤ MOST_THREADS }
     requires memory { length memory ≡ length program.now.vars }
     requires threads { IsSchedule (length program.now.threads) schedule.now }
-    requires entries { length schedule.now ≤ most_entries }
+    requires entries { length schedule.now ≤ MOST_ENTRIES }
     ensures { IfOk result (λ text. text ≡ report_on_code (view.program program.now) code.now memory schedule.now) }
 {
     let mut risc = start(alloc, code, memory, schedule.len())?;

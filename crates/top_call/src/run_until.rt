@@ -1,6 +1,7 @@
 //! `run-until`: one run of a program up to the first step after which an expression holds.
 
 ghost use Rattle.std.specs.Prelude.{◌≡◌, ◌↔◌, ◌+◌, ◌≤◌, IfOk, IsTrue, length};
+ghost use Rattle.cov_expr.specs.declared.limits.TheConstants.{MOST_ENTRIES, MOST_EXPRESSION_BYTES};
 ghost use Rattle.cov_ast.specs.Ready.{IsReady};
 ghost use Rattle.cov_ast.specs.View as view;
 ghost use Rattle.cov_ast.specs.WellFormed.{IsWellFormed};
@@ -8,7 +9,6 @@ ghost use Rattle.cov_expr.specs.Entailment.{Holds};
 ghost use Rattle.cov_expr.specs.View.{term};
 ghost use Rattle.cov_expr.specs.Words.{HasVarsBelow, IsMemory, IsSchedule};
 ghost use Rattle.cov_io.specs.Shelves.{Shelved};
-ghost use Rattle.schedule_replay.specs.Schedules.{most_entries};
 ghost use Rattle.source_machine.specs.SourceMachine.{run_of};
 ghost use Rattle.top_call.specs.Commands as asked;
 ghost use Rattle.top_call.specs.AnswerViews.{Gets};
@@ -18,7 +18,7 @@ ghost use Rattle.top_call.specs.Runs.{RunsTo, RunsUntil};
 ghost use Rattle.top_call.specs.Replies as replies;
 
 use crate::answers::{Answer, Stop};
-use crate::expressions::{MOST_EXPRESSION_BYTES, read_expression};
+use crate::expressions::read_expression;
 use crate::files::read_program;
 use crate::inputs::read_inputs;
 use crate::run::declared;
@@ -66,7 +66,7 @@ fn run_spelled<'w>(
     requires ready { IsReady (view.parsed parsed) }
     requires memory { IsMemory (length parsed.vars) memory }
     requires threads { IsSchedule (length parsed.threads) schedule.now }
-    requires entries { length schedule.now ≤ most_entries }
+    requires entries { length schedule.now ≤ MOST_ENTRIES }
     requires short { length word.now ≤ MOST_EXPRESSION_BYTES }
     ensures { (shelf : Shelved) → CarriesOut shelf shelf (until_plan (view.parsed parsed) memory schedule.now word.now) result }
 {
@@ -85,7 +85,7 @@ fn run_text<'w>(
     requires ready { IsReady (view.parsed parsed) }
     requires memory { IsMemory (length parsed.vars) memory }
     requires threads { IsSchedule (length parsed.threads) schedule.now }
-    requires entries { length schedule.now ≤ most_entries }
+    requires entries { length schedule.now ≤ MOST_ENTRIES }
     requires below { HasVarsBelow (term expr) (length parsed.vars) }
     ensures { Gets (RunsUntil (view.parsed parsed) memory schedule.now (term expr)) result }
 {
@@ -104,7 +104,7 @@ fn ran(
     requires formed { IsWellFormed (view.program program.now) }
     requires memory { length memory ≡ length program.now.vars }
     requires threads { IsSchedule (length program.now.threads) schedule.now }
-    requires entries { length schedule.now ≤ most_entries }
+    requires entries { length schedule.now ≤ MOST_ENTRIES }
     requires below { HasVarsBelow (term expr) (length program.now.vars) }
     ensures { IfOk result (λ text. RunsTo (view.program program.now) memory schedule.now (term expr) (replies.ran text)) }
 {
@@ -129,7 +129,7 @@ fn stop_run(
     words: u32,
 ) -> Result<Until, NoMemory>
     requires threads { IsSchedule (length (source.old).program.threads) schedule.now }
-    requires entries { length schedule.now ≤ most_entries }
+    requires entries { length schedule.now ≤ MOST_ENTRIES }
     requires room { length (run_of source.old).outputs + length schedule.now ≤ (source.old).room }
     requires words { words ≡ length (source.old).program.vars }
     requires below { HasVarsBelow (term expr) words }

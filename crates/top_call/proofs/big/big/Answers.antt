@@ -1,6 +1,7 @@
 use Rattle.std.proofs.Common.{◌≡◌, ℕ, List, Err, sym, subst, rules, arith}
 use Rattle.std.specs.Prelude.{codes}
 use Rattle.std.proofs.lemmas.List.{length-map}
+use Rattle.cov_expr.specs.declared.limits.TheConstants.{MOST_INPUT_BYTES}
 use Rattle.cov_ast.specs.Syntax.{Parsed}
 use Rattle.cov_ast.specs.View as view
 use Rattle.cov_gen.specs.Big as gen
@@ -15,7 +16,6 @@ use Rattle.top_call.specs.Meaning.{meaning}
 use Rattle.top_call.specs.Outcome.{plan_of, entries}
 use Rattle.top_call.specs.Plans.{Plan, replies}
 use Rattle.top_call.specs.Programs.{SpellsProgram, IsShownFault}
-use Rattle.top_call.specs.declared.inputs.TheConstants.{MOST_INPUT_BYTES}
 use Rattle.top_call.proofs.InputLaws.{schedule_reading}
 use Rattle.top_call.proofs.PlanLaws.{carried_end, carried_on, carried_not, carried_word, carried_no_word}
 use Rattle.top_call.proofs.TextLaws.{program_reading}

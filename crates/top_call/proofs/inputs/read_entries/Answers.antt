@@ -1,5 +1,6 @@
 use Rattle.std.proofs.Common.{◌≡◌, Some, Ok, Err, length, sym, ap, ◌∙◌, subst, rules}
 use Rattle.std.proofs.lemmas.List.{length-map}
+use Rattle.cov_expr.specs.declared.limits.TheConstants.{MOST_INPUT_BYTES}
 use Rattle.cov_ast.specs.View as view
 use Rattle.cov_expr.specs.Words.{IsSchedule}
 use Rattle.cov_io.specs.Shelves.{Gives}
@@ -10,7 +11,6 @@ use Rattle.top_call.specs.Inputs.{IsScheduleFault, schedule_shown}
 use Rattle.top_call.specs.AnswerViews.{Stops}
 use Rattle.top_call.specs.Replies.{malformed}
 use Rattle.top_call.specs.declared.answers.Fault.{Fault}
-use Rattle.top_call.specs.declared.inputs.TheConstants.{MOST_INPUT_BYTES}
 use Rattle.top_call.proofs.FileLaws.{missed}
 use Rattle.top_call.proofs.InputLaws.{given_unread, schedule_fault_said, schedule_fine}
 use Rattle.top_call.proofs.inputs.read_entries.Goals as goal

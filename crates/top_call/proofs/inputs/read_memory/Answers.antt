@@ -1,4 +1,5 @@
 use Rattle.std.proofs.Common.{◌≡◌, Some, Ok, Err, map, sym, ◌∙◌, subst, rules}
+use Rattle.cov_expr.specs.declared.limits.TheConstants.{MOST_INPUT_BYTES}
 use Rattle.cov_ast.specs.View as view
 use Rattle.cov_io.specs.Shelves.{Gives}
 use Rattle.cov_io.specs.declared.shelf.Fetched.TheVariants.{Whole}
@@ -8,7 +9,6 @@ use Rattle.top_call.specs.Inputs.{declaration_of, IsStartFault, start_shown}
 use Rattle.top_call.specs.AnswerViews.{Stops}
 use Rattle.top_call.specs.Replies.{malformed}
 use Rattle.top_call.specs.declared.answers.Fault.{Fault}
-use Rattle.top_call.specs.declared.inputs.TheConstants.{MOST_INPUT_BYTES}
 use Rattle.top_call.proofs.FileLaws.{missed}
 use Rattle.top_call.proofs.InputLaws.{given_unread, start_fault_said, same_start, start_is_memory}
 use Rattle.top_call.proofs.inputs.read_memory.Goals as goal
