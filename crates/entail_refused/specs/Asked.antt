@@ -10,7 +10,7 @@ use Rattle.cov_ast.specs.declared.refusal.Detail.{Detail}
 use Rattle.cov_ast.specs.declared.refusal.Detail.TheVariants.{Number}
 use Rattle.entail_questions.specs.QuestionLines.{question_line}
 use Rattle.entail_text.specs.Given.{cert_of}
-use Rattle.entail_text.specs.EntailmentLines.{told}
+use Rattle.entail_text.specs.EntailmentLines.{entailment_text}
 use Rattle.entail_text.specs.VariableNames.{variable_names}
 use Rattle.entail_text.specs.ZeroGoals.{zero_line}
 use Rattle.mode_compat.specs.Compatible.{numbered}
@@ -26,7 +26,7 @@ module _ (p : Program) (bytes : List ℕ) where
   -- its goal, its hypotheses, each with where it comes from, the certificate that the thread gives for it, and of a goal that is 0 a line more
   abbrev pub entailment_lines : (t : ℕ) → Option Site → PlacedEntailment → List ℕ
   entailment_lines t site g =
-      told (variable_names p.vars) g.entailment.hyps (remarks_on (plain p) bytes site g.entailment.hyps) g.entailment.goal (cert_of (numbered p t).body g.place g.number)
+      entailment_text (variable_names p.vars) g.entailment.hyps (remarks_on (plain p) bytes site g.entailment.hyps) g.entailment.goal (cert_of (numbered p t).body g.place g.number)
       ++ zero_line g.entailment.goal
 
   -- what is told of an entailment that is asked there

@@ -14,8 +14,8 @@
 //! `specs/GivenElsewhere.antt` which certificates of other entailments are told of.
 #![tactic(auto)]
 
-mod asked;
 mod dropped;
+mod entailment;
 mod further;
 mod given;
 mod laws;
@@ -23,6 +23,6 @@ mod remarked;
 mod site;
 mod site_laws;
 
-pub use asked::add_asked;
+pub use entailment::add_asked;
 pub use laws::{refusal_is_told, refused_entailment_is_listed};
 pub use site_laws::{hypotheses_are_of_the_site, sites_lead_to_the_point_asked};

@@ -8,7 +8,7 @@ use Rattle.cov_ast.specs.Plain.{Plain}
 use Rattle.cov_ast.specs.Syntax as s
 use Rattle.hypothesis_origins.specs.Origins.{given}
 use Rattle.hypothesis_origins.specs.Points.{point_behind}
-use Rattle.hypothesis_origins.specs.declared.origin.Source.TheVariants.{Assigned, Invariant, LoopLeft, Noted, GuardFails}
+use Rattle.hypothesis_origins.specs.declared.origin.HypothesisSource.TheVariants.{Assigned, Invariant, LoopLeft, Noted, GuardFails}
 use Rattle.statement_paths.specs.Paths.{Step, passed, no, head}
 use Rattle.left_out_predicates.specs.LeftOut.{LeftOut, left_out, left_out_at, state_at}
 use Rattle.left_out_predicates.specs.LeftOutLines.{left_out_line}

@@ -15,8 +15,8 @@ use Rattle.held_locks.specs.VariableSets.{stable, stable_behind}
 use Rattle.hypothesis_origins.specs.Origins.{Given, given, each, given_by}
 use Rattle.hypothesis_origins.proofs.PointLaws.{appended}
 use Rattle.hypothesis_origins.specs.Points.{after_step, after_steps, point_behind}
-use Rattle.hypothesis_origins.specs.declared.origin.Source.{Source}
-use Rattle.hypothesis_origins.specs.declared.origin.Source.TheVariants as by
+use Rattle.hypothesis_origins.specs.declared.origin.HypothesisSource.{HypothesisSource}
+use Rattle.hypothesis_origins.specs.declared.origin.HypothesisSource.TheVariants as by
 use Rattle.mode_state.specs.Sets.{is_stable}
 use Rattle.statement_paths.specs.Paths.{Step, passed, yes, no, head}
 use Rattle.typing_state.specs.After.{start}
@@ -89,11 +89,11 @@ module _ (p : Plain) (t : ℕ) (hypotheses : List Term) where
 
 -- a predicate that a step gives, and that is over other variables than an assignment's own
 pub record IsGivenTerm (p : Plain) (s : Step) (e : Term) : Type 0 where
-  pub source : Source
+  pub source : HypothesisSource
   pub there : Contains (given_by p s) (given source e)
   pub gives_some : gives_nothing source e ≡ false
 
-among : (source : Source) (es : List Term) (e : Term) → has_term es e ≡ true → Contains (each source es) (given source e)
+among : (source : HypothesisSource) (es : List Term) (e : Term) → has_term es e ≡ true → Contains (each source es) (given source e)
 among source [] e h = absurd (true≢false (sym h))
 among source (f ∷ fs) e h = elim (or_cases (same f e) (has_term fs e) h) [
   | inl first ↦ Contains-append_left (given source f ∷ []) (each source fs) (given source e)

@@ -18,8 +18,8 @@ use Rattle.typing_state.specs.Point.{Point, is_over_stable}
 use Rattle.typing_state.specs.Terms.{each_variable, with_term, with_terms, with_option, distinct_terms}
 use Rattle.hypothesis_origins.specs.Origins.{Given, given, each, by_invariant, given_by}
 use Rattle.hypothesis_origins.specs.Points.{after_step}
-use Rattle.hypothesis_origins.specs.declared.origin.Source.{Source}
-use Rattle.hypothesis_origins.specs.declared.origin.Source.TheVariants as by
+use Rattle.hypothesis_origins.specs.declared.origin.HypothesisSource.{HypothesisSource}
+use Rattle.hypothesis_origins.specs.declared.origin.HypothesisSource.TheVariants as by
 use Rattle.left_out_predicates.specs.LeftOut.{gives_nothing, untouched_by}
 use Rattle.left_out_predicates.specs.WouldBeKnown.{step_with}
 use Rattle.left_out_predicates.proofs.StableLaws.{gone}
@@ -120,7 +120,7 @@ only {g} {h} k = from (Contains-push_cases [] g h k)
     from (inr e) = e
 
 -- what is given by one source is there
-among_each : (source : Source) (es : List Term) (g : Given) → Contains (each source es) g → has_term es g.term ≡ true
+among_each : (source : HypothesisSource) (es : List Term) (g : Given) → Contains (each source es) g → has_term es g.term ≡ true
 among_each source [] g k = let inside = k.1 in absurd (omega arith)
 among_each source (e ∷ es) g k = elim (Contains-append_cases (given source e ∷ []) (each source es) g k) [
   | inl first ↦ or_left (same e g.term) (has_term es g.term) (ap (same e) (sym (ap (λ h. h.term) (only first))) ∙ same_refl e)
@@ -167,7 +167,7 @@ module _ (p : Plain) (t : ℕ) where
   by_lock l None es g k = let inside = k.1 in absurd (omega arith)
   by_lock l (Some e) es g k = subst (λ h. has_term (with_term es e) h.term ≡ true) (only k) (is_with es e)
 
-  by_state : (source : Source) (j : State) (g : Given) → Contains (each source j.preds) g → has_term (distinct_terms j.preds) g.term ≡ true
+  by_state : (source : HypothesisSource) (j : State) (g : Given) → Contains (each source j.preds) g → has_term (distinct_terms j.preds) g.term ≡ true
   by_state source j g k = in_distinct j.preds g.term (among_each source j.preds g k)
 
   pub gives : (s : Step) (a : Point) (g : Given) → Contains (given_by p s) g → GivesAt s a g

@@ -15,8 +15,8 @@ use Rattle.cov_ast.specs.Syntax.{Lock, Stm, skip, assign, lock, unlock, branch, 
 use Rattle.cov_ast.specs.Tables.{has}
 use Rattle.hypothesis_origins.specs.Origins.{Given, at_place, given_by}
 use Rattle.hypothesis_origins.specs.declared.origin.Origin.{Origin}
-use Rattle.hypothesis_origins.specs.declared.origin.Source.{Source}
-use Rattle.hypothesis_origins.specs.declared.origin.Source.TheVariants as by
+use Rattle.hypothesis_origins.specs.declared.origin.HypothesisSource.{HypothesisSource}
+use Rattle.hypothesis_origins.specs.declared.origin.HypothesisSource.TheVariants as by
 use Rattle.statement_paths.specs.Paths.{Step, passed, yes, no, head, place_of}
 use Rattle.typing_state.specs.Terms.{each_variable}
 use Rattle.left_out_predicates.specs.declared.found.LeftOut as declared
@@ -130,7 +130,7 @@ is_own (bin Eq a b) = is_own_value a b
 is_own e = false
 
 -- An assignment of a value over the variable itself, as `x := x + 1`, gives no equation.
-abbrev pub gives_nothing : Source → Term → Bool
+abbrev pub gives_nothing : HypothesisSource → Term → Bool
 gives_nothing by.Assigned e = is_own e
 gives_nothing source e = false
 

@@ -15,7 +15,7 @@ use crate::states::StateAt;
 use cov_ast::{NumberSet, Program};
 use cov_expr::{Expr, List, NoMemory, Op, closed, mentions, same};
 use entail_text::has_same;
-use hypothesis_origins::{Given, Origin, Source, add_given};
+use hypothesis_origins::{Given, HypothesisSource, Origin, add_given};
 use statement_paths::Step;
 use std::alloc::Global;
 
@@ -121,18 +121,18 @@ fn is_over(set: &NumberSet, e: &Expr) -> bool
 }
 
 /// Whether an assignment gives a variable a value over itself, and so no equation.
-fn gives_nothing(source: Source, e: &Expr) -> bool
+fn gives_nothing(source: HypothesisSource, e: &Expr) -> bool
     ensures { result ≡ spec.gives_nothing source (term e.now) }
 {
     match source {
-        Source::Assigned => is_own(e),
-        Source::Invariant(_)
-        | Source::Join
-        | Source::LoopLeft
-        | Source::LoopState
-        | Source::Noted
-        | Source::GuardHolds
-        | Source::GuardFails => false,
+        HypothesisSource::Assigned => is_own(e),
+        HypothesisSource::Invariant(_)
+        | HypothesisSource::Join
+        | HypothesisSource::LoopLeft
+        | HypothesisSource::LoopState
+        | HypothesisSource::Noted
+        | HypothesisSource::GuardHolds
+        | HypothesisSource::GuardFails => false,
     }
 }
 

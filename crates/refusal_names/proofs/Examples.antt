@@ -41,10 +41,10 @@ abbrev refusal_names : s.Program → Rule → (thread : Option ℕ) → (place :
 refusal_names p rule thread place = spec.refusal_names p (codes "first\nsecond\n") rule thread place Nothing
 
 -- V3: what isn't stable where nothing is held, and with l; the same variable twice
-two_reads : refusal_names (alone (s.output (bin Add (var 0) (bin Add (var 1) (var 2))))) V3 (Some 0) 90 ≡ codes "  others may write: a, b\n"
+two_reads : refusal_names (alone (s.output (bin Add (var 0) (bin Add (var 1) (var 2))))) V3 (Some 0) 90 ≡ codes "  not stable here: a, b\n"
 two_reads = refl
 
-twice : refusal_names (behind_lock (s.output (bin Add (bin Add (var 2) (var 0)) (var 2)))) V3 (Some 0) 90 ≡ codes "  others may write: c, c\n"
+twice : refusal_names (behind_lock (s.output (bin Add (bin Add (var 2) (var 0)) (var 2)))) V3 (Some 0) 90 ≡ codes "  not stable here: c, c\n"
 twice = refl
 
 one_read : refusal_names (behind_lock (s.output (bin Add (var 2) (var 0)))) V3 (Some 0) 90 ≡ []

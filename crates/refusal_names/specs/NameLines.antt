@@ -12,10 +12,10 @@ use Rattle.held_locks.specs.LocksHeld.{held_at_end}
 use Rattle.refusal_names.specs.OutsideVariables.{all_outside, first_with_outside, first_unstable_class}
 use Rattle.refusal_names.specs.SpokenParts.{predicates, types, untyped}
 
--- V3: what others may write between two reads ------------------------------------------------------------------
+-- V3: two reads of variables that aren't stable ----------------------------------------------------------------
 
 abbrev pub two_reads : Names → (x y : ℕ) → List ℕ
-two_reads names x y = codes "  others may write: " ++ name names x ++ codes ", " ++ name names y ++ codes "\n"
+two_reads names x y = codes "  not stable here: " ++ name names x ++ codes ", " ++ name names y ++ codes "\n"
 
 -- a first occurrence that isn't stable, and the next of the rest, if there is one
 abbrev pub with_second : Names → (x : ℕ) → List ℕ → List ℕ
@@ -88,13 +88,17 @@ listed_names (n ∷ ns) = n ++ flat_map (λ m. codes ", " ++ m) ns
 abbrev pub held_text : List Lock → (held : List Bool) → List ℕ
 held_text locks held = listed_names (held_names 0 held locks)
 
+-- at two places, each with words in front
+abbrev pub two_ends : (front between : List ℕ) → List Lock → (first second : List Bool) → List ℕ
+two_ends front between locks first second = front ++ held_text locks first ++ between ++ held_text locks second ++ codes "\n"
+
 -- at the two ends of a branch, and at the start and the end of the block of a loop
 abbrev pub branch_ends : List Lock → (first second : List Bool) → List ℕ
 branch_ends locks first second =
-    codes "  held at the end of the first block: " ++ held_text locks first ++ codes "; at the end of the second: " ++ held_text locks second ++ codes "\n"
+    two_ends (codes "  held at the end of the first block: ") (codes "; at the end of the second: ") locks first second
 
 abbrev pub loop_ends : List Lock → (start end : List Bool) → List ℕ
-loop_ends locks start end = codes "  held at the start of the block: " ++ held_text locks start ++ codes "; at its end: " ++ held_text locks end ++ codes "\n"
+loop_ends locks start end = two_ends (codes "  held at the start of the block: ") (codes "; at its end: ") locks start end
 
 -- of a statement, by the locks that are held in front of it
 abbrev pub ends_line : List Lock → (held : List Bool) → Stm → List ℕ

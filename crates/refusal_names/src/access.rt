@@ -1,3 +1,5 @@
+//! The line of V1 and of V2: which guarantee forbids an access, or which lock that isn't held.
+
 ghost use Rattle.std.specs.Prelude.{◌≡◌, ◌++◌, ◌≤◌, OnOk, length, map, option_map};
 ghost use Rattle.cov_ast.specs.View as view;
 ghost use Rattle.refusal_names.specs.ForbiddenAccess as spec;

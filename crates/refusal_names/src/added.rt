@@ -1,3 +1,5 @@
+//! The line of V15: the predicate that is one too many.
+
 ghost use Rattle.std.specs.Prelude.{◌≡◌, ◌++◌, OnOk, Some, option_map};
 ghost use Rattle.cov_ast.specs.Declarations.{lock_at};
 ghost use Rattle.cov_ast.specs.Plain.{plain};

@@ -1,3 +1,5 @@
+//! The line of V8: which locks are held at two ends.
+
 ghost use Rattle.std.specs.Prelude.{◌≡◌, ◌++◌, ◌≤◌, IfOk, OnOk, codes, length, map};
 ghost use Rattle.cov_ast.specs.View as view;
 ghost use Rattle.refusal_names.specs.NameLines as spec;
@@ -9,29 +11,28 @@ use mode_state::ModeState;
 use std::alloc::Global;
 
 /// Adds which locks are held at the two ends of a branch, or at the start and the end of the block of a loop, by those that are held in
-/// front of it.
+/// front of it. Of a branch they are then those at the end of its second block.
 pub fn add_ends(
     alloc: Global,
     locks: &[LockDecl],
-    modes: ModeState,
+    modes: &mut ModeState,
     kind: &StmtKind,
     text: &mut Blob,
 ) -> Result<(), NoMemory>
     requires { length locks.now ≤ 64 }
-    ensures { OnOk result (text.new ≡ text.old ++ spec.ends_line (map view.lock locks.now) modes.held (view.kind kind.now)) }
+    ensures { OnOk result (text.new ≡ text.old ++ spec.ends_line (map view.lock locks.now) (modes.old).held (view.kind kind.now)) }
 {
     match kind {
         StmtKind::If(_, a, b, _) => {
             let mut first = modes.copy(alloc)?;
-            let mut second = modes;
             pass_block(a.as_slice(), &mut first);
-            pass_block(b.as_slice(), &mut second);
-            add_branch_ends(alloc, locks, &first, &second, text)
+            pass_block(b.as_slice(), modes);
+            add_branch_ends(alloc, locks, &first, modes, text)
         }
         StmtKind::While(_, _, b) => {
             let mut end = modes.copy(alloc)?;
             pass_block(b.as_slice(), &mut end);
-            add_loop_ends(alloc, locks, &modes, &end, text)
+            add_loop_ends(alloc, locks, modes, &end, text)
         }
         StmtKind::Skip | StmtKind::Lock(_) | StmtKind::Unlock(_) => Ok(()),
         StmtKind::Assign(_, _, _, _) | StmtKind::Note(_) | StmtKind::Output(_) => Ok(()),
@@ -49,11 +50,9 @@ fn add_branch_ends(
     requires { length locks.now ≤ 64 }
     ensures { OnOk result (text.new ≡ text.old ++ spec.branch_ends (map view.lock locks.now) (first.now).held (second.now).held) }
 {
-    text.extend_from_slice(b"  held at the end of the first block: ")?;
-    add_held(alloc, locks, first, text)?;
-    text.extend_from_slice(b"; at the end of the second: ")?;
-    add_held(alloc, locks, second, text)?;
-    text.extend_from_slice(b"\n")
+    let front = b"  held at the end of the first block: ";
+    let between = b"; at the end of the second: ";
+    add_two_ends(alloc, locks, front, between, first, second, text)
 }
 
 /// Adds which locks are held at the start and at the end of the block of a loop.
@@ -67,10 +66,28 @@ fn add_loop_ends(
     requires { length locks.now ≤ 64 }
     ensures { OnOk result (text.new ≡ text.old ++ spec.loop_ends (map view.lock locks.now) (start.now).held (end.now).held) }
 {
-    text.extend_from_slice(b"  held at the start of the block: ")?;
-    add_held(alloc, locks, start, text)?;
-    text.extend_from_slice(b"; at its end: ")?;
-    add_held(alloc, locks, end, text)?;
+    let front = b"  held at the start of the block: ";
+    let between = b"; at its end: ";
+    add_two_ends(alloc, locks, front, between, start, end, text)
+}
+
+/// Adds which locks are held at two places, each with words in front.
+fn add_two_ends(
+    alloc: Global,
+    locks: &[LockDecl],
+    front: &[u8],
+    between: &[u8],
+    first: &ModeState,
+    second: &ModeState,
+    text: &mut Blob,
+) -> Result<(), NoMemory>
+    requires { length locks.now ≤ 64 }
+    ensures { OnOk result (text.new ≡ text.old ++ spec.two_ends front.now between.now (map view.lock locks.now) (first.now).held (second.now).held) }
+{
+    text.extend_from_slice(front)?;
+    add_held(alloc, locks, first, text)?;
+    text.extend_from_slice(between)?;
+    add_held(alloc, locks, second, text)?;
     text.extend_from_slice(b"\n")
 }
 

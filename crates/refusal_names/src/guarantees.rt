@@ -1,3 +1,5 @@
+//! The line of W9: the thread that lacks a guarantee.
+
 ghost use Rattle.std.specs.Prelude.{◌≡◌, ◌++◌, OnOk, decimal, map, option_map};
 ghost use Rattle.std.specs.Str.{bytes_eq};
 ghost use Rattle.cov_expr.specs.Trees as tree;

@@ -1,3 +1,5 @@
+//! Variables outside of a set: in expressions, in types and in classes.
+
 ghost use Rattle.std.specs.Prelude.{◌≡◌, ◌++◌, OnOk, map, option_map};
 ghost use Rattle.cov_ast.specs.Declarations.{class_of};
 ghost use Rattle.cov_ast.specs.Plain.{class_term, plain};

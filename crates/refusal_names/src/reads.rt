@@ -1,3 +1,5 @@
+//! The line of V3: two reads of variables that aren't stable.
+
 ghost use Rattle.std.specs.Prelude.{◌≡◌, ◌++◌, OnOk, Some, option_map};
 ghost use Rattle.cov_ast.specs.View as view;
 ghost use Rattle.cov_expr.specs.View.{term};
@@ -11,7 +13,7 @@ use cov_expr::{Blob, Expr, List, NoMemory};
 use cov_print::add_expr;
 use std::alloc::Global;
 
-/// Adds what others may write between two reads of a statement, by what is stable in front of it.
+/// Adds the first two reads of a statement of variables that aren't stable, by what is stable in front of it.
 pub fn add_reads(
     alloc: Global,
     names: &NameTable,
@@ -40,7 +42,7 @@ fn evaluated(kind: &StmtKind) -> Option<&Expr>
     }
 }
 
-/// Adds what others may write between two reads of an expression.
+/// Adds the first two reads of an expression of variables that aren't stable.
 fn add_reads_of(
     alloc: Global,
     names: &NameTable,
@@ -79,7 +81,7 @@ fn add_with_second(names: &NameTable, x: u32, rest: &[u32], text: &mut Blob) -> 
 fn add_two(names: &NameTable, x: u32, y: u32, text: &mut Blob) -> Result<(), NoMemory>
     ensures { OnOk result (text.new ≡ text.old ++ spec.two_reads names.now x y) }
 {
-    text.extend_from_slice(b"  others may write: ")?;
+    text.extend_from_slice(b"  not stable here: ")?;
     add_variable(names, x, text)?;
     text.extend_from_slice(b", ")?;
     add_variable(names, y, text)?;

@@ -1,8 +1,11 @@
+//! The line of a refusal, by its rule and its place.
+
 ghost use Rattle.std.specs.Prelude.{◌≡◌, ◌<◌, ◌++◌, ℕ, List, Bool, OnOk, length, option_map};
 ghost use Rattle.cov_ast.specs.Plain.{plain};
 ghost use Rattle.cov_ast.specs.View as view;
 ghost use Rattle.cov_ast.specs.WellFormed.{IsWellFormed};
 ghost use Rattle.entail_questions.specs.Controls as classes;
+ghost use Rattle.entail_text.specs.VariableNames as spelled;
 ghost use Rattle.held_locks.specs.LocksHeld.{held_along, none_held};
 ghost use Rattle.held_locks.specs.VariableSets as variables;
 ghost use Rattle.mode_compat.specs.Compatible.{numbered};
@@ -142,38 +145,40 @@ fn add_of_way(
     ensures { let w = way found.now in
         OnOk result (text.new ≡ text.old ++ spec.line_of (view.program p.now) bytes.now t refusal.now.rule refusal.now.detail w.steps (held_along w.steps (none_held (plain (view.program p.now)))) w.stm) }
 {
-    let modes = modes_along(alloc, p, t, found.steps.as_slice())?;
-    add_line(alloc, p, bytes, t, refusal, modes, found, text)
+    let mut modes = modes_along(alloc, p, t, found.steps.as_slice())?;
+    let names = variable_names(alloc, p)?;
+    add_line(alloc, p, &names, bytes, t, refusal, &mut modes, found, text)
 }
 
 /// Adds the line of the statement at the end of a way, by the modes in front of it.
 fn add_line(
     alloc: Global,
     p: &Program,
+    names: &NameTable,
     bytes: &[u8],
     t: u32,
     refusal: &Refusal,
-    modes: ModeState,
+    modes: &mut ModeState,
     found: &Way<'_>,
     text: &mut Blob,
 ) -> Result<(), NoMemory>
     requires formed { IsWellFormed (view.program p.now) }
     requires thread { t < length p.now.threads }
-    requires modes { modes ≡ modes_at (plain (view.program p.now)) t modes.held }
+    requires names { names.now ≡ spelled.variable_names (view.program p.now).vars }
+    requires modes { modes.old ≡ modes_at (plain (view.program p.now)) t (modes.old).held }
     ensures { let w = way found.now in
-        OnOk result (text.new ≡ text.old ++ spec.line_of (view.program p.now) bytes.now t refusal.now.rule refusal.now.detail w.steps modes.held w.stm) }
+        OnOk result (text.new ≡ text.old ++ spec.line_of (view.program p.now) bytes.now t refusal.now.rule refusal.now.detail w.steps (modes.old).held w.stm) }
 {
-    let names = variable_names(alloc, p)?;
     let (kind, detail) = (&found.stmt.kind, refusal.detail);
     match refusal.rule {
-        Rule::V1 => add_access_in(alloc, p, &names, bytes, t, &modes, false, detail, text),
-        Rule::V2 => add_access_in(alloc, p, &names, bytes, t, &modes, true, detail, text),
-        Rule::V3 => add_unstable_reads(alloc, p, &names, &modes, kind, text),
-        Rule::V4 => add_bad_type(alloc, p, &names, modes, kind, text),
+        Rule::V1 => add_access_in(alloc, p, names, bytes, t, modes, false, detail, text),
+        Rule::V2 => add_access_in(alloc, p, names, bytes, t, modes, true, detail, text),
+        Rule::V3 => add_unstable_reads(alloc, p, names, modes, kind, text),
+        Rule::V4 => add_bad_type(alloc, p, names, modes, kind, text),
         Rule::V8 => add_ends(alloc, p.locks.as_slice(), modes, kind, text),
-        Rule::V12 => add_bad_predicate(alloc, p, &names, modes, kind, text),
-        Rule::V15 => add_added(p, &names, kind, text),
-        Rule::V16 => add_too_large(alloc, p, &names, bytes, &modes, found, text),
+        Rule::V12 => add_bad_predicate(alloc, p, names, modes, kind, text),
+        Rule::V15 => add_added(p, names, kind, text),
+        Rule::V16 => add_too_large(alloc, p, names, bytes, modes, found, text),
         _ => Ok(()),
     }
 }
@@ -209,7 +214,7 @@ fn add_access_in(
     )
 }
 
-/// Adds what others may write between two reads of a statement.
+/// Adds which variables that aren't stable a statement reads twice.
 fn add_unstable_reads(
     alloc: Global,
     p: &Program,
@@ -231,18 +236,17 @@ fn add_bad_predicate(
     alloc: Global,
     p: &Program,
     names: &NameTable,
-    modes: ModeState,
+    modes: &mut ModeState,
     kind: &StmtKind,
     text: &mut Blob,
 ) -> Result<(), NoMemory>
     requires { IsWellFormed (view.program p.now) }
-    ensures { (t : ℕ) (held : List Bool) → modes ≡ modes_at (plain (view.program p.now)) t held
+    ensures { (t : ℕ) (held : List Bool) → modes.old ≡ modes_at (plain (view.program p.now)) t held
         → OnOk result (text.new ≡ text.old ++ lines.predicates_line names.now
         (variables.stable (plain (view.program p.now)) t (sets.held_where_stated (view.kind kind.now) held)) (view.kind kind.now)) }
 {
-    let mut there = modes;
-    pass_to_state(kind, &mut there);
-    let stable = stable_set(alloc, p, &there)?;
+    pass_to_state(kind, modes);
+    let stable = stable_set(alloc, p, modes)?;
     add_predicates(names, &stable, kind, text)
 }
 
@@ -251,18 +255,17 @@ fn add_bad_type(
     alloc: Global,
     p: &Program,
     names: &NameTable,
-    modes: ModeState,
+    modes: &mut ModeState,
     kind: &StmtKind,
     text: &mut Blob,
 ) -> Result<(), NoMemory>
     requires { IsWellFormed (view.program p.now) }
-    ensures { (t : ℕ) (held : List Bool) → modes ≡ modes_at (plain (view.program p.now)) t held
+    ensures { (t : ℕ) (held : List Bool) → modes.old ≡ modes_at (plain (view.program p.now)) t held
         → OnOk result (let q = plain (view.program p.now) in let there = sets.held_where_stated (view.kind kind.now) held in
         text.new ≡ text.old ++ lines.types_line q names.now (variables.stable q t there) (classes.controls q) (sets.stable_controls q t there) (view.kind kind.now)) }
 {
-    let mut there = modes;
-    pass_to_state(kind, &mut there);
-    let known = known_at(alloc, p, &there)?;
+    pass_to_state(kind, modes);
+    let known = known_at(alloc, p, modes)?;
     add_types(alloc, p, names, &known, kind, text)
 }
 

@@ -1,3 +1,5 @@
+//! The sets of variables by which types are judged.
+
 ghost use Rattle.std.specs.Prelude.{◌≡◌, ◌<◌, ◌&&◌, ℕ, List, Bool, IfOk, length};
 ghost use Rattle.cov_ast.specs.Declarations as declared;
 ghost use Rattle.cov_ast.specs.Plain.{Plain, plain};

@@ -16,7 +16,7 @@ use Rattle.type_origins.specs.GoalTypes.{goal_of, goals_of}
 use Rattle.type_origins.specs.TypeLines.{type_lines}
 use Rattle.type_origins.specs.TypeOrigins.{history, locks_over, change_at}
 use Rattle.type_origins.specs.declared.origin.By.TheVariants as by
-use Rattle.type_origins.specs.declared.origin.Change.TheVariants as change
+use Rattle.type_origins.specs.declared.origin.TypeChange.TheVariants as change
 use Rattle.type_origins.specs.declared.origin.History.{History}
 use Rattle.type_origins.specs.declared.origin.Later.{Later}
 use Rattle.type_origins.specs.declared.origin.TypeSource.{TypeSource}
@@ -173,10 +173,10 @@ a_control_and_an_assignment : type_lines program 0 text (taken ∷ stored ∷ ra
 a_control_and_an_assignment = simp (decimal_digit 0 (lit< tt), decimal_digit 2 (lit< tt), decimal_digit 3 (lit< tt))
 
 not_stable : type_lines program 0 text (taken ∷ returned ∷ []) q.Guard (s.branch (var 1) s.done s.done (stated []))
-    ≡ codes "  type of buf:  its class `m == 0`, since others may write it here\n"
+    ≡ codes "  type of buf:  its class `m == 0`, since it isn't stable here: the thread doesn't assume that no other writes it, and holds no lock that it is under\n"
 not_stable = simp (decimal_digit 0 (lit< tt))
 
-a_low_variable : type_lines program 0 text [] q.Printed (s.output (var 3)) ≡ codes "  type of n:  its class `1`, since others may write it here\n"
+a_low_variable : type_lines program 0 text [] q.Printed (s.output (var 3)) ≡ codes "  type of n:  its class `1`, since it isn't stable here: the thread doesn't assume that no other writes it, and holds no lock that it is under\n"
 a_low_variable = simp (decimal_digit 1 (lit< tt))
 
 -- under its lock nobody else reads `buf`

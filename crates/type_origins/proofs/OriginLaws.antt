@@ -21,12 +21,12 @@ use Rattle.typing_rules.specs.Blocks.{after_block, value_type}
 use Rattle.typing_state.specs.After.{start, start_type, with_guard, updated, updated_from, retyped, listed_or, locked_type, assigned_type, forgotten_type}
 use Rattle.typing_state.specs.Point.{Point, default_type, given_type, is_tracked}
 use Rattle.typing_state.specs.Terms.{listed}
-use Rattle.type_origins.specs.TypeOrigins.{after_step, after_steps, changed_by, is_listed, locks_over, no_history, set_by, set_by_assignment, set_by_state, set_by_types, change_at, changed_at, where_true, with_step}
+use Rattle.type_origins.specs.TypeOrigins.{history_after_step, history_after_steps, changed_by, is_listed, locks_over, no_history, set_by, set_by_assignment, set_by_state, set_by_types, change_at, changed_at, where_true, with_step}
 use Rattle.type_origins.specs.TypesFromOrigins.{IsFrom, IsTold, TellsOfType, said, said_in, type_behind}
 use Rattle.type_origins.specs.declared.origin.By.{By}
 use Rattle.type_origins.specs.declared.origin.By.TheVariants as by
-use Rattle.type_origins.specs.declared.origin.Change.{Change}
-use Rattle.type_origins.specs.declared.origin.Change.TheVariants as change
+use Rattle.type_origins.specs.declared.origin.TypeChange.{TypeChange}
+use Rattle.type_origins.specs.declared.origin.TypeChange.TheVariants as change
 use Rattle.type_origins.specs.declared.origin.History.{History}
 use Rattle.type_origins.specs.declared.origin.Later.{Later}
 use Rattle.type_origins.specs.declared.origin.TypeOrigin.{TypeOrigin}
@@ -171,7 +171,7 @@ module _ (p : Plain) (t z : ℕ) (declared : (x : ℕ) → length p.vars ≤ x �
   unset (passed at (lock l)) a h k =
       kept (locked_type p l) a.types z
       (λ q. ap (λ b. if b && not (is_control p z) then Some (class_of p z) else q) (sym (is_under l) ∙ fails (has ls l) (source.Taken l) h))
-  unset (passed at (unlock l)) a h k = let c : ◌≡◌ {A = Option Change} (Some (change.Returned l)) None = k in cc
+  unset (passed at (unlock l)) a h k = let c : ◌≡◌ {A = Option TypeChange} (Some (change.Returned l)) None = k in cc
   unset (passed at (branch e yes_block no_block join)) a h k = let c : ◌≡◌ {A = Option TypeSource} (Some (set_by_state z by.Join join)) None = h in cc
   unset (passed at (loop e inv b)) a h k = let c : ◌≡◌ {A = Option TypeSource} (Some (set_by_state z by.LoopState inv)) None = h in cc
   unset (passed at (note j)) a h k =
@@ -277,13 +277,13 @@ module _ (p : Plain) (t z : ℕ) (declared : (x : ℕ) → length p.vars ≤ x �
     says = same ∙ from.says;
   }
 
-  one_step : (done : List Step) (s : Step) (h : History) → IsTold p t z done h → IsTold p t z (done ++ s ∷ []) (after_step cs ls z s h)
+  one_step : (done : List Step) (s : Step) (h : History) → IsTold p t z done h → IsTold p t z (done ++ s ∷ []) (history_after_step cs ls z s h)
   one_step done s h told = by_source (set_by cs ls z s) refl
     where
       same : set_by cs ls z s ≡ None → changed_by cs s ≡ None → type_behind p t z (done ++ s ∷ []) ≡ type_behind p t z done
       same e k = ap (λ a. given_type a z) (appended p t done (s ∷ []) (start p t)) ∙ unset s (point_behind p t done) e k
 
-      by_change : set_by cs ls z s ≡ None → (y : Option Change) → changed_by cs s ≡ y → IsTold p t z (done ++ s ∷ []) (changed_at (place_of s) y h)
+      by_change : set_by cs ls z s ≡ None → (y : Option TypeChange) → changed_by cs s ≡ y → IsTold p t z (done ++ s ∷ []) (changed_at (place_of s) y h)
       by_change e None k = λ later some. longer done s h.origin (told later (sym (ap is_some (same e k)) ∙ some)) (same e k)
       by_change e (Some y) k = λ later some. let c : ◌≡◌ {A = Option Later} (Some (change_at (place_of s) y)) None = later in cc
 
@@ -301,11 +301,11 @@ module _ (p : Plain) (t z : ℕ) (declared : (x : ℕ) → length p.vars ≤ x �
             last ∙ gives s (point_behind p t done) x e (sym (ap is_some last) ∙ some);
       }
 
-  along : (done rest : List Step) (h : History) → IsTold p t z done h → IsTold p t z (done ++ rest) (after_steps cs ls z rest h)
+  along : (done rest : List Step) (h : History) → IsTold p t z done h → IsTold p t z (done ++ rest) (history_after_steps cs ls z rest h)
   along done [] h told = subst (λ ss. IsTold p t z ss h) (sym (append-nil done)) told
   along done (s ∷ rest) h told =
-      subst (λ ss. IsTold p t z ss (after_steps cs ls z rest (after_step cs ls z s h))) (append_assoc done (s ∷ []) rest)
-      (along (done ++ s ∷ []) rest (after_step cs ls z s h) (one_step done s h told))
+      subst (λ ss. IsTold p t z ss (history_after_steps cs ls z rest (history_after_step cs ls z s h))) (append_assoc done (s ∷ []) rest)
+      (along (done ++ s ∷ []) rest (history_after_step cs ls z s h) (one_step done s h told))
 
   pub tells : (ss : List Step) → TellsOfType p t z ss
   tells ss = along [] ss no_history (λ later some. at_start some)

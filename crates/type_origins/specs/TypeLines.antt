@@ -18,8 +18,8 @@ use Rattle.type_origins.specs.TypeOrigins.{history, locks_over}
 use Rattle.type_origins.specs.declared.known.Known.{Known}
 use Rattle.type_origins.specs.declared.origin.By.{By}
 use Rattle.type_origins.specs.declared.origin.By.TheVariants as by
-use Rattle.type_origins.specs.declared.origin.Change.{Change}
-use Rattle.type_origins.specs.declared.origin.Change.TheVariants as change
+use Rattle.type_origins.specs.declared.origin.TypeChange.{TypeChange}
+use Rattle.type_origins.specs.declared.origin.TypeChange.TheVariants as change
 use Rattle.type_origins.specs.declared.origin.History.{History}
 use Rattle.type_origins.specs.declared.origin.Later.{Later}
 use Rattle.type_origins.specs.declared.origin.TypeOrigin.{TypeOrigin}
@@ -103,20 +103,20 @@ origin_text p names bytes hidden z (Some o) = set_text p names bytes hidden z o
 -- The words on a later change ----------------------------------------------------------------------------------
 
 -- the control that is stored to, or the lock that is given back
-abbrev pub change_subject : Plain → Change → List ℕ
+abbrev pub change_subject : Plain → TypeChange → List ℕ
 change_subject p (change.ControlStored x) = name_of p x
 change_subject p (change.Returned l) = (lock_at p l).name
 
-abbrev pub change_word : Change → List ℕ
+abbrev pub change_word : TypeChange → List ℕ
 change_word (change.ControlStored x) = codes " is stored to"
 change_word (change.Returned l) = codes " is given back"
 
 -- a change, in front of the line of it
-abbrev pub change_text : Plain → Change → List ℕ
+abbrev pub change_text : Plain → TypeChange → List ℕ
 change_text p c = codes "; then " ++ change_subject p c ++ change_word c
 
 -- what stands behind the line of it
-abbrev pub change_end : Change → List ℕ
+abbrev pub change_end : TypeChange → List ℕ
 change_end (change.ControlStored x) = codes ", which turns a type that mentions it into "
 change_end (change.Returned l) = codes ", which turns a type that mentions what it protects into "
 
@@ -137,9 +137,9 @@ history_text p names bytes hidden z h = origin_text p names bytes hidden z h.ori
 abbrev pub label : Plain → (z : ℕ) → List ℕ
 label p z = codes "  type of " ++ name_of p z ++ codes ":  "
 
--- of a variable that others may write
+-- of a variable that isn't stable
 abbrev pub shared_text : Plain → Names → (z : ℕ) → List ℕ
-shared_text p names z = class_text p names z ++ codes ", since others may write it here"
+shared_text p names z = class_text p names z ++ codes ", since it isn't stable here: the thread doesn't assume that no other writes it, and holds no lock that it is under"
 
 module _ (p : Plain) (names : Names) (bytes : List ℕ) (steps : List Step) (known : Known) where
   -- of a variable that is tracked

@@ -13,8 +13,8 @@ use Rattle.cov_ast.specs.Tables.{has}
 use Rattle.statement_paths.specs.Paths.{Step, passed, yes, no, head, place_of}
 use Rattle.type_origins.specs.declared.origin.By.{By}
 use Rattle.type_origins.specs.declared.origin.By.TheVariants as by
-use Rattle.type_origins.specs.declared.origin.Change.{Change}
-use Rattle.type_origins.specs.declared.origin.Change.TheVariants as change
+use Rattle.type_origins.specs.declared.origin.TypeChange.{TypeChange}
+use Rattle.type_origins.specs.declared.origin.TypeChange.TheVariants as change
 use Rattle.type_origins.specs.declared.origin.History.{History}
 use Rattle.type_origins.specs.declared.origin.Later.{Later}
 use Rattle.type_origins.specs.declared.origin.TypeSource.{TypeSource}
@@ -37,7 +37,7 @@ where_true holds x = if holds then Some x else None
 -- with the set of the controls
 module _ (controls : List Bool) where
   -- what may forget it behind a statement
-  abbrev pub changed_past : Stm → Option Change
+  abbrev pub changed_past : Stm → Option TypeChange
   changed_past skip = None
   changed_past (assign x e q retypes) = where_true (has controls x) (change.ControlStored x)
   changed_past (lock l) = None
@@ -48,7 +48,7 @@ module _ (controls : List Bool) where
   changed_past (output e) = None
 
   -- what may forget it in a step
-  abbrev pub changed_by : Step → Option Change
+  abbrev pub changed_by : Step → Option TypeChange
   changed_by (passed at s) = changed_past s
   changed_by (yes at e) = None
   changed_by (no at e) = None
@@ -92,16 +92,16 @@ module _ (controls locks : List Bool) (z : ℕ) where
 abbrev pub set_at : (at : ℕ) → TypeSource → History
 set_at at source = record { origin = Some (record { source = source; at = at }); later = None }
 
-abbrev pub change_at : (at : ℕ) → Change → Later
+abbrev pub change_at : (at : ℕ) → TypeChange → Later
 change_at at change = record { change = change; at = at }
 
 -- the same type, which may be forgotten here
-abbrev pub changed_at : (at : ℕ) → Option Change → History → History
+abbrev pub changed_at : (at : ℕ) → Option TypeChange → History → History
 changed_at at None h = h
 changed_at at (Some change) h = record h { later = Some (change_at at change) }
 
 -- what sets the type begins a new history
-abbrev pub with_step : (at : ℕ) → Option TypeSource → Option Change → History → History
+abbrev pub with_step : (at : ℕ) → Option TypeSource → Option TypeChange → History → History
 with_step at (Some source) change h = set_at at source
 with_step at None change h = changed_at at change h
 
@@ -110,13 +110,13 @@ abbrev pub no_history : History
 no_history = record { origin = None; later = None }
 
 module _ (controls locks : List Bool) (z : ℕ) where
-  abbrev pub after_step : Step → History → History
-  after_step s h = with_step (place_of s) (set_by controls locks z s) (changed_by controls s) h
+  abbrev pub history_after_step : Step → History → History
+  history_after_step s h = with_step (place_of s) (set_by controls locks z s) (changed_by controls s) h
 
-  abbrev pub after_steps : List Step → History → History
-  after_steps [] h = h
-  after_steps (s ∷ ss) h = after_steps ss (after_step s h)
+  abbrev pub history_after_steps : List Step → History → History
+  history_after_steps [] h = h
+  history_after_steps (s ∷ ss) h = history_after_steps ss (history_after_step s h)
 
   -- the history of the type of the variable behind steps from the start of the thread
   abbrev pub history : List Step → History
-  history ss = after_steps ss no_history
+  history ss = history_after_steps ss no_history

@@ -11,12 +11,14 @@ use cov_expr::{Blob, NoMemory};
 use cov_print::add_expr;
 use text_parts::add_number;
 
-/// Adds the type of a variable that others may write.
+/// Adds the type of a variable that isn't stable.
 pub fn add_shared(p: &Program, names: &NameTable, z: u32, text: &mut Blob) -> Result<(), NoMemory>
     ensures { OnOk result (text.new ≡ text.old ++ spec.shared_text (plain (view.program p.now)) names.now z) }
 {
     add_class(p, names, z, text)?;
-    text.extend_from_slice(b", since others may write it here")
+    text.extend_from_slice(
+        b", since it isn't stable here: the thread doesn't assume that no other writes it, and holds no lock that it is under",
+    )
 }
 
 /// Adds the type of a variable that no step sets.

@@ -9,10 +9,10 @@ ghost use Rattle.statement_paths.specs.Paths as paths;
 ghost use Rattle.type_origins.specs.TypeLines as spec;
 ghost use Rattle.type_origins.specs.TypeOrigins.{history, locks_over};
 
-use crate::asked::variables_of;
 use crate::class::{add_class, add_default, add_shared, add_start};
+use crate::goal_variables::variables_of;
 use crate::known::{Known, known_behind};
-use crate::origin::{By, Change, History, Later, TypeOrigin, TypeSource};
+use crate::origin::{By, History, Later, TypeChange, TypeOrigin, TypeSource};
 use crate::steps::{history_of, locks_over};
 use crate::words::{change_end, change_word, list_word, listed_text, source_end};
 use cov_ast::{NameTable, Program, StmtKind};
@@ -290,7 +290,7 @@ fn add_later(
 }
 
 /// Adds what is done that may forget a type.
-fn add_change(p: &Program, change: Change, text: &mut Blob) -> Result<(), NoMemory>
+fn add_change(p: &Program, change: TypeChange, text: &mut Blob) -> Result<(), NoMemory>
     ensures { OnOk result (text.new ≡ text.old ++ spec.change_text (plain (view.program p.now)) change) }
 {
     text.extend_from_slice(b"; then ")?;
@@ -299,11 +299,11 @@ fn add_change(p: &Program, change: Change, text: &mut Blob) -> Result<(), NoMemo
 }
 
 /// Adds the name of the control that is stored to, or of the lock that is given back.
-fn add_subject(p: &Program, change: Change, text: &mut Blob) -> Result<(), NoMemory>
+fn add_subject(p: &Program, change: TypeChange, text: &mut Blob) -> Result<(), NoMemory>
     ensures { OnOk result (text.new ≡ text.old ++ spec.change_subject (plain (view.program p.now)) change) }
 {
     match change {
-        Change::ControlStored(x) => add_variable_name(p, x, text),
-        Change::Returned(l) => add_lock_name(p, l, text),
+        TypeChange::ControlStored(x) => add_variable_name(p, x, text),
+        TypeChange::Returned(l) => add_lock_name(p, l, text),
     }
 }

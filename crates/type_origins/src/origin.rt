@@ -35,7 +35,7 @@ pub struct TypeOrigin {
 
 /// What may forget a type.
 #[derive(Clone, Copy, Debug, PartialEq, Eq)]
-pub enum Change {
+pub enum TypeChange {
     /// This control is stored to: a type that mentions it is forgotten.
     ControlStored(u32),
     /// This lock is given back: a type that mentions what isn't stable any longer is forgotten.
@@ -45,7 +45,7 @@ pub enum Change {
 /// What may have forgotten a type since it was set, and the byte offset of the statement.
 #[derive(Clone, Copy, Debug, PartialEq, Eq)]
 pub struct Later {
-    pub change: Change,
+    pub change: TypeChange,
     pub at: u32,
 }
 

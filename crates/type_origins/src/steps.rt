@@ -7,7 +7,7 @@ ghost use Rattle.cov_ast.specs.View as view;
 ghost use Rattle.statement_paths.specs.Paths as paths;
 ghost use Rattle.type_origins.specs.TypeOrigins as spec;
 
-use crate::origin::{By, Change, History, Later, TypeOrigin, TypeSource};
+use crate::origin::{By, History, Later, TypeChange, TypeOrigin, TypeSource};
 use cov_ast::{NumberSet, Program, Retype, State, StmtKind};
 use cov_expr::{Expr, List, NoMemory};
 use statement_paths::Step;
@@ -23,20 +23,20 @@ pub fn history_of(controls: &NumberSet, locks: &NumberSet, z: u32, steps: &[Step
         later: None,
     };
     for step in steps {
-        so_far = after_step(controls, locks, z, step, so_far);
+        so_far = history_after_step(controls, locks, z, step, so_far);
     }
     so_far
 }
 
 /// The history with a step more.
-fn after_step(
+fn history_after_step(
     controls: &NumberSet,
     locks: &NumberSet,
     z: u32,
     step: &Step<'_>,
     so_far: History,
 ) -> History
-    ensures { result ≡ spec.after_step controls.now locks.now z (paths.step step.now) so_far }
+    ensures { result ≡ spec.history_after_step controls.now locks.now z (paths.step step.now) so_far }
 {
     let at = step.place();
     match set_by(controls, locks, z, step) {
@@ -56,7 +56,7 @@ fn set_at(at: u32, source: TypeSource) -> History
 }
 
 /// The same type, which may be forgotten at a place.
-fn changed_at(at: u32, change: Option<Change>, so_far: History) -> History
+fn changed_at(at: u32, change: Option<TypeChange>, so_far: History) -> History
     ensures { result ≡ spec.changed_at at change so_far }
 {
     match change {
@@ -69,7 +69,7 @@ fn changed_at(at: u32, change: Option<Change>, so_far: History) -> History
 }
 
 /// What in a step may forget the type.
-fn changed_by(controls: &NumberSet, step: &Step<'_>) -> Option<Change>
+fn changed_by(controls: &NumberSet, step: &Step<'_>) -> Option<TypeChange>
     ensures { result ≡ spec.changed_by controls.now (paths.step step.now) }
 {
     match step {
@@ -79,12 +79,12 @@ fn changed_by(controls: &NumberSet, step: &Step<'_>) -> Option<Change>
 }
 
 /// What may forget the type behind a statement.
-fn changed_past(controls: &NumberSet, kind: &StmtKind) -> Option<Change>
+fn changed_past(controls: &NumberSet, kind: &StmtKind) -> Option<TypeChange>
     ensures { result ≡ spec.changed_past controls.now (view.kind kind.now) }
 {
     match kind {
-        StmtKind::Assign(x, _, _, _) if controls.has(*x) => Some(Change::ControlStored(*x)),
-        StmtKind::Unlock(l) => Some(Change::Returned(*l)),
+        StmtKind::Assign(x, _, _, _) if controls.has(*x) => Some(TypeChange::ControlStored(*x)),
+        StmtKind::Unlock(l) => Some(TypeChange::Returned(*l)),
         StmtKind::Assign(_, _, _, _)
         | StmtKind::Skip
         | StmtKind::Lock(_)

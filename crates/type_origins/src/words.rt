@@ -3,7 +3,7 @@
 ghost use Rattle.std.specs.Prelude.{◌≡◌};
 ghost use Rattle.type_origins.specs.TypeLines as spec;
 
-use crate::origin::{By, Change, TypeSource};
+use crate::origin::{By, TypeChange, TypeSource};
 
 /// What lists types, or doesn't.
 pub fn list_word(by: By) -> &'static str
@@ -40,21 +40,21 @@ pub fn source_end(source: TypeSource) -> &'static str
 }
 
 /// What is done that may forget a type.
-pub fn change_word(change: Change) -> &'static str
+pub fn change_word(change: TypeChange) -> &'static str
     ensures { result.now ≡ spec.change_word change }
 {
     match change {
-        Change::ControlStored(_) => " is stored to",
-        Change::Returned(_) => " is given back",
+        TypeChange::ControlStored(_) => " is stored to",
+        TypeChange::Returned(_) => " is given back",
     }
 }
 
 /// What stands behind the line of a later change.
-pub fn change_end(change: Change) -> &'static str
+pub fn change_end(change: TypeChange) -> &'static str
     ensures { result.now ≡ spec.change_end change }
 {
     match change {
-        Change::ControlStored(_) => ", which turns a type that mentions it into ",
-        Change::Returned(_) => ", which turns a type that mentions what it protects into ",
+        TypeChange::ControlStored(_) => ", which turns a type that mentions it into ",
+        TypeChange::Returned(_) => ", which turns a type that mentions what it protects into ",
     }
 }

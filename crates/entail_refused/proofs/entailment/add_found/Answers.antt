@@ -8,7 +8,7 @@ use Rattle.entail_refused.specs.Asked.{entailment_lines}
 use Rattle.entail_refused.specs.Further.{further_lines}
 use Rattle.entail_refused.specs.GivenElsewhere.{given_lines}
 use Rattle.entail_refused.specs.Sites.{site_of}
-use Rattle.entail_refused.proofs.asked.add_found.Goals as goal
+use Rattle.entail_refused.proofs.entailment.add_found.Goals as goal
 
 pub returns : goal.returns
 returns c =

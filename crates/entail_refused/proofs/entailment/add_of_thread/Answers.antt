@@ -8,7 +8,7 @@ use Rattle.cov_ast.proofs.ObligationLaws.{none_refused}
 use Rattle.mode_compat.specs.Declared.{declaration_obligations}
 use Rattle.typing_rules.specs.ThreadEntailments.{entailment_among, thread_entailments}
 use Rattle.entail_refused.specs.Asked.{told_of}
-use Rattle.entail_refused.proofs.asked.add_of_thread.Goals as goal
+use Rattle.entail_refused.proofs.entailment.add_of_thread.Goals as goal
 
 some_refused : (es : List Obligation) (r : Refusal) → first_false es ≡ Some r → all_hold es ≡ false
 some_refused [] r h = let c : ◌≡◌ {A = Option Refusal} None (Some r) = h in cc

@@ -5,7 +5,7 @@ use Rattle.refusal_names.proofs.reads.add_two.Goals as goal
 
 pub returns : goal.returns
 returns c =
-    five_pieces c.extend_from_slice-3.result c.args.text.now (codes "  others may write: ") (name c.args.names.now c.args.x) (codes ", ")
+    five_pieces c.extend_from_slice-3.result c.args.text.now (codes "  not stable here: ") (name c.args.names.now c.args.x) (codes ", ")
     c.extend_from_slice.new.self c.add_variable.new.text c.extend_from_slice-2.new.self
     c.in_ok-extend_from_slice.ensures.ok c.in_ok-add_variable.ensures
     (name c.args.names.now c.args.y) (codes "\n") c.add_variable-2.new.text c.extend_from_slice-3.new.self c.in_ok-extend_from_slice-2.ensures.ok c.in_ok-add_variable-2.ensures c.extend_from_slice-3.ensures.ok

@@ -6,5 +6,5 @@ use Rattle.type_origins.proofs.steps.history_of.Given as goal
 -- the history so far, with the steps that are left, is the whole
 abbrev pub invariant-loop-step : goal.invariant-loop-step
 invariant-loop-step l =
-    spec.after_steps l.controls l.locks l.z (map paths.step (drop l.step-index l.steps)) l.so_far
+    spec.history_after_steps l.controls l.locks l.z (map paths.step (drop l.step-index l.steps)) l.so_far
     ≡ spec.history l.controls l.locks l.z (map paths.step l.steps)
