@@ -17,7 +17,7 @@ use Rattle.mode_state.specs.Sets.{is_stable, locks_of}
 use Rattle.mode_state.proofs.HeldLaws.{any_from}
 use Rattle.regalloc.specs.Plan.{Plan, start, restrict, frees}
 use Rattle.compiled_code.specs.Compiled.{line, weigh, expr_plan, expr_register, expr_instrs, direct, store_from, eval_lines, eval_plan, eval_register, use_weight, store_plan, cmd_plan, cmd_lines, block_lines}
-use Rattle.compiled_code.specs.LoadBound.{is_simple, is_lock_of, Assignment, assigned, statements, assignments, stable_uses, IsSmall, HasFewLoads}
+use Rattle.compiled_code.specs.LoadBound.{is_straight, is_lock_of, Assignment, assigned, statements, assignments, stable_uses, IsSmall, HasFewLoads}
 use Rattle.compiled_code.proofs.Loads.{IsIn, Has, Fit, three_free, fit_start, fit_below, stored_has, credit, credit_small, credit_less, loads, loads_are, loads_append, loads_weigh, expr_few, store_fit, store_more}
 use Rattle.compiled_code.proofs.Plans.{reg_low, reg_free, restricted_is, restrict_keeps}
 use Rattle.risc_machine.specs.declared.parts.Instr.TheVariants.{Store}
@@ -224,7 +224,7 @@ module _ (p : Plain) (t : ℕ) where
     few_block (next at (loop e a) cs) H P i k f x = absurd k.0
     few_block (next at (output e) cs) H P i k f x = absurd k.0
 
-    small_cmds : (c : Cmds) (H : List Bool) → AllByRecursion (λ s. IsTrue (is_simple s.cmd)) (located c H) → AllByRecursion (λ a. width a.value ≤ 3) (flat_map (λ s. assigned s.held s.cmd) (located c H))
+    small_cmds : (c : Cmds) (H : List Bool) → AllByRecursion (λ s. IsTrue (is_straight s.cmd)) (located c H) → AllByRecursion (λ a. width a.value ≤ 3) (flat_map (λ s. assigned s.held s.cmd) (located c H))
         → ((z : ℕ) → IsIn (flat_map uses (flat_map (λ s. assigned s.held s.cmd) (located c H))) z → IsIn S z) → AreSmallCmds (located c H)
     small_cmds none H s n g = tt
     small_cmds (next at skip cs) H s n g = (tt, small_cmds cs H s.1 n g)

@@ -6,7 +6,7 @@ use Rattle.compiled_code.specs.Matches.{Matches}
 use Rattle.compiled_code.specs.SecureCode.{IsSecureCode}
 use Rattle.risc_machine.specs.declared.parts.Parts.{Parts}
 
--- The code matches the program, is secure, and loads no variable more often than it has to.
+-- The code matches the program, is secure, and meets the load bound, which speaks of small bodies.
 pub record IsGoodCode (p : Program) (c : Parts) : Type 0 where
   pub matches : Matches p c
   pub secure : IsSecureCode (plain p) c

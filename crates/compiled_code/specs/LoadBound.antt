@@ -35,16 +35,16 @@ loads_of x lines = count_by (λ l. is_load_of x l.instr) lines
 -- Statements -----------------------------------------------------------------------------------------------------
 
 -- whether it is `skip`, an assignment, `lock` or `unlock`
-abbrev pub is_simple : Cmd → Bool
-is_simple skip = true
-is_simple (assign x e) = true
-is_simple (lock l) = true
-is_simple (unlock l) = true
-is_simple (branch e a b) = false
-is_simple (loop e a) = false
-is_simple (output e) = false
+abbrev pub is_straight : Cmd → Bool
+is_straight skip = true
+is_straight (assign x e) = true
+is_straight (lock l) = true
+is_straight (unlock l) = true
+is_straight (branch e a b) = false
+is_straight (loop e a) = false
+is_straight (output e) = false
 
--- whether it takes a lock
+-- whether it takes this lock
 abbrev pub is_lock_of : (l : ℕ) → Cmd → Bool
 is_lock_of l skip = false
 is_lock_of l (assign x e) = false
@@ -97,7 +97,7 @@ module _ (p : Plain) (t : ℕ) (body : Cmds) where
   -- The bodies that the bound speaks of: straight, with narrow expressions, and with at most four distinct variables that are
   -- read or written where they are stable.
   pub record IsSmall : Type 0 where
-    pub straight : AllByRecursion (λ s. IsTrue (is_simple s.cmd)) (statements p body)
+    pub straight : AllByRecursion (λ s. IsTrue (is_straight s.cmd)) (statements p body)
     pub narrow : AllByRecursion (λ a. width a.value ≤ 3) (assignments p body)
     pub four : length (add_new [] stable_uses) ≤ 4
 

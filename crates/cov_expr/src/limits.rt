@@ -1,11 +1,11 @@
-//! Limits of texts, programs and their parts, of the other inputs, and of what is written. What is past one is refused.
+//! Limits of texts, programs and their parts, and of the other inputs. What is past one is refused.
 //!
 //! - Of each text: [`MOST_BYTES`], [`MOST_BRACKETS`], [`MOST_MARKS`], [`MOST_NAME_BYTES`].
 //! - Of a program: [`MOST_VARIABLES`], [`MOST_LOCKS`], [`MOST_THREADS`], [`MOST_STATEMENTS`], [`MOST_BLOCKS`].
 //! - Of an expression, a certificate, a state: [`MOST_NODES`], [`MOST_HEIGHT`], [`MOST_CERT_NODES`],
 //!   [`MOST_PREDICATES`], [`MOST_TYPES`].
 //! - Of the other inputs: [`MOST_INPUT_BYTES`], [`MOST_ENTRIES`], [`MOST_EXPRESSION_BYTES`], [`MOST_ROUNDS`].
-//! - Of what is written: [`MOST_LISTING_BYTES`].
+//! - Of a listing that is read back: [`MOST_LISTING_BYTES`], which the call asks for and doesn't try.
 //!
 //! Their values are pinned by `AreTheLimits` of `specs/Limits.antt`.
 
@@ -63,5 +63,5 @@ pub const MOST_EXPRESSION_BYTES: usize = 4_096;
 /// Rounds of a generated program.
 pub const MOST_ROUNDS: u32 = 200;
 
-/// Bytes of the listing of a compiled program.
+/// Bytes of a text that is read as a listing.
 pub const MOST_LISTING_BYTES: usize = 268_435_456;

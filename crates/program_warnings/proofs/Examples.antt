@@ -7,7 +7,7 @@ use Rattle.cov_expr.specs.declared.expr.Op.TheVariants.{Eq, Lt, Sub}
 use Rattle.cov_ast.specs.Declarations.{no_modes}
 use Rattle.cov_ast.specs.Plain.{assign, lock, unlock, branch, loop, output, Cmds, none, next, Plain}
 use Rattle.cov_ast.specs.Syntax.{low, high, Class, Var, Lock}
-use Rattle.program_warnings.specs.HiddenText.{at_front, of_text}
+use Rattle.program_warnings.specs.HiddenText.{at_front, text_warnings}
 use Rattle.program_warnings.specs.NeverReached.{of_block}
 use Rattle.program_warnings.specs.Unused.{is_false, warned}
 use Rattle.program_warnings.specs.Warnings.{of_program, warnings}
@@ -128,11 +128,11 @@ unfolding encode
 separators = refl
 
 -- a carriage return in front of a line feed, one in front of another, and one at the end
-returns : of_text (13 ∷ 10 ∷ 13 ∷ 13 ∷ 10 ∷ 97 ∷ 13 ∷ []) ≡ warned 2 c.LoneReturn ∷ warned 6 c.LoneReturn ∷ []
+returns : text_warnings (13 ∷ 10 ∷ 13 ∷ 13 ∷ 10 ∷ 97 ∷ 13 ∷ []) ≡ warned 2 c.LoneReturn ∷ warned 6 c.LoneReturn ∷ []
 returns = refl
 
 -- ten are told, and how many more there are
-eleven : of_text (7 ∷ 7 ∷ 7 ∷ 7 ∷ 7 ∷ 9 ∷ 7 ∷ 7 ∷ 7 ∷ 7 ∷ 8 ∷ 27 ∷ 97 ∷ 0 ∷ [])
+eleven : text_warnings (7 ∷ 7 ∷ 7 ∷ 7 ∷ 7 ∷ 9 ∷ 7 ∷ 7 ∷ 7 ∷ 7 ∷ 8 ∷ 27 ∷ 97 ∷ 0 ∷ [])
     ≡ map (λ at. warned at (c.Control 7)) (0 ∷ 1 ∷ 2 ∷ 3 ∷ 4 ∷ 6 ∷ 7 ∷ 8 ∷ 9 ∷ []) ++ warned 10 (c.Control 8) ∷ warned 11 (c.More 2) ∷ []
 eleven = refl
 

@@ -72,5 +72,5 @@ listed zero (w ∷ ws) = warned w.place (c.More (length (w ∷ ws))) ∷ []
 listed (suc room) (w ∷ ws) = w ∷ listed room ws
 
 -- what is warned of in bytes
-abbrev pub of_text : List ℕ → List Warning
-of_text bytes = listed MOST_SHOWN (hidden_from 0 bytes)
+abbrev pub text_warnings : List ℕ → List Warning
+text_warnings bytes = listed MOST_SHOWN (hidden_from 0 bytes)

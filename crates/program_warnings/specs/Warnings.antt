@@ -1,7 +1,7 @@
 -- What is warned of in a program and its text.
 use Rattle.std.specs.Prelude.{ℕ, nat_lt, List, [], ◌∷◌, ◌++◌, flat_map, if◌then◌else◌}
 use Rattle.cov_ast.specs.Plain.{Plain}
-use Rattle.program_warnings.specs.HiddenText.{of_text}
+use Rattle.program_warnings.specs.HiddenText.{text_warnings}
 use Rattle.program_warnings.specs.NeverReached.{of_thread}
 use Rattle.program_warnings.specs.Unused.{of_declarations}
 use Rattle.program_warnings.specs.declared.warning.Warning.{Warning}
@@ -26,4 +26,4 @@ merged (w ∷ ws) second = before w.place second ++ w ∷ merged ws (from w.plac
 
 -- what is warned of in a program and in the bytes that spell it, in the order of the places
 abbrev pub warnings : Plain → (bytes : List ℕ) → List Warning
-warnings p bytes = merged (of_program p) (of_text bytes)
+warnings p bytes = merged (of_program p) (text_warnings bytes)

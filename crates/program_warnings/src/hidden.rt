@@ -13,7 +13,7 @@ pub const MOST_SHOWN: usize = 10;
 /// What is warned of in bytes alone, of which there are fewer than 2^32: characters that an editor may show as another text, or not at all.
 pub fn text_warnings(alloc: Global, bytes: &[u8]) -> Result<List<Warning>, NoMemory>
     requires { length bytes.now < 2 ^ 32 }
-    ensures { IfOk result (λ found. found ≡ spec.of_text bytes.now) }
+    ensures { IfOk result (λ found. found ≡ spec.text_warnings bytes.now) }
 {
     let mut found = List::new(alloc);
     let mut room = MOST_SHOWN;

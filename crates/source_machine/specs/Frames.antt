@@ -13,20 +13,20 @@ items [] = []
 items (b ∷ bs) = items_then (plain_block b) (items bs)
 
 -- what a statement is once its expression was evaluated and gave a word, if it has one
-abbrev pub evaluated : (at word : ℕ) → Cmd → Item
-evaluated at word skip = run at skip
-evaluated at word (assign x e) = put at x word
-evaluated at word (lock l) = run at (lock l)
-evaluated at word (unlock l) = run at (unlock l)
-evaluated at word (branch e a b) = test at word a b
-evaluated at word (loop e b) = test at word (◌then_all◌ b (next at (loop e b) none)) none
-evaluated at word (output e) = emit at word
+abbrev pub pending_item : (at word : ℕ) → Cmd → Item
+pending_item at word skip = run at skip
+pending_item at word (assign x e) = put at x word
+pending_item at word (lock l) = run at (lock l)
+pending_item at word (unlock l) = run at (unlock l)
+pending_item at word (branch e a b) = test at word a b
+pending_item at word (loop e b) = test at word (◌then_all◌ b (next at (loop e b) none)) none
+pending_item at word (output e) = emit at word
 
 -- the items, where the expression of the first statement was evaluated and gave a word
 abbrev pub with_word : Option ℕ → List Item → List Item
 with_word None is = is
 with_word (Some word) [] = []
-with_word (Some word) (run at c ∷ rest) = evaluated at word c ∷ rest
+with_word (Some word) (run at c ∷ rest) = pending_item at word c ∷ rest
 with_word (Some word) (put at x w ∷ rest) = put at x w ∷ rest
 with_word (Some word) (test at w a b ∷ rest) = test at w a b ∷ rest
 with_word (Some word) (emit at w ∷ rest) = emit at w ∷ rest

@@ -14,7 +14,7 @@ pub record HoldsAccepted (files : List File) (name : List ℕ) : Type 0 where
   pub is : SpellsProgram bytes spelled
   pub accepted : IsAcceptedText spelled
 
--- The program that a command runs twice, if it does, is accepted. That of which the code is run twice is, or the code isn't run.
+-- The program that `pair` runs twice is accepted. Of `pair-code` and `big` nothing is asked: they run only what is accepted.
 abbrev pub RunsAccepted : List File → Command → Type 0
 RunsAccepted files (pair name first second schedule) = HoldsAccepted files name
 RunsAccepted files (check name) = Unit {0}

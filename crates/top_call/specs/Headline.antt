@@ -33,7 +33,7 @@ HoldsSecure files nothing = ⊥
 
 -- What is put is the listing of a code, to which no fault applies, and a file holds a program for which this code is good: each
 -- run of the code is a run of the program, from any two fit starts, under every schedule, two runs of the code agree after each
--- step, and no variable is loaded more often than it has to be.
+-- step, and small bodies load few times.
 pub record PutsGoodCode (files : List File) (name : List ℕ) (before after : Sunk) : Type 0 where
   pub bytes : List ℕ
   pub at : held files name ≡ Some bytes

@@ -1,4 +1,4 @@
--- What a text means: its names are in order, and it stands for a program that does something.
+-- What a text means: whether its names are in order, and what the program does that it stands for.
 use Rattle.std.specs.Prelude.{IsTrue}
 use Rattle.cov_ast.specs.Syntax.{Parsed}
 use Rattle.cov_ast.specs.Plain.{Plain, plain}

@@ -18,7 +18,7 @@ use Rattle.typing_state.specs.After.{start, with_guard, meet}
 use Rattle.typing_rules.specs.Blocks.{after_stm, after_block}
 use Rattle.typing_rules.specs.Counts.{entailment_count, is_entailment}
 use Rattle.typing_rules.specs.Entailments.{Entailment, is_proved, guard_follows, state_follows, assign_entailments, unlock_entailments}
-use Rattle.typing_rules.specs.ThreadEntailments.{PlacedEntailment, all_entailments, block_entailments, certificate_obligation, certificate_obligations, is_passed, placed_from, placed_proofs, proofs_among, proofs_within, stm_entailments, thread_entailments}
+use Rattle.typing_rules.specs.ThreadEntailments.{PlacedEntailment, all_entailments, block_entailments, entailment_obligation, entailment_obligations, is_passed, placed_from, placed_proofs, proofs_among, proofs_within, stm_entailments, thread_entailments}
 use Rattle.typing_rules.specs.ThreadObligations.{block_obligations, end_obligation, end_point, flat, obligation, proved, stm_parts, thread_obligation, thread_obligations}
 use Rattle.typing_rules.proofs.Counting.{count_append, count_cons, count_guard, count_numbers, count_reads, count_stable, count_state, count_types}
 use Rattle.typing_rules.proofs.Others.{block_counted}
@@ -81,12 +81,12 @@ mutual
 -- Obligations ------------------------------------------------------------------------------------------------------
 
 -- where none asks that something follows, none is of V9
-none_asked : (es : List Obligation) → entailment_count es ≡ 0 → certificate_obligations es ≡ []
+none_asked : (es : List Obligation) → entailment_count es ≡ 0 → entailment_obligations es ≡ []
 none_asked [] h = refl
 none_asked (e ∷ es) h = go (none_asked es) (is_entailment e.refusal.rule) (sym (count_cons e es) ∙ h)
   where
-    go : (entailment_count es ≡ 0 → certificate_obligations es ≡ []) → (b : Bool) → (0 + cond b 1 0) + entailment_count es ≡ 0
-        → cond b (e ∷ certificate_obligations es) (certificate_obligations es) ≡ []
+    go : (entailment_count es ≡ 0 → entailment_obligations es ≡ []) → (b : Bool) → (0 + cond b 1 0) + entailment_count es ≡ 0
+        → cond b (e ∷ entailment_obligations es) (entailment_obligations es) ≡ []
     go rest true h = absurd (omega (arith, h))
     go rest false h = rest (omega (arith, h))
 
@@ -97,33 +97,33 @@ module _ (p : Plain) (t : ℕ) (given : ℕ → List Proof) where
 
   -- those of V9 in the parts of a rule are those of these entailments
   record Asks (ess : List (List Obligation)) (gs : List PlacedEntailment) : Type 0 where
-    are_those : certificate_obligations (flat ess) ≡ map asked gs
+    are_those : entailment_obligations (flat ess) ≡ map asked gs
 
   nothing : Asks [] []
   nothing = record { are_those = refl }
 
   pass : (es : List Obligation) (ess : List (List Obligation)) (gs : List PlacedEntailment) → entailment_count es ≡ 0 → Asks ess gs → Asks (es ∷ ess) gs
   pass es ess gs none h = record {
-    are_those = filter-append (λ e. is_entailment e.refusal.rule) es (flat ess) ∙ joined (certificate_obligations es) [] (certificate_obligations (flat ess)) (map asked gs) (none_asked es none) h.are_those;
+    are_those = filter-append (λ e. is_entailment e.refusal.rule) es (flat ess) ∙ joined (entailment_obligations es) [] (entailment_obligations (flat ess)) (map asked gs) (none_asked es none) h.are_those;
   }
 
-  gain : (es : List Obligation) (ess : List (List Obligation)) (gs hs : List PlacedEntailment) → certificate_obligations es ≡ map asked gs → Asks ess hs
+  gain : (es : List Obligation) (ess : List (List Obligation)) (gs hs : List PlacedEntailment) → entailment_obligations es ≡ map asked gs → Asks ess hs
       → Asks (es ∷ ess) (gs ++ hs)
   gain es ess gs hs here h = record {
     are_those =
         filter-append (λ e. is_entailment e.refusal.rule) es (flat ess)
-        ∙ joined (certificate_obligations es) (map asked gs) (certificate_obligations (flat ess)) (map asked hs) here h.are_those ∙ sym (map-append asked gs hs);
+        ∙ joined (entailment_obligations es) (map asked gs) (entailment_obligations (flat ess)) (map asked hs) here h.are_those ∙ sym (map-append asked gs hs);
   }
 
-  last : (es : List Obligation) (ess : List (List Obligation)) (gs : List PlacedEntailment) → certificate_obligations es ≡ map asked gs → Asks ess []
+  last : (es : List Obligation) (ess : List (List Obligation)) (gs : List PlacedEntailment) → entailment_obligations es ≡ map asked gs → Asks ess []
       → Asks (es ∷ ess) gs
   last es ess gs here h = subst (λ hs. Asks (es ∷ ess) hs) (append-nil gs) (gain es ess gs [] here h)
 
   of_proved : (at : ℕ) (proofs : List Proof) → given at ≡ proofs → (n : ℕ) (gs : List Entailment)
-      → certificate_obligations (proved p t at proofs n gs) ≡ map asked (placed_from at n gs)
+      → entailment_obligations (proved p t at proofs n gs) ≡ map asked (placed_from at n gs)
   of_proved at proofs same n [] = refl
   of_proved at proofs same n (g ∷ gs) =
-      ap (λ q. obligation p t at V9 (Number n) (is_proved q n g) ∷ certificate_obligations (proved p t at proofs (suc n) gs)) (sym same)
+      ap (λ q. obligation p t at V9 (Number n) (is_proved q n g) ∷ entailment_obligations (proved p t at proofs (suc n) gs)) (sym same)
       ∙ ap (λ es. obligation p t at V9 (Number n) (is_proved (given at) n g) ∷ es) (of_proved at proofs same (suc n) gs)
 
   mutual
@@ -179,7 +179,7 @@ module _ (p : Plain) (t : ℕ) (given : ℕ → List Proof) where
         (pass _ _ _ refl (last _ _ _ (of_proved at proofs same 1 gs) (pass _ _ _ (count_numbers p t at 1 proofs) nothing)))
 
     of_block : (b : Block) (a : Point) → Gives given (placed_proofs b)
-        → certificate_obligations (block_obligations p t b a) ≡ map asked (block_entailments p t b a)
+        → entailment_obligations (block_obligations p t b a) ≡ map asked (block_entailments p t b a)
     of_block done a h = refl
     of_block (more at s proofs b) a h =
         let here = of_stm s at proofs a h.0 (gives_first given (proofs_within s) (placed_proofs b) h.1) in
@@ -190,7 +190,7 @@ module _ (p : Plain) (t : ℕ) (given : ℕ → List Proof) where
 -- Threads ----------------------------------------------------------------------------------------------------------
 
 pub of_thread : (p : Program) → IsWellFormed p → (t : ℕ) → t < length p.threads
-    → certificate_obligations (thread_obligations p t) ≡ map (certificate_obligation t (numbered p t).body) (all_entailments p t)
+    → entailment_obligations (thread_obligations p t) ≡ map (entailment_obligation t (numbered p t).body) (all_entailments p t)
 of_thread p formed t inside =
     let body = (numbered p t).body in
     let from = start (plain p) t in
@@ -198,7 +198,7 @@ of_thread p formed t inside =
     let differ : are_distinct (◌==◌) (places_of (placed_proofs body)) ≡ true =
     ap (are_distinct (◌==◌)) (block_placed body) ∙ (formed.bodies t no_thread inside).places_differ in
     filter-append (λ e. is_entailment e.refusal.rule) (block_obligations (plain p) t body from) _
-    ∙ append-nil (certificate_obligations (block_obligations (plain p) t body from))
+    ∙ append-nil (entailment_obligations (block_obligations (plain p) t body from))
     ∙ of_block (plain p) t given body from (found (placed_proofs body) differ)
 
 pub reached_whole : (p : Program) (t : ℕ) → list_all is_passed (thread_obligations p t) ≡ true → thread_entailments p t ≡ all_entailments p t

@@ -136,14 +136,15 @@ abbrev pub proofs_among : List (ℕ × List Proof) → (place : ℕ) → List Pr
 proofs_among [] place = []
 proofs_among (q ∷ qs) place = if q.0 == place then q.1 else proofs_among qs place
 
--- V9 of an entailment of a body: it has a valid certificate among the proofs of the statement at its place
-abbrev pub certificate_obligation : (t : ℕ) → Block → PlacedEntailment → Obligation
-certificate_obligation t body g =
+-- V9 of an entailment of a body: the first certificate that the statement at its place gives for its number, else `auto`, is
+-- valid
+abbrev pub entailment_obligation : (t : ℕ) → Block → PlacedEntailment → Obligation
+entailment_obligation t body g =
     thread_obligation t g.place V9 (Number g.number) (is_proved (proofs_among (placed_proofs body) g.place) g.number g.entailment)
 
 -- of obligations, those of V9
-abbrev pub certificate_obligations : List Obligation → List Obligation
-certificate_obligations obligations = filter (λ e. is_entailment e.refusal.rule) obligations
+abbrev pub entailment_obligations : List Obligation → List Obligation
+entailment_obligations obligations = filter (λ e. is_entailment e.refusal.rule) obligations
 
 -- the first of entailments with this number of the statement at this place
 abbrev pub entailment_among : List PlacedEntailment → (place number : ℕ) → Option PlacedEntailment

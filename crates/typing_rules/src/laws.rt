@@ -10,7 +10,7 @@ ghost use Rattle.cov_ast.specs.WellFormed.{IsWellFormed};
 ghost use Rattle.flow_model.specs.Game.{IsSecureThread};
 ghost use Rattle.mode_compat.specs.Compatible.{numbered};
 ghost use Rattle.mode_compat.specs.Declared.{IsDeclared, declaration_obligations};
-ghost use Rattle.typing_rules.specs.ThreadEntailments.{all_entailments, certificate_obligation, certificate_obligations, is_passed, thread_entailments};
+ghost use Rattle.typing_rules.specs.ThreadEntailments.{all_entailments, entailment_obligation, entailment_obligations, is_passed, thread_entailments};
 ghost use Rattle.typing_rules.specs.ThreadObligations.{thread_obligations, end_point};
 
 /// A thread of which every obligation holds has given back each lock at its end.
@@ -23,7 +23,7 @@ pub fn threads_end_without_locks()
 /// And where no other rule than those of certificates (V9, V13) fails, each entailment of the thread is among those that are reached.
 pub fn entailments_are_obligations()
     ensures obligations { (p : syntax.Program) → IsWellFormed p → (t : ℕ) → t < length p.threads
-        → certificate_obligations (thread_obligations p t) ≡ map (certificate_obligation t (numbered p t).body) (all_entailments p t) }
+        → entailment_obligations (thread_obligations p t) ≡ map (entailment_obligation t (numbered p t).body) (all_entailments p t) }
     ensures reached { (p : syntax.Program) → (t : ℕ) → list_all is_passed (thread_obligations p t) ≡ true → thread_entailments p t ≡ all_entailments p t }
 {}
 

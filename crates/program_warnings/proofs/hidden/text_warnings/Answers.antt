@@ -8,13 +8,13 @@ pub returns-then-room-eq0 : goal.returns-then-room-eq0
 returns-then-room-eq0 c =
     let front = sym (c.at_front.ensures ∙ ap spec.at_front c.rest_from.ensures) in
     c.in_ok-push.ensures.ok
-    ∙ ends_more c.args.bytes.now c.loop-i.i c.loop-i.found (spec.of_text c.args.bytes.now) c.loop-i.room c.loop-i-test.true c.loop-i.invariant c.in-Some.cause
+    ∙ ends_more c.args.bytes.now c.loop-i.i c.loop-i.found (spec.text_warnings c.args.bytes.now) c.loop-i.room c.loop-i-test.true c.loop-i.invariant c.in-Some.cause
     (front ∙ c.in-Some.is) c.count_from.result c.if-room-eq0.true c.count_from.ensures
 
 pub loop-i-preserved : goal.loop-i-preserved
 loop-i-preserved c =
     let front = sym (c.at_front.ensures ∙ ap spec.at_front c.rest_from.ensures) in
-    let all = spec.of_text c.args.bytes.now in
+    let all = spec.text_warnings c.args.bytes.now in
     let rest = spec.hidden_from (c.loop-i.i + 1) (drop (c.loop-i.i + 1) c.args.bytes.now) in
     elim c.match-at_front.branch [
       | in-Some+else-room-eq0+in_ok-push-2 w ↦
