@@ -26,11 +26,11 @@ where_is name bytes place = name ++ codes ":" ++ decimal (line bytes place) ++ c
 
 -- The report of `check`, where the reply names no place. Else where the place is and, behind that in the same line, the report of
 -- `check`; the line of the place with a caret under it; and what is wrong.
-abbrev pub told : (name bytes : List ℕ) → Reply → (place : Option ℕ) → List ℕ
-told name bytes reply None = report_of reply
-told name bytes reply (Some place) =
+abbrev pub explanation_at : (name bytes : List ℕ) → Reply → (place : Option ℕ) → List ℕ
+explanation_at name bytes reply None = report_of reply
+explanation_at name bytes reply (Some place) =
     where_is name bytes place ++ report_of reply ++ excerpt bytes place ++ codes "  " ++ sentence_of bytes reply ++ codes "\n"
 
 -- what is told of the bytes of a file to which `check` replies so
 abbrev pub explanation : (name bytes : List ℕ) → Reply → List ℕ
-explanation name bytes reply = told name bytes reply (place_of reply)
+explanation name bytes reply = explanation_at name bytes reply (place_of reply)

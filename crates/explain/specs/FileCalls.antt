@@ -1,10 +1,11 @@
 -- What a call tells of its files, and how it ends.
 use Rattle.std.specs.Prelude.{◌≡◌, ◌⊎◌, ℕ, List, [], ◌∷◌, ◌++◌, codes, Ok, Err}
 use Rattle.cov_expr.specs.declared.limits.TheConstants.{MOST_BYTES}
+use Rattle.cov_io.specs.Counters.{raised}
 use Rattle.cov_io.specs.Shelves.{Shelved, Gives}
 use Rattle.cov_io.specs.Sinks.{Sunk, Writes}
 use Rattle.cov_io.specs.declared.shelf.Fetched.TheVariants.{Whole}
-use Rattle.cov_io.specs.declared.sink.Failed.{Failed}
+use Rattle.cov_io.specs.declared.sink.Failed as sink
 use Rattle.explain.specs.Tellings.{IsTold}
 use Rattle.top_call.specs.Files.{Misses}
 use Rattle.top_call.specs.Replies.{Reply, status_of}
@@ -13,24 +14,25 @@ use Rattle.top_call.specs.Texts.{ChecksBytes}
 use Rattle.top_call.specs.declared.answers.Status.{Status}
 use Rattle.top_call.specs.declared.answers.Status.TheVariants as s
 
--- One call of the shelf for a file, to which `check` replies so, and what is told of it: its bytes are fetched, and the reply to
+-- The shelf is called once, for a file, to which `check` replies so, and what is told of it: its bytes are fetched, and the reply to
 -- them is explained, with warnings where they are accepted; or they aren't, and the report of `check` is all.
 abbrev pub Tells : (before after : Shelved) (name : List ℕ) → Reply → (text : List ℕ) → Type 0
 Tells before after name reply text =
-    ((bytes : List ℕ) × Gives before after name MOST_BYTES (Ok (Whole bytes)) × ChecksBytes name bytes reply × IsTold name bytes reply text)
-    ⊎ (Misses before after name MOST_BYTES reply × (text ≡ report_of reply))
+    (after.calls ≡ raised before.calls 1)
+    × (((bytes : List ℕ) × Gives before after name MOST_BYTES (Ok (Whole bytes)) × ChecksBytes name bytes reply × IsTold name bytes reply text)
+    ⊎ (Misses before after name MOST_BYTES reply × (text ≡ report_of reply)))
 
 -- a status, or where it says that all is done, the one that comes after it
-abbrev pub first_of : Status → Status → Status
-first_of s.Done later = later
-first_of status later = status
+abbrev pub first_status : Status → Status → Status
+first_status s.Done later = later
+first_status status later = status
 
 -- What is told of files, in order, by one call of the shelf for each; and the first of their statuses that isn't Done, if there is one.
 abbrev pub TellsAll : (before after : Shelved) → List (List ℕ) → (text : List ℕ) → Status → Type 0
 TellsAll before after [] text status = (after ≡ before) × (text ≡ []) × (status ≡ s.Done)
 TellsAll before after (name ∷ names) text status =
     (between : Shelved) × (reply : Reply) × (here there : List ℕ) × (later : Status) × Tells before between name reply here
-    × TellsAll between after names there later × (text ≡ here ++ there) × (status ≡ first_of (status_of reply) later)
+    × TellsAll between after names there later × (text ≡ here ++ there) × (status ≡ first_status (status_of reply) later)
 
 -- what is told where no file is named
 abbrev pub usage_line : List ℕ
@@ -45,5 +47,5 @@ Answers before after (name ∷ names) text status = TellsAll before after (name 
 -- out before anything was put.
 abbrev pub Ends : (tells : List ℕ → Status → Type 0) → (before after : Sunk) → Status → Type 0
 Ends tells before after s.NoMemory = after ≡ before
-Ends tells before after s.WriteFault = (text : List ℕ) × (status : Status) × tells text status × (e : Failed) × Writes before after text (Err e)
+Ends tells before after s.WriteFault = (text : List ℕ) × (status : Status) × tells text status × (e : sink.Failed) × Writes before after text (Err e)
 Ends tells before after status = (text : List ℕ) × tells text status × Writes before after text (Ok tt)

@@ -6,32 +6,32 @@ use Rattle.cov_ast.specs.declared.refusal.Detail.{Detail}
 use Rattle.cov_ast.specs.declared.refusal.Detail.TheVariants as d
 
 -- what stands in front of the first name, or of the number; all of it where nothing is shown
-abbrev pub before : Rule → List ℕ
-before r.W1 = codes "the name "
-before r.W2 = codes "the name "
-before r.W3 = codes "the control "
-before r.W4 = codes "the variable "
-before r.W5 = codes "the invariant of this lock has the variable "
-before r.W6 = codes "this thread assumes the variable "
-before r.W7 = codes "the variable "
-before r.W8 = codes "this thread assumes the variable "
-before r.W9 = codes "the thread "
-before r.V1 = codes "the variable "
-before r.V2 = codes "the variable "
-before r.V3 = codes "the expression has two occurrences of variables that aren't stable here: another thread may write them between the two reads"
-before r.V4 = codes "a type isn't over stable controls: that of the value, of a `retype`, or of a state"
-before r.V5 = codes "a control is assigned here, and the variable "
-before r.V6 = codes "the thread holds the lock "
-before r.V7 = codes "the thread doesn't hold the lock "
-before r.V8 = codes "the two ends of `if` hold different locks, or the end of the block of `while` holds others than its start"
-before r.V9 = codes "no valid certificate shows that the goal of entailment "
-before r.V10 = codes "the expression is wider than 7"
-before r.V11 = codes "the thread holds the lock "
-before r.V12 = codes "a predicate of the state isn't over stable variables"
-before r.V13 = codes "`by` gives the number "
-before r.V14 = codes "the variable "
-before r.V15 = codes "a point of the statement has more than 64 predicates"
-before r.V16 = codes "a hypothesis, a goal or a type after the statement has more than 1,000 nodes"
+abbrev pub sentence_front : Rule → List ℕ
+sentence_front r.W1 = codes "the name "
+sentence_front r.W2 = codes "the name "
+sentence_front r.W3 = codes "the control "
+sentence_front r.W4 = codes "the variable "
+sentence_front r.W5 = codes "the invariant of this lock has the variable "
+sentence_front r.W6 = codes "this thread assumes the variable "
+sentence_front r.W7 = codes "the variable "
+sentence_front r.W8 = codes "this thread assumes the variable "
+sentence_front r.W9 = codes "the thread "
+sentence_front r.V1 = codes "the variable "
+sentence_front r.V2 = codes "the variable "
+sentence_front r.V3 = codes "the expression has two occurrences of variables that aren't stable here: no assumption of the thread and no lock that it holds keeps others from writing them between the two reads"
+sentence_front r.V4 = codes "a type isn't over stable controls: that of the value, of a `retype`, or of a state"
+sentence_front r.V5 = codes "a control is assigned here, and the variable "
+sentence_front r.V6 = codes "the thread holds the lock "
+sentence_front r.V7 = codes "the thread doesn't hold the lock "
+sentence_front r.V8 = codes "the two ends of `if` hold different locks, or the end of the block of `while` holds others than its start"
+sentence_front r.V9 = codes "it isn't shown that the goal of entailment "
+sentence_front r.V10 = codes "the expression is wider than 7"
+sentence_front r.V11 = codes "the thread holds the lock "
+sentence_front r.V12 = codes "a predicate of the state isn't over stable variables"
+sentence_front r.V13 = codes "`by` gives the number "
+sentence_front r.V14 = codes "the variable "
+sentence_front r.V15 = codes "a point of the statement has more than 64 predicates"
+sentence_front r.V16 = codes "a hypothesis, a goal or a type after the statement has more than 1,000 nodes"
 
 -- what stands between the first name and the second
 abbrev pub between : Rule → List ℕ
@@ -46,32 +46,32 @@ beyond r.W9 = codes " doesn't guarantee, of the variable "
 beyond rule = []
 
 -- what stands behind the last name, or the number
-abbrev pub behind : Rule → List ℕ
-behind r.W1 = codes " is declared a second time"
-behind r.W2 = codes " isn't declared as what it is used as here, a variable or a lock"
-behind r.W3 = codes " of this variable isn't plain low"
-behind r.W4 = codes " stands a second time in the lists of locks"
-behind r.W5 = codes ", which isn't under the lock"
-behind r.W6 = codes ", which is under a lock"
-behind r.W7 = codes " is neither under it nor assumed by every thread"
-behind r.W8 = []
-behind r.W9 = []
-behind r.V1 = codes " may not be read here: the thread guarantees `hide` of it, or a lock hides it that the thread doesn't hold"
-behind r.V2 = codes " may not be written here: the thread guarantees `nowrite` or `hide` of it, or it is under a lock that the thread doesn't hold"
-behind r.V3 = []
-behind r.V4 = []
-behind r.V5 = codes " of the expression isn't stable"
-behind r.V6 = codes " already"
-behind r.V7 = []
-behind r.V8 = []
-behind r.V9 = codes " follows from its hypotheses"
-behind r.V10 = []
-behind r.V11 = codes " at its end"
-behind r.V12 = []
-behind r.V13 = codes ", which is that of no entailment of the statement, or is given before"
-behind r.V14 = codes " can have no type here: it is a control, or isn't stable, or is listed before, or its `retype` stands where no control is assigned"
-behind r.V15 = []
-behind r.V16 = []
+abbrev pub sentence_end : Rule → List ℕ
+sentence_end r.W1 = codes " is declared a second time"
+sentence_end r.W2 = codes " isn't declared as what it is used as here, a variable or a lock"
+sentence_end r.W3 = codes " of this variable isn't plain low"
+sentence_end r.W4 = codes " stands a second time in the lists of locks"
+sentence_end r.W5 = codes ", which isn't under the lock"
+sentence_end r.W6 = codes ", which is under a lock"
+sentence_end r.W7 = codes " is neither under it nor assumed by every thread"
+sentence_end r.W8 = []
+sentence_end r.W9 = []
+sentence_end r.V1 = codes " may not be read here: the thread guarantees `hide` of it, or a lock hides it that the thread doesn't hold"
+sentence_end r.V2 = codes " may not be written here: the thread guarantees `nowrite` or `hide` of it, or it is under a lock that the thread doesn't hold"
+sentence_end r.V3 = []
+sentence_end r.V4 = []
+sentence_end r.V5 = codes " of the expression isn't stable"
+sentence_end r.V6 = codes " already"
+sentence_end r.V7 = []
+sentence_end r.V8 = []
+sentence_end r.V9 = codes " follows from its hypotheses"
+sentence_end r.V10 = []
+sentence_end r.V11 = codes " at its end"
+sentence_end r.V12 = []
+sentence_end r.V13 = codes ", which is that of no entailment of the statement, or is given before"
+sentence_end r.V14 = codes " can have no type here: it is a control, or isn't stable, or is listed before, or its `retype` stands where no control is assigned"
+sentence_end r.V15 = []
+sentence_end r.V16 = []
 
 -- what a refusal shows, with the words between names
 abbrev pub shown : Rule → Detail → List ℕ
@@ -83,4 +83,4 @@ shown rule (d.Number n) = decimal n
 
 -- the sentence of a rule that is broken
 abbrev pub sentence : Rule → Detail → List ℕ
-sentence rule detail = before rule ++ shown rule detail ++ behind rule
+sentence rule detail = sentence_front rule ++ shown rule detail ++ sentence_end rule

@@ -1,14 +1,14 @@
 -- All that is told of the bytes of a file: the explanation of what `check` replies to them; then, where they are malformed by a token, what
--- could stand at its place, where they are refused, what the refusal is about, and where they are accepted, what is warned of in them
--- and in the program that they spell.
+-- could stand at its place, where they are refused, what the refusal is about and what is warned of in them, and where they are accepted, what
+-- is warned of in them and in the program that they spell.
 use Rattle.std.specs.Prelude.{◌≡◌, ℕ, List, [], ◌++◌, if◌then◌else◌}
 use Rattle.cov_ast.specs.Obligations.{all_hold}
 use Rattle.cov_ast.specs.Syntax.{Parsed, Program}
 use Rattle.cov_ast.specs.declared.refusal.Refusal.{Refusal}
 use Rattle.entail_refused.specs.Asked.{asked}
 use Rattle.expected_tokens.specs.ExpectedLines.{expected_line}
-use Rattle.expected_tokens.specs.ExpectedTokens.{expected}
 use Rattle.policy_class.specs.Resolved.{name_obligations, resolved}
+use Rattle.program_warnings.specs.HiddenText.{of_text}
 use Rattle.program_warnings.specs.Warnings.{warnings}
 use Rattle.refusal_names.specs.RefusalNames.{refusal_names}
 use Rattle.explain.specs.Explanations.{explanation}
@@ -31,15 +31,16 @@ asked_lines p bytes refusal = if all_hold (name_obligations p) then refusal_line
 
 -- what could stand at the place of a token with which no program goes on; nothing where another fault is the first
 abbrev pub stand_lines : (bytes : List ℕ) → Fault → List ℕ
-stand_lines bytes (f.Text k.Token at) = expected_line (expected bytes at)
+stand_lines bytes (f.Text k.Token at) = expected_line bytes at
 stand_lines bytes fault = []
 
 -- What is told of bytes to which `check` replies so, beside the explanation: of malformed ones, what could stand at the place of a token;
--- of refused ones, what the refusal is about in the program that they spell; of accepted ones, what is warned of in that program and in
--- the bytes themselves; of others, nothing.
+-- of refused ones, what the refusal is about in the program that they spell, and what is warned of in the bytes themselves; of accepted ones,
+-- what is warned of in that program and in the bytes; of others, nothing.
 abbrev pub Adds : (name bytes : List ℕ) → Reply → (text : List ℕ) → Type 0
 Adds name bytes (malformed file fault) text = text ≡ stand_lines bytes fault
-Adds name bytes (refused refusal thread) text = (p : Parsed) × SpellsProgram bytes p × (text ≡ asked_lines p bytes refusal)
+Adds name bytes (refused refusal thread) text =
+    (p : Parsed) × SpellsProgram bytes p × (text ≡ asked_lines p bytes refusal ++ warning_lines name bytes (of_text bytes))
 Adds name bytes (accepted threads statements entailments) text =
     (p : Parsed) × SpellsProgram bytes p × (text ≡ warning_lines name bytes (warnings (meaning p) bytes))
 Adds name bytes reply text = text ≡ []

@@ -18,16 +18,16 @@ front c.Separator = codes "here is a separator of lines or of paragraphs: an edi
 front (c.More n) = codes "from here on there are "
 
 -- the name or the number
-abbrev pub named : Cause → List ℕ
-named (c.FalseInvariant l) = l
-named (c.NeverRead x) = x
-named (c.NeverWritten x) = x
-named c.NeverReached = []
-named c.LoneReturn = []
-named (c.Control b) = decimal b
-named c.Direction = []
-named c.Separator = []
-named (c.More n) = decimal n
+abbrev pub subject : Cause → List ℕ
+subject (c.FalseInvariant l) = l
+subject (c.NeverRead x) = x
+subject (c.NeverWritten x) = x
+subject c.NeverReached = []
+subject c.LoneReturn = []
+subject (c.Control b) = decimal b
+subject c.Direction = []
+subject c.Separator = []
+subject (c.More n) = decimal n
 
 -- what stands behind the name, or the number
 abbrev pub rest : Cause → List ℕ
@@ -43,7 +43,7 @@ rest (c.More n) = codes " more carriage returns, control characters and characte
 
 -- the sentence of a warning
 abbrev pub cause_sentence : Cause → List ℕ
-cause_sentence cause = front cause ++ named cause ++ rest cause
+cause_sentence cause = front cause ++ subject cause ++ rest cause
 
 -- a line: where it is, that it is a warning, and the sentence
 abbrev pub warning_line : (name bytes : List ℕ) → Warning → List ℕ

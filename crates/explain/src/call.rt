@@ -1,3 +1,5 @@
+//! The call: the words of a command line, and how it ends.
+
 ghost use Rattle.std.specs.Prelude.{◌≡◌, ◌++◌, ◌≤◌, ℕ, List, IfOk, map, string_bytes};
 ghost use Rattle.cov_io.specs.Shelves.{Passes};
 ghost use Rattle.explain.specs.FileCalls.{Answers, Ends};

@@ -1,3 +1,5 @@
+//! The explanation of a reply: where its place is, what stands there, and what is wrong.
+
 ghost use Rattle.std.specs.Prelude.{◌≡◌, ◌++◌, OnOk, Some};
 ghost use Rattle.explain.specs.Explanations as spec;
 ghost use Rattle.top_call.specs.AnswerViews.{seen};
@@ -36,7 +38,7 @@ fn add_told(
     answer: Answer<'_>,
     text: &mut Blob,
 ) -> Result<(), NoMemory>
-    ensures { OnOk result (text.new ≡ text.old ++ spec.told name.now bytes.now (seen answer.entry) (Some place)) }
+    ensures { OnOk result (text.new ≡ text.old ++ spec.explanation_at name.now bytes.now (seen answer.entry) (Some place)) }
 {
     let mut sentence = List::new(alloc);
     add_sentence_of(bytes, &answer, &mut sentence)?;

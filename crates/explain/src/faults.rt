@@ -1,3 +1,5 @@
+//! The sentences of the faults of a text.
+
 ghost use Rattle.std.specs.Prelude.{◌≡◌, ◌++◌, OnOk};
 ghost use Rattle.explain.specs.FaultSentences as spec;
 
@@ -15,10 +17,14 @@ pub fn add_fault_sentence(kind: FaultKind, rest: &[u8], text: &mut Blob) -> Resu
         FaultKind::Number => text.extend_from_slice(b"this number is above 4294967295"),
         FaultKind::Name => text.extend_from_slice(b"this word has more than 32 bytes"),
         FaultKind::Limit => {
-            text.extend_from_slice(b"here is one more than the limits of a program allow")
+            text.extend_from_slice(
+                b"what begins here passes a limit of programs: on how many of its kind there are, or how many parts it has",
+            )
         }
         FaultKind::Depth => {
-            text.extend_from_slice(b"this lies deeper than the limits of a program allow")
+            text.extend_from_slice(
+                b"what begins here passes a limit of programs: on how deep it lies in others, or how high it is",
+            )
         }
         FaultKind::Unknown => text.extend_from_slice(b"this name is that of no variable"),
     }

@@ -1,3 +1,5 @@
+//! What is told of each file, and the status of them all.
+
 ghost use Rattle.std.specs.Prelude.{◌≡◌, ◌++◌, ◌≤◌, ℕ, List, IfOk, length, map, string_bytes};
 ghost use Rattle.cov_expr.specs.declared.limits.TheConstants.{MOST_BYTES};
 ghost use Rattle.cov_io.specs.Shelves.{Passes};
@@ -29,14 +31,14 @@ pub fn tell_all<S: Shelf>(
     let mut status = Status::Done;
     for name in names {
         let next = tell(alloc, name.as_str(), shelf, text)?;
-        status = first_of(status, next);
+        status = first_status(status, next);
     }
     Ok(status)
 }
 
 /// A status, or where it says that all is done, the one that comes after it.
-fn first_of(status: Status, later: Status) -> Status
-    ensures { result ≡ spec.first_of status later }
+fn first_status(status: Status, later: Status) -> Status
+    ensures { result ≡ spec.first_status status later }
 {
     match status {
         Status::Done => later,

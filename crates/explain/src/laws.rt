@@ -1,3 +1,5 @@
+//! What is told of a file has the report of `check`.
+
 ghost use Rattle.cov_io.specs.Shelves.{Shelved};
 ghost use Rattle.std.specs.Prelude.{◌≡◌, ◌++◌, ℕ, List};
 ghost use Rattle.explain.specs.FileCalls.{Tells};

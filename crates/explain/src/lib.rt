@@ -3,15 +3,15 @@
 //! [`explain`] takes the names of files, the files (a shelf) and the output (a sink), and ends with a status of `top_call`. Of each
 //! file it tells what `check` reports; where that names a place, also the line and the column of the place, its line in
 //! the text with a caret, and what is wrong, in one sentence. Where no program goes on with a token, it tells what could stand there
-//! (`expected_tokens`), where a certificate isn't valid (V9), what was asked (`entail_refused`), and where a file is accepted, what is
-//! warned of in it (`program_warnings`), a line each. [`told_as_checked`] has no body: what is told of a file has the report that `check`
+//! (`expected_tokens`), where a file is refused, what that is about (`refusal_names`, `entail_refused`) and what is warned of in its text, and
+//! where it is accepted, what is warned of in it (`program_warnings`), a line each. [`told_as_checked`] has no body: what is told of a file has the report that `check`
 //! gives of it.
 //!
 //! | `src/` | `specs/` | what it has |
 //! |---|---|---|
 //! | `call`, `files` | `FileCalls` | the words of a command line; what is told of each file, and the status |
 //! | `explanation` | `Explanations` | what is told of the bytes of a file |
-//! | `more`, `asked` | `Tellings` | what is told beside it: what could stand at the place of a token, or what was asked of a file that is refused, or |
+//! | `more`, `refusals` | `Tellings` | what is told beside it: what could stand at the place of a token, or of a file that is refused, what that is about, or |
 //! | `accepted`, `warnings`, `sentences` | `WarningSentences` | what is warned of in a file that is accepted |
 //! | `rules` | `RuleSentences` | the sentence of each rule |
 //! | `faults`, `words` | `FaultSentences`, `TokenSentences` | the sentence of each fault of a text; reserved words |
@@ -19,13 +19,13 @@
 #![tactic(auto)]
 
 mod accepted;
-mod asked;
 mod call;
 mod explanation;
 mod faults;
 mod files;
 mod laws;
 mod more;
+mod refusals;
 mod rules;
 mod sentences;
 mod warnings;

@@ -1,18 +1,25 @@
+//! What is told beside an explanation.
+
 ghost use Rattle.std.specs.Prelude.{◌≡◌, ◌≤◌, ◌++◌, ℕ, List, length, OnOk};
+ghost use Rattle.cov_ast.specs.Syntax.{Parsed};
 ghost use Rattle.cov_expr.specs.declared.limits.TheConstants.{MOST_BYTES};
-ghost use Rattle.explain.specs.Tellings.{Adds, stand_lines};
+ghost use Rattle.explain.specs.Tellings.{Adds, asked_lines, stand_lines};
+ghost use Rattle.explain.specs.WarningSentences.{warning_lines};
+ghost use Rattle.program_warnings.specs.HiddenText.{of_text};
 ghost use Rattle.top_call.specs.AnswerViews.{seen};
+ghost use Rattle.top_call.specs.Programs.{SpellsProgram};
 ghost use Rattle.top_call.specs.Texts.{ChecksBytes};
 
-use crate::asked::add_asked;
-use crate::warnings::add_warnings;
+use crate::refusals::add_asked;
+use crate::warnings::{add_text_warnings, add_warnings};
+use cov_ast::Refusal;
 use cov_expr::{Blob, NoMemory};
 use expected_tokens::add_expected;
 use std::alloc::Global;
 use top_call::{Answer, Fault, FaultKind};
 
 /// Adds what is told of bytes that `check` answers so, beside the explanation: of malformed ones what could stand at the place of a token,
-/// of refused ones what was asked, of accepted ones what is warned of. All are read from the bytes anew.
+/// of refused ones what was asked and what is warned of in the bytes, of accepted ones what is warned of. All are read from the bytes anew.
 pub fn add_more(
     alloc: Global,
     name: &str,
@@ -26,10 +33,27 @@ pub fn add_more(
 {
     match answer {
         Answer::Malformed(_, fault) => add_stand_lines(alloc, bytes, fault, text),
-        Answer::Refused(refusal, _) => add_asked(alloc, bytes, refusal, text),
+        Answer::Refused(refusal, _) => add_refused(alloc, name, bytes, refusal, text),
         Answer::Accepted(_) => add_warnings(alloc, name, bytes, text),
         _ => Ok(()),
     }
+}
+
+/// Adds what a refusal of bytes is about, and what is warned of in them.
+fn add_refused(
+    alloc: Global,
+    name: &str,
+    bytes: &[u8],
+    refusal: &Refusal,
+    text: &mut Blob,
+) -> Result<(), NoMemory>
+    requires length { length bytes.now ≤ MOST_BYTES }
+    requires spelled { (p : Parsed) × SpellsProgram bytes.now p }
+    ensures { OnOk result ((p : Parsed) × SpellsProgram bytes.now p
+        × (text.new ≡ text.old ++ (asked_lines p bytes.now refusal.now ++ warning_lines name.now bytes.now (of_text bytes.now)))) }
+{
+    add_asked(alloc, bytes, refusal, text)?;
+    add_text_warnings(alloc, name, bytes, text)
 }
 
 /// Adds what could stand at the place of a fault, if that is a token with which no program goes on.

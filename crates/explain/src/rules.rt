@@ -1,3 +1,5 @@
+//! The sentences of the rules.
+
 ghost use Rattle.std.specs.Prelude.{◌≡◌, ◌++◌, OnOk};
 ghost use Rattle.explain.specs.RuleSentences as spec;
 
@@ -9,9 +11,9 @@ use text_parts::add_number;
 pub fn add_sentence(rule: Rule, detail: &Detail, text: &mut Blob) -> Result<(), NoMemory>
     ensures { OnOk result (text.new ≡ text.old ++ spec.sentence rule detail.now) }
 {
-    text.extend_from_slice(before(rule).as_bytes())?;
+    text.extend_from_slice(sentence_front(rule).as_bytes())?;
     add_shown(rule, detail, text)?;
-    text.extend_from_slice(behind(rule).as_bytes())
+    text.extend_from_slice(sentence_end(rule).as_bytes())
 }
 
 /// Adds the names that a refusal shows, or the number, with the words between them.
@@ -38,8 +40,8 @@ fn add_shown(rule: Rule, detail: &Detail, text: &mut Blob) -> Result<(), NoMemor
 }
 
 /// What stands in front of the first name, or of the number; all of it where nothing is shown.
-fn before(rule: Rule) -> &'static str
-    ensures { result.now ≡ spec.before rule }
+fn sentence_front(rule: Rule) -> &'static str
+    ensures { result.now ≡ spec.sentence_front rule }
 {
     match rule {
         Rule::W1 => "the name ",
@@ -54,7 +56,7 @@ fn before(rule: Rule) -> &'static str
         Rule::V1 => "the variable ",
         Rule::V2 => "the variable ",
         Rule::V3 =>
-            "the expression has two occurrences of variables that aren't stable here: another thread may write them between the two reads",
+            "the expression has two occurrences of variables that aren't stable here: no assumption of the thread and no lock that it holds keeps others from writing them between the two reads",
         Rule::V4 =>
             "a type isn't over stable controls: that of the value, of a `retype`, or of a state",
         Rule::V5 => "a control is assigned here, and the variable ",
@@ -62,7 +64,7 @@ fn before(rule: Rule) -> &'static str
         Rule::V7 => "the thread doesn't hold the lock ",
         Rule::V8 =>
             "the two ends of `if` hold different locks, or the end of the block of `while` holds others than its start",
-        Rule::V9 => "no valid certificate shows that the goal of entailment ",
+        Rule::V9 => "it isn't shown that the goal of entailment ",
         Rule::V10 => "the expression is wider than 7",
         Rule::V11 => "the thread holds the lock ",
         Rule::V12 => "a predicate of the state isn't over stable variables",
@@ -96,8 +98,8 @@ fn beyond(rule: Rule) -> &'static str
 }
 
 /// What stands behind the last name, or the number.
-fn behind(rule: Rule) -> &'static str
-    ensures { result.now ≡ spec.behind rule }
+fn sentence_end(rule: Rule) -> &'static str
+    ensures { result.now ≡ spec.sentence_end rule }
 {
     match rule {
         Rule::W1 => " is declared a second time",

@@ -1,3 +1,5 @@
+//! The sentences of warnings.
+
 ghost use Rattle.std.specs.Prelude.{◌≡◌, ◌++◌, OnOk};
 ghost use Rattle.explain.specs.WarningSentences as spec;
 
@@ -10,13 +12,13 @@ pub fn add_cause_sentence(cause: &Cause, text: &mut Blob) -> Result<(), NoMemory
     ensures { OnOk result (text.new ≡ text.old ++ spec.cause_sentence cause.now) }
 {
     text.extend_from_slice(front(cause).as_bytes())?;
-    add_named(cause, text)?;
+    add_subject(cause, text)?;
     text.extend_from_slice(rest(cause).as_bytes())
 }
 
 /// Adds the name or the number of a warning.
-fn add_named(cause: &Cause, text: &mut Blob) -> Result<(), NoMemory>
-    ensures { OnOk result (text.new ≡ text.old ++ spec.named cause.now) }
+fn add_subject(cause: &Cause, text: &mut Blob) -> Result<(), NoMemory>
+    ensures { OnOk result (text.new ≡ text.old ++ spec.subject cause.now) }
 {
     match cause {
         Cause::FalseInvariant(lock) => text.extend_from_slice(lock.text()),

@@ -1,3 +1,5 @@
+//! The lines of what is warned of.
+
 ghost use Rattle.std.specs.Prelude.{◌≡◌, ◌≤◌, ◌++◌, length, OnOk};
 ghost use Rattle.cov_ast.specs.Syntax.{Parsed};
 ghost use Rattle.cov_expr.specs.declared.limits.TheConstants.{MOST_BYTES};
@@ -5,16 +7,17 @@ ghost use Rattle.explain.specs.Inside.{AreAccepted};
 ghost use Rattle.explain.specs.WarningSentences as spec;
 ghost use Rattle.top_call.specs.Meaning.{meaning};
 ghost use Rattle.top_call.specs.Programs.{SpellsProgram};
+ghost use Rattle.program_warnings.specs.HiddenText as hidden;
 ghost use Rattle.program_warnings.specs.Warnings as found;
 
 use crate::accepted::accepted_program;
 use crate::explanation::add_where;
 use crate::sentences::add_cause_sentence;
 use cov_expr::{Blob, NoMemory};
-use program_warnings::{Warning, warnings};
+use program_warnings::{Warning, text_warnings, warnings};
 use std::alloc::Global;
 
-/// Adds what is warned of in bytes that are accepted.
+/// Adds what is warned of in bytes that are accepted, and in their program.
 pub fn add_warnings(
     alloc: Global,
     name: &str,
@@ -28,6 +31,20 @@ pub fn add_warnings(
 {
     let program = accepted_program(alloc, bytes)?;
     let found = warnings(alloc, &program, bytes)?;
+    add_warning_lines(name, bytes, found.as_slice(), text)
+}
+
+/// Adds what is warned of in bytes alone.
+pub fn add_text_warnings(
+    alloc: Global,
+    name: &str,
+    bytes: &[u8],
+    text: &mut Blob,
+) -> Result<(), NoMemory>
+    requires { length bytes.now ≤ MOST_BYTES }
+    ensures { OnOk result (text.new ≡ text.old ++ spec.warning_lines name.now bytes.now (hidden.of_text bytes.now)) }
+{
+    let found = text_warnings(alloc, bytes)?;
     add_warning_lines(name, bytes, found.as_slice(), text)
 }
 

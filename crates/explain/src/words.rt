@@ -1,3 +1,5 @@
+//! The sentences of tokens with which no program goes on.
+
 ghost use Rattle.std.specs.Prelude.{◌≡◌, ◌++◌, OnOk};
 ghost use Rattle.std.specs.List.{take_while};
 ghost use Rattle.cov_expr.specs.Bytes as class;
@@ -22,15 +24,15 @@ fn add_word_sentence(word: &[u8], text: &mut Blob) -> Result<(), NoMemory>
     if word.is_empty() {
         return text.extend_from_slice(b"no program goes on with this token");
     }
-    text.extend_from_slice(in_front(word).as_bytes())?;
+    text.extend_from_slice(word_front(word).as_bytes())?;
     text.extend_from_slice(word)?;
-    text.extend_from_slice(behind(word).as_bytes())?;
+    text.extend_from_slice(word_end(word).as_bytes())?;
     text.extend_from_slice(version_hint(word).as_bytes())
 }
 
 /// What stands in front of a word in its sentence.
-fn in_front(word: &[u8]) -> &'static str
-    ensures { result.now ≡ spec.in_front word.now }
+fn word_front(word: &[u8]) -> &'static str
+    ensures { result.now ≡ spec.word_front word.now }
 {
     if is_keyword(word) {
         "`"
@@ -40,8 +42,8 @@ fn in_front(word: &[u8]) -> &'static str
 }
 
 /// What stands behind a word in its sentence.
-fn behind(word: &[u8]) -> &'static str
-    ensures { result.now ≡ spec.behind word.now }
+fn word_end(word: &[u8]) -> &'static str
+    ensures { result.now ≡ spec.word_end word.now }
 {
     if is_keyword(word) {
         "` is a reserved word, and no program goes on with it here"

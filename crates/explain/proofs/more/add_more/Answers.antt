@@ -6,8 +6,8 @@ use Rattle.explain.proofs.AskedLaws.{adds_asked, refused_bytes}
 use Rattle.explain.proofs.WarningLaws.{accepted_bytes}
 use Rattle.explain.proofs.more.add_more.Goals as goal
 
-pub add_asked-requires-clause-spelled : goal.add_asked-requires-clause-spelled
-add_asked-requires-clause-spelled c =
+pub add_refused-requires-clause-spelled : goal.add_refused-requires-clause-spelled
+add_refused-requires-clause-spelled c =
     refused_bytes c.args.name.now c.args.bytes.now c.in-Refused.refusal c.in-Refused.field-1
     (subst (λ a. ChecksBytes c.args.name.now c.args.bytes.now (seen a)) c.in-Refused.is c.requires.checked)
 
@@ -19,7 +19,7 @@ add_warnings-requires-clause-accepted c =
 
 pub returns-in-Refused : goal.returns-in-Refused
 returns-in-Refused c =
-    on_ok_weaker c.add_asked.result
+    on_ok_weaker c.add_refused.result
     (adds_asked c.args.name.now c.args.bytes.now (seen c.args.answer.now) c.in-Refused.refusal c.in-Refused.field-1 (ap seen c.in-Refused.is) c.args.text.now
-    c.add_asked.new.text)
-    c.add_asked.ensures
+    c.add_refused.new.text)
+    c.add_refused.ensures

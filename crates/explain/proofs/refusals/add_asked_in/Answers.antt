@@ -3,7 +3,7 @@ use Rattle.cov_ast.specs.Obligations.{Decides}
 use Rattle.cov_ast.specs.View as view
 use Rattle.policy_class.specs.Resolved.{name_obligations}
 use Rattle.explain.proofs.AskedLaws.{named_lines, unnamed_lines}
-use Rattle.explain.proofs.asked.add_asked_in.Goals as goal
+use Rattle.explain.proofs.refusals.add_asked_in.Goals as goal
 
 pub returns-in-Ok : goal.returns-in-Ok
 returns-in-Ok c =
