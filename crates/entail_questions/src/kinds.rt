@@ -1,3 +1,5 @@
+//! The kinds of questions that entailments ask.
+
 /// What an entailment asks. A variable and a lock are named by id, a predicate by its number in the list of the state, counted from 1.
 #[derive(Clone, Copy, Debug, PartialEq, Eq)]
 pub enum Question {
