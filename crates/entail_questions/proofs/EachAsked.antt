@@ -18,7 +18,8 @@ use Rattle.typing_rules.specs.ThreadEntailments.{PlacedEntailment, placed_from, 
 use Rattle.typing_rules.specs.ThreadObligations.{thread_obligations}
 use Rattle.typing_state.specs.After.{meet, start, with_guard}
 use Rattle.typing_state.specs.Point.{Point}
-use Rattle.held_locks.specs.LocksHeld.{held_along, none_held}
+use Rattle.cov_ast.specs.LocksAlong.{no_locks}
+use Rattle.held_locks.specs.LocksHeld.{held_along}
 use Rattle.entail_questions.specs.Questions.{asked, asked_among, asked_behind, questions}
 use Rattle.entail_questions.specs.declared.kinds.Asked.{Asked}
 use Rattle.entail_questions.specs.declared.kinds.Question.{Question}
@@ -323,7 +324,7 @@ module _ (place number : ℕ) where
           (subst (λ held. There (asked_from held (way_to rest place))) (sym (after_held p t s a))
           (asked_in rest (after_stm p t s a) (differ_right (at ∷ places_within s) (places rest) d) k))))
 
-    of_way : (o : Option Way) → There (asked_from (none_held p) o) → There (asked_behind p t o number)
+    of_way : (o : Option Way) → There (asked_from (no_locks p) o) → There (asked_behind p t o number)
     of_way None h = h
     of_way (Some w) h = h
 

@@ -1,11 +1,12 @@
 -- The locks that are held are those of the points of the rules of types.
 use Rattle.std.proofs.Common.{◌≡◌, ℕ, refl, ap, ◌∙◌}
-use Rattle.cov_ast.specs.Plain.{Plain}
+use Rattle.cov_ast.specs.Plain.{Plain, plain_block}
 use Rattle.cov_ast.specs.Syntax.{Stm, skip, assign, lock, unlock, branch, loop, note, output, Block, done, more}
 use Rattle.typing_rules.specs.Blocks.{after_stm, after_block}
 use Rattle.typing_state.specs.After.{with_guard}
 use Rattle.typing_state.specs.Point.{Point}
 use Rattle.held_locks.specs.LocksHeld.{held_past, held_at_end}
+use Rattle.held_locks.proofs.PlainLaws.{after_the_first}
 
 module _ (p : Plain) (t : ℕ) where
   mutual
@@ -21,7 +22,8 @@ module _ (p : Plain) (t : ℕ) where
 
     held_behind_block : (b : Block) (a : Point) → held_at_end b a.held ≡ (after_block p t b a).held
     held_behind_block done a = refl
-    held_behind_block (more at s proofs rest) a = ap (held_at_end rest) (held_behind s a) ∙ held_behind_block rest (after_stm p t s a)
+    held_behind_block (more at s proofs rest) a =
+        after_the_first s at (plain_block rest) a.held ∙ ap (held_at_end rest) (held_behind s a) ∙ held_behind_block rest (after_stm p t s a)
 
 pub after_held : (p : Plain) (t : ℕ) (s : Stm) (a : Point) → held_past s a.held ≡ (after_stm p t s a).held
 after_held p t s a = held_behind p t s a

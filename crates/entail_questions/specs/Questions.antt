@@ -9,7 +9,8 @@ use Rattle.cov_ast.specs.Syntax.{State, Stm, skip, assign, lock, unlock, branch,
 use Rattle.mode_compat.specs.Compatible.{numbered}
 use Rattle.mode_state.specs.Sets.{is_hidden}
 use Rattle.statement_paths.specs.Paths.{Way, way_to}
-use Rattle.held_locks.specs.LocksHeld.{held_along, none_held}
+use Rattle.cov_ast.specs.LocksAlong.{no_locks}
+use Rattle.held_locks.specs.LocksHeld.{held_along}
 use Rattle.entail_questions.specs.declared.kinds.Asked.{Asked}
 use Rattle.entail_questions.specs.declared.kinds.End.{End}
 use Rattle.entail_questions.specs.declared.kinds.End.TheVariants as e
@@ -81,7 +82,7 @@ asked_among all (suc i) = option_map (λ found. record { question = found; of = 
 -- of the statement at the end of a way, if there is one
 abbrev pub asked_behind : Plain → (t : ℕ) → Option Way → (number : ℕ) → Option Asked
 asked_behind p t None number = None
-asked_behind p t (Some w) number = asked_among (questions p t (held_along w.steps (none_held p)) w.stm) number
+asked_behind p t (Some w) number = asked_among (questions p t (held_along w.steps (no_locks p)) w.stm) number
 
 -- What the entailment with this number asks, of those of the statement at this place of a thread. `None` comes where there is no
 -- such statement or no such entailment.

@@ -20,7 +20,8 @@ use Rattle.typing_rules.specs.ThreadEntailments.{PlacedEntailment, placed_from, 
 use Rattle.typing_rules.specs.ThreadObligations.{thread_obligations}
 use Rattle.typing_state.specs.After.{meet, start, with_guard}
 use Rattle.typing_state.specs.Point.{Point}
-use Rattle.held_locks.specs.LocksHeld.{held_along, none_held}
+use Rattle.cov_ast.specs.LocksAlong.{no_locks}
+use Rattle.held_locks.specs.LocksHeld.{held_along}
 use Rattle.entail_questions.specs.OwnEntailments.{own_entailments}
 use Rattle.entail_questions.specs.Questions.{asked_among, asked_behind, of_controlled, of_preds, of_shown, of_state, of_unlock, of_written, questions}
 use Rattle.entail_questions.specs.declared.kinds.Asked.{Asked}
@@ -404,7 +405,7 @@ module _ (place number : ℕ) where
 
     of_way : (o : Option Way) (g : PlacedEntailment) → OfWay (start p t) o g → HasSite o (asked_behind p t o number) g
     of_way None g h = absurd h
-    of_way (Some w) g h = of_asked w (asked_among (questions p t (held_along w.steps (none_held p)) w.stm) number) g h
+    of_way (Some w) g h = of_asked w (asked_among (questions p t (held_along w.steps (no_locks p)) w.stm) number) g h
 
 pub of_site : (s : Program) (t place number : ℕ) → IsWellFormed s → t < length s.threads → (g : PlacedEntailment)
     → entailment_among (thread_entailments s t) place number ≡ Some g → IsOfSite s t place number g

@@ -1,30 +1,19 @@
 -- The locks that a thread holds at a place of its text: those that are taken and not given back on the way to it.
-use Rattle.std.specs.Prelude.{List, [], ◌∷◌, Bool, true, false, length, replicate, set}
-use Rattle.cov_ast.specs.Plain.{Plain}
-use Rattle.cov_ast.specs.Syntax.{Stm, skip, assign, lock, unlock, branch, loop, note, output, Block, done, more}
+--
+-- They are those of the plain text, which notes and other annotations don't change.
+use Rattle.std.specs.Prelude.{List, [], ◌∷◌, Bool}
+use Rattle.cov_ast.specs.LocksAlong.{locks_at_end}
+use Rattle.cov_ast.specs.Plain.{none, plain_stm, plain_block}
+use Rattle.cov_ast.specs.Syntax.{Stm, Block}
 use Rattle.statement_paths.specs.Paths.{Step, passed, yes, no, head}
 
--- of each lock, whether it is held
-abbrev pub none_held : Plain → List Bool
-none_held p = replicate (length p.locks) false
+-- those held after a statement
+abbrev pub held_past : Stm → (held : List Bool) → List Bool
+held_past s held = locks_at_end (plain_stm s 0 none) held
 
-abbrev mutual
-  -- Those held after a statement. Behind a branch they are those at the end of its first block, and behind a loop those in front of
-  -- it; where the two ends of a branch or of a turn differ, a rule is broken.
-  pub held_past : Stm → (held : List Bool) → List Bool
-  held_past skip held = held
-  held_past (assign x e q retypes) held = held
-  held_past (lock l) held = set held l true
-  held_past (unlock l) held = set held l false
-  held_past (branch e a b join) held = held_at_end a held
-  held_past (loop e inv b) held = held
-  held_past (note j) held = held
-  held_past (output e) held = held
-
-  -- those held at the end of a block
-  pub held_at_end : Block → (held : List Bool) → List Bool
-  held_at_end done held = held
-  held_at_end (more at s proofs rest) held = held_at_end rest (held_past s held)
+-- those held at the end of a block
+abbrev pub held_at_end : Block → (held : List Bool) → List Bool
+held_at_end b held = locks_at_end (plain_block b) held
 
 -- those held after a step
 abbrev pub held_after : Step → (held : List Bool) → List Bool

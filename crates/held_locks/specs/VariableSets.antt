@@ -2,7 +2,8 @@
 use Rattle.std.specs.Prelude.{ℕ, List, Bool, length}
 use Rattle.cov_ast.specs.Plain.{Plain}
 use Rattle.cov_ast.specs.Tables.{table}
-use Rattle.held_locks.specs.LocksHeld.{held_along, none_held}
+use Rattle.cov_ast.specs.LocksAlong.{no_locks}
+use Rattle.held_locks.specs.LocksHeld.{held_along}
 use Rattle.mode_state.specs.Sets.{is_hidden, is_stable}
 use Rattle.statement_paths.specs.Paths.{Step}
 
@@ -16,7 +17,7 @@ hidden p t held = table (length p.vars) (is_hidden p t held)
 
 -- the same behind steps from the start of the thread's text
 abbrev pub stable_behind : Plain → (t : ℕ) → List Step → List Bool
-stable_behind p t steps = stable p t (held_along steps (none_held p))
+stable_behind p t steps = stable p t (held_along steps (no_locks p))
 
 abbrev pub hidden_behind : Plain → (t : ℕ) → List Step → List Bool
-hidden_behind p t steps = hidden p t (held_along steps (none_held p))
+hidden_behind p t steps = hidden p t (held_along steps (no_locks p))

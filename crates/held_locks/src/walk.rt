@@ -6,6 +6,7 @@ ghost use Rattle.cov_ast.specs.View as view;
 ghost use Rattle.cov_ast.specs.WellFormed.{IsWellFormed};
 ghost use Rattle.mode_state.specs.Sets.{modes_at};
 ghost use Rattle.statement_paths.specs.Paths.{step};
+ghost use Rattle.cov_ast.specs.LocksAlong.{no_locks};
 ghost use Rattle.held_locks.specs.LocksHeld as spec;
 
 use cov_ast::{Program, Stmt, StmtKind};
@@ -24,7 +25,7 @@ pub fn modes_along(
     requires formed { IsWellFormed (view.program p.now) }
     requires thread { t < length p.now.threads }
     ensures { IfOk result (λ made. let q = plain (view.program p.now) in
-        made ≡ modes_at q t (spec.held_along (map step steps.now) (spec.none_held q))) }
+        made ≡ modes_at q t (spec.held_along (map step steps.now) (no_locks q))) }
 {
     let mut modes = ModeState::start(alloc, p, t)?;
     follow(steps, &mut modes);

@@ -10,7 +10,8 @@ use Rattle.cov_ast.specs.Plain.{Plain}
 use Rattle.cov_ast.specs.Syntax.{skip, assign, lock, unlock, branch, loop, note, output}
 use Rattle.cov_ast.specs.Tables.{has}
 use Rattle.entail_questions.proofs.HeldAtPoints.{after_held}
-use Rattle.held_locks.specs.LocksHeld.{held_after, held_along, none_held}
+use Rattle.cov_ast.specs.LocksAlong.{no_locks}
+use Rattle.held_locks.specs.LocksHeld.{held_after, held_along}
 use Rattle.held_locks.specs.VariableSets.{stable, stable_behind}
 use Rattle.hypothesis_origins.specs.Origins.{Given, given, each, given_by}
 use Rattle.hypothesis_origins.proofs.PointLaws.{appended}
@@ -195,8 +196,8 @@ would_be_known p t steps hypotheses o k =
     let missing = found.new.missing in
     let before = point_behind p t front in
     let next = after_step p t step before in
-    let held : held_along steps (none_held p) ≡ held_along back next.held
-    = ap (λ ss. held_along ss (none_held p)) found.parts ∙ held_joined p t front (step ∷ back) (none_held p)
+    let held : held_along steps (no_locks p) ≡ held_along back next.held
+    = ap (λ ss. held_along ss (no_locks p)) found.parts ∙ held_joined p t front (step ∷ back) (no_locks p)
     ∙ ap (held_along (step ∷ back)) (held_steps p t front (start p t)) ∙ ap (held_along back) (held_step p t step before) in
     let over : IsKept p t hypotheses next.held back o.term
     = subst (λ locks. each_variable (has (behind p hypotheses (stable p t locks) back).kept) o.term ≡ true) held missing.over in

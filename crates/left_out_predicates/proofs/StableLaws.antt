@@ -1,5 +1,5 @@
 -- Variables that are stable at a point, and that no step to it touches, are stable in front of these steps too.
-use Rattle.std.proofs.Common.{◌≡◌, ℕ, ◌==◌, List, [], ◌∷◌, Bool, true, false, length, refl, sym, ◌∙◌, ap, arith, set, inl, inr, true≢false}
+use Rattle.std.proofs.Common.{◌≡◌, ℕ, ◌==◌, List, [], ◌∷◌, Bool, true, false, length, refl, sym, ◌∙◌, ap, subst, arith, set, inl, inr, true≢false}
 use Rattle.std.specs.Prelude.{◌&&◌, ◌||◌}
 use Rattle.std.specs.List.{list_any}
 use Rattle.std.proofs.Math.Bool.{and-false}
@@ -9,10 +9,11 @@ use Rattle.cov_expr.specs.Term.{Term}
 use Rattle.cov_expr.specs.Trees.{has_number}
 use Rattle.cov_ast.proofs.TableLaws.{table_at, table_length}
 use Rattle.cov_ast.specs.Declarations.{assumes, lists, lock_at, under}
-use Rattle.cov_ast.specs.Plain.{Plain}
+use Rattle.cov_ast.specs.Plain.{Plain, plain_block}
 use Rattle.cov_ast.specs.Syntax.{Lock, Stm, skip, assign, lock, unlock, branch, loop, note, output, Block, done, more}
 use Rattle.cov_ast.specs.Tables.{has, table}
 use Rattle.held_locks.specs.LocksHeld.{held_after, held_along, held_at_end, held_past}
+use Rattle.held_locks.proofs.PlainLaws.{after_the_first}
 use Rattle.held_locks.specs.VariableSets.{stable}
 use Rattle.mode_state.specs.Sets.{is_stable, locks_of}
 use Rattle.statement_paths.specs.Paths.{Step, passed, yes, no, head}
@@ -87,10 +88,11 @@ module _ (p : Plain) (t x : ℕ) where
 
     past_block : (b : Block) (held marks : List Bool) → Leaves held (held_at_end b held) marks (unlocked_in p b marks)
     past_block done held marks = λ h. (h, refl)
-    past_block (more at s proofs rest) held marks = λ h.
+    past_block (more at s proofs rest) held marks =
+        subst (λ after. Leaves held after marks (unlocked_in p (more at s proofs rest) marks)) (sym (after_the_first s at (plain_block rest) held)) (λ h.
         let later = past_block rest (held_past s held) (unlocked_by p s marks) h in
         let first = past s held marks later.0 in
-        (first.0, later.1 ∙ first.1)
+        (first.0, later.1 ∙ first.1))
 
   past_step : (s : Step) (held marks : List Bool) → Leaves held (held_after s held) marks (untouched_by p s marks)
   past_step (passed at skip) held marks = λ h. (h, refl)

@@ -8,7 +8,8 @@ use Rattle.cov_ast.specs.declared.refusal.Detail.{Detail}
 use Rattle.cov_ast.specs.declared.refusal.Detail.TheVariants.{Three}
 use Rattle.entail_questions.specs.Controls.{controls}
 use Rattle.entail_text.specs.VariableNames.{variable_names}
-use Rattle.held_locks.specs.LocksHeld.{held_along, none_held}
+use Rattle.cov_ast.specs.LocksAlong.{no_locks}
+use Rattle.held_locks.specs.LocksHeld.{held_along}
 use Rattle.held_locks.specs.VariableSets.{hidden, stable}
 use Rattle.mode_compat.specs.Compatible.{numbered}
 use Rattle.refusal_names.specs.ForbiddenAccess.{shown_access}
@@ -37,7 +38,7 @@ line_of p bytes t rule detail steps held s = []
 -- of the statement at the end of a way, if there is one
 abbrev pub line_of_way : Program → (bytes : List ℕ) → (t : ℕ) → Rule → Detail → Option Way → List ℕ
 line_of_way p bytes t rule detail None = []
-line_of_way p bytes t rule detail (Some w) = line_of p bytes t rule detail w.steps (held_along w.steps (none_held (plain p))) w.stm
+line_of_way p bytes t rule detail (Some w) = line_of p bytes t rule detail w.steps (held_along w.steps (no_locks (plain p))) w.stm
 
 -- of the statement at a place of a thread, where the program has so many threads
 abbrev pub line_at : Program → (bytes : List ℕ) → (t : ℕ) → Rule → (place : ℕ) → Detail → List ℕ

@@ -6,7 +6,8 @@ ghost use Rattle.cov_ast.specs.View as view;
 ghost use Rattle.cov_ast.specs.WellFormed.{IsWellFormed};
 ghost use Rattle.entail_questions.specs.Controls as classes;
 ghost use Rattle.entail_text.specs.VariableNames as spelled;
-ghost use Rattle.held_locks.specs.LocksHeld.{held_along, none_held};
+ghost use Rattle.cov_ast.specs.LocksAlong.{no_locks};
+ghost use Rattle.held_locks.specs.LocksHeld.{held_along};
 ghost use Rattle.held_locks.specs.VariableSets as variables;
 ghost use Rattle.mode_compat.specs.Compatible.{numbered};
 ghost use Rattle.mode_state.specs.Sets.{modes_at};
@@ -143,7 +144,7 @@ fn add_of_way(
     requires formed { IsWellFormed (view.program p.now) }
     requires thread { t < length p.now.threads }
     ensures { let w = way found.now in
-        OnOk result (text.new ≡ text.old ++ spec.line_of (view.program p.now) bytes.now t refusal.now.rule refusal.now.detail w.steps (held_along w.steps (none_held (plain (view.program p.now)))) w.stm) }
+        OnOk result (text.new ≡ text.old ++ spec.line_of (view.program p.now) bytes.now t refusal.now.rule refusal.now.detail w.steps (held_along w.steps (no_locks (plain (view.program p.now)))) w.stm) }
 {
     let mut modes = modes_along(alloc, p, t, found.steps.as_slice())?;
     let names = variable_names(alloc, p)?;

@@ -9,7 +9,8 @@ use Rattle.cov_print.specs.Spelling.{Names, whole}
 use Rattle.entail_questions.specs.Controls.{controls}
 use Rattle.entail_questions.specs.declared.kinds.Question.{Question}
 use Rattle.entail_text.specs.VariableNames.{variable_names}
-use Rattle.held_locks.specs.LocksHeld.{held_along, none_held}
+use Rattle.cov_ast.specs.LocksAlong.{no_locks}
+use Rattle.held_locks.specs.LocksHeld.{held_along}
 use Rattle.held_locks.specs.VariableSets.{hidden, stable}
 use Rattle.statement_paths.specs.Paths.{Step}
 use Rattle.text_lines.specs.Lines.{line}
@@ -34,7 +35,7 @@ known_at p t held = record { controls = controls p; stable = stable p t held; hi
 
 -- behind steps from the start of a thread
 abbrev pub known_behind : Plain → (t : ℕ) → List Step → Known
-known_behind p t steps = known_at p t (held_along steps (none_held p))
+known_behind p t steps = known_at p t (held_along steps (no_locks p))
 
 -- The words on an origin ---------------------------------------------------------------------------------------
 

@@ -7,7 +7,8 @@ use Rattle.cov_ast.specs.WellFormed.{IsStmInRange}
 use Rattle.mode_compat.specs.Compatible.{no_thread, numbered}
 use Rattle.mode_state.specs.Sets.{is_hidden}
 use Rattle.statement_paths.specs.Paths.{step, way, way_to}
-use Rattle.held_locks.specs.LocksHeld.{held_along, none_held}
+use Rattle.cov_ast.specs.LocksAlong.{no_locks}
+use Rattle.held_locks.specs.LocksHeld.{held_along}
 use Rattle.held_locks.specs.VariableSets.{hidden}
 use Rattle.entail_questions.specs.Questions.{asked_among, asked_behind, of_statement}
 use Rattle.entail_questions.proofs.InRange.{statement_in_range}
@@ -42,6 +43,6 @@ returns c =
     ∙ ap (λ qs. asked_among qs c.args.number)
     (c.as_slice-2.ensures ∙ c.in_ok-all.ensures
     ∙ ap (λ h. of_statement (plain q) (has h) s)
-    (c.in_ok-hidden.ensures ∙ ap (λ ss. hidden (plain q) t (held_along (map step ss) (none_held (plain q)))) c.as_slice.ensures)
-    ∙ of_table (plain q) (is_hidden (plain q) t (held_along (map step w.steps) (none_held (plain q)))) (length q.locks) s range)
+    (c.in_ok-hidden.ensures ∙ ap (λ ss. hidden (plain q) t (held_along (map step ss) (no_locks (plain q)))) c.as_slice.ensures)
+    ∙ of_table (plain q) (is_hidden (plain q) t (held_along (map step w.steps) (no_locks (plain q)))) (length q.locks) s range)
     ∙ ap (λ o. asked_behind (plain q) t o c.args.number) (sym found)
