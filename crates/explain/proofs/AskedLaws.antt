@@ -6,7 +6,7 @@ use Rattle.cov_ast.specs.declared.refusal.Refusal.{Refusal}
 use Rattle.cov_ast.proofs.ObligationLaws.{none_refused}
 use Rattle.explain.specs.Tellings.{Adds, asked_lines, refusal_lines}
 use Rattle.explain.specs.WarningSentences.{warning_lines}
-use Rattle.program_warnings.specs.HiddenText.{of_text}
+use Rattle.program_warnings.specs.HiddenText.{text_warnings}
 use Rattle.policy_class.specs.Resolved.{name_obligations, resolved}
 use Rattle.std.proofs.lemmas.Bool.{cases_Bool, cond-true, cond-false}
 use Rattle.top_call.specs.Programs.{SpellsProgram}
@@ -40,8 +40,8 @@ unnamed_lines p bytes refusal first is = cond-false (all_hold (name_obligations 
 
 -- what was added is what is told beside the explanation of the reply that they are refused
 pub adds_asked : (name bytes : List ℕ) (reply : Reply) (refusal : Refusal) (thread : Option (List ℕ)) → reply ≡ refused refusal thread → (old new : List ℕ)
-    → (p : Parsed) × SpellsProgram bytes p × (new ≡ old ++ (asked_lines p bytes refusal ++ warning_lines name bytes (of_text bytes)))
+    → (p : Parsed) × SpellsProgram bytes p × (new ≡ old ++ (asked_lines p bytes refusal ++ warning_lines name bytes (text_warnings bytes)))
     → (more : List ℕ) × Adds name bytes reply more × (new ≡ old ++ more)
 adds_asked name bytes reply refusal thread is old new (p, spells, same) =
-    let lines = asked_lines p bytes refusal ++ warning_lines name bytes (of_text bytes) in
+    let lines = asked_lines p bytes refusal ++ warning_lines name bytes (text_warnings bytes) in
     (lines, subst (λ r. Adds name bytes r lines) (sym is) (p, spells, refl), same)

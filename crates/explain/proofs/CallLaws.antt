@@ -1,17 +1,25 @@
 -- Laws of what is told of files, and of how a call ends.
-use Rattle.std.proofs.Common.{◌≡◌, ℕ, ◌+◌, ◌<◌, List, [], ◌∷◌, ◌++◌, length, map, take, get_or, Option, Some, None, Ok, inl, inr, codes, refl, sym, ap, ◌∙◌, subst, append_assoc}
-use Rattle.std.proofs.lemmas.List.{append-nil, map_more}
-use Rattle.cov_io.specs.Shelves.{Shelved}
+use Rattle.std.proofs.Common.{◌≡◌, ℕ, ◌+◌, ◌<◌, List, [], ◌∷◌, ◌++◌, length, map, take, drop, get_or, Result, Option, Some, None, Ok, Err, IfErr, MatchResult, inl, inr, codes, refl, sym, ap, ◌∙◌, subst, append_assoc}
+use Rattle.std.proofs.lemmas.List.{append-nil, drop_more, map-append, map_more, take-append-drop}
+use Rattle.cov_expr.specs.declared.limits.TheConstants.{MOST_BYTES}
+use Rattle.cov_io.specs.Counters.{raised}
+use Rattle.cov_io.specs.Shelves.{Shelved, Gives}
 use Rattle.cov_io.specs.Sinks.{Sunk, Writes}
+use Rattle.cov_io.specs.declared.shelf.Fetched.TheVariants.{Whole, TooLong}
+use Rattle.cov_io.specs.declared.shelf.ShelfFault.TheVariants.{Failed, NoMemory}
 use Rattle.explain.specs.Explanations.{explanation_at, where_is, sentence_of, place_of}
 use Rattle.text_lines.specs.Excerpts.{excerpt}
+use Rattle.top_call.specs.AnswerViews.{Stops}
 use Rattle.top_call.specs.Commands.{check}
+use Rattle.top_call.specs.Files.{Misses}
 use Rattle.top_call.specs.Outcome.{Does}
 use Rattle.top_call.specs.Reports.{report_of}
-use Rattle.explain.specs.FileCalls.{Tells, TellsAll, Answers, Ends, first_status}
+use Rattle.explain.specs.FileCalls.{Tells, TellsAll, Answers, AsksEach, Ends, IsCalled, first_status}
 use Rattle.top_call.specs.Replies.{Reply, usage, read_fault, too_long, malformed, refused, accepted, spelled, ran, bad_starts, differ, status_of}
 use Rattle.top_call.specs.declared.answers.Status.{Status}
 use Rattle.top_call.specs.declared.answers.Status.TheVariants as s
+use Rattle.top_call.specs.declared.answers.Stop.{Stop}
+use Rattle.top_call.specs.declared.answers.Stop.TheVariants as stops
 
 first_of_two : (a b c : Status) → first_status a (first_status b c) ≡ first_status (first_status a b) c
 first_of_two s.Done b c = refl
@@ -76,6 +84,81 @@ tells_step seen names i a b c item name before text now status next inside at is
   where
     names_are : map seen (take (i + 1) names) ≡ map seen (take i names) ++ name ∷ []
     names_are = map_more seen names i item inside ∙ ap (λ x. map seen (take i names) ++ x ∷ []) (ap seen (sym at) ∙ sym is)
+
+-- Calls of the shelf -------------------------------------------------------------------------------------------
+
+-- one call of the shelf gave an answer: bytes, or what isn't fetched, or that memory ran out
+pub is_called : (a b : Shelved) (name : List ℕ) (given : Result (List ℕ) Stop)
+    → MatchResult given (λ bytes. Gives a b name MOST_BYTES (Ok (Whole bytes))) (λ stop. Stops (Misses a b name MOST_BYTES) stop)
+    → b.calls ≡ raised a.calls 1 → IsCalled a b name
+is_called a b name (Ok bytes) gives counted = (Ok (Whole bytes), record { gives = gives; counted = counted })
+is_called a b name (Err (stops.Answer answer)) (inl (gives, is)) counted = (Ok TooLong, record { gives = gives; counted = counted })
+is_called a b name (Err (stops.Answer answer)) (inr (gives, is)) counted = (Err Failed, record { gives = gives; counted = counted })
+is_called a b name (Err stops.NoMemory) given counted = (Err NoMemory, record { gives = tt; counted = counted })
+
+-- a call that is told of gave an answer other than want of memory, and then what is next follows
+asked_by : (a b c : Shelved) (name : List ℕ) (reply : Reply) (here : List ℕ) (names : List (List ℕ)) (Lacks : Type 0) → Tells a b name reply here
+    → AsksEach b c names Lacks → AsksEach a c (name ∷ names) Lacks
+asked_by a b c name reply here names Lacks (counted, inl (bytes, gives, checks, told)) next =
+    inl (b, Ok (Whole bytes), record { gives = gives; counted = counted }, next)
+asked_by a b c name reply here names Lacks (counted, inr (inl (gives, is), report)) next =
+    inl (b, Ok TooLong, record { gives = gives; counted = counted }, next)
+asked_by a b c name reply here names Lacks (counted, inr (inr (gives, is), report)) next =
+    inl (b, Err Failed, record { gives = gives; counted = counted }, next)
+
+-- those that are told of are asked, and then the rest
+asked_front : (front rest : List (List ℕ)) (a b c : Shelved) (text : List ℕ) (status : Status) (Lacks : Type 0) → TellsAll a b front text status
+    → AsksEach b c rest Lacks → AsksEach a c (front ++ rest) Lacks
+asked_front [] rest a b c text status Lacks (stays, none, done) next = subst (λ s. AsksEach s c rest Lacks) stays next
+asked_front (n ∷ front) rest a b c text status Lacks (between, reply, here, there, later, at, all, is, first_is) next =
+    asked_by a between c n reply here (front ++ rest) Lacks at (asked_front front rest between b c there later Lacks all next)
+
+-- where all is told, each is asked
+pub asked_all : (names : List (List ℕ)) (a b : Shelved) (text : List ℕ) (status : Status) (Lacks : Type 0) → Answers a b names text status → AsksEach a b names Lacks
+asked_all [] a b text status Lacks (stays, is, done) = stays
+asked_all (n ∷ names) a b text status Lacks told =
+    subst (λ ns. AsksEach a b ns Lacks) (append-nil (n ∷ names)) (asked_front (n ∷ names) [] a b b text status Lacks told refl)
+
+-- where memory is lacking, none of the rest need be asked
+none_asked : (names : List (List ℕ)) (a : Shelved) (Lacks : Type 0) → Lacks → AsksEach a a names Lacks
+none_asked [] a Lacks lacks = refl
+none_asked (n ∷ names) a Lacks lacks = inr (refl, lacks)
+
+last_asked : (name : List ℕ) (names : List (List ℕ)) (a b : Shelved) (Lacks : Type 0) → Lacks → IsCalled a b name → AsksEach a b (name ∷ names) Lacks
+last_asked name names a b Lacks lacks (Ok fetched, call) = inl (b, Ok fetched, call, none_asked names b Lacks lacks)
+last_asked name names a b Lacks lacks (Err Failed, call) = inl (b, Err Failed, call, none_asked names b Lacks lacks)
+last_asked name names a b Lacks lacks (Err NoMemory, call) = inl (b, Err NoMemory, call, (refl, lacks))
+
+-- the step of a loop over files that ends for want of memory: those so far are told of, and one more was asked
+pub asked_stopped : {A : Type 0} (seen : A → List ℕ) (names : List A) (i : ℕ) (a b c : Shelved) (item : A) (name text : List ℕ) (status : Status)
+    → i < length names → item ≡ get_or names i item → name ≡ seen item
+    → TellsAll a b (map seen (take i names)) text status → IsCalled b c name → AsksEach a c (map seen names) (Unit {0})
+asked_stopped seen names i a b c item name text status inside at is told called =
+    subst (λ ns. AsksEach a c ns (Unit {0})) (sym names_are)
+    (asked_front (map seen (take i names)) (name ∷ map seen (drop (i + 1) names)) a b c text status (Unit {0}) told
+    (last_asked name (map seen (drop (i + 1) names)) b c (Unit {0}) tt called))
+  where
+    names_are : map seen names ≡ map seen (take i names) ++ name ∷ map seen (drop (i + 1) names)
+    names_are =
+        ap (map seen) (sym (take-append-drop i names))
+        ∙ map-append seen (take i names) (drop i names)
+        ∙ ap (λ ns. map seen (take i names) ++ map seen ns) (drop_more names i item inside)
+        ∙ ap (λ x. map seen (take i names) ++ x ∷ map seen (drop (i + 1) names)) (ap seen (sym at) ∙ sym is)
+
+-- a fact, where a step fails
+pub where_failed : {A B : Type 0} (r : Result A B) (P : Type 0) → P → IfErr r (λ e. P)
+where_failed (Ok x) P h = tt
+where_failed (Err e) P h = h
+
+-- another reason
+pub asked_for : (names : List (List ℕ)) (a b : Shelved) (Lacks Other : Type 0) → (Lacks → Other) → AsksEach a b names Lacks → AsksEach a b names Other
+asked_for [] a b Lacks Other why stays = stays
+asked_for (n ∷ names) a b Lacks Other why (inr (stays, lacks)) = inr (stays, why lacks)
+asked_for (n ∷ names) a b Lacks Other why (inl (between, Ok fetched, call, next)) =
+    inl (between, Ok fetched, call, asked_for names between b Lacks Other why next)
+asked_for (n ∷ names) a b Lacks Other why (inl (between, Err Failed, call, next)) =
+    inl (between, Err Failed, call, asked_for names between b Lacks Other why next)
+asked_for (n ∷ names) a b Lacks Other why (inl (between, Err NoMemory, call, (stays, lacks))) = inl (between, Err NoMemory, call, (stays, why lacks))
 
 -- Statuses of replies ------------------------------------------------------------------------------------------
 

@@ -1,12 +1,16 @@
 -- What a call tells of its files, and how it ends.
-use Rattle.std.specs.Prelude.{◌≡◌, ◌⊎◌, ℕ, List, [], ◌∷◌, ◌++◌, codes, Ok, Err}
+use Rattle.std.specs.Prelude.{◌≡◌, ◌⊎◌, ℕ, List, [], ◌∷◌, ◌++◌, codes, Result, Ok, Err}
 use Rattle.cov_expr.specs.declared.limits.TheConstants.{MOST_BYTES}
 use Rattle.cov_io.specs.Counters.{raised}
 use Rattle.cov_io.specs.Shelves.{Shelved, Gives}
 use Rattle.cov_io.specs.Sinks.{Sunk, Writes}
+use Rattle.cov_io.specs.declared.shelf.Fetched.{Fetched}
 use Rattle.cov_io.specs.declared.shelf.Fetched.TheVariants.{Whole}
+use Rattle.cov_io.specs.declared.shelf.ShelfFault.{ShelfFault}
+use Rattle.cov_io.specs.declared.shelf.ShelfFault.TheVariants.{Failed, NoMemory}
 use Rattle.cov_io.specs.declared.sink.Failed as sink
 use Rattle.explain.specs.Tellings.{IsTold}
+use Rattle.top_call.specs.Asks.{Calls}
 use Rattle.top_call.specs.Files.{Misses}
 use Rattle.top_call.specs.Replies.{Reply, status_of}
 use Rattle.top_call.specs.Reports.{report_of}
@@ -42,6 +46,24 @@ usage_line = codes "usage: covern explain FILE..\n"
 abbrev pub Answers : (before after : Shelved) → List (List ℕ) → (text : List ℕ) → Status → Type 0
 Answers before after [] text status = (after ≡ before) × (text ≡ usage_line) × (status ≡ s.Usage)
 Answers before after (name ∷ names) text status = TellsAll before after (name ∷ names) text status
+
+-- What follows a call of the shelf: what is next, or where memory ran out for its answer, nothing.
+abbrev pub Follows : Result Fetched ShelfFault → (Next Halts : Type 0) → Type 0
+Follows (Ok fetched) Next Halts = Next
+Follows (Err Failed) Next Halts = Next
+Follows (Err NoMemory) Next Halts = Halts
+
+-- The shelf is called once, for a file, and gives an answer.
+abbrev pub IsCalled : (before after : Shelved) (name : List ℕ) → Type 0
+IsCalled before after name = (answer : Result Fetched ShelfFault) × Calls before after name MOST_BYTES answer
+
+-- The shelf is called once for each of these files, in order, and not otherwise; it is called for fewer only where memory was lacking.
+abbrev pub AsksEach : (before after : Shelved) → List (List ℕ) → (Lacks : Type 0) → Type 0
+AsksEach before after [] Lacks = after ≡ before
+AsksEach before after (name ∷ names) Lacks =
+    ((between : Shelved) × (answer : Result Fetched ShelfFault) × Calls before between name MOST_BYTES answer
+    × Follows answer (AsksEach between after names Lacks) ((after ≡ between) × Lacks))
+    ⊎ ((after ≡ before) × Lacks)
 
 -- How a call ends that tells so: the whole text is put; or the write failed, and a proper prefix of the text is put; or memory ran
 -- out before anything was put.

@@ -8,7 +8,7 @@ use Rattle.cov_ast.specs.declared.refusal.Refusal.{Refusal}
 use Rattle.entail_refused.specs.Asked.{asked}
 use Rattle.expected_tokens.specs.ExpectedLines.{expected_line}
 use Rattle.policy_class.specs.Resolved.{name_obligations, resolved}
-use Rattle.program_warnings.specs.HiddenText.{of_text}
+use Rattle.program_warnings.specs.HiddenText.{text_warnings}
 use Rattle.program_warnings.specs.Warnings.{warnings}
 use Rattle.refusal_names.specs.RefusalNames.{refusal_names}
 use Rattle.explain.specs.Explanations.{explanation}
@@ -40,7 +40,7 @@ stand_lines bytes fault = []
 abbrev pub Adds : (name bytes : List ℕ) → Reply → (text : List ℕ) → Type 0
 Adds name bytes (malformed file fault) text = text ≡ stand_lines bytes fault
 Adds name bytes (refused refusal thread) text =
-    (p : Parsed) × SpellsProgram bytes p × (text ≡ asked_lines p bytes refusal ++ warning_lines name bytes (of_text bytes))
+    (p : Parsed) × SpellsProgram bytes p × (text ≡ asked_lines p bytes refusal ++ warning_lines name bytes (text_warnings bytes))
 Adds name bytes (accepted threads statements entailments) text =
     (p : Parsed) × SpellsProgram bytes p × (text ≡ warning_lines name bytes (warnings (meaning p) bytes))
 Adds name bytes reply text = text ≡ []

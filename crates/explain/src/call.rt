@@ -1,8 +1,9 @@
 //! The call: the words of a command line, and how it ends.
 
-ghost use Rattle.std.specs.Prelude.{◌≡◌, ◌++◌, ◌≤◌, ℕ, List, IfOk, map, string_bytes};
+ghost use Rattle.std.specs.Prelude.{◌≡◌, ◌++◌, ◌≤◌, ℕ, List, IfErr, IfOk, map, string_bytes};
 ghost use Rattle.cov_io.specs.Shelves.{Passes};
-ghost use Rattle.explain.specs.FileCalls.{Answers, Ends};
+ghost use Rattle.explain.specs.FileCalls.{Answers, AsksEach, Ends};
+ghost use Rattle.top_call.specs.declared.answers.Status.TheVariants as s;
 
 use crate::files::tell_all;
 use cov_expr::{Blob, List, NoMemory};
@@ -20,6 +21,8 @@ pub fn explain<S: Shelf, K: Sink>(
 ) -> Status
     // What is put is told of the files, in order; the status is the first of theirs that isn't Done.
     ensures outcome { Ends (Answers (S.shelved shelf.old) (S.shelved shelf.new) (map string_bytes names.now)) (K.sunk sink.old) (K.sunk sink.new) result }
+    // The shelf is called once for each file, in order, and for fewer only where memory ran out.
+    ensures asks { AsksEach (S.shelved shelf.old) (S.shelved shelf.new) (map string_bytes names.now) (result ≡ s.NoMemory) }
     // What a shelf tells stays, and no count falls.
     ensures passes { Passes (S.shelved shelf.old) (S.shelved shelf.new) }
     ensures counts { (K.sunk sink.old).faults ≤ (K.sunk sink.new).faults }
@@ -43,6 +46,7 @@ fn answer<S: Shelf>(
 ) -> Result<Status, NoMemory>
     ensures told { IfOk result (λ status. (all : List ℕ) × Answers (S.shelved shelf.old) (S.shelved shelf.new) (map string_bytes names.now) all status
         × (text.new ≡ text.old ++ all)) }
+    ensures stopped { IfErr result (λ e. AsksEach (S.shelved shelf.old) (S.shelved shelf.new) (map string_bytes names.now) (Unit {0})) }
     ensures passes { Passes (S.shelved shelf.old) (S.shelved shelf.new) }
 {
     if names.is_empty() {

@@ -1,10 +1,10 @@
 //! What is told of each file, and the status of them all.
 
-ghost use Rattle.std.specs.Prelude.{◌≡◌, ◌++◌, ◌≤◌, ℕ, List, IfOk, length, map, string_bytes};
+ghost use Rattle.std.specs.Prelude.{◌≡◌, ◌++◌, ◌≤◌, ℕ, List, IfErr, IfOk, length, map, string_bytes};
 ghost use Rattle.cov_expr.specs.declared.limits.TheConstants.{MOST_BYTES};
 ghost use Rattle.cov_io.specs.Shelves.{Passes};
 ghost use Rattle.explain.specs.FileCalls as spec;
-ghost use Rattle.explain.specs.FileCalls.{Tells, TellsAll};
+ghost use Rattle.explain.specs.FileCalls.{AsksEach, IsCalled, Tells, TellsAll};
 ghost use Rattle.explain.specs.Tellings.{IsTold};
 ghost use Rattle.top_call.specs.AnswerViews.{seen};
 ghost use Rattle.top_call.specs.Replies.{Reply, status_of};
@@ -26,6 +26,7 @@ pub fn tell_all<S: Shelf>(
 ) -> Result<Status, NoMemory>
     ensures told { IfOk result (λ status. (all : List ℕ) × TellsAll (S.shelved shelf.old) (S.shelved shelf.new) (map string_bytes names.now) all status
         × (text.new ≡ text.old ++ all)) }
+    ensures stopped { IfErr result (λ e. AsksEach (S.shelved shelf.old) (S.shelved shelf.new) (map string_bytes names.now) (Unit {0})) }
     ensures passes { Passes (S.shelved shelf.old) (S.shelved shelf.new) }
 {
     let mut status = Status::Done;
@@ -55,6 +56,7 @@ fn tell<S: Shelf>(
 ) -> Result<Status, NoMemory>
     ensures told { IfOk result (λ status. (reply : Reply) × (here : List ℕ) × Tells (S.shelved shelf.old) (S.shelved shelf.new) name.now reply here
         × (status ≡ status_of reply) × (text.new ≡ text.old ++ here)) }
+    ensures called { IsCalled (S.shelved shelf.old) (S.shelved shelf.new) name.now }
     ensures passes { Passes (S.shelved shelf.old) (S.shelved shelf.new) }
 {
     match fetch(alloc, name, MOST_BYTES, shelf) {

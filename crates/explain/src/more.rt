@@ -5,7 +5,7 @@ ghost use Rattle.cov_ast.specs.Syntax.{Parsed};
 ghost use Rattle.cov_expr.specs.declared.limits.TheConstants.{MOST_BYTES};
 ghost use Rattle.explain.specs.Tellings.{Adds, asked_lines, stand_lines};
 ghost use Rattle.explain.specs.WarningSentences.{warning_lines};
-ghost use Rattle.program_warnings.specs.HiddenText.{of_text};
+ghost use Rattle.program_warnings.specs.HiddenText.{text_warnings};
 ghost use Rattle.top_call.specs.AnswerViews.{seen};
 ghost use Rattle.top_call.specs.Programs.{SpellsProgram};
 ghost use Rattle.top_call.specs.Texts.{ChecksBytes};
@@ -50,7 +50,7 @@ fn add_refused(
     requires length { length bytes.now ≤ MOST_BYTES }
     requires spelled { (p : Parsed) × SpellsProgram bytes.now p }
     ensures { OnOk result ((p : Parsed) × SpellsProgram bytes.now p
-        × (text.new ≡ text.old ++ (asked_lines p bytes.now refusal.now ++ warning_lines name.now bytes.now (of_text bytes.now)))) }
+        × (text.new ≡ text.old ++ (asked_lines p bytes.now refusal.now ++ warning_lines name.now bytes.now (text_warnings bytes.now)))) }
 {
     add_asked(alloc, bytes, refusal, text)?;
     add_text_warnings(alloc, name, bytes, text)

@@ -42,7 +42,7 @@ pub fn add_text_warnings(
     text: &mut Blob,
 ) -> Result<(), NoMemory>
     requires { length bytes.now ≤ MOST_BYTES }
-    ensures { OnOk result (text.new ≡ text.old ++ spec.warning_lines name.now bytes.now (hidden.of_text bytes.now)) }
+    ensures { OnOk result (text.new ≡ text.old ++ spec.warning_lines name.now bytes.now (hidden.text_warnings bytes.now)) }
 {
     let found = text_warnings(alloc, bytes)?;
     add_warning_lines(name, bytes, found.as_slice(), text)
