@@ -1,6 +1,5 @@
 -- Soundness of the rules: a thread of which every obligation holds is secure. `Whole` says how the proof is laid out.
--- It speaks of definitions alone. Lemmas on what the code does stand beside this folder, and take laws of sets, lists and
--- obligations from it.
+-- It speaks of definitions alone.
 pub mod Fits
 pub mod Play
 pub mod Static
