@@ -13,7 +13,7 @@ ghost use Rattle.risc_machine.specs.Faults.{AreGood};
 ghost use Rattle.verify.specs.Accepted.{IsAccepted};
 
 use mode_compat::{sets_are_holdings, writable_and_stable_are_disjoint};
-use typing_rules::true_declarations_are_declared;
+use typing_law::true_declarations_are_declared;
 use verify::accepted_is_secure;
 
 /// The code of an accepted program matches it: from every memory, whatever the registers have at the start, each run of the

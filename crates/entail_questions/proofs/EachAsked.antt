@@ -11,11 +11,11 @@ use Rattle.cov_ast.specs.Syntax.{Stm, skip, assign, lock, unlock, branch, loop, 
 use Rattle.cov_ast.specs.WellFormed.{IsWellFormed, are_distinct, places, places_within}
 use Rattle.mode_compat.specs.Compatible.{no_thread, numbered}
 use Rattle.statement_paths.specs.Paths.{Step, passed, yes, no, head, Way, here, behind, way_to, way_within}
-use Rattle.typing_rules.specs.Blocks.{after_stm, after_block}
-use Rattle.typing_rules.specs.Counts.{entailment_count}
-use Rattle.typing_rules.specs.Entailments.{Entailment, assign_entailments, guard_follows, state_follows, unlock_entailments}
-use Rattle.typing_rules.specs.ThreadEntailments.{PlacedEntailment, placed_from, stm_entailments, block_entailments, entailment_among, all_entailments, reached, thread_entailments}
-use Rattle.typing_rules.specs.ThreadObligations.{thread_obligations}
+use Rattle.typing_law.specs.Blocks.{after_stm, after_block}
+use Rattle.typing_law.specs.Counts.{entailment_count}
+use Rattle.typing_law.specs.Entailments.{Entailment, assign_entailments, guard_follows, state_follows, unlock_entailments}
+use Rattle.typing_law.specs.ThreadEntailments.{PlacedEntailment, placed_from, stm_entailments, block_entailments, entailment_among, all_entailments, reached, thread_entailments}
+use Rattle.typing_law.specs.ThreadObligations.{thread_obligations}
 use Rattle.typing_state.specs.After.{meet, start, with_guard}
 use Rattle.typing_state.specs.Point.{Point}
 use Rattle.cov_ast.specs.LocksAlong.{no_locks}

@@ -7,8 +7,8 @@ use Rattle.cov_ast.specs.Declarations.{class_of, is_control, lock_at}
 use Rattle.cov_ast.specs.Plain.{Plain}
 use Rattle.cov_ast.specs.Syntax.{State, Stm, skip, assign, lock, unlock, branch, loop, note, output}
 use Rattle.mode_state.specs.Sets.{is_hidden}
-use Rattle.typing_rules.specs.Blocks.{after_block, value_type}
-use Rattle.typing_rules.specs.Entailments.{controlled_follows, controlled_values, freed_value, from_one_more, from_preds, guard_follows, retype_follows, shown_controlled, shown_value, state_follows, type_follows, unlock_entailments, written_type}
+use Rattle.typing_law.specs.Blocks.{after_block, value_type}
+use Rattle.typing_law.specs.Entailments.{controlled_follows, controlled_values, freed_value, from_one_more, from_preds, guard_follows, retype_follows, shown_controlled, shown_value, state_follows, type_follows, unlock_entailments, written_type}
 use Rattle.typing_state.specs.After.{meet, with_guard}
 use Rattle.typing_state.specs.Point.{Point}
 use Rattle.entail_questions.specs.OwnEntailments.{own_entailments}

@@ -3,8 +3,8 @@ use Rattle.std.specs.Prelude.{ℕ, List, [], ◌∷◌, ◌++◌}
 use Rattle.cov_expr.specs.Term.{neg}
 use Rattle.cov_ast.specs.Plain.{Plain}
 use Rattle.cov_ast.specs.Syntax.{Stm, skip, assign, lock, unlock, branch, loop, note, output}
-use Rattle.typing_rules.specs.Blocks.{after_block}
-use Rattle.typing_rules.specs.Entailments.{Entailment, assign_entailments, guard_follows, state_follows, unlock_entailments}
+use Rattle.typing_law.specs.Blocks.{after_block}
+use Rattle.typing_law.specs.Entailments.{Entailment, assign_entailments, guard_follows, state_follows, unlock_entailments}
 use Rattle.typing_state.specs.After.{meet, with_guard}
 use Rattle.typing_state.specs.Point.{Point}
 

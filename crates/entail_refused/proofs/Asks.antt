@@ -14,12 +14,12 @@ use Rattle.cov_ast.specs.declared.refusal.Rule.TheVariants.{V2, V5}
 use Rattle.mode_state.specs.Sets.{is_stable, may_write}
 use Rattle.typing_state.specs.After.{after_assign, meet, noted, with_guard}
 use Rattle.typing_state.specs.Point.{Point, is_tracked}
-use Rattle.typing_rules.specs.Blocks.{after_block, after_stm, value_type}
-use Rattle.typing_rules.specs.Counts.{entailment_count, is_entailment}
-use Rattle.typing_rules.specs.Entailments.{Entailment, assign_entailments, guard_follows, is_proved, state_follows, unlock_entailments}
-use Rattle.typing_rules.specs.ThreadEntailments.{PlacedEntailment, block_entailments, placed_from, stm_entailments}
-use Rattle.typing_rules.specs.ThreadObligations.{block_obligations, few_preds, flat, guard_obligations, narrow, numbers, of_var, one_unstable, over_controls, proved, reads, same_locks, small_terms, state_obligations, stm_parts, type_obligations}
-use Rattle.typing_rules.proofs.Counting.{count_cons, count_guard, count_numbers, count_reads, count_stable, count_state, count_types}
+use Rattle.typing_law.specs.Blocks.{after_block, after_stm, value_type}
+use Rattle.typing_law.specs.Counts.{entailment_count, is_entailment}
+use Rattle.typing_law.specs.Entailments.{Entailment, assign_entailments, guard_follows, is_proved, state_follows, unlock_entailments}
+use Rattle.typing_law.specs.ThreadEntailments.{PlacedEntailment, block_entailments, placed_from, stm_entailments}
+use Rattle.typing_law.specs.ThreadObligations.{block_obligations, few_preds, flat, guard_obligations, narrow, numbers, of_var, one_unstable, over_controls, proved, reads, same_locks, small_terms, state_obligations, stm_parts, type_obligations}
+use Rattle.typing_law.proofs.Counting.{count_cons, count_guard, count_numbers, count_reads, count_stable, count_state, count_types}
 use Rattle.entail_refused.proofs.GivenProofs.{AreGiven, given_left, given_right, given_proofs, given_within}
 
 -- of which thread something is asked, where, by which detail, and whether it holds

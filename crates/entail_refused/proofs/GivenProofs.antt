@@ -8,8 +8,8 @@ use Rattle.cov_ast.specs.Syntax.{Stm, skip, assign, lock, unlock, branch, loop, 
 use Rattle.cov_ast.specs.WellFormed.{are_distinct, places, places_within}
 use Rattle.entail_text.specs.Given.{cert_among, cert_of, first_of, proofs_at, proofs_within}
 use Rattle.entail_text.specs.Given as text
-use Rattle.typing_rules.specs.Entailments.{Entailment, is_proved}
-use Rattle.typing_rules.specs.Entailments as rules
+use Rattle.typing_law.specs.Entailments.{Entailment, is_proved}
+use Rattle.typing_law.specs.Entailments as rules
 use Rattle.entail_cert.specs.Valid.{is_valid}
 
 abbrev mutual

@@ -9,9 +9,9 @@ use Rattle.cov_ast.specs.Syntax.{Stm, skip, assign, lock, unlock, branch, loop, 
 use Rattle.cov_ast.specs.WellFormed.{are_distinct, places, places_within}
 use Rattle.typing_state.specs.After.{meet, with_guard}
 use Rattle.typing_state.specs.Point.{Point}
-use Rattle.typing_rules.specs.Blocks.{after_block, after_stm}
-use Rattle.typing_rules.specs.Entailments.{Entailment, assign_entailments, guard_follows, state_follows, unlock_entailments}
-use Rattle.typing_rules.specs.ThreadEntailments.{PlacedEntailment, block_entailments, entailment_among, placed_from, stm_entailments}
+use Rattle.typing_law.specs.Blocks.{after_block, after_stm}
+use Rattle.typing_law.specs.Entailments.{Entailment, assign_entailments, guard_follows, state_follows, unlock_entailments}
+use Rattle.typing_law.specs.ThreadEntailments.{PlacedEntailment, block_entailments, entailment_among, placed_from, stm_entailments}
 
 -- Lists of places ------------------------------------------------------------------------------------------------------
 

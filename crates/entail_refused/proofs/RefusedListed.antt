@@ -11,11 +11,11 @@ use Rattle.cov_ast.specs.declared.refusal.Refusal.{Refusal}
 use Rattle.cov_ast.specs.declared.refusal.Rule.TheVariants.{V9}
 use Rattle.mode_compat.specs.Compatible.{numbered}
 use Rattle.typing_state.specs.After.{start}
-use Rattle.typing_rules.specs.Counts.{entailment_count, is_entailment}
-use Rattle.typing_rules.specs.Entailments.{is_proved}
-use Rattle.typing_rules.specs.ThreadEntailments.{PlacedEntailment, all_entailments, entailment_among, is_about_certificates, is_passed, reached, reached_entailments}
-use Rattle.typing_rules.specs.ThreadObligations.{block_obligations, end_obligation, end_point, thread_obligations}
-use Rattle.typing_rules.proofs.Counting.{count_cons}
+use Rattle.typing_law.specs.Counts.{entailment_count, is_entailment}
+use Rattle.typing_law.specs.Entailments.{is_proved}
+use Rattle.typing_law.specs.ThreadEntailments.{PlacedEntailment, all_entailments, entailment_among, is_about_certificates, is_passed, reached, reached_entailments}
+use Rattle.typing_law.specs.ThreadObligations.{block_obligations, end_obligation, end_point, thread_obligations}
+use Rattle.typing_law.proofs.Counting.{count_cons}
 use Rattle.entail_refused.specs.RefusedEntailment.{NamesUnproved}
 use Rattle.entail_refused.proofs.Asks.{Ask, ask, asks, asks_before, ask_of, block_step}
 use Rattle.entail_refused.proofs.GivenProofs.{all_given, given_at, unproved_as_given}

@@ -13,11 +13,11 @@ use Rattle.cov_ast.specs.WellFormed.{IsWellFormed, places, places_within}
 use Rattle.mode_compat.specs.Compatible.{no_thread, numbered}
 use Rattle.mode_state.specs.Sets.{is_hidden}
 use Rattle.statement_paths.specs.Paths.{passed, yes, no, head, Way, here, behind, way_to, way_within}
-use Rattle.typing_rules.specs.Blocks.{after_stm, after_block, value_type}
-use Rattle.typing_rules.specs.Counts.{entailment_count}
-use Rattle.typing_rules.specs.Entailments.{Entailment, assign_entailments, controlled_follows, controlled_values, freed_value, from_one_more, from_preds, guard_follows, retype_follows, shown_controlled, shown_value, state_follows, type_follows, unlock_entailments, written_type}
-use Rattle.typing_rules.specs.ThreadEntailments.{PlacedEntailment, placed_from, stm_entailments, block_entailments, entailment_among, all_entailments, reached, thread_entailments}
-use Rattle.typing_rules.specs.ThreadObligations.{thread_obligations}
+use Rattle.typing_law.specs.Blocks.{after_stm, after_block, value_type}
+use Rattle.typing_law.specs.Counts.{entailment_count}
+use Rattle.typing_law.specs.Entailments.{Entailment, assign_entailments, controlled_follows, controlled_values, freed_value, from_one_more, from_preds, guard_follows, retype_follows, shown_controlled, shown_value, state_follows, type_follows, unlock_entailments, written_type}
+use Rattle.typing_law.specs.ThreadEntailments.{PlacedEntailment, placed_from, stm_entailments, block_entailments, entailment_among, all_entailments, reached, thread_entailments}
+use Rattle.typing_law.specs.ThreadObligations.{thread_obligations}
 use Rattle.typing_state.specs.After.{meet, start, with_guard}
 use Rattle.typing_state.specs.Point.{Point}
 use Rattle.cov_ast.specs.LocksAlong.{no_locks}

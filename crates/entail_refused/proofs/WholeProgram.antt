@@ -15,9 +15,9 @@ use Rattle.lock_spec.specs.Locks.{invariant_obligation, invariant_obligations, l
 use Rattle.mode_compat.specs.Compatible.{assumed_list, controls_of, mode_obligations, no_thread, numbered, threads_of, w6_obligation, w6_obligations, w7_obligation, w7_obligations, w8_obligation, w8_obligations, w9_obligation, w9_obligations, w9_other, w9_pair}
 use Rattle.mode_compat.specs.Declared.{declaration_obligations}
 use Rattle.policy_class.specs.Policy.{control_obligation, control_obligations, policy_obligations}
-use Rattle.typing_rules.specs.Counts.{is_entailment}
-use Rattle.typing_rules.specs.ThreadEntailments.{entailment_among, thread_entailments}
-use Rattle.typing_rules.specs.ThreadObligations.{thread_obligations}
+use Rattle.typing_law.specs.Counts.{is_entailment}
+use Rattle.typing_law.specs.ThreadEntailments.{entailment_among, thread_entailments}
+use Rattle.typing_law.specs.ThreadObligations.{thread_obligations}
 use Rattle.verify.specs.Accepted.{program_obligations}
 use Rattle.entail_refused.specs.Asked.{asked, asked_in, told_of}
 use Rattle.entail_refused.specs.RefusedEntailment.{IsToldOf, NamesUnproved}

@@ -15,7 +15,7 @@ use Rattle.entail_text.specs.VariableNames.{variable_names}
 use Rattle.entail_text.specs.ZeroGoals.{zero_line}
 use Rattle.mode_compat.specs.Compatible.{numbered}
 use Rattle.mode_compat.specs.Declared.{declaration_obligations}
-use Rattle.typing_rules.specs.ThreadEntailments.{PlacedEntailment, entailment_among, thread_entailments}
+use Rattle.typing_law.specs.ThreadEntailments.{PlacedEntailment, entailment_among, thread_entailments}
 use Rattle.entail_refused.specs.Further.{further_lines}
 use Rattle.entail_refused.specs.GivenElsewhere.{given_lines}
 use Rattle.entail_refused.specs.Remarked.{remarks_on}

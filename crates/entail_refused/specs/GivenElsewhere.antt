@@ -5,7 +5,7 @@ use Rattle.cov_ast.specs.Syntax.{Program, Proof}
 use Rattle.entail_text.specs.OtherCertificates.{other_line}
 use Rattle.mode_compat.specs.Compatible.{numbered}
 use Rattle.statement_paths.specs.Paths.{Way, way_to}
-use Rattle.typing_rules.specs.ThreadEntailments.{PlacedEntailment}
+use Rattle.typing_law.specs.ThreadEntailments.{PlacedEntailment}
 
 -- whether one is given for a number
 abbrev pub is_given : List Proof → (number : ℕ) → Bool

@@ -6,7 +6,7 @@ use Rattle.cov_ast.specs.declared.refusal.Refusal.{Refusal}
 use Rattle.entail_cert.specs.Valid.{is_valid}
 use Rattle.entail_text.specs.Given.{cert_of}
 use Rattle.mode_compat.specs.Compatible.{numbered}
-use Rattle.typing_rules.specs.ThreadEntailments.{PlacedEntailment, entailment_among, thread_entailments}
+use Rattle.typing_law.specs.ThreadEntailments.{PlacedEntailment, entailment_among, thread_entailments}
 use Rattle.entail_refused.specs.Asked.{asked, told_of}
 
 -- whether the certificate that a thread gives for an entailment is valid; `auto` stands for one that isn't given

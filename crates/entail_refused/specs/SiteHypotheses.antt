@@ -9,7 +9,7 @@ use Rattle.cov_ast.specs.Syntax.{Program}
 use Rattle.cov_expr.specs.Term.{Term}
 use Rattle.hypothesis_origins.specs.Points.{point_behind}
 use Rattle.type_origins.specs.GoalTypes.{goal_of}
-use Rattle.typing_rules.specs.ThreadEntailments.{PlacedEntailment}
+use Rattle.typing_law.specs.ThreadEntailments.{PlacedEntailment}
 use Rattle.entail_refused.specs.Remarked.{asks_more}
 use Rattle.entail_refused.specs.Sites.{Site, site_of}
 

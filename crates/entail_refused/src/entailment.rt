@@ -5,7 +5,7 @@ ghost use Rattle.cov_ast.specs.Obligations.{all_hold};
 ghost use Rattle.cov_ast.specs.View as view;
 ghost use Rattle.cov_ast.specs.WellFormed.{IsWellFormed};
 ghost use Rattle.mode_compat.specs.Declared.{declaration_obligations};
-ghost use Rattle.typing_rules.specs.ThreadEntailments.{entailment_among, thread_entailments, view_entail};
+ghost use Rattle.typing_law.specs.ThreadEntailments.{entailment_among, thread_entailments, view_entail};
 ghost use Rattle.entail_refused.specs.Asked as spec;
 ghost use Rattle.entail_refused.specs.Sites as sites;
 
@@ -18,7 +18,8 @@ use cov_expr::{Blob, NoMemory};
 use entail_questions::{add_question, body_of};
 use entail_text::{add_told, add_zero, cert_of, variable_names};
 use std::alloc::Global;
-use typing_rules::{Entail, entailment_at};
+use typing_law::Entail;
+use typing_rules::entailment_at;
 use verify::check_declared;
 
 /// Adds what is told of the entailment for which a program is refused, and nothing where it is refused for another rule than V9. `bytes` are

@@ -2,7 +2,7 @@
 
 ghost use Rattle.std.specs.Prelude.{◌≡◌, ◌<◌, ◌++◌, OnOk, flat_map, length, map};
 ghost use Rattle.cov_ast.specs.View as view;
-ghost use Rattle.typing_rules.specs.ThreadEntailments.{view_entail};
+ghost use Rattle.typing_law.specs.ThreadEntailments.{view_entail};
 ghost use Rattle.entail_refused.specs.GivenElsewhere as spec;
 
 use cov_ast::{Program, Proof};
@@ -12,7 +12,7 @@ use entail_text::add_other;
 use statement_paths::way_to;
 use std::alloc::Global;
 use text_parts::add_number;
-use typing_rules::Entail;
+use typing_law::Entail;
 
 /// Adds what the statement of an entailment of a thread gives for others: for which certificates are given, where none is given for this one,
 /// and which of these would show it. Nothing is added where the statement gives none.

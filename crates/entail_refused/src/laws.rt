@@ -7,7 +7,7 @@ ghost use Rattle.cov_ast.specs.WellFormed.{IsWellFormed, are_distinct, places};
 ghost use Rattle.cov_ast.specs.declared.refusal.Refusal as refusal;
 ghost use Rattle.cov_ast.specs.declared.refusal.Rule.TheVariants as rules;
 ghost use Rattle.mode_compat.specs.Compatible.{numbered};
-ghost use Rattle.typing_rules.specs.ThreadObligations.{thread_obligations};
+ghost use Rattle.typing_law.specs.ThreadObligations.{thread_obligations};
 ghost use Rattle.verify.specs.Accepted.{program_obligations};
 ghost use Rattle.entail_refused.specs.RefusedEntailment.{IsToldOf, NamesUnproved};
 

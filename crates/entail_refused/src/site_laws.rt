@@ -8,7 +8,7 @@ ghost use Rattle.entail_questions.specs.declared.kinds.Question as questions;
 ghost use Rattle.hypothesis_origins.specs.Points.{point_behind};
 ghost use Rattle.statement_paths.specs.Paths as paths;
 ghost use Rattle.type_origins.specs.GoalTypes.{asked_point};
-ghost use Rattle.typing_rules.specs.ThreadEntailments.{PlacedEntailment, entailment_among, thread_entailments};
+ghost use Rattle.typing_law.specs.ThreadEntailments.{PlacedEntailment, entailment_among, thread_entailments};
 ghost use Rattle.entail_refused.specs.SiteHypotheses.{IsOfSite};
 ghost use Rattle.entail_refused.specs.Sites.{site_at};
 

@@ -3,7 +3,7 @@ use Rattle.std.specs.Prelude.{ℕ, List, [], ◌∷◌}
 use Rattle.cov_expr.specs.Term.{neg}
 use Rattle.cov_ast.specs.Plain.{Plain}
 use Rattle.statement_paths.specs.Paths.{Step, passed, yes, no, head}
-use Rattle.typing_rules.specs.Blocks.{after_stm}
+use Rattle.typing_law.specs.Blocks.{after_stm}
 use Rattle.typing_state.specs.After.{start, with_guard, meet}
 use Rattle.typing_state.specs.Point.{Point}
 

@@ -9,8 +9,8 @@ use Rattle.cov_ast.specs.Declarations.{class_of, invariant_term, is_control, loc
 use Rattle.cov_ast.specs.Plain.{Plain}
 use Rattle.cov_ast.specs.Syntax.{State, Stm, skip, assign, lock, unlock, branch, loop, note, output}
 use Rattle.mode_state.specs.Sets.{is_hidden}
-use Rattle.typing_rules.specs.Blocks.{after_block, value_type}
-use Rattle.typing_rules.specs.Entailments.{Entailment, controlled_follows, controlled_values, freed_value, from_one_more, from_preds, guard_follows, retype_follows, shown_controlled, shown_value, state_follows, type_follows, unlock_entailments, written_type}
+use Rattle.typing_law.specs.Blocks.{after_block, value_type}
+use Rattle.typing_law.specs.Entailments.{Entailment, controlled_follows, controlled_values, freed_value, from_one_more, from_preds, guard_follows, retype_follows, shown_controlled, shown_value, state_follows, type_follows, unlock_entailments, written_type}
 use Rattle.typing_state.specs.After.{meet, with_guard}
 use Rattle.typing_state.specs.Point.{Point, is_tracked, ty, ty_var, type_at}
 use Rattle.typing_state.specs.Terms.{distinct_terms, joined, without_ones}

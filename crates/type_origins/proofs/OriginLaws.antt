@@ -17,7 +17,7 @@ use Rattle.hypothesis_origins.proofs.PointLaws.{appended}
 use Rattle.hypothesis_origins.specs.Points as points
 use Rattle.hypothesis_origins.specs.Points.{point_behind}
 use Rattle.statement_paths.specs.Paths.{Step, passed, yes, no, head, place_of}
-use Rattle.typing_rules.specs.Blocks.{after_block, value_type}
+use Rattle.typing_law.specs.Blocks.{after_block, value_type}
 use Rattle.typing_state.specs.After.{start, start_type, with_guard, updated, updated_from, retyped, listed_or, locked_type, assigned_type, forgotten_type}
 use Rattle.typing_state.specs.Point.{Point, default_type, given_type, is_tracked}
 use Rattle.typing_state.specs.Terms.{listed}

@@ -10,8 +10,8 @@ use Rattle.entail_questions.specs.declared.kinds.End.{End}
 use Rattle.entail_questions.specs.declared.kinds.End.TheVariants as e
 use Rattle.entail_questions.specs.declared.kinds.Question.{Question}
 use Rattle.entail_questions.specs.declared.kinds.Question.TheVariants as q
-use Rattle.typing_rules.specs.Blocks.{after_block, value_type}
-use Rattle.typing_rules.specs.Entailments.{Entailment}
+use Rattle.typing_law.specs.Blocks.{after_block, value_type}
+use Rattle.typing_law.specs.Entailments.{Entailment}
 use Rattle.typing_state.specs.After.{meet, with_guard}
 use Rattle.typing_state.specs.Point.{Point, ty, ty_var, type_at}
 use Rattle.type_origins.specs.AskedVariables.{guard_of, printed_of, value_of}

@@ -7,7 +7,7 @@ use Rattle.cov_ast.specs.Syntax.{Stm, skip, assign, lock, unlock, branch, loop, 
 use Rattle.entail_questions.specs.Controls.{controls}
 use Rattle.hypothesis_origins.specs.Points.{after_step, point_behind}
 use Rattle.statement_paths.specs.Paths.{Step, passed, yes, no, head, place_of}
-use Rattle.typing_rules.specs.Blocks.{value_type}
+use Rattle.typing_law.specs.Blocks.{value_type}
 use Rattle.typing_state.specs.Point.{Point, default_type, given_type}
 use Rattle.typing_state.specs.Terms.{listed}
 use Rattle.type_origins.specs.TypeOrigins.{history, locks_over, set_by}

@@ -10,21 +10,22 @@ use Rattle.cov_ast.specs.declared.refusal.Detail.TheVariants.{Number}
 use Rattle.cov_ast.specs.declared.refusal.Refusal.{Refusal}
 use Rattle.cov_ast.specs.declared.refusal.Rule.TheVariants.{V13}
 use Rattle.typing_state.specs.Point.{Point}
-use Rattle.typing_rules.specs.Counts.{entailment_count}
-use Rattle.typing_rules.specs.Entailments.{Entailment}
+use Rattle.typing_law.specs.Counts.{entailment_count}
+use Rattle.typing_law.specs.Entailments.{Entailment}
+use Rattle.typing_law.proofs.Reached.{reached_no_more}
+use Rattle.typing_law.specs.ThreadEntailments.{PlacedEntailment, placed_from, reached_entailments, view_entail}
+use Rattle.typing_law.specs.ThreadObligations.{is_number, numbers, obligation, proved, small_terms}
+use Rattle.typing_law.specs.declared.entail.Entail.{Entail}
+use Rattle.typing_law.proofs.Counting.{count_append, count_numbers, count_proved, placed_length}
 use Rattle.typing_rules.specs.Inside.Keeping.{are_others, kept_for, looked_at, wanted_among}
 use Rattle.typing_rules.specs.Inside.Passing.{Passes, Stops}
 use Rattle.typing_rules.specs.Inside.Walking.{Tries}
-use Rattle.typing_rules.specs.ThreadEntailments.{PlacedEntailment, placed_from, reached_entailments, view_entail}
-use Rattle.typing_rules.specs.ThreadObligations.{is_number, numbers, obligation, proved, small_terms}
-use Rattle.typing_rules.specs.declared.entail.Entail.{Entail}
 use Rattle.typing_rules.specs.declared.entailments_tried.Tried.{Tried}
 use Rattle.typing_rules.specs.declared.purpose.Purpose.{Purpose}
 use Rattle.typing_rules.specs.declared.purpose.Purpose.TheVariants.{Judge, Collect}
 use Rattle.typing_rules.specs.declared.purpose.Wanted.{Wanted}
-use Rattle.typing_rules.proofs.Counting.{count_append, count_numbers, count_proved}
 use Rattle.typing_rules.proofs.Parts.{append_none, tried_decided}
-use Rattle.typing_rules.proofs.Reaching.{adds_all, adds_none, looked-append, no_entailments, others-append, others_counted, others_looked, others_stop, placed_length, reached_no_more}
+use Rattle.typing_rules.proofs.Reaching.{adds_all, adds_none, looked-append, no_entailments, others-append, others_counted, others_looked, others_stop}
 
 -- Obligations about certificates -------------------------------------------------------------------------------------
 

@@ -13,7 +13,7 @@ use Rattle.cov_ast.specs.declared.refusal.Rule.{Rule}
 use Rattle.cov_ast.specs.declared.refusal.Detail.{Detail}
 use Rattle.cov_ast.proofs.ObligationLaws.{append_decided, append_held, append_refused, same_decided, distinct_map_same}
 use Rattle.typing_state.specs.Terms.{each_variable}
-use Rattle.typing_rules.specs.ThreadObligations.{thread_obligation}
+use Rattle.typing_law.specs.ThreadObligations.{thread_obligation}
 
 -- Obligations of each occurrence of a variable ----------------------------------------------------------------
 

@@ -2,8 +2,8 @@
 use Rattle.std.proofs.Common.{◌≡◌, ℕ, ◌==◌, ◌&&◌, List, [], ◌∷◌, ◌++◌, Bool, true, false, if◌then◌else◌, Some, refl, ap}
 use Rattle.std.specs.Prelude.{slice_get}
 use Rattle.std.proofs.lemmas.List.Elements.{filter-append}
+use Rattle.typing_law.specs.ThreadEntailments.{PlacedEntailment, entailment_among}
 use Rattle.typing_rules.specs.Inside.Keeping.{is_wanted, kept_for, wanted_among}
-use Rattle.typing_rules.specs.ThreadEntailments.{PlacedEntailment, entailment_among}
 use Rattle.typing_rules.specs.declared.purpose.Purpose.{Purpose}
 use Rattle.typing_rules.specs.declared.purpose.Purpose.TheVariants.{Judge, Collect}
 use Rattle.typing_rules.specs.declared.purpose.Wanted.TheVariants.{Every, Numbered}

@@ -17,8 +17,8 @@ use Rattle.typing_state.specs.After.{updated_from, assigned_type, after_assign, 
 use Rattle.typing_state.specs.KeptPoints.{IsPoint}
 use Rattle.typing_state.specs.Point.{Point, is_over_controls, given_type, ty_var, conjuncts_of_types, ty, has_small_types}
 use Rattle.typing_state.specs.Terms.{each_variable, with_term, with_terms, distinct_terms, is_one, without_ones, joined_from, joined, is_small, is_small_type}
-use Rattle.typing_rules.specs.Blocks.{value_type}
-use Rattle.typing_rules.specs.Entailments.{is_small_entailment, from_one_more, shown_value, controlled_values, retype_follows, assign_entailments}
+use Rattle.typing_law.specs.Blocks.{value_type}
+use Rattle.typing_law.specs.Entailments.{is_small_entailment, from_one_more, shown_value, controlled_values, retype_follows, assign_entailments}
 use Rattle.typing_rules.proofs.ListedLaws.{large, large_goal, large_alone, large_before, large_if}
 
 -- How many nodes a conjunction has ------------------------------------------------------------------------------

@@ -1,7 +1,3 @@
-pub mod Soundness
-mod Examples
-mod OutputExamples
-mod EntailmentExamples
 mod GuardLaws
 mod SeenLaws
 mod StateLaws
@@ -11,9 +7,6 @@ mod ListedLaws
 mod LargeTypes
 mod ReadTypes
 pub mod StatementLaws
-pub mod Counting
-mod CertificateLaws
-pub mod Bounds
 mod Parts
 mod Ranges
 mod Walks

@@ -13,8 +13,8 @@ use Rattle.cov_ast.specs.Declarations.{class_of}
 use Rattle.cov_ast.specs.Plain.{Plain}
 use Rattle.mode_state.specs.Sets.{is_hidden}
 use Rattle.typing_state.specs.Point.{Point}
+use Rattle.typing_law.specs.Entailments.{Entailment, is_small_entailment, from_one_more}
 use Rattle.typing_rules.specs.Inside.Listed.{entailment_of, entailments_of, is_shown_controlled}
-use Rattle.typing_rules.specs.Entailments.{Entailment, is_small_entailment, from_one_more}
 use Rattle.typing_state.specs.Terms.{is_small}
 use Rattle.typing_rules.specs.declared.asked.Entailment as rust
 

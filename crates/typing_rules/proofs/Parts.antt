@@ -11,14 +11,14 @@ use Rattle.cov_ast.specs.declared.refusal.Refusal.{Refusal}
 use Rattle.cov_ast.specs.declared.refusal.Rule.TheVariants.{V16}
 use Rattle.cov_ast.specs.declared.refusal.Detail.TheVariants.{Nothing}
 use Rattle.cov_ast.proofs.ObligationLaws.{append_decided, append_refused}
-use Rattle.typing_rules.specs.Entailments.{Entailment, is_small_entailment}
+use Rattle.typing_law.specs.Entailments.{Entailment, is_small_entailment}
 use Rattle.typing_state.specs.Point.{Point, has_small_types}
-use Rattle.typing_rules.specs.ThreadObligations.{obligation, flat, proved, small_terms}
+use Rattle.typing_law.specs.ThreadObligations.{obligation, flat, proved, small_terms}
+use Rattle.typing_law.specs.ThreadEntailments.{placed_from}
+use Rattle.typing_law.specs.declared.entail.Entail.{Entail}
 use Rattle.typing_rules.specs.Inside.Keeping.{kept_for}
 use Rattle.typing_rules.specs.Inside.Walking.{Tries, unproved_for}
-use Rattle.typing_rules.specs.ThreadEntailments.{placed_from}
 use Rattle.typing_rules.specs.declared.purpose.Purpose.{Purpose}
-use Rattle.typing_rules.specs.declared.entail.Entail.{Entail}
 use Rattle.typing_rules.specs.declared.entailments_tried.Tried.{Tried}
 
 -- The verdict on parts --------------------------------------------------------------------------------------------

@@ -19,11 +19,11 @@ use Rattle.mode_state.specs.Sets.{is_hidden}
 use Rattle.typing_state.specs.After.{after_assign, after_lock, after_unlock, assigned_type, forgotten_type, kept_type, listed_or, locked_type, meet, noted, start, start_type, unlocked_type, with_guard}
 use Rattle.typing_state.specs.Point.{Point, default_type, is_over_stable, is_tracked, ty, ty_var, type_at, vars_of}
 use Rattle.typing_state.specs.Terms.{distinct_terms, is_one, joined, joined_from, with_term, with_terms, without_ones}
-use Rattle.typing_rules.specs.Blocks.{after_block, after_stm, value_type}
+use Rattle.typing_law.specs.Blocks.{after_block, after_stm, value_type}
+use Rattle.typing_law.proofs.Soundness.Conditions.{EachType}
+use Rattle.typing_law.proofs.Soundness.Lists.{listed_is, retyped_is, updated_is}
+use Rattle.typing_law.proofs.Soundness.Static.{cond_is}
 use Rattle.typing_rules.specs.Inside.Walking.{HasTypesBelow}
-use Rattle.typing_rules.proofs.Soundness.Conditions.{EachType}
-use Rattle.typing_rules.proofs.Soundness.Lists.{listed_is, retyped_is, updated_is}
-use Rattle.typing_rules.proofs.Soundness.Static.{cond_is}
 
 -- Expressions ----------------------------------------------------------------------------------------------------
 

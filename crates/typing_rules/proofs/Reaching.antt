@@ -1,10 +1,9 @@
 -- How far obligations are reached, and which entailments that leaves.
-use Rattle.std.proofs.Common.{◌≡◌, ℕ, suc, ◌+◌, ◌≤◌, List, [], ◌∷◌, ◌++◌, length, map, take, Bool, true, false, not, ◌&&◌, ◌||◌, cond, refl, sym, ap, ◌∙◌, arith, append_assoc, Some, None, Result, Ok, Err}
+use Rattle.std.proofs.Common.{◌≡◌, ℕ, suc, ◌+◌, List, [], ◌∷◌, ◌++◌, length, map, Bool, true, false, not, ◌&&◌, ◌||◌, cond, refl, sym, ap, ◌∙◌, arith, append_assoc, Some, None, Result, Ok, Err}
 use Rattle.std.specs.Prelude.{filter}
 use Rattle.std.proofs.Math.Bool.{or-true}
-use Rattle.std.proofs.Math.Seq.{take-append-add}
 use Rattle.std.proofs.lemmas.Bool.{and_parts, not-true}
-use Rattle.std.proofs.lemmas.List.{append-nil, take-append-le, take_all}
+use Rattle.std.proofs.lemmas.List.{append-nil, take_all}
 use Rattle.std.proofs.lemmas.List.Elements.{filter-append}
 use Rattle.std.proofs.lemmas.List.Folds.{list_all-append}
 use Rattle.cov_ast.specs.Obligations.{Decides, Obligation, first_false}
@@ -16,17 +15,18 @@ use Rattle.cov_ast.specs.declared.refusal.Rule.{Rule}
 use Rattle.cov_ast.specs.declared.refusal.Rule.TheVariants.{W1, W2, W3, W4, W5, W6, W7, W8, W9, V1, V2, V3, V4, V5, V6, V7, V8, V9, V10, V11, V12, V13, V14, V15, V16}
 use Rattle.cov_ast.proofs.ObligationLaws.{append_held, append_refused}
 use Rattle.typing_state.specs.Point.{Point}
-use Rattle.typing_rules.specs.Counts.{entailment_count, is_entailment}
-use Rattle.typing_rules.specs.Entailments.{Entailment}
+use Rattle.typing_law.specs.Counts.{entailment_count, is_entailment}
+use Rattle.typing_law.specs.Entailments.{Entailment}
+use Rattle.typing_law.specs.ThreadEntailments.{PlacedEntailment, is_about_certificates, placed_from, reached, reached_entailments, view_entail}
+use Rattle.typing_law.specs.declared.entail.Entail.{Entail}
+use Rattle.typing_law.proofs.Counting.{count_cons}
+use Rattle.typing_law.proofs.Reached.{all_reached, reached_no_more, reached_then}
 use Rattle.typing_rules.specs.Inside.Keeping.{are_others, are_passed, is_other, kept_for, looked_at, wanted_among}
 use Rattle.typing_rules.specs.Inside.Passing.{Adds, Passes, Stops}
 use Rattle.typing_rules.specs.Inside.Walking.{Walks}
-use Rattle.typing_rules.specs.ThreadEntailments.{PlacedEntailment, is_about_certificates, is_passed, placed_from, reached, reached_entailments, view_entail}
-use Rattle.typing_rules.specs.declared.entail.Entail.{Entail}
 use Rattle.typing_rules.specs.declared.purpose.Purpose.{Purpose}
 use Rattle.typing_rules.specs.declared.purpose.Purpose.TheVariants.{Judge, Collect}
 use Rattle.typing_rules.specs.declared.walk.Walked.{Walked}
-use Rattle.typing_rules.proofs.Counting.{count_append, count_cons}
 use Rattle.typing_rules.proofs.KeptLaws.{kept-append, kept_none}
 
 -- Obligations that are passed --------------------------------------------------------------------------------------
@@ -106,52 +106,6 @@ others_counted (e ∷ es) h =
     let parts = and_parts (not (is_about_certificates e.refusal.rule)) (are_others es) h in
     let here : entailment_count (e ∷ []) ≡ 0 = ap (λ s. 0 + cond s 1 0) (asks_nothing e.refusal.rule (not-true (is_about_certificates e.refusal.rule) parts.0)) in
     omega (arith, count_cons e es, here, others_counted es parts.1)
-
--- How far they are reached ------------------------------------------------------------------------------------------
-
-reached_passed : (a b : List Obligation) → are_passed a ≡ true → reached (a ++ b) ≡ a ++ reached b
-reached_passed [] b h = refl
-reached_passed (e ∷ es) b h =
-    let parts = and_parts (is_passed e) (are_passed es) h in
-    ap (λ v. cond v (e ∷ reached (es ++ b)) []) parts.0 ∙ ap (λ fs. e ∷ fs) (reached_passed es b parts.1)
-
-reached_all : (a : List Obligation) → are_passed a ≡ true → reached a ≡ a
-reached_all a h = ap reached (sym (append-nil a)) ∙ reached_passed a [] h ∙ append-nil a
-
-reached_stopped : (a b : List Obligation) → are_passed a ≡ false → reached (a ++ b) ≡ reached a
-reached_stopped [] b h = cc
-reached_stopped (e ∷ es) b h = go (reached_stopped es b) (is_passed e) h
-  where
-    go : (are_passed es ≡ false → reached (es ++ b) ≡ reached es) → (v : Bool) → (v && are_passed es) ≡ false
-        → cond v (e ∷ reached (es ++ b)) [] ≡ cond v (e ∷ reached es) []
-    go rest true h = ap (λ fs. e ∷ fs) (rest h)
-    go rest false h = refl
-
-reached_few : (es : List Obligation) → entailment_count (reached es) ≤ entailment_count es
-reached_few [] = omega arith
-reached_few (e ∷ es) = go (reached_few es) (is_passed e)
-  where
-    go : entailment_count (reached es) ≤ entailment_count es → (v : Bool) → entailment_count (cond v (e ∷ reached es) []) ≤ entailment_count (e ∷ es)
-    go rest true = omega (arith, count_cons e (reached es), count_cons e es, rest)
-    go rest false = omega arith
-
--- Entailments that are reached ---------------------------------------------------------------------------------------
-
-pub all_reached : (o : List Obligation) (a : List PlacedEntailment) → are_passed o ≡ true → entailment_count o ≡ length a → reached_entailments o a ≡ a
-all_reached o a h is = ap (λ es. take (entailment_count es) a) (reached_all o h) ∙ take_all (entailment_count o) a (omega (arith, is))
-
-reached_then : (o1 o2 : List Obligation) (a1 a2 : List PlacedEntailment) → are_passed o1 ≡ true → entailment_count o1 ≡ length a1
-    → reached_entailments (o1 ++ o2) (a1 ++ a2) ≡ a1 ++ reached_entailments o2 a2
-reached_then o1 o2 a1 a2 h is =
-    let n : entailment_count (reached (o1 ++ o2)) ≡ length a1 + entailment_count (reached o2) =
-    ap entailment_count (reached_passed o1 o2 h) ∙ count_append o1 (reached o2) ∙ ap (λ m. m + entailment_count (reached o2)) is in
-    ap (λ m. take m (a1 ++ a2)) n ∙ take-append-add a1 a2 (entailment_count (reached o2))
-
-pub reached_no_more : (o1 o2 : List Obligation) (a1 a2 : List PlacedEntailment) → are_passed o1 ≡ false → entailment_count o1 ≡ length a1
-    → reached_entailments (o1 ++ o2) (a1 ++ a2) ≡ reached_entailments o1 a1
-reached_no_more o1 o2 a1 a2 h is =
-    ap (λ es. take (entailment_count es) (a1 ++ a2)) (reached_stopped o1 o2 h)
-    ∙ take-append-le (entailment_count (reached o1)) a1 a2 (omega (arith, reached_few o1, is))
 
 -- What a walk looks at ----------------------------------------------------------------------------------------------
 
@@ -254,10 +208,6 @@ module _ (u : Purpose) (front rest : List Obligation) (others : are_others front
   front_stops k NoMemory h = tt
 
 -- Entailments of a statement ------------------------------------------------------------------------------------------
-
-pub placed_length : (at n : ℕ) (gs : List Entailment) → length (placed_from at n gs) ≡ length gs
-placed_length at n [] = refl
-placed_length at n (g ∷ gs) = omega (arith, placed_length at (suc n) gs)
 
 pub placed-append : (at n : ℕ) (gs hs : List Entailment) → placed_from at n (gs ++ hs) ≡ placed_from at n gs ++ placed_from at (n + length gs) hs
 placed-append at n [] hs = let e : n ≡ n + 0 = omega arith in ap (λ m. placed_from at m hs) e

@@ -11,7 +11,7 @@ use Rattle.cov_expr.specs.Trees.{has_term, same}
 use Rattle.cov_expr.specs.View.{term}
 use Rattle.entail_cert.specs.Valid.{is_all_known, is_false, is_plain}
 use Rattle.entail_cert.proofs.Conjuncts.{known_both, stated_known}
-use Rattle.typing_rules.specs.Entailments.{Entailment}
+use Rattle.typing_law.specs.Entailments.{Entailment}
 use Rattle.entail_cert.specs.declared.held.Held.{Held}
 use Rattle.entail_cert.specs.HeldTerms.{held_term}
 use Rattle.typing_rules.specs.Inside.Listed.{entailment_from}

@@ -8,22 +8,22 @@ use Rattle.cov_ast.specs.Syntax.{State, Proof, Block, branch, loop}
 use Rattle.cov_ast.specs.declared.refusal.CheckFault.{CheckFault}
 use Rattle.typing_state.specs.After.{with_guard, meet}
 use Rattle.typing_state.specs.Point.{Point}
-use Rattle.typing_rules.specs.Counts.{entailment_count}
+use Rattle.typing_law.specs.Counts.{entailment_count}
+use Rattle.typing_law.specs.Blocks.{after_block, after_stm}
+use Rattle.typing_law.specs.Entailments.{Entailment, guard_follows, state_follows}
+use Rattle.typing_law.specs.ThreadEntailments.{PlacedEntailment, block_entailments, placed_from, stm_entailments}
+use Rattle.typing_law.specs.ThreadObligations.{block_obligations, few_preds, flat, guard_obligations, proved, small_terms, state_obligations, stm_parts}
+use Rattle.typing_law.specs.declared.entail.Entail.{Entail}
+use Rattle.typing_law.proofs.Counting.{block_counted, count_append, placed_length}
 use Rattle.typing_rules.specs.Inside.Keeping.{are_others}
 use Rattle.typing_rules.specs.Inside.Passing.{Passes, Stops}
 use Rattle.typing_rules.specs.Inside.Walking.{Walks, fork_parts, head_parts, join_parts, turn_parts}
-use Rattle.typing_rules.specs.Blocks.{after_block, after_stm}
-use Rattle.typing_rules.specs.Entailments.{Entailment, guard_follows, state_follows}
-use Rattle.typing_rules.specs.ThreadEntailments.{PlacedEntailment, block_entailments, placed_from, stm_entailments}
-use Rattle.typing_rules.specs.ThreadObligations.{block_obligations, few_preds, flat, guard_obligations, proved, small_terms, state_obligations, stm_parts}
-use Rattle.typing_rules.specs.declared.entail.Entail.{Entail}
 use Rattle.typing_rules.specs.declared.purpose.Purpose.{Purpose}
 use Rattle.typing_rules.specs.declared.walk.Walked.{Walked}
 use Rattle.typing_rules.proofs.Concluding.{asked_counted}
-use Rattle.typing_rules.proofs.Counting.{count_append}
-use Rattle.typing_rules.proofs.Others.{block_counted, others_guard, others_state}
+use Rattle.typing_rules.proofs.Others.{others_guard, others_state}
 use Rattle.typing_rules.proofs.Parts.{flat-append}
-use Rattle.typing_rules.proofs.Reaching.{others-append, others_counted, placed_length, stops_behind, walks_then}
+use Rattle.typing_rules.proofs.Reaching.{others-append, others_counted, stops_behind, walks_then}
 
 -- a fault that is handed on
 handed_on : (u : Purpose) (p : Plain) (t : ℕ) (o : List Obligation) (a : List PlacedEntailment) (end : Point) (counted : ℕ) (k0 k1 : List Entail) (fault : CheckFault)

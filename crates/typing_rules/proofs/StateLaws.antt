@@ -17,7 +17,7 @@ use Rattle.cov_ast.specs.declared.refusal.CheckFault.TheVariants.{Refused}
 use Rattle.cov_ast.specs.declared.refusal.Detail.TheVariants.{One}
 use Rattle.cov_ast.specs.declared.refusal.Rule.TheVariants.{V11, V14}
 use Rattle.cov_ast.proofs.ObligationLaws.{loop_refused, loop_more}
-use Rattle.typing_rules.specs.ThreadObligations.{agree, obligation, over_controls, type_obligations, thread_obligation, end_obligation, first_held, lock_detail}
+use Rattle.typing_law.specs.ThreadObligations.{agree, obligation, over_controls, type_obligations, thread_obligation, end_obligation, first_held, lock_detail}
 
 -- The first number that passes a test --------------------------------------------------------------------------
 

@@ -16,19 +16,18 @@ use Rattle.cov_ast.proofs.WellFormedLaws.{seen_item, thread_in_range}
 use Rattle.mode_compat.specs.Compatible.{no_thread, numbered}
 use Rattle.mode_compat.specs.Declared.{declaration_obligations}
 use Rattle.typing_state.specs.After.{start}
-use Rattle.typing_rules.specs.Counts.{counts, entailment_count}
-use Rattle.typing_rules.specs.Blocks.{after_block}
+use Rattle.typing_law.specs.Counts.{counts, entailment_count}
+use Rattle.typing_law.specs.Blocks.{after_block}
 use Rattle.typing_state.specs.Point.{Point}
+use Rattle.typing_law.specs.ThreadEntailments.{all_entailments, block_entailments, reached_entailments, thread_entailments, view_entail}
+use Rattle.typing_law.specs.ThreadObligations.{block_obligations, end_obligation, end_point, thread_obligations}
+use Rattle.typing_law.specs.declared.entail.Entail.{Entail}
+use Rattle.typing_law.proofs.Bounds.{few_entailments, few_places}
+use Rattle.typing_law.proofs.Counting.{block_counted, count_append}
 use Rattle.typing_rules.specs.Inside.Keeping.{wanted_among}
 use Rattle.typing_rules.specs.Inside.Passing.{Adds, Passes, Stops}
-use Rattle.typing_rules.specs.ThreadEntailments.{all_entailments, block_entailments, reached_entailments, thread_entailments, view_entail}
-use Rattle.typing_rules.specs.ThreadObligations.{block_obligations, end_obligation, end_point, thread_obligations}
-use Rattle.typing_rules.specs.declared.entail.Entail.{Entail}
 use Rattle.typing_rules.specs.declared.purpose.Purpose.TheVariants.{Collect}
 use Rattle.typing_rules.specs.declared.purpose.Wanted.{Wanted}
-use Rattle.typing_rules.proofs.Bounds.{few_entailments, few_places}
-use Rattle.typing_rules.proofs.Counting.{count_append}
-use Rattle.typing_rules.proofs.Others.{block_counted}
 use Rattle.typing_rules.proofs.Reaching.{adds_none, adds_stop, adds_then, no_entailments}
 
 -- Obligations ----------------------------------------------------------------------------------------------------

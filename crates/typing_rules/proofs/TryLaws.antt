@@ -19,21 +19,21 @@ use Rattle.typing_state.specs.Point as spec
 use Rattle.typing_state.specs.declared.point.Point.{Point}
 use Rattle.typing_rules.specs.declared.asked.Entailment as rust
 use Rattle.entail_cert.specs.declared.held.Held.{Held}
-use Rattle.typing_rules.specs.declared.entail.Entail.{Entail}
+use Rattle.typing_law.specs.declared.entail.Entail.{Entail}
 use Rattle.typing_rules.specs.declared.entailments_tried.Tried.{Tried}
 use Rattle.typing_rules.specs.declared.walk.Walk.{Walk}
 use Rattle.entail_cert.specs.HeldTerms.{held_term}
+use Rattle.typing_law.specs.ThreadEntailments.{placed_from, view_entail}
 use Rattle.typing_rules.specs.Inside.Listed.{AreListed, entailment_of, entailment_from, entailments_of}
 use Rattle.typing_rules.specs.Inside.Keeping.{looked_at, wanted_among}
-use Rattle.typing_rules.specs.ThreadEntailments.{placed_from, view_entail}
 use Rattle.typing_rules.specs.declared.purpose.Wanted.{Wanted}
 use Rattle.std.proofs.lemmas.Bool.{false≢true}
+use Rattle.typing_law.specs.Entailments.{Entailment, is_proved, is_small_entailment}
+use Rattle.typing_law.specs.ThreadObligations.{obligation, proved}
 use Rattle.typing_rules.specs.Inside.Walking.{Tries, Wherever, first_unproved, unproved_for}
 use Rattle.typing_rules.specs.declared.purpose.Purpose.{Purpose}
 use Rattle.typing_rules.specs.declared.purpose.Purpose.TheVariants.{Judge, Collect}
 use Rattle.typing_rules.proofs.Concluding.{proved_silent}
-use Rattle.typing_rules.specs.Entailments.{Entailment, is_proved, is_small_entailment}
-use Rattle.typing_rules.specs.ThreadObligations.{obligation, proved}
 use Rattle.typing_state.specs.Terms.{is_small}
 
 regroup : (a b c : Bool) → ((a && (b && true)) && c) ≡ (a && ((b && true) && c))

@@ -14,17 +14,16 @@ use Rattle.cov_ast.specs.declared.stmt.StmtKind.TheVariants as kinds
 use Rattle.typing_state.specs.KeptPoints.{Keeps}
 use Rattle.typing_state.specs.Point.{Point}
 use Rattle.typing_state.specs.declared.point.Point as declared
-use Rattle.typing_rules.specs.Counts.{entailment_count}
+use Rattle.typing_law.specs.Counts.{entailment_count}
+use Rattle.typing_law.specs.ThreadEntailments.{block_entailments, stm_entailments}
+use Rattle.typing_law.specs.declared.entail.Entail.{Entail}
+use Rattle.typing_law.specs.Blocks.{after_block, after_stm}
+use Rattle.typing_law.specs.ThreadObligations.{block_obligations, flat, stm_parts}
+use Rattle.typing_law.proofs.Counting.{count_more, stm_counted}
 use Rattle.typing_rules.specs.Inside.Passing.{Stops}
 use Rattle.typing_rules.specs.Inside.Walking.{Walks}
-use Rattle.typing_rules.specs.ThreadEntailments.{block_entailments, stm_entailments}
-use Rattle.typing_rules.specs.declared.entail.Entail.{Entail}
 use Rattle.typing_rules.specs.declared.purpose.Purpose.{Purpose}
-use Rattle.typing_rules.specs.Blocks.{after_block, after_stm}
-use Rattle.typing_rules.specs.ThreadObligations.{block_obligations, flat, stm_parts}
 use Rattle.typing_rules.specs.declared.walk.Walked.{Walked}
-use Rattle.typing_rules.proofs.Counting.{count_more}
-use Rattle.typing_rules.proofs.Others.{stm_counted}
 use Rattle.typing_rules.proofs.Reaching.{front_passes, stops_behind, walks_then}
 use Rattle.typing_rules.proofs.StatementLaws.{branch_is}
 

@@ -1,6 +1,1 @@
-pub mod Blocks
-pub mod Entailments
-pub mod ThreadObligations
-pub mod Counts
-pub mod ThreadEntailments
 pub mod Inside

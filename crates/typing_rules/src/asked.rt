@@ -6,10 +6,10 @@ ghost use Rattle.cov_expr.specs.Words.{HasVarsBelow};
 ghost use Rattle.cov_ast.specs.Plain.{Plain, plain};
 ghost use Rattle.cov_ast.specs.View as view;
 ghost use Rattle.cov_ast.specs.WellFormed.{IsWellFormed};
+ghost use Rattle.typing_law.specs.Blocks.{value_type};
+ghost use Rattle.typing_law.specs.Entailments as spec;
 ghost use Rattle.typing_rules.specs.Inside.Walking.{AtPoint};
-ghost use Rattle.typing_rules.specs.Blocks.{value_type};
 ghost use Rattle.typing_rules.specs.Inside.Listed.{AreListed, entailments_of};
-ghost use Rattle.typing_rules.specs.Entailments as spec;
 
 use crate::entailments_of_assignments::{add_controlled, add_retypes, add_shown, add_written};
 use crate::entailments_of_states::{add_freed, add_inv, add_preds, add_types};

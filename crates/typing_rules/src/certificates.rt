@@ -10,12 +10,12 @@ ghost use Rattle.cov_ast.specs.Syntax as syntax;
 ghost use Rattle.cov_ast.specs.View as view;
 ghost use Rattle.entail_cert.specs.Answers.{Answers};
 ghost use Rattle.entail_cert.specs.Valid.{first_bad, is_valid};
+ghost use Rattle.typing_law.specs.Entailments as spec;
+ghost use Rattle.typing_law.specs.ThreadObligations as rule;
 ghost use Rattle.typing_rules.specs.Inside.Keeping.{looked_at};
 ghost use Rattle.typing_rules.specs.Inside.Walking.{AtPoint};
 ghost use Rattle.typing_rules.specs.Inside.Walking as walking;
 ghost use Rattle.typing_rules.specs.Inside.Listed.{entailment_of, entailments_of};
-ghost use Rattle.typing_rules.specs.Entailments as spec;
-ghost use Rattle.typing_rules.specs.ThreadObligations as rule;
 ghost use Rattle.typing_rules.specs.declared.purpose.Purpose.{Purpose};
 
 use crate::asked::Entailment;

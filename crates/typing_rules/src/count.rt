@@ -1,19 +1,10 @@
-//! How many statements were checked, and how many entailments.
+//! How many statements a block has.
 
 ghost use Rattle.std.specs.Prelude.{◌≡◌, ◌<◌, length};
 ghost use Rattle.cov_ast.specs.View as view;
 ghost use Rattle.cov_ast.specs.WellFormed.{block_size, places, places_within, stm_size, most_size};
 
 use cov_ast::{Stmt, StmtKind};
-
-/// How much of a thread, or of a program, was checked.
-#[derive(Clone, Copy, Debug, PartialEq, Eq)]
-pub struct Count {
-    /// Statements, those in others and notes included.
-    pub statements: u64,
-    /// Entailments, each of which has a certificate.
-    pub entailments: u64,
-}
 
 /// How many statements a block has, those in others and notes included.
 #[cycle(statements)]

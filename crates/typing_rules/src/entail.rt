@@ -1,32 +1,20 @@
-//! Entailments as they are handed out: copies, with their place and number.
+//! Copies of entailments, with their place and number, as they are handed out.
 
 ghost use Rattle.std.specs.Prelude.{◌≡◌, ◌<◌, ◌+◌, ◌^◌, ◌++◌, [], ◌∷◌, ℕ, length, map, take, IfOk, OnOk};
 ghost use Rattle.cov_expr.specs.View.{term};
 ghost use Rattle.cov_ast.specs.Plain.{Plain};
+ghost use Rattle.typing_law.specs.ThreadEntailments.{placed_from, view_entail};
 ghost use Rattle.typing_rules.specs.Inside.Keeping.{wanted_among};
 ghost use Rattle.typing_rules.specs.Inside.Listed.{entailment_of, entailments_of};
 ghost use Rattle.typing_rules.specs.Inside.Walking.{AtPoint};
-ghost use Rattle.typing_rules.specs.ThreadEntailments.{placed_from, view_entail};
 
 use crate::asked::Entailment;
 use crate::purpose::Wanted;
 use crate::site::Site;
 use cov_expr::{Expr, List, NoMemory, copy};
 use std::alloc::Global;
+use typing_law::Entail;
 use typing_state::Point;
-
-/// What has to follow at a statement of a thread.
-#[derive(Drop)]
-pub struct Entail {
-    /// The byte offset of the statement.
-    pub place: u32,
-    /// Its number among the entailments of the statement, from 1 on.
-    pub number: u32,
-    /// The predicates of the point, and behind them the one expression more from which the goal may follow.
-    pub hyps: List<Expr>,
-    /// What has to follow.
-    pub goal: Expr,
-}
 
 /// Adds copies of entailments at a point, numbered from a number on, to others: of those that are wanted.
 pub fn add_copies(

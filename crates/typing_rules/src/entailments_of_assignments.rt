@@ -10,10 +10,10 @@ ghost use Rattle.cov_ast.specs.Plain.{Plain, plain};
 ghost use Rattle.cov_ast.specs.View as view;
 ghost use Rattle.cov_ast.specs.WellFormed.{IsWellFormed};
 ghost use Rattle.mode_state.specs.Sets.{is_hidden};
+ghost use Rattle.typing_law.specs.Blocks.{value_type};
+ghost use Rattle.typing_law.specs.Entailments as spec;
 ghost use Rattle.typing_rules.specs.Inside.Walking.{AtPoint};
-ghost use Rattle.typing_rules.specs.Blocks.{value_type};
 ghost use Rattle.typing_rules.specs.Inside.Listed.{Added, entailments_of, is_shown_controlled};
-ghost use Rattle.typing_rules.specs.Entailments as spec;
 
 use crate::asked::Entailment;
 use crate::entailment_parts::{class_held, read_held, type_held};

@@ -6,9 +6,9 @@ ghost use Rattle.cov_expr.specs.View.{term};
 ghost use Rattle.cov_ast.specs.Declarations as declared;
 ghost use Rattle.cov_ast.specs.Plain.{Plain, plain};
 ghost use Rattle.cov_ast.specs.View as view;
+ghost use Rattle.typing_law.specs.Entailments as spec;
 ghost use Rattle.typing_rules.specs.Inside.Walking.{AtPoint};
 ghost use Rattle.typing_rules.specs.Inside.Listed.{entailments_of};
-ghost use Rattle.typing_rules.specs.Entailments as spec;
 
 use crate::asked::Entailment;
 use crate::entailment_parts::{class_held, type_held};

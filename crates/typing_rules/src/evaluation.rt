@@ -10,8 +10,8 @@ ghost use Rattle.cov_ast.specs.View as view;
 ghost use Rattle.cov_ast.specs.declared.refusal.Rule.TheVariants.{V1};
 ghost use Rattle.mode_state.specs.Sets as sets;
 ghost use Rattle.typing_state.specs.Terms.{each_variable};
+ghost use Rattle.typing_law.specs.ThreadObligations as spec;
 ghost use Rattle.typing_rules.specs.Inside.Walking.{AtHeld};
-ghost use Rattle.typing_rules.specs.ThreadObligations as spec;
 
 use crate::site::{Site, require_at};
 use cov_ast::{CheckFault, Detail, Program, Rule};

@@ -11,9 +11,9 @@ ghost use Rattle.cov_ast.specs.View as view;
 ghost use Rattle.cov_ast.specs.WellFormed.{AreTypesInRange, IsStmInRange};
 ghost use Rattle.typing_state.specs.After.{after_assign};
 ghost use Rattle.typing_state.specs.Point.{conjuncts_of_types, is_over_controls, ty, ty_var};
-ghost use Rattle.typing_rules.specs.Blocks as blocks;
-ghost use Rattle.typing_rules.specs.Entailments.{assign_entailments};
-ghost use Rattle.typing_rules.specs.ThreadObligations.{few_preds, flat, small_terms};
+ghost use Rattle.typing_law.specs.Blocks as blocks;
+ghost use Rattle.typing_law.specs.Entailments.{assign_entailments};
+ghost use Rattle.typing_law.specs.ThreadObligations.{few_preds, flat, small_terms};
 ghost use Rattle.typing_rules.specs.Inside.Walking.{IsWalk, Stands, Wherever, plain_of, type_parts, value_parts};
 
 use crate::entailment_parts::read_held;

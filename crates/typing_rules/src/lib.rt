@@ -1,17 +1,12 @@
-//! The rules of statements: what has to hold of each statement of a thread for the thread to be accepted.
+//! The check of a thread: whether what has to hold of each of its statements does, and what has to follow at them.
 //!
-//! The definitions stand in `specs/`: `Blocks` has the point after a statement, `Entailments` what has to follow from the
-//! predicates of a point and by which certificate, and `ThreadObligations` every obligation of a thread (V1 to V16) in the order
-//! in which they are tried, with what is refused where it fails. `ThreadEntailments` has what has to follow at the statements of
-//! a thread, and how far that is reached. `proofs/Examples.antt` and the files beside it compute worked examples.
+//! What has to hold, and that a thread of which all of it holds is secure, stands in `typing_law`: obligations (V1 to V16),
+//! entailments and laws. Here is the walk over the statements. `specs/Inside` has words of private contracts.
 //!
 //! - [`check_thread`]: whether every obligation of a thread holds, else the first that doesn't; and then the thread is secure.
-//!   [`Count`]: how many statements and entailments it has.
-//! - [`entailments`]: what has to follow at the statements of a thread, whatever certificates it has. [`Entail`]: one of these.
-//!   [`entailment_at`]: one of them alone, by its place and number.
+//! - [`entailments`]: what has to follow at the statements of a thread, whatever certificates it has. [`entailment_at`]: one of
+//!   them alone, by its place and number.
 //! - [`subst_nodes_left`]: how many nodes an expression would have with a part in the place of a variable, counted without making it.
-//! - [`threads_end_without_locks`], [`entailments_are_obligations`], [`true_declarations_are_declared`],
-//!   [`true_obligations_are_secure`]: laws, without a body. The last is the soundness of the rules.
 //!
 //! `Walk` of `walk.rt` goes over the statements: those without blocks stand in `statements.rt`, branches and loops in
 //! `branches.rt`. There is one walk for two purposes (`purpose.rt`). To judge, it tries each obligation and keeps nothing. To
@@ -53,7 +48,6 @@ mod entailments_tried;
 mod evaluation;
 mod known;
 mod large;
-mod laws;
 mod locks;
 mod purpose;
 mod site;
@@ -64,11 +58,5 @@ mod types;
 mod walk;
 mod writes;
 
-pub use count::Count;
-pub use entail::Entail;
-pub use laws::{
-    entailments_are_obligations, threads_end_without_locks, true_declarations_are_declared,
-    true_obligations_are_secure,
-};
 pub use sizes::subst_nodes_left;
 pub use thread::{check_thread, entailment_at, entailments};

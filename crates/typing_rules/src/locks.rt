@@ -6,8 +6,8 @@ ghost use Rattle.cov_ast.specs.Plain.{plain};
 ghost use Rattle.cov_ast.specs.View as view;
 ghost use Rattle.cov_ast.specs.declared.refusal.Detail.TheVariants.{Nothing, One};
 ghost use Rattle.cov_ast.specs.WellFormed.{IsWellFormed};
+ghost use Rattle.typing_law.specs.ThreadObligations as spec;
 ghost use Rattle.typing_rules.specs.Inside.Walking.{AtHeld};
-ghost use Rattle.typing_rules.specs.ThreadObligations as spec;
 
 use crate::site::{Site, refused_at, require_at};
 use cov_ast::{CheckFault, Detail, Program, Rule};

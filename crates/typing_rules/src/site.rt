@@ -3,7 +3,7 @@
 ghost use Rattle.std.specs.Prelude.{◌≡◌, [], ◌∷◌, false};
 ghost use Rattle.cov_ast.specs.Obligations.{Decides};
 ghost use Rattle.cov_ast.specs.declared.refusal.CheckFault.TheVariants as faults;
-ghost use Rattle.typing_rules.specs.ThreadObligations.{thread_obligation};
+ghost use Rattle.typing_law.specs.ThreadObligations.{thread_obligation};
 
 use cov_ast::{CheckFault, Detail, Refusal, Rule};
 

@@ -9,8 +9,8 @@ ghost use Rattle.cov_ast.specs.Plain.{Plain, plain};
 ghost use Rattle.cov_ast.specs.View as view;
 ghost use Rattle.cov_ast.specs.declared.refusal.Detail.TheVariants.{Nothing};
 ghost use Rattle.cov_ast.specs.declared.refusal.Rule.TheVariants.{V16};
+ghost use Rattle.typing_law.specs.ThreadObligations as spec;
 ghost use Rattle.typing_rules.specs.Inside.Walking.{AtPoint};
-ghost use Rattle.typing_rules.specs.ThreadObligations as spec;
 
 use crate::site::{Site, require_at};
 use cov_ast::{CheckFault, Detail, Program, Rule};

@@ -9,11 +9,10 @@ ghost use Rattle.cov_ast.specs.Plain.{plain};
 ghost use Rattle.cov_ast.specs.Syntax as syntax;
 ghost use Rattle.cov_ast.specs.View as view;
 ghost use Rattle.cov_ast.specs.WellFormed.{AreTypesInRange, IsStateInRange, IsStmInRange, IsTypeInRange, state_size, stm_size, most_size};
-ghost use Rattle.typing_rules.specs.ThreadObligations.{flat};
+ghost use Rattle.typing_law.specs.ThreadObligations.{flat};
+ghost use Rattle.typing_law.specs.declared.entail.Entail.{Entail};
 ghost use Rattle.typing_rules.specs.Inside.Walking.{IsWalk, Stands, WalksStm, Wherever, plain_of, value_parts};
-ghost use Rattle.typing_rules.specs.declared.entail.Entail.{Entail};
 
-use crate::entail::Entail;
 use crate::evaluation::check_guard;
 use crate::site::require_at;
 use crate::sizes::{check_few_preds, require_small};
@@ -21,6 +20,7 @@ use crate::types::check_state;
 use crate::walk::{Walk, Walked, both, finish};
 use cov_ast::{CheckFault, Detail, Program, Proof, Retype, Rule, State};
 use cov_expr::{Expr, List, Name};
+use typing_law::Entail;
 use typing_state::Point;
 
 impl Walk<'_> {

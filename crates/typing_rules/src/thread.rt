@@ -7,14 +7,12 @@ ghost use Rattle.cov_ast.specs.View as view;
 ghost use Rattle.cov_ast.specs.WellFormed.{IsWellFormed};
 ghost use Rattle.flow_model.specs.Game.{IsSecureThread};
 ghost use Rattle.mode_compat.specs.Declared.{declaration_obligations};
-ghost use Rattle.typing_rules.specs.Counts.{DecidesWith, counts};
+ghost use Rattle.typing_law.specs.Counts.{DecidesWith, counts};
+ghost use Rattle.typing_law.specs.ThreadEntailments.{entailment_among, thread_entailments, view_entail};
+ghost use Rattle.typing_law.specs.ThreadObligations.{thread_obligations};
 ghost use Rattle.typing_rules.specs.Inside.Keeping.{wanted_among};
-ghost use Rattle.typing_rules.specs.ThreadEntailments.{entailment_among, thread_entailments, view_entail};
-ghost use Rattle.typing_rules.specs.ThreadObligations.{thread_obligations};
 
-use crate::count::{Count, statements};
-use crate::entail::Entail;
-use crate::laws::true_obligations_are_secure;
+use crate::count::statements;
 use crate::locks::check_end;
 use crate::purpose::{Purpose, Wanted};
 use crate::site::Site;
@@ -22,6 +20,7 @@ use crate::walk::Walk;
 use cov_ast::{CheckFault, Program};
 use cov_expr::{List, NoMemory};
 use std::alloc::Global;
+use typing_law::{Count, Entail, true_obligations_are_secure};
 use typing_state::Point;
 
 /// Checks the statements of a thread of a program whose declarations keep the rules.

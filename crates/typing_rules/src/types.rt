@@ -12,8 +12,8 @@ ghost use Rattle.cov_ast.specs.declared.refusal.Detail.TheVariants.{Nothing, One
 ghost use Rattle.cov_ast.specs.declared.refusal.Rule.TheVariants.{V14};
 ghost use Rattle.cov_ast.specs.WellFormed.{AreTypesInRange, IsStateInRange};
 ghost use Rattle.typing_state.specs.Point.{is_tracked};
+ghost use Rattle.typing_law.specs.ThreadObligations as spec;
 ghost use Rattle.typing_rules.specs.Inside.Walking.{AtPoint};
-ghost use Rattle.typing_rules.specs.ThreadObligations as spec;
 
 use crate::site::{Site, refused_at, require_at};
 use cov_ast::{CheckFault, Detail, Program, Retype, Rule, State};

@@ -9,8 +9,8 @@ ghost use Rattle.cov_ast.specs.Plain.{plain};
 ghost use Rattle.cov_ast.specs.View as view;
 ghost use Rattle.cov_ast.specs.declared.refusal.Rule.TheVariants.{V2, V5};
 ghost use Rattle.mode_state.specs.Sets as sets;
+ghost use Rattle.typing_law.specs.ThreadObligations as spec;
 ghost use Rattle.typing_rules.specs.Inside.Walking.{AtHeld};
-ghost use Rattle.typing_rules.specs.ThreadObligations as spec;
 
 use crate::evaluation::check_reads;
 use crate::site::{Site, require_at};

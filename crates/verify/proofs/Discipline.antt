@@ -26,7 +26,7 @@ use Rattle.mode_compat.specs.Compatible.{numbered}
 use Rattle.mode_compat.specs.Compatible as rules
 use Rattle.mode_compat.specs.HeldSets.{AreHeldBy, AreSetsOf}
 use Rattle.typing_state.specs.After.{start}
-use Rattle.typing_rules.specs.ThreadObligations.{thread_obligations, block_obligations, end_obligation, end_point}
+use Rattle.typing_law.specs.ThreadObligations.{thread_obligations, block_obligations, end_obligation, end_point}
 use Rattle.verify.specs.Accepted.{IsAccepted}
 use Rattle.verify.specs.Disciplined.{held_at, held_in_front_of, evaluated, IsEvaluable, IsDisciplinedAt, IsDisciplined}
 use Rattle.verify.proofs.Parts.{thread_holds}

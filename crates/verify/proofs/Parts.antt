@@ -8,7 +8,7 @@ use Rattle.cov_ast.specs.Obligations.{Obligation, all_hold, first_false}
 use Rattle.cov_ast.proofs.ObligationLaws.{both_hold}
 use Rattle.mode_compat.specs.Compatible.{threads_of}
 use Rattle.mode_compat.specs.Declared.{declaration_obligations}
-use Rattle.typing_rules.specs.ThreadObligations.{thread_obligations}
+use Rattle.typing_law.specs.ThreadObligations.{thread_obligations}
 use Rattle.verify.specs.Accepted.{IsAccepted}
 
 -- of one of the numbers from another on

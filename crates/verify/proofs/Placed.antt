@@ -17,9 +17,9 @@ use Rattle.cov_ast.proofs.ObligationLaws.{both_hold}
 use Rattle.mode_state.specs.Sets.{is_stable, may_write}
 use Rattle.typing_state.specs.Point.{Point}
 use Rattle.typing_state.specs.After.{with_guard, meet}
-use Rattle.typing_rules.specs.Blocks.{after_stm, after_block}
-use Rattle.typing_rules.specs.ThreadObligations.{flat, agree, same_held, reads, one_unstable, narrow, assign_parts, unlock_parts, stm_parts, block_obligations}
-use Rattle.typing_rules.proofs.Soundness.Sound.{agreed}
+use Rattle.typing_law.specs.Blocks.{after_stm, after_block}
+use Rattle.typing_law.specs.ThreadObligations.{flat, agree, same_held, reads, one_unstable, narrow, assign_parts, unlock_parts, stm_parts, block_obligations}
+use Rattle.typing_law.proofs.Soundness.Sound.{agreed}
 use Rattle.verify.specs.Disciplined.{points_within, points}
 
 module _ (p : Plain) (t : ℕ) where

@@ -11,7 +11,7 @@ use Rattle.cov_ast.specs.WellFormed.{are_distinct, places, places_within, IsWell
 use Rattle.mode_compat.specs.Compatible.{numbered, no_thread}
 use Rattle.typing_state.specs.Point.{Point}
 use Rattle.typing_state.specs.After.{start, with_guard, meet}
-use Rattle.typing_rules.specs.Blocks.{after_stm}
+use Rattle.typing_law.specs.Blocks.{after_stm}
 use Rattle.verify.specs.Disciplined.{points_within, points, points_of, held_before, held_at}
 use Rattle.verify.proofs.Placed.{AreFound}
 

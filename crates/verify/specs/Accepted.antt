@@ -5,7 +5,7 @@ use Rattle.cov_ast.specs.Syntax.{Program}
 use Rattle.cov_ast.specs.Obligations.{Obligation, all_hold}
 use Rattle.mode_compat.specs.Compatible.{threads_of}
 use Rattle.mode_compat.specs.Declared.{declaration_obligations}
-use Rattle.typing_rules.specs.ThreadObligations.{thread_obligations}
+use Rattle.typing_law.specs.ThreadObligations.{thread_obligations}
 
 -- the obligations of a program whose names are in order: those of its declarations (W3 to W9), and then those of each
 -- thread (V1 to V16)

@@ -17,7 +17,7 @@ use Rattle.mode_compat.specs.Compatible.{numbered}
 use Rattle.mode_compat.specs.HeldSets.{AreHeldBy}
 use Rattle.typing_state.specs.Point.{Point}
 use Rattle.typing_state.specs.After.{start, with_guard, meet}
-use Rattle.typing_rules.specs.Blocks.{after_stm}
+use Rattle.typing_law.specs.Blocks.{after_stm}
 
 -- Locks along the text -------------------------------------------------------------------------------------------
 

@@ -2,8 +2,8 @@
 use Rattle.std.specs.Prelude.{sum_by}
 use Rattle.cov_ast.specs.Syntax.{Program}
 use Rattle.mode_compat.specs.Compatible.{threads_of}
-use Rattle.typing_rules.specs.Counts as thread
-use Rattle.typing_rules.specs.declared.count.Count.{Count}
+use Rattle.typing_law.specs.Counts as thread
+use Rattle.typing_law.specs.declared.count.Count.{Count}
 
 -- how many statements and entailments the threads of a program have
 abbrev pub counts : Program → Count

@@ -9,8 +9,8 @@ ghost use Rattle.cov_ast.specs.WellFormed.{IsWellFormed};
 ghost use Rattle.flow_model.specs.Secure.{IsSecure};
 ghost use Rattle.mode_compat.specs.Compatible.{threads_of};
 ghost use Rattle.mode_compat.specs.Declared.{declaration_obligations};
-ghost use Rattle.typing_rules.specs.Counts.{DecidesWith};
-ghost use Rattle.typing_rules.specs.ThreadObligations.{thread_obligations};
+ghost use Rattle.typing_law.specs.Counts.{DecidesWith};
+ghost use Rattle.typing_law.specs.ThreadObligations.{thread_obligations};
 ghost use Rattle.verify.specs.Accepted.{IsAccepted, program_obligations};
 ghost use Rattle.verify.specs.Disciplined.{IsDisciplined};
 ghost use Rattle.verify.specs.Verdicts.{counts};
@@ -22,7 +22,8 @@ use lock_spec::check_locks;
 use mode_compat::check_modes;
 use policy_class::check_policy;
 use std::alloc::Global;
-use typing_rules::{Count, check_thread};
+use typing_law::Count;
+use typing_rules::check_thread;
 
 /// Checks a program whose names are in order. `Ok` comes exactly where every obligation holds (W3 to W9, V1 to V16), and then
 /// the program is secure and disciplined. The first obligation that doesn't hold is refused: of declarations by rule, and

@@ -9,7 +9,7 @@ ghost use Rattle.verify.specs.Disciplined.{IsDisciplined};
 
 use flow_model::threads_compose;
 use mode_compat::{sets_are_holdings, writable_and_stable_are_disjoint};
-use typing_rules::{
+use typing_law::{
     threads_end_without_locks, true_declarations_are_declared, true_obligations_are_secure,
 };
 

@@ -10,7 +10,7 @@ ghost use Rattle.verify.specs.Disciplined.{IsDisciplined};
 ghost use Rattle.verify.specs.Verdicts.{counts};
 
 use cov_ast::Program;
-use typing_rules::Count;
+use typing_law::Count;
 
 /// That a program is accepted, and what follows: it is secure and disciplined. It keeps how much was checked.
 #[derive(Drop)]

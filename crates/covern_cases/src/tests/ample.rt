@@ -14,7 +14,8 @@ use entail_ring::{Poly, normal};
 use std::alloc::Global;
 use std::test::Fail;
 use top_call::Status;
-use typing_rules::{Count, Entail, check_thread, entailment_at, entailments};
+use typing_law::{Count, Entail};
+use typing_rules::{check_thread, entailment_at, entailments};
 use verify::{check_declared, check_program};
 
 /// A buffer that takes a secret while the mode says so: four statements with two entailments.

@@ -2,7 +2,7 @@
 use Rattle.std.specs.Prelude.{ℕ, ◌==◌, ◌&&◌, List, [], Bool, true, not, filter}
 use Rattle.std.specs.List.{list_all}
 use Rattle.cov_ast.specs.Obligations.{Obligation}
-use Rattle.typing_rules.specs.ThreadEntailments.{PlacedEntailment, is_about_certificates, is_passed}
+use Rattle.typing_law.specs.ThreadEntailments.{PlacedEntailment, is_about_certificates, is_passed}
 use Rattle.typing_rules.specs.declared.purpose.Purpose.{Purpose}
 use Rattle.typing_rules.specs.declared.purpose.Purpose.TheVariants.{Judge, Collect}
 use Rattle.typing_rules.specs.declared.purpose.Wanted.{Wanted}

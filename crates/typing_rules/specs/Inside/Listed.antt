@@ -7,7 +7,7 @@ use Rattle.cov_ast.specs.Declarations.{class_of}
 use Rattle.cov_ast.specs.Plain.{Plain}
 use Rattle.mode_state.specs.Sets.{is_hidden}
 use Rattle.typing_state.specs.Point.{Point}
-use Rattle.typing_rules.specs.Entailments.{Entailment, from_preds, from_one_more, is_small_entailment}
+use Rattle.typing_law.specs.Entailments.{Entailment, from_preds, from_one_more, is_small_entailment}
 use Rattle.entail_cert.specs.declared.held.Held.{Held}
 use Rattle.entail_cert.specs.HeldTerms.{held_term}
 use Rattle.typing_rules.specs.declared.asked.Entailment as rust

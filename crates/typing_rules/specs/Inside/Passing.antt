@@ -3,9 +3,9 @@ use Rattle.std.specs.Prelude.{◌≡◌, List, ◌++◌, map, None, Some}
 use Rattle.cov_ast.specs.Obligations.{Obligation, first_false}
 use Rattle.cov_ast.specs.declared.refusal.CheckFault.{CheckFault}
 use Rattle.cov_ast.specs.declared.refusal.CheckFault.TheVariants.{Refused, NoMemory}
+use Rattle.typing_law.specs.ThreadEntailments.{PlacedEntailment, reached_entailments, view_entail}
+use Rattle.typing_law.specs.declared.entail.Entail.{Entail}
 use Rattle.typing_rules.specs.Inside.Keeping.{kept_for, looked_at}
-use Rattle.typing_rules.specs.ThreadEntailments.{PlacedEntailment, reached_entailments, view_entail}
-use Rattle.typing_rules.specs.declared.entail.Entail.{Entail}
 use Rattle.typing_rules.specs.declared.purpose.Purpose.{Purpose}
 
 -- Of the entailments of these obligations, those that are reached and that the walk keeps were added to those before.

@@ -19,14 +19,14 @@ use Rattle.typing_state.specs.KeptPoints.{Keeps}
 use Rattle.typing_state.specs.Point as spec
 use Rattle.typing_state.specs.Point.{is_tracked}
 use Rattle.typing_state.specs.declared.point.Point.{Point}
-use Rattle.typing_rules.specs.Counts.{entailment_count}
-use Rattle.typing_rules.specs.Blocks.{after_block, after_stm}
-use Rattle.typing_rules.specs.Entailments.{Entailment, is_proved, is_small_entailment, guard_follows, state_follows}
-use Rattle.typing_rules.specs.ThreadObligations.{block_obligations, few_preds, flat, guard_obligations, narrow, numbers, of_var, one_unstable, over_controls, proved, reads, same_locks, small_terms, state_obligations, stm_parts, type_obligations}
+use Rattle.typing_law.specs.Counts.{entailment_count}
+use Rattle.typing_law.specs.Blocks.{after_block, after_stm}
+use Rattle.typing_law.specs.Entailments.{Entailment, is_proved, is_small_entailment, guard_follows, state_follows}
+use Rattle.typing_law.specs.ThreadObligations.{block_obligations, few_preds, flat, guard_obligations, narrow, numbers, of_var, one_unstable, over_controls, proved, reads, same_locks, small_terms, state_obligations, stm_parts, type_obligations}
+use Rattle.typing_law.specs.ThreadEntailments.{PlacedEntailment, block_entailments, placed_from, stm_entailments, view_entail}
+use Rattle.typing_law.specs.declared.entail.Entail.{Entail}
 use Rattle.typing_rules.specs.Inside.Keeping.{kept_for}
 use Rattle.typing_rules.specs.Inside.Passing.{Passes, Stops}
-use Rattle.typing_rules.specs.ThreadEntailments.{PlacedEntailment, block_entailments, placed_from, stm_entailments, view_entail}
-use Rattle.typing_rules.specs.declared.entail.Entail.{Entail}
 use Rattle.typing_rules.specs.declared.entailments_tried.Tried.{Tried}
 use Rattle.typing_rules.specs.declared.purpose.Purpose.{Purpose}
 use Rattle.typing_rules.specs.declared.purpose.Purpose.TheVariants.{Judge, Collect}

@@ -6,7 +6,7 @@ use Rattle.cov_ast.specs.View as view
 use Rattle.cov_ast.specs.declared.refusal.Refusal.{Refusal}
 use Rattle.cov_ast.proofs.ObligationLaws.{none_refused}
 use Rattle.mode_compat.specs.Declared.{declaration_obligations}
-use Rattle.typing_rules.specs.ThreadEntailments.{entailment_among, thread_entailments}
+use Rattle.typing_law.specs.ThreadEntailments.{entailment_among, thread_entailments}
 use Rattle.entail_refused.specs.Asked.{told_of}
 use Rattle.entail_refused.proofs.entailment.add_of_thread.Goals as goal
 

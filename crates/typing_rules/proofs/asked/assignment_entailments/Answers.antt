@@ -2,8 +2,8 @@ use Rattle.std.proofs.Common.{◌++◌, map, option_map, ap, ◌∙◌}
 use Rattle.cov_expr.specs.View.{term}
 use Rattle.cov_ast.specs.Plain.{plain}
 use Rattle.cov_ast.specs.View as view
-use Rattle.typing_rules.specs.Blocks.{value_type}
-use Rattle.typing_rules.specs.Entailments.{controlled_values, retype_follows, shown_value, written_type}
+use Rattle.typing_law.specs.Blocks.{value_type}
+use Rattle.typing_law.specs.Entailments.{controlled_values, retype_follows, shown_value, written_type}
 use Rattle.typing_rules.specs.Inside.Listed.{entailments_of}
 use Rattle.typing_rules.proofs.ListedLaws.{large_before, large_behind}
 use Rattle.typing_rules.proofs.asked.assignment_entailments.Goals as goal

@@ -2,7 +2,7 @@ use Rattle.std.proofs.Common.{map}
 use Rattle.cov_expr.specs.View.{term}
 use Rattle.cov_ast.specs.Plain.{plain}
 use Rattle.cov_ast.specs.View as view
-use Rattle.typing_rules.specs.Entailments.{controlled_values, retype_follows}
+use Rattle.typing_law.specs.Entailments.{controlled_values, retype_follows}
 use Rattle.typing_rules.proofs.ListedLaws.{large_behind}
 use Rattle.typing_rules.proofs.asked.changed_entailments.Goals as goal
 

@@ -2,7 +2,7 @@ use Rattle.cov_expr.specs.View.{term}
 use Rattle.cov_ast.specs.Plain.{plain}
 use Rattle.cov_ast.specs.View as view
 use Rattle.typing_state.specs.Point.{ty}
-use Rattle.typing_rules.specs.Entailments.{guard_follows}
+use Rattle.typing_law.specs.Entailments.{guard_follows}
 use Rattle.typing_rules.proofs.ListedLaws.{large_alone, large_goal}
 use Rattle.typing_rules.proofs.LargeTypes.{large_type}
 use Rattle.typing_rules.proofs.asked.guard_entailments.Goals as goal

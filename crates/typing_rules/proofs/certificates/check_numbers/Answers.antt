@@ -7,7 +7,7 @@ use Rattle.cov_ast.specs.declared.cert.Proof as written
 use Rattle.cov_ast.specs.declared.refusal.Detail.TheVariants.{Number}
 use Rattle.cov_ast.specs.declared.refusal.Rule.TheVariants.{V13}
 use Rattle.cov_ast.proofs.ObligationLaws.{loop_refused, loop_more}
-use Rattle.typing_rules.specs.ThreadObligations.{obligation, is_number}
+use Rattle.typing_law.specs.ThreadObligations.{obligation, is_number}
 use Rattle.typing_rules.proofs.StateLaws.{obligation_refused, obligation_held}
 use Rattle.typing_rules.proofs.certificates.check_numbers.Goals as goal
 

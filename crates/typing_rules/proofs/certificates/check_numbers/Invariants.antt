@@ -4,7 +4,7 @@ use Rattle.cov_ast.specs.Plain.{plain}
 use Rattle.cov_ast.specs.View as view
 use Rattle.cov_ast.specs.declared.refusal.Detail.TheVariants.{Number}
 use Rattle.cov_ast.specs.declared.refusal.Rule.TheVariants.{V13}
-use Rattle.typing_rules.specs.ThreadObligations.{obligation, is_number, numbers}
+use Rattle.typing_law.specs.ThreadObligations.{obligation, is_number, numbers}
 use Rattle.typing_rules.proofs.certificates.check_numbers.Given as goal
 
 abbrev pub invariant-loop-proof : goal.invariant-loop-proof

@@ -3,7 +3,7 @@ use Rattle.std.proofs.lemmas.List.{length-append}
 use Rattle.cov_ast.specs.View as view
 use Rattle.cov_ast.specs.WellFormed.{block_size, places, places_within, stm_size}
 use Rattle.cov_ast.specs.declared.stmt.Stmt.{Stmt}
-use Rattle.typing_rules.proofs.Bounds.{few_places, few_places_within}
+use Rattle.typing_law.proofs.Bounds.{few_places, few_places_within}
 use Rattle.typing_rules.proofs.StatementLaws.{branch_is, block_from}
 use Rattle.typing_rules.proofs.count.+statements.Goals as goal
 

@@ -1,11 +1,11 @@
 use Rattle.std.proofs.Common.{◌≡◌, ◌+◌, ◌<◌, ◌≤◌, ◌++◌, ◌∷◌, [], ◌∙◌, ℕ, suc, List, length, drop, get_or, map, refl, sym, ap, arith, append_assoc}
 use Rattle.std.proofs.lemmas.List.{append-nil, at_drop_all, at_drop_more}
 use Rattle.cov_expr.specs.Term.{Term}
+use Rattle.typing_law.specs.ThreadEntailments.{PlacedEntailment, placed_from, view_entail}
+use Rattle.typing_law.specs.declared.entail.Entail.{Entail}
 use Rattle.typing_rules.specs.Inside.Keeping.{wanted_among}
 use Rattle.typing_rules.specs.Inside.Listed.{entailment_of, entailments_of}
-use Rattle.typing_rules.specs.ThreadEntailments.{PlacedEntailment, placed_from, view_entail}
 use Rattle.typing_rules.specs.declared.asked.Entailment as rust
-use Rattle.typing_rules.specs.declared.entail.Entail.{Entail}
 use Rattle.typing_rules.specs.declared.purpose.Purpose.TheVariants.{Collect}
 use Rattle.typing_rules.specs.declared.purpose.Wanted.{Wanted}
 use Rattle.typing_rules.proofs.KeptLaws.{kept-append}

@@ -1,9 +1,9 @@
 use Rattle.std.proofs.Common.{◌≡◌, ◌+◌, ◌++◌, ℕ, drop, map}
 use Rattle.cov_ast.specs.Plain.{Plain}
+use Rattle.typing_law.specs.ThreadEntailments.{placed_from, view_entail}
 use Rattle.typing_rules.specs.Inside.Keeping.{wanted_among}
 use Rattle.typing_rules.specs.Inside.Walking.{AtPoint}
 use Rattle.typing_rules.specs.Inside.Listed.{entailments_of}
-use Rattle.typing_rules.specs.ThreadEntailments.{placed_from, view_entail}
 use Rattle.typing_rules.proofs.entail.add_copies.Given as goal
 
 abbrev pub invariant-loop-entailment : goal.invariant-loop-entailment

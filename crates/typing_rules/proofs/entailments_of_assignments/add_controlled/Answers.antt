@@ -6,8 +6,8 @@ use Rattle.cov_expr.specs.View.{term}
 use Rattle.cov_ast.specs.Declarations.{is_control}
 use Rattle.cov_ast.specs.Plain.{plain}
 use Rattle.cov_ast.specs.View as view
+use Rattle.typing_law.specs.Entailments.{controlled_follows, shown_controlled}
 use Rattle.typing_rules.specs.Inside.Listed.{entailments_of, is_shown_controlled}
-use Rattle.typing_rules.specs.Entailments.{controlled_follows, shown_controlled}
 use Rattle.typing_rules.proofs.ListedLaws.{added_none, added_if, large_if, large_between, range_more, range_passed, undecided}
 use Rattle.typing_rules.proofs.entailments_of_assignments.add_controlled.Goals as goal
 

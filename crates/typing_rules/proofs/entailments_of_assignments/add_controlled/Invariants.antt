@@ -4,9 +4,9 @@ use Rattle.std.specs.List.{range_with_len}
 use Rattle.cov_expr.specs.View.{term}
 use Rattle.cov_ast.specs.Plain.{plain}
 use Rattle.cov_ast.specs.View as view
+use Rattle.typing_law.specs.Entailments.{controlled_follows}
 use Rattle.typing_rules.specs.Inside.Walking.{AtPoint}
 use Rattle.typing_rules.specs.Inside.Listed.{entailments_of, is_shown_controlled}
-use Rattle.typing_rules.specs.Entailments.{controlled_follows}
 use Rattle.typing_rules.proofs.entailments_of_assignments.add_controlled.Given as goal
 
 abbrev pub decreases-loop-y : goal.decreases-loop-y

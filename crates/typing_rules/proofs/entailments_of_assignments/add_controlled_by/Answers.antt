@@ -6,8 +6,8 @@ use Rattle.cov_ast.specs.Declarations.{class_of}
 use Rattle.cov_ast.specs.Plain.{plain, class_term}
 use Rattle.cov_ast.specs.View as view
 use Rattle.typing_state.specs.Point.{ty_var}
+use Rattle.typing_law.specs.Entailments.{from_one_more, controlled_follows}
 use Rattle.typing_rules.specs.Inside.Listed.{entailments_of, is_shown_controlled}
-use Rattle.typing_rules.specs.Entailments.{from_one_more, controlled_follows}
 use Rattle.typing_state.specs.Terms.{is_small}
 use Rattle.typing_rules.proofs.ListedLaws.{added_none, added_if, added_one, decided, unseen, large, large_more, large_alone, large_if}
 use Rattle.typing_rules.proofs.entailments_of_assignments.add_controlled_by.Goals as goal

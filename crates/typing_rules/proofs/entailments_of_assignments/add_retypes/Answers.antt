@@ -2,8 +2,8 @@ use Rattle.cov_expr.specs.Trees.{subst}
 use Rattle.cov_expr.specs.View.{term}
 use Rattle.cov_ast.specs.View as view
 use Rattle.typing_state.specs.Point.{type_at}
+use Rattle.typing_law.specs.Entailments.{from_one_more, retype_follows}
 use Rattle.typing_rules.specs.Inside.Listed.{entailments_of}
-use Rattle.typing_rules.specs.Entailments.{from_one_more, retype_follows}
 use Rattle.typing_rules.proofs.ListedLaws.{listed_more, listed_all, added_one, large, large_more, large_at}
 use Rattle.typing_rules.proofs.entailments_of_assignments.add_retypes.Goals as goal
 

@@ -2,9 +2,9 @@ use Rattle.std.proofs.Common.{◌≡◌, ◌++◌, ℕ, drop, map}
 use Rattle.cov_expr.specs.View.{term}
 use Rattle.cov_ast.specs.Plain.{Plain}
 use Rattle.cov_ast.specs.View as view
+use Rattle.typing_law.specs.Entailments.{retype_follows}
 use Rattle.typing_rules.specs.Inside.Walking.{AtPoint}
 use Rattle.typing_rules.specs.Inside.Listed.{entailments_of}
-use Rattle.typing_rules.specs.Entailments.{retype_follows}
 use Rattle.typing_rules.proofs.entailments_of_assignments.add_retypes.Given as goal
 
 abbrev pub invariant-loop-r : goal.invariant-loop-r

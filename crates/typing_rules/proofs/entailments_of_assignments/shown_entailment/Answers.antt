@@ -5,7 +5,7 @@ use Rattle.cov_ast.specs.Declarations.{class_of, is_control}
 use Rattle.cov_ast.specs.Plain.{plain}
 use Rattle.cov_ast.specs.View as view
 use Rattle.mode_state.specs.Sets.{is_hidden}
-use Rattle.typing_rules.specs.Entailments.{from_one_more}
+use Rattle.typing_law.specs.Entailments.{from_one_more}
 use Rattle.entail_cert.specs.HeldTerms.{held_term}
 use Rattle.typing_rules.proofs.ListedLaws.{added_if, added_none}
 use Rattle.typing_rules.proofs.entailments_of_assignments.shown_entailment.Goals as goal

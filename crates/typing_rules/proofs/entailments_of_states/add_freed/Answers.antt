@@ -2,8 +2,8 @@ use Rattle.std.proofs.Common.{not}
 use Rattle.cov_ast.specs.Declarations.{is_control}
 use Rattle.cov_ast.specs.Plain.{plain}
 use Rattle.cov_ast.specs.View as view
+use Rattle.typing_law.specs.Entailments.{freed_value}
 use Rattle.typing_rules.specs.Inside.Listed.{entailments_of}
-use Rattle.typing_rules.specs.Entailments.{freed_value}
 use Rattle.typing_rules.proofs.ListedLaws.{passed_more, passed_all}
 use Rattle.typing_rules.proofs.entailments_of_states.add_freed.Goals as goal
 

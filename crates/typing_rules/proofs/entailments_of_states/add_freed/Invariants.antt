@@ -3,9 +3,9 @@ use Rattle.std.specs.Prelude.{filter}
 use Rattle.cov_ast.specs.Declarations.{is_control}
 use Rattle.cov_ast.specs.Plain.{plain}
 use Rattle.cov_ast.specs.View as view
+use Rattle.typing_law.specs.Entailments.{freed_value}
 use Rattle.typing_rules.specs.Inside.Walking.{AtPoint}
 use Rattle.typing_rules.specs.Inside.Listed.{entailments_of}
-use Rattle.typing_rules.specs.Entailments.{freed_value}
 use Rattle.typing_rules.proofs.entailments_of_states.add_freed.Given as goal
 
 abbrev pub invariant-loop-x : goal.invariant-loop-x

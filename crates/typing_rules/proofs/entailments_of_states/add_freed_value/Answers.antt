@@ -4,8 +4,8 @@ use Rattle.std.proofs.lemmas.List.{length-map}
 use Rattle.cov_ast.specs.Declarations.{is_control}
 use Rattle.cov_ast.specs.Plain.{plain}
 use Rattle.cov_ast.specs.View as view
+use Rattle.typing_law.specs.Entailments.{freed_value, from_one_more}
 use Rattle.typing_rules.specs.Inside.Listed.{entailments_of}
-use Rattle.typing_rules.specs.Entailments.{freed_value, from_one_more}
 use Rattle.typing_rules.proofs.ListedLaws.{added_one, added_if, added_none}
 
 pub returns-then-is_control : goal.returns-then-is_control

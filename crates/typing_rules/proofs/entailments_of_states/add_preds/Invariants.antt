@@ -1,8 +1,8 @@
 use Rattle.std.proofs.Common.{◌≡◌, ◌++◌, List, drop, map}
 use Rattle.cov_expr.specs.Term.{Term}
 use Rattle.cov_expr.specs.View.{term}
+use Rattle.typing_law.specs.Entailments.{from_preds}
 use Rattle.typing_rules.specs.Inside.Listed.{entailments_of}
-use Rattle.typing_rules.specs.Entailments.{from_preds}
 use Rattle.typing_rules.proofs.entailments_of_states.add_preds.Given as goal
 
 abbrev pub invariant-loop-e : goal.invariant-loop-e

@@ -1,8 +1,8 @@
 use Rattle.std.proofs.Common.{ap}
 use Rattle.cov_expr.specs.View.{term}
 use Rattle.cov_ast.specs.View as view
+use Rattle.typing_law.specs.Entailments.{from_one_more, type_follows}
 use Rattle.typing_rules.specs.Inside.Listed.{entailments_of}
-use Rattle.typing_rules.specs.Entailments.{from_one_more, type_follows}
 use Rattle.typing_rules.proofs.ListedLaws.{listed_more, listed_all, added_one}
 use Rattle.typing_rules.proofs.entailments_of_states.add_types.Goals as goal
 

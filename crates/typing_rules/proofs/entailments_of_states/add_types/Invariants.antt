@@ -1,9 +1,9 @@
 use Rattle.std.proofs.Common.{◌≡◌, ◌++◌, ℕ, drop, map}
 use Rattle.cov_ast.specs.Plain.{Plain}
 use Rattle.cov_ast.specs.View as view
+use Rattle.typing_law.specs.Entailments.{type_follows}
 use Rattle.typing_rules.specs.Inside.Walking.{AtPoint}
 use Rattle.typing_rules.specs.Inside.Listed.{entailments_of}
-use Rattle.typing_rules.specs.Entailments.{type_follows}
 use Rattle.typing_rules.proofs.entailments_of_states.add_types.Given as goal
 
 abbrev pub invariant-loop-z : goal.invariant-loop-z

@@ -8,7 +8,7 @@ use Rattle.cov_ast.specs.View as view
 use Rattle.cov_ast.specs.declared.refusal.Detail.TheVariants.{One}
 use Rattle.cov_ast.specs.declared.refusal.Rule.TheVariants.{V1}
 use Rattle.mode_state.specs.Sets.{may_read}
-use Rattle.typing_rules.specs.ThreadObligations.{of_var}
+use Rattle.typing_law.specs.ThreadObligations.{of_var}
 use Rattle.typing_rules.proofs.GuardLaws.{at_var, at_both, at_first, same_test}
 use Rattle.typing_rules.proofs.evaluation.+check_each_read.Goals as goal
 

@@ -3,7 +3,7 @@ use Rattle.cov_expr.specs.View.{term}
 use Rattle.cov_ast.specs.Plain.{plain}
 use Rattle.cov_ast.specs.View as view
 use Rattle.cov_ast.proofs.ObligationLaws.{append_decided, append_refused}
-use Rattle.typing_rules.specs.ThreadObligations.{narrow, one_unstable}
+use Rattle.typing_law.specs.ThreadObligations.{narrow, one_unstable}
 use Rattle.typing_rules.proofs.Parts.{padded}
 use Rattle.typing_rules.proofs.evaluation.check_evaluation.Goals as goal
 

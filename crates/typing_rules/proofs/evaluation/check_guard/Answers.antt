@@ -3,7 +3,7 @@ use Rattle.cov_expr.specs.View.{term}
 use Rattle.cov_ast.specs.Plain.{plain}
 use Rattle.cov_ast.specs.View as view
 use Rattle.cov_ast.proofs.ObligationLaws.{append_decided, append_refused, append_held}
-use Rattle.typing_rules.specs.ThreadObligations.{reads, one_unstable, narrow}
+use Rattle.typing_law.specs.ThreadObligations.{reads, one_unstable, narrow}
 use Rattle.typing_rules.proofs.evaluation.check_guard.Goals as goal
 
 pub returns-in-Err : goal.returns-in-Err

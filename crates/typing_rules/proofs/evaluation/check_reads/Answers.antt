@@ -6,7 +6,7 @@ use Rattle.cov_ast.specs.Plain.{plain}
 use Rattle.cov_ast.specs.View as view
 use Rattle.cov_ast.specs.declared.refusal.Rule.TheVariants.{V1}
 use Rattle.mode_state.specs.Sets.{may_read}
-use Rattle.typing_rules.specs.ThreadObligations.{of_var}
+use Rattle.typing_law.specs.ThreadObligations.{of_var}
 use Rattle.typing_rules.proofs.GuardLaws.{each_held, over_vars}
 use Rattle.typing_rules.proofs.evaluation.check_reads.Goals as goal
 

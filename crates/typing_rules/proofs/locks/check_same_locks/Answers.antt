@@ -3,7 +3,7 @@ use Rattle.cov_ast.specs.Plain.{plain}
 use Rattle.cov_ast.specs.View as view
 use Rattle.cov_ast.specs.declared.refusal.Detail.TheVariants.{Nothing}
 use Rattle.cov_ast.specs.declared.refusal.Rule.TheVariants.{V8}
-use Rattle.typing_rules.specs.ThreadObligations.{same_held}
+use Rattle.typing_law.specs.ThreadObligations.{same_held}
 use Rattle.typing_rules.proofs.GuardLaws.{same_test}
 use Rattle.typing_rules.proofs.locks.check_same_locks.Goals as goal
 

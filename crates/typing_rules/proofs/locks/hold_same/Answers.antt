@@ -4,7 +4,7 @@ use Rattle.std.proofs.lemmas.List.{length-map}
 use Rattle.cov_ast.specs.Tables.{has}
 use Rattle.cov_ast.specs.View as view
 use Rattle.mode_state.proofs.HeldLaws.{all_from, not_all_from}
-use Rattle.typing_rules.specs.ThreadObligations.{agree}
+use Rattle.typing_law.specs.ThreadObligations.{agree}
 use Rattle.typing_rules.proofs.StateLaws.{other_agree}
 use Rattle.typing_rules.proofs.locks.hold_same.Goals as goal
 

@@ -1,6 +1,6 @@
 use Rattle.std.proofs.Common.{◌≡◌, ℕ, ◌<◌, true}
 use Rattle.cov_ast.specs.Tables.{has}
-use Rattle.typing_rules.specs.ThreadObligations.{agree}
+use Rattle.typing_law.specs.ThreadObligations.{agree}
 use Rattle.typing_rules.proofs.locks.hold_same.Given as goal
 
 abbrev pub invariant-loop-l : goal.invariant-loop-l

@@ -4,9 +4,9 @@ use Rattle.cov_ast.specs.View as view
 use Rattle.cov_ast.specs.WellFormed.{IsBlockInRange, block_size, most_size}
 use Rattle.mode_compat.specs.Compatible.{numbered}
 use Rattle.typing_state.specs.After.{start}
-use Rattle.typing_rules.specs.Blocks.{after_block}
-use Rattle.typing_rules.specs.ThreadEntailments.{block_entailments}
-use Rattle.typing_rules.specs.ThreadObligations.{block_obligations}
+use Rattle.typing_law.specs.Blocks.{after_block}
+use Rattle.typing_law.specs.ThreadEntailments.{block_entailments}
+use Rattle.typing_law.specs.ThreadObligations.{block_obligations}
 use Rattle.typing_rules.proofs.Reaching.{judge_stops}
 use Rattle.typing_rules.proofs.Ranges.{classes_below, start_below}
 use Rattle.typing_rules.proofs.Threads.{body_in_range, body_refused, body_small, end_refused, thread_counted, thread_held, thread_seen}

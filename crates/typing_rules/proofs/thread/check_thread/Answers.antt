@@ -3,8 +3,8 @@ use Rattle.std.proofs.lemmas.List.{length-map}
 use Rattle.cov_ast.specs.View as view
 use Rattle.cov_ast.specs.WellFormed.{places}
 use Rattle.cov_ast.proofs.ObligationLaws.{none_refused}
-use Rattle.typing_rules.specs.Counts.{counts}
-use Rattle.typing_rules.specs.ThreadObligations.{thread_obligations}
+use Rattle.typing_law.specs.Counts.{counts}
+use Rattle.typing_law.specs.ThreadObligations.{thread_obligations}
 use Rattle.typing_rules.proofs.Threads.{entailments_bounded, statements_bounded, thread_seen}
 use Rattle.typing_rules.proofs.thread.check_thread.Goals as goal
 

@@ -8,7 +8,7 @@ use Rattle.cov_ast.specs.Plain.{plain}
 use Rattle.cov_ast.specs.View as view
 use Rattle.cov_ast.proofs.ObligationLaws.{loop_refused, loop_more}
 use Rattle.cov_ast.proofs.WellFormedLaws.{seen_item}
-use Rattle.typing_rules.specs.ThreadObligations.{over_stable}
+use Rattle.typing_law.specs.ThreadObligations.{over_stable}
 use Rattle.typing_rules.proofs.StateLaws.{obligation_refused, obligation_held}
 use Rattle.typing_rules.proofs.types.check_preds.Goals as goal
 

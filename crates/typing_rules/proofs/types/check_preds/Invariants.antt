@@ -3,8 +3,8 @@ use Rattle.cov_expr.specs.View.{term}
 use Rattle.cov_ast.specs.Obligations.{first_false}
 use Rattle.cov_ast.specs.Plain.{plain}
 use Rattle.cov_ast.specs.View as view
+use Rattle.typing_law.specs.ThreadObligations.{over_stable}
 use Rattle.typing_rules.specs.Inside.Walking.{AtPoint}
-use Rattle.typing_rules.specs.ThreadObligations.{over_stable}
 use Rattle.typing_rules.proofs.types.check_preds.Given as goal
 
 abbrev pub invariant-loop-e : goal.invariant-loop-e

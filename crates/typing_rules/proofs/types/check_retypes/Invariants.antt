@@ -4,8 +4,8 @@ use Rattle.cov_ast.specs.Obligations.{first_false}
 use Rattle.cov_ast.specs.Plain.{plain}
 use Rattle.cov_ast.specs.View as view
 use Rattle.typing_state.specs.Point.{is_tracked}
+use Rattle.typing_law.specs.ThreadObligations.{type_obligations}
 use Rattle.typing_rules.specs.Inside.Walking.{AtPoint}
-use Rattle.typing_rules.specs.ThreadObligations.{type_obligations}
 use Rattle.typing_rules.proofs.StateLaws.{names}
 use Rattle.typing_rules.proofs.types.check_retypes.Given as goal
 

@@ -5,7 +5,7 @@ use Rattle.cov_ast.specs.Plain.{plain}
 use Rattle.cov_ast.specs.View as view
 use Rattle.cov_ast.proofs.ObligationLaws.{append_decided, append_refused}
 use Rattle.typing_state.specs.Point.{is_tracked}
-use Rattle.typing_rules.specs.ThreadObligations.{over_stable, type_obligations}
+use Rattle.typing_law.specs.ThreadObligations.{over_stable, type_obligations}
 use Rattle.typing_rules.proofs.types.check_state.Goals as goal
 
 pub returns-in-Err : goal.returns-in-Err

@@ -8,7 +8,7 @@ use Rattle.cov_ast.specs.declared.refusal.Detail.TheVariants.{One}
 use Rattle.cov_ast.specs.declared.refusal.Rule.TheVariants.{V14}
 use Rattle.cov_ast.proofs.ObligationLaws.{append_decided, append_refused}
 use Rattle.typing_state.specs.Point.{is_tracked}
-use Rattle.typing_rules.specs.ThreadObligations.{obligation, over_controls}
+use Rattle.typing_law.specs.ThreadObligations.{obligation, over_controls}
 use Rattle.typing_rules.proofs.GuardLaws.{same_test}
 use Rattle.typing_rules.proofs.types.check_type.Goals as goal
 

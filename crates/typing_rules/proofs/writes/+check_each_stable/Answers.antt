@@ -8,7 +8,7 @@ use Rattle.cov_ast.specs.View as view
 use Rattle.cov_ast.specs.declared.refusal.Detail.TheVariants.{One}
 use Rattle.cov_ast.specs.declared.refusal.Rule.TheVariants.{V5}
 use Rattle.mode_state.specs.Sets.{is_stable}
-use Rattle.typing_rules.specs.ThreadObligations.{of_var}
+use Rattle.typing_law.specs.ThreadObligations.{of_var}
 use Rattle.typing_rules.proofs.GuardLaws.{at_var, at_both, at_first, same_test}
 use Rattle.typing_rules.proofs.writes.+check_each_stable.Goals as goal
 

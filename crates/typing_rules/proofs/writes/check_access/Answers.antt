@@ -5,7 +5,7 @@ use Rattle.cov_ast.specs.View as view
 use Rattle.cov_ast.specs.declared.refusal.Rule.TheVariants.{V2}
 use Rattle.cov_ast.proofs.ObligationLaws.{append_decided, append_refused}
 use Rattle.mode_state.specs.Sets.{may_write}
-use Rattle.typing_rules.specs.ThreadObligations.{of_var, reads}
+use Rattle.typing_law.specs.ThreadObligations.{of_var, reads}
 use Rattle.typing_rules.proofs.Parts.{padded}
 use Rattle.typing_rules.proofs.writes.check_access.Goals as goal
 

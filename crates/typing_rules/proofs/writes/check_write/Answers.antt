@@ -6,7 +6,7 @@ use Rattle.cov_ast.specs.View as view
 use Rattle.cov_ast.specs.declared.refusal.Rule.TheVariants.{V2}
 use Rattle.cov_ast.specs.declared.refusal.Detail.TheVariants.{One}
 use Rattle.mode_state.specs.Sets.{may_write}
-use Rattle.typing_rules.specs.ThreadObligations.{thread_obligation}
+use Rattle.typing_law.specs.ThreadObligations.{thread_obligation}
 use Rattle.typing_rules.proofs.writes.check_write.Goals as goal
 
 pub returns : goal.returns

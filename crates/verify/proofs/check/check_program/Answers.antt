@@ -5,7 +5,7 @@ use Rattle.cov_ast.specs.Obligations.{first_false}
 use Rattle.cov_ast.proofs.ObligationLaws.{append_decided, append_refused, append_held, none_refused}
 use Rattle.mode_compat.specs.Compatible.{threads_of}
 use Rattle.mode_compat.specs.Declared.{declaration_obligations}
-use Rattle.typing_rules.specs.ThreadObligations.{thread_obligations}
+use Rattle.typing_law.specs.ThreadObligations.{thread_obligations}
 use Rattle.verify.specs.Accepted.{IsAccepted, program_obligations}
 use Rattle.verify.proofs.check.check_program.Goals as goal
 

@@ -5,8 +5,8 @@ use Rattle.cov_ast.specs.View as view
 use Rattle.cov_ast.specs.Obligations.{Obligation, first_false}
 use Rattle.cov_ast.proofs.ObligationLaws.{loop_refused, loop_more}
 use Rattle.mode_compat.specs.Compatible.{threads_of}
-use Rattle.typing_rules.specs.Counts as thread
-use Rattle.typing_rules.specs.ThreadObligations.{thread_obligations}
+use Rattle.typing_law.specs.Counts as thread
+use Rattle.typing_law.specs.ThreadObligations.{thread_obligations}
 use Rattle.verify.proofs.Sums.{thread_count, thread_is, sum_step, sum_end}
 use Rattle.verify.proofs.check.check_threads.Goals as goal
 

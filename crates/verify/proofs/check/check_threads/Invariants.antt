@@ -3,8 +3,8 @@ use Rattle.std.specs.List.{flat_map}
 use Rattle.cov_ast.specs.Obligations.{first_false}
 use Rattle.cov_ast.specs.View as view
 use Rattle.mode_compat.specs.Compatible.{threads_of}
-use Rattle.typing_rules.specs.Counts as thread
-use Rattle.typing_rules.specs.ThreadObligations.{thread_obligations}
+use Rattle.typing_law.specs.Counts as thread
+use Rattle.typing_law.specs.ThreadObligations.{thread_obligations}
 use Rattle.verify.proofs.check.check_threads.Given as goal
 
 -- what is left decides, and what is counted is that of the threads before, of which each has less than a bound

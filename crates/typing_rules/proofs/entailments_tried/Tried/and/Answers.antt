@@ -3,10 +3,10 @@ use Rattle.std.specs.Option.{option_or}
 use Rattle.std.proofs.lemmas.Bool.{and_parts}
 use Rattle.std.proofs.lemmas.List.{length-append}
 use Rattle.std.proofs.lemmas.List.Folds.{list_all-append}
-use Rattle.typing_rules.specs.Entailments.{is_small_entailment}
+use Rattle.typing_law.specs.Entailments.{is_small_entailment}
+use Rattle.typing_law.specs.ThreadEntailments.{placed_from, view_entail}
 use Rattle.typing_rules.specs.Inside.Keeping.{kept_for}
 use Rattle.typing_rules.specs.Inside.Walking.{unproved_for}
-use Rattle.typing_rules.specs.ThreadEntailments.{placed_from, view_entail}
 use Rattle.typing_rules.proofs.KeptLaws.{kept-append}
 use Rattle.typing_rules.proofs.Reaching.{placed-append}
 use Rattle.typing_rules.proofs.TryLaws.{unproved_for-append}

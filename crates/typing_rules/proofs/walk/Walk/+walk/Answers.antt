@@ -8,16 +8,16 @@ use Rattle.cov_ast.specs.WellFormed.{IsBlockInRange, IsStmInRange, block_size, s
 use Rattle.cov_ast.specs.declared.decl.Program as decl
 use Rattle.typing_state.specs.After.{meet, with_guard}
 use Rattle.typing_state.specs.Point.{Point}
-use Rattle.typing_rules.specs.Counts.{entailment_count}
-use Rattle.typing_rules.specs.Blocks.{after_block, after_stm}
-use Rattle.typing_rules.specs.Entailments.{guard_follows, state_follows}
-use Rattle.typing_rules.specs.ThreadObligations.{block_obligations, flat, stm_parts}
+use Rattle.typing_law.specs.Counts.{entailment_count}
+use Rattle.typing_law.specs.Blocks.{after_block, after_stm}
+use Rattle.typing_law.specs.Entailments.{guard_follows, state_follows}
+use Rattle.typing_law.specs.ThreadObligations.{block_obligations, flat, stm_parts}
+use Rattle.typing_law.specs.ThreadEntailments.{stm_entailments}
+use Rattle.typing_law.proofs.Bounds.{few_entailments_state, few_entailments}
+use Rattle.typing_law.proofs.Counting.{count_branch, count_loop}
 use Rattle.typing_rules.specs.Inside.Passing.{Stops}
-use Rattle.typing_rules.specs.ThreadEntailments.{stm_entailments}
 use Rattle.typing_rules.specs.Inside.Walking.{HasTypesBelow, IsWalk, WalksStm, plain_of}
 use Rattle.typing_rules.specs.declared.walk.Walk.{Walk}
-use Rattle.typing_rules.proofs.Bounds.{few_entailments_state, few_entailments}
-use Rattle.typing_rules.proofs.Counting.{count_branch, count_loop}
 use Rattle.typing_rules.proofs.Ranges.{block_below, classes_below, meet_below, stm_below}
 use Rattle.typing_rules.proofs.Splits.{branch_walks, first_refused, fork_refused, head_refused, loop_walks, second_refused, turn_refused}
 use Rattle.typing_rules.proofs.StatementLaws.{block_from}

@@ -7,15 +7,15 @@ use Rattle.cov_ast.specs.Syntax as syntax
 use Rattle.cov_ast.specs.View as view
 use Rattle.typing_state.specs.After.{after_assign}
 use Rattle.typing_state.specs.KeptPoints.{Keeps}
-use Rattle.typing_rules.specs.Blocks.{value_type}
-use Rattle.typing_rules.specs.Counts.{entailment_count}
-use Rattle.typing_rules.specs.Entailments.{assign_entailments}
+use Rattle.typing_law.specs.Blocks.{value_type}
+use Rattle.typing_law.specs.Counts.{entailment_count}
+use Rattle.typing_law.specs.Entailments.{assign_entailments}
+use Rattle.typing_law.specs.ThreadEntailments.{stm_entailments}
+use Rattle.typing_law.specs.ThreadObligations.{few_preds, flat, stm_parts}
+use Rattle.typing_law.proofs.Counting.{count_assign}
 use Rattle.typing_rules.specs.Inside.Passing.{Stops}
 use Rattle.typing_rules.specs.Inside.Walking.{plain_of, value_parts}
-use Rattle.typing_rules.specs.ThreadEntailments.{stm_entailments}
-use Rattle.typing_rules.specs.ThreadObligations.{few_preds, flat, stm_parts}
 use Rattle.typing_rules.proofs.Assigning.{large_stops, value_stops, value_walks}
-use Rattle.typing_rules.proofs.Counting.{count_assign}
 use Rattle.typing_rules.proofs.Ranges.{classes_below, value_below}
 use Rattle.typing_rules.proofs.walk.Walk.assign.Goals as goal
 

@@ -4,7 +4,7 @@ use Rattle.cov_ast.specs.Obligations.{Decides}
 use Rattle.cov_ast.specs.View as view
 use Rattle.cov_ast.specs.declared.refusal.Rule.TheVariants.{V2}
 use Rattle.mode_state.specs.Sets.{may_write}
-use Rattle.typing_rules.specs.ThreadObligations.{flat, narrow, of_var, one_unstable, reads}
+use Rattle.typing_law.specs.ThreadObligations.{flat, narrow, of_var, one_unstable, reads}
 use Rattle.typing_rules.specs.Inside.Walking.{plain_of, type_parts}
 use Rattle.typing_rules.proofs.Parts.{parts_decided, parts_refused}
 use Rattle.typing_rules.proofs.walk.Walk.check_before.Goals as goal

@@ -1,5 +1,5 @@
 use Rattle.cov_ast.specs.View as view
-use Rattle.typing_rules.specs.ThreadObligations.{same_locks, state_obligations}
+use Rattle.typing_law.specs.ThreadObligations.{same_locks, state_obligations}
 use Rattle.typing_rules.specs.Inside.Walking.{plain_of}
 use Rattle.typing_rules.proofs.walk.Walk.check_ends.Goals as goal
 

@@ -5,9 +5,9 @@ use Rattle.cov_ast.specs.View as view
 use Rattle.cov_ast.specs.declared.refusal.Rule.TheVariants.{V16}
 use Rattle.cov_ast.specs.declared.refusal.Detail.TheVariants.{Nothing}
 use Rattle.cov_ast.proofs.ObligationLaws.{append_decided, append_refused}
-use Rattle.typing_rules.specs.Entailments.{is_small_entailment}
+use Rattle.typing_law.specs.Entailments.{is_small_entailment}
+use Rattle.typing_law.specs.ThreadObligations.{obligation, numbers, proved, small_terms}
 use Rattle.typing_rules.specs.Inside.Keeping.{looked_at}
-use Rattle.typing_rules.specs.ThreadObligations.{obligation, numbers, proved, small_terms}
 use Rattle.typing_state.specs.Point.{has_small_types}
 use Rattle.typing_rules.specs.Inside.Walking.{plain_of}
 use Rattle.typing_rules.specs.declared.site.Site.{Site}

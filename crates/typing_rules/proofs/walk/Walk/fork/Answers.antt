@@ -1,7 +1,7 @@
 use Rattle.std.proofs.Common.{[], map, sym}
 use Rattle.cov_expr.specs.View.{term}
 use Rattle.cov_ast.specs.View as view
-use Rattle.typing_rules.specs.ThreadObligations.{guard_obligations}
+use Rattle.typing_law.specs.ThreadObligations.{guard_obligations}
 use Rattle.typing_rules.specs.Inside.Walking.{plain_of}
 use Rattle.typing_rules.proofs.Others.{others_guard}
 use Rattle.typing_rules.proofs.walk.Walk.fork.Goals as goal

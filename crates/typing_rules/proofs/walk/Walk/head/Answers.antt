@@ -2,10 +2,10 @@ use Rattle.std.proofs.Common.{[], ◌∷◌, ◌++◌, map, length, sym, arith, 
 use Rattle.cov_expr.specs.View.{term}
 use Rattle.cov_ast.specs.View as view
 use Rattle.typing_state.specs.After.{meet}
-use Rattle.typing_rules.specs.Entailments.{guard_follows, state_follows}
-use Rattle.typing_rules.specs.ThreadObligations.{flat, guard_obligations, state_obligations}
+use Rattle.typing_law.specs.Entailments.{guard_follows, state_follows}
+use Rattle.typing_law.specs.ThreadObligations.{flat, guard_obligations, state_obligations}
+use Rattle.typing_law.proofs.Bounds.{few_entailments_state}
 use Rattle.typing_rules.specs.Inside.Walking.{GuardsAt, first_parts, plain_of, starts_of}
-use Rattle.typing_rules.proofs.Bounds.{few_entailments_state}
 use Rattle.typing_rules.proofs.Others.{others_guard, others_state}
 use Rattle.typing_rules.proofs.Reaching.{others-append}
 use Rattle.typing_rules.proofs.Ranges.{classes_below, meet_below}

@@ -1,10 +1,10 @@
 use Rattle.std.proofs.Common.{◌≡◌, [], ◌∷◌, ◌++◌, ◌+◌, sym, suc, map, length, refl, arith, append_assoc, subst}
 use Rattle.cov_ast.specs.View as view
 use Rattle.typing_state.specs.After.{meet}
-use Rattle.typing_rules.specs.Entailments.{state_follows}
+use Rattle.typing_law.specs.Entailments.{state_follows}
+use Rattle.typing_law.specs.ThreadEntailments.{placed_from}
+use Rattle.typing_law.specs.ThreadObligations.{flat, same_locks, state_obligations}
 use Rattle.typing_rules.specs.Inside.Walking.{Tries, Walks, last_parts, plain_of}
-use Rattle.typing_rules.specs.ThreadEntailments.{placed_from}
-use Rattle.typing_rules.specs.ThreadObligations.{flat, same_locks, state_obligations}
 use Rattle.typing_rules.proofs.Others.{others_state}
 use Rattle.typing_rules.proofs.Reaching.{others-append}
 use Rattle.typing_rules.proofs.walk.Walk.join.Goals as goal

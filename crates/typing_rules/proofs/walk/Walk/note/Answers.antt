@@ -2,12 +2,12 @@ use Rattle.std.proofs.Common.{◌≡◌, ◌+◌, [], ◌∷◌, ◌++◌, lengt
 use Rattle.cov_ast.specs.Obligations.{Decides}
 use Rattle.cov_ast.specs.View as view
 use Rattle.typing_state.specs.After.{noted}
-use Rattle.typing_rules.specs.Counts.{entailment_count}
-use Rattle.typing_rules.specs.Entailments.{state_follows}
-use Rattle.typing_rules.specs.ThreadObligations.{flat, state_obligations}
+use Rattle.typing_law.specs.Counts.{entailment_count}
+use Rattle.typing_law.specs.Entailments.{state_follows}
+use Rattle.typing_law.specs.ThreadObligations.{flat, state_obligations}
+use Rattle.typing_law.proofs.Counting.{count_note}
 use Rattle.typing_rules.specs.Inside.Walking.{plain_of, last_parts}
 use Rattle.typing_rules.proofs.Others.{others_state}
-use Rattle.typing_rules.proofs.Counting.{count_note}
 use Rattle.typing_rules.proofs.walk.Walk.note.Goals as goal
 
 pub returns : goal.returns

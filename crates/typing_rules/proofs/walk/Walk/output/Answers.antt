@@ -1,12 +1,12 @@
 use Rattle.std.proofs.Common.{◌≡◌, ◌+◌, [], ◌∷◌, ◌++◌, length, map, sym, ◌∙◌, arith, zero-add}
 use Rattle.cov_expr.specs.View.{term}
 use Rattle.cov_ast.specs.View as view
-use Rattle.typing_rules.specs.Counts.{entailment_count}
-use Rattle.typing_rules.specs.Entailments.{guard_follows}
-use Rattle.typing_rules.specs.ThreadObligations.{flat, guard_obligations}
+use Rattle.typing_law.specs.Counts.{entailment_count}
+use Rattle.typing_law.specs.Entailments.{guard_follows}
+use Rattle.typing_law.specs.ThreadObligations.{flat, guard_obligations}
+use Rattle.typing_law.proofs.Counting.{count_output}
 use Rattle.typing_rules.specs.Inside.Walking.{plain_of, last_parts}
 use Rattle.typing_rules.proofs.Others.{others_guard}
-use Rattle.typing_rules.proofs.Counting.{count_output}
 use Rattle.typing_rules.proofs.walk.Walk.output.Goals as goal
 
 pub returns : goal.returns

@@ -8,8 +8,8 @@ use Rattle.cov_ast.specs.declared.refusal.Rule.TheVariants.{V16}
 use Rattle.cov_ast.specs.declared.refusal.Detail.TheVariants.{Nothing}
 use Rattle.typing_state.specs.After.{after_assign}
 use Rattle.typing_state.specs.Point.{ty, has_small_types}
-use Rattle.typing_rules.specs.Entailments.{assign_entailments, is_small_entailment}
-use Rattle.typing_rules.specs.ThreadObligations.{obligation, few_preds, small_terms, thread_obligation}
+use Rattle.typing_law.specs.Entailments.{assign_entailments, is_small_entailment}
+use Rattle.typing_law.specs.ThreadObligations.{obligation, few_preds, small_terms, thread_obligation}
 use Rattle.typing_rules.specs.Inside.Walking.{plain_of, value_parts}
 use Rattle.typing_rules.proofs.LargeTypes.{large_type, large_value}
 use Rattle.typing_rules.proofs.Parts.{part_refused, parts_refused}

@@ -2,10 +2,10 @@ use Rattle.std.proofs.Common.{[], ◌++◌, map, sym, subst}
 use Rattle.std.proofs.lemmas.List.{append-nil}
 use Rattle.cov_ast.specs.Obligations.{Decides}
 use Rattle.cov_ast.specs.View as view
+use Rattle.typing_law.specs.ThreadObligations.{numbers}
+use Rattle.typing_law.proofs.Counting.{count_skip}
 use Rattle.typing_rules.specs.Inside.Keeping.{looked_at}
 use Rattle.typing_rules.specs.Inside.Walking.{Walks, plain_of}
-use Rattle.typing_rules.specs.ThreadObligations.{numbers}
-use Rattle.typing_rules.proofs.Counting.{count_skip}
 use Rattle.typing_rules.proofs.walk.Walk.skip.Goals as goal
 
 pub returns : goal.returns

@@ -1,7 +1,7 @@
 use Rattle.std.proofs.Common.{map, arith}
 use Rattle.cov_ast.specs.View as view
-use Rattle.typing_rules.specs.Entailments.{state_follows}
-use Rattle.typing_rules.proofs.Bounds.{few_entailments_state}
+use Rattle.typing_law.specs.Entailments.{state_follows}
+use Rattle.typing_law.proofs.Bounds.{few_entailments_state}
 use Rattle.typing_rules.proofs.walk.Walk.try_both.Goals as goal
 
 pub try_state-requires-2-clause-few : goal.try_state-requires-2-clause-few

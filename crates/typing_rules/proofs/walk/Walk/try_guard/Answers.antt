@@ -1,8 +1,8 @@
 use Rattle.std.proofs.Common.{[], ◌∷◌, map}
 use Rattle.cov_expr.specs.View.{term}
 use Rattle.cov_ast.specs.View as view
+use Rattle.typing_law.specs.Entailments.{guard_follows}
 use Rattle.typing_rules.proofs.TryLaws.{tried_listed}
-use Rattle.typing_rules.specs.Entailments.{guard_follows}
 use Rattle.typing_rules.specs.Inside.Walking.{plain_of}
 use Rattle.typing_rules.proofs.walk.Walk.try_guard.Goals as goal
 

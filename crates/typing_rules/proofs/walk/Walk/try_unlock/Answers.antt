@@ -1,11 +1,11 @@
 use Rattle.std.proofs.Common.{length, map, ap, ◌∙◌, arith, ◌<◌}
 use Rattle.std.proofs.lemmas.List.{length-map}
 use Rattle.cov_ast.specs.View as view
+use Rattle.typing_law.specs.Entailments.{unlock_entailments}
+use Rattle.typing_law.proofs.Bounds.{few_entailments_unlock}
 use Rattle.typing_rules.specs.Inside.Listed.{entailment_of, entailments_of}
-use Rattle.typing_rules.specs.Entailments.{unlock_entailments}
 use Rattle.typing_rules.specs.Inside.Walking.{plain_of}
 use Rattle.typing_rules.proofs.TryLaws.{tried_same}
-use Rattle.typing_rules.proofs.Bounds.{few_entailments_unlock}
 use Rattle.typing_rules.proofs.walk.Walk.try_unlock.Goals as goal
 
 pub try_entailments-requires : goal.try_entailments-requires

@@ -1,7 +1,7 @@
 use Rattle.std.proofs.Common.{◌≡◌, ◌+◌, suc, map, length, refl, sym, arith, subst}
 use Rattle.cov_ast.specs.View as view
-use Rattle.typing_rules.specs.Entailments.{state_follows}
-use Rattle.typing_rules.specs.ThreadObligations.{same_locks}
+use Rattle.typing_law.specs.Entailments.{state_follows}
+use Rattle.typing_law.specs.ThreadObligations.{same_locks}
 use Rattle.typing_rules.specs.Inside.Walking.{Tries, plain_of}
 use Rattle.typing_rules.proofs.walk.Walk.turn.Goals as goal
 

@@ -5,11 +5,11 @@ use Rattle.cov_ast.specs.View as view
 use Rattle.cov_ast.specs.declared.refusal.Rule.TheVariants.{V7}
 use Rattle.cov_ast.specs.declared.refusal.Detail.TheVariants.{One}
 use Rattle.typing_state.specs.After.{after_unlock}
-use Rattle.typing_rules.specs.Counts.{entailment_count}
-use Rattle.typing_rules.specs.Entailments.{unlock_entailments}
-use Rattle.typing_rules.specs.ThreadObligations.{flat, of_lock, thread_obligation}
+use Rattle.typing_law.specs.Counts.{entailment_count}
+use Rattle.typing_law.specs.Entailments.{unlock_entailments}
+use Rattle.typing_law.specs.ThreadObligations.{flat, of_lock, thread_obligation}
+use Rattle.typing_law.proofs.Counting.{count_unlock}
 use Rattle.typing_rules.specs.Inside.Walking.{plain_of, last_parts}
-use Rattle.typing_rules.proofs.Counting.{count_unlock}
 use Rattle.typing_rules.proofs.walk.Walk.unlock.Goals as goal
 
 pub returns : goal.returns

@@ -1,0 +1,8 @@
+pub mod Soundness
+mod Examples
+mod OutputExamples
+mod EntailmentExamples
+pub mod Counting
+pub mod Reached
+mod CertificateLaws
+pub mod Bounds

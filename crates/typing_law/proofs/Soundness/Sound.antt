@@ -1,0 +1,179 @@
+-- A thread that meets the conditions of its rules is secure.
+use Rattle.std.proofs.Common.{◌≡◌, ℕ, zero, suc, ◌<◌, ◌≤◌, List, [], length, map, replicate, Bool, true, false, Option, Some, None, refl, sym, ◌∙◌, ap, subst, arith, IsTrue, inl, inr, unwrap_or, cond, length-set}
+use Rattle.std.proofs.lemmas.Bool.{cases_lt}
+use Rattle.std.proofs.lemmas.List.{get_or_past, length-replicate}
+use Rattle.std.proofs.lemmas.List.FromFn.{get_or-map-range_with_len, length-map-range_with_len}
+use Rattle.cov_expr.specs.Entailment.{Holds}
+use Rattle.cov_expr.specs.Term.{Term, const, neg}
+use Rattle.cov_expr.specs.Words.{IsMemory}
+use Rattle.cov_expr.proofs.Tests.{each_below}
+use Rattle.cov_ast.specs.Declarations.{class_of, thread_at}
+use Rattle.cov_ast.specs.Plain.{Plain, Cmds, plain_stm, plain_block}
+use Rattle.cov_ast.specs.Syntax.{Stm, skip, assign, lock, unlock, branch, loop, note, output, Block, done, more}
+use Rattle.cov_ast.specs.Tables.{has}
+use Rattle.flow_model.specs.Source.{Holders, holder, is_held_by}
+use Rattle.flow_model.specs.Agreement.{AreFitStarts, SameAt}
+use Rattle.flow_model.specs.Game.{IsSecureThread}
+use Rattle.mode_compat.specs.Declared.{IsDeclared}
+use Rattle.mode_compat.specs.HeldSets.{AreHeldBy}
+use Rattle.typing_state.specs.Point.{Point, is_tracked, vars_of, type_at}
+use Rattle.typing_state.specs.After.{start, after_assign, after_lock, after_unlock, with_guard, meet, noted}
+use Rattle.typing_law.specs.Blocks.{value_type, after_stm, after_block}
+use Rattle.typing_law.specs.ThreadObligations.{agree, same_held}
+use Rattle.typing_law.proofs.Soundness.Fits.{Fits, Weaker, Typed, OverStableControls, typed_from}
+use Rattle.typing_law.proofs.Soundness.Play.{world, secure_of}
+use Rattle.typing_law.proofs.Soundness.Conditions.{Checks, BlockChecks}
+use Rattle.typing_law.proofs.Soundness.Static.{class_over, class_of_control, cond_is}
+use Rattle.typing_law.proofs.Soundness.Exprs.{one_holds, not_const_zero}
+use Rattle.typing_law.proofs.Soundness.Assign.{assign_ok}
+use Rattle.typing_law.proofs.Soundness.Others.{met, noted_ok, guard_ok, output_ok, lock_ok, unlock_ok}
+
+pub agreed : (a b : Bool) → IsTrue (agree a b) → a ≡ b
+agreed true b h = sym h
+agreed false true h = h
+agreed false false h = refl
+
+held_alike : (p : Plain) (H K : List Bool) → length H ≡ length p.locks → length K ≡ length p.locks → IsTrue (same_held p H K) → (l : ℕ)
+    → has H l ≡ has K l
+held_alike p H K h k same l = elim (cases_lt l (length p.locks)) [
+  | inl lt ↦ agreed (has H l) (has K l) (each_below (λ l. agree (has H l) (has K l)) 0 (length p.locks) l (omega arith) (omega arith) same)
+  | inr past ↦ get_or_past H l false (omega (arith, h)) ∙ sym (get_or_past K l false (omega (arith, k)))
+]
+
+module _ (p : Plain) (t : ℕ) where
+  -- A statement keeps how many locks are told of.
+  mutual
+    stm_sized : (s : Stm) (a : Point) → length (after_stm p t s a).held ≡ length a.held
+    stm_sized skip a = refl
+    stm_sized (assign x e q retypes) a = refl
+    stm_sized (lock l) a = length-set a.held l true
+    stm_sized (unlock l) a = length-set a.held l false
+    stm_sized (branch e yes_block no_block join) a = block_sized yes_block (with_guard p t a e)
+    stm_sized (loop e inv b) a = refl
+    stm_sized (note j) a = refl
+    stm_sized (output e) a = refl
+
+    block_sized : (b : Block) (a : Point) → length (after_block p t b a).held ≡ length a.held
+    block_sized done a = refl
+    block_sized (more at s proofs b) a = block_sized b (after_stm p t s a) ∙ stm_sized s a
+
+module _ (p : Plain) (d : IsDeclared p) (t : ℕ) (t_in : t < length p.threads) where
+  mutual
+    -- a statement in front of a typed rest
+    typed_stm : (s : Stm) (at : ℕ) (rest : Cmds) (a b : Point) → length a.held ≡ length p.locks → Checks p t s a
+        → Typed p t rest (after_stm p t s a) b
+        → Typed p t (plain_stm s at rest) a b
+    typed_stm skip at rest a b h k r = (a, (λ w f. f), r)
+    typed_stm (assign x e q retypes) at rest a b h k r =
+        (after_assign p t a x e (value_type p t a q e) retypes, assign_ok p d t t_in a x e (value_type p t a q e) retypes k, r)
+    typed_stm (lock l) at rest a b h k r = (after_lock p t a l, lock_ok p d t t_in a l k, r)
+    typed_stm (unlock l) at rest a b h k r = (after_unlock p t a l, unlock_ok p d t t_in a l k, r)
+    typed_stm (branch e yes_block no_block join) at rest a b h k r =
+        let yes = with_guard p t a e in
+        let no = with_guard p t a (neg e) in
+        let yes_end = after_block p t yes_block yes in
+        let no_end = after_block p t no_block no in
+        let yes_sized = block_sized p t yes_block yes ∙ h in
+        let no_sized = block_sized p t no_block no ∙ h in (
+          meet p t yes_end join,
+          (
+            yes,
+            no,
+            guard_ok p d t t_in a e k.0,
+            typed_block yes_block yes (meet p t yes_end join) h k.1 (met p d t t_in yes_end yes_end join yes_sized (λ l. refl) k.4 k.5),
+            typed_block no_block no (meet p t yes_end join) h k.2
+                (met p d t t_in no_end yes_end join yes_sized (held_alike p yes_end.held no_end.held yes_sized no_sized k.3) k.4 k.6),
+          ),
+          r,
+        )
+    typed_stm (loop e inv c) at rest a b h k r =
+        let head = meet p t a inv in
+        let yes = with_guard p t head e in
+        let body_end = after_block p t c yes in
+        let sized = block_sized p t c yes ∙ h in (
+          with_guard p t head (neg e),
+          (
+            head,
+            yes,
+            met p d t t_in a a inv h (λ l. refl) k.0 k.1,
+            guard_ok p d t t_in head e k.2,
+            typed_block c yes head h k.3 (met p d t t_in body_end a inv h (λ l. sym (held_alike p body_end.held a.held sized h k.4 l)) k.0 k.5),
+          ),
+          r,
+        )
+    typed_stm (note j) at rest a b h k r = typed_from p t rest a (noted a j) b (noted_ok p d t t_in a j k.0 k.1) r
+    typed_stm (output e) at rest a b h k r = (a, output_ok p d t t_in a e k.0 k.1, r)
+
+    typed_block : (c : Block) (a b : Point) → length a.held ≡ length p.locks → BlockChecks p t c a → Weaker p t (after_block p t c a) b
+        → Typed p t (plain_block c) a b
+    typed_block done a b h k r = r
+    typed_block (more at s proofs c) a b h k r =
+        typed_stm s at (plain_block c) a b h k.0 (typed_block c (after_stm p t s a) b (stm_sized p t s a ∙ h) k.1 r)
+
+-- Starts -------------------------------------------------------------------------------------------------------
+
+none_held : (n l : ℕ) → holder (replicate n None) l ≡ None
+none_held zero l = refl
+none_held (suc n) zero = refl
+none_held (suc n) (suc l) = none_held n l
+
+none_marked : (n l : ℕ) → has (replicate n false) l ≡ false
+none_marked zero l = refl
+none_marked (suc n) zero = refl
+none_marked (suc n) (suc l) = none_marked n l
+
+-- the type of a variable at the start, if it has one
+start_type : (p : Plain) (t x : ℕ) (Q : Term → Type 0) → Q (const 0) → Q (class_of p x) → Q (type_at (start p t) x)
+start_type p t x Q none given = elim (cases_lt x (length p.vars)) [
+  | inl lt ↦ subst (λ o. Q (unwrap_or o (const 0))) (sym (get_or-map-range_with_len first 0 (length p.vars) x x None lt (omega arith)))
+      (cond_is (λ o. Q (unwrap_or o (const 0))) (is_tracked p t (replicate (length p.locks) false) x) (Some (class_of p x)) None
+      (λ _. given) (λ _. none))
+  | inr past ↦ let after : length (map first (vars_of p)) ≤ x = omega (arith, length-map-range_with_len first 0 (length p.vars)) in
+      subst (λ o. Q (unwrap_or o (const 0))) (sym (get_or_past (map first (vars_of p)) x None after)) none
+]
+  where
+    first : ℕ → Option Term
+    first y = cond (is_tracked p t (replicate (length p.locks) false) y) (Some (class_of p y)) None
+
+module _ (p : Plain) (d : IsDeclared p) (t : ℕ) (t_in : t < length p.threads) (m1 m2 : List ℕ) (i1 : IsMemory (length p.vars) m1)
+    (i2 : IsMemory (length p.vars) m2) (st : AreFitStarts p m1 m2) where
+  h : Holders
+  h = replicate (length p.locks) None
+
+  nothing_held : AreHeldBy h t (replicate (length p.locks) false)
+  unfolding h
+  nothing_held l = none_marked (length p.locks) l ∙ sym (ap (λ (o : Option ℕ). is_held_by o t) (none_held (length p.locks) l))
+
+  start_fits : Fits p t (start p t) (world m1 m2 (replicate (length p.locks) None) [])
+  unfolding h
+  start_fits = record {
+    settled = record {
+      memory1 = i1;
+      memory2 = i2;
+      locks = length-replicate (length p.locks) None;
+      agree = record {
+        holders = refl;
+        controls = λ c k. st.low c (subst (λ e. Holds e m1) (sym (class_of_control p d c k)) (one_holds m1));
+        visible = λ x k _. st.low x k;
+      };
+      free1 = λ l _. st.left l;
+      free2 = λ l _. st.right l;
+    };
+    sized = length-replicate (length p.locks) false;
+    held = nothing_held;
+    preds1 = tt;
+    preds2 = tt;
+    over = tt;
+    types = λ x s n o. start_type p t x (λ r. Holds r m1 → SameAt m1 m2 x) (λ k. absurd (not_const_zero m1 k)) (λ k. st.low x k);
+    types_over = λ x s n.
+        start_type p t x (λ r. OverStableControls p t h r) (λ y u. cc)
+        (λ y u. class_over p d t t_in h (replicate (length p.locks) false) nothing_held x s y u);
+  }
+
+pub thread_secure : (p : Plain) → IsDeclared p → (t : ℕ) → t < length p.threads → (body : Block) → (thread_at p t).body ≡ plain_block body
+    → BlockChecks p t body (start p t) → IsSecureThread p t
+thread_secure p d t t_in body e k =
+    secure_of p t (start p t) (after_block p t body (start p t))
+    (subst (λ c. Typed p t c (start p t) (after_block p t body (start p t))) (sym e)
+    (typed_block p d t t_in body (start p t) (after_block p t body (start p t)) (length-replicate (length p.locks) false) k (λ w f. f)))
+    (λ m1 m2 i1 i2 st. start_fits p d t t_in m1 m2 i1 i2 st)

@@ -1,0 +1,5 @@
+pub mod Blocks
+pub mod Entailments
+pub mod ThreadObligations
+pub mod Counts
+pub mod ThreadEntailments

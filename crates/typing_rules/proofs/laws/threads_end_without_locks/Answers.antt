@@ -1,5 +1,0 @@
-use Rattle.typing_rules.proofs.Soundness.Ends.{none_held}
-use Rattle.typing_rules.proofs.laws.threads_end_without_locks.Goals as goal
-
-pub returns : goal.returns
-returns c = none_held
