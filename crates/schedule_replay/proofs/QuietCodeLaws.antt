@@ -118,4 +118,3 @@ line_grows s t (Some l) = instr_grows s t l.instr (code_stays t s.holders l.inst
 -- A step adds at most one output.
 pub code_step_grows : (c : Parts) (s : CodeState) (t : ℕ) → GrowsByOne s.outputs (code_step c s t).outputs
 code_step_grows c s t = line_grows s t (line_of c s t)
-

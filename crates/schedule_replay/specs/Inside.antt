@@ -73,8 +73,3 @@ abbrev pub IsRead : List ℕ → Result Value Unread → Type 0
 IsRead bytes (Ok value) = value_of bytes ≡ Some (view value)
 IsRead bytes (Err unread.Json) = value_of bytes ≡ None
 IsRead bytes (Err unread.NoMemory) = Unit {0}
-
--- numbers in front of what a reading gives
-abbrev pub prefixed : {E : Type 0} → List ℕ → Result (List ℕ) E → Result (List ℕ) E
-prefixed ns (Ok more) = Ok (ns ++ more)
-prefixed ns (Err fault) = Err fault

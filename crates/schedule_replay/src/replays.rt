@@ -139,12 +139,7 @@ pub fn run_on<M: Machine>(m: &mut M, schedule: &[u32]) -> u32
 /// where they agree after each step, and both have run the whole schedule then; else both stand after the first step after
 /// which they don't. The start is not looked at. It takes no memory, and the time of one look at each output, and at the
 /// declarations and the threads for each step that isn't quiet.
-pub fn pair_on<M: Machine>(
-    p: &Program,
-    a: &mut M,
-    b: &mut M,
-    schedule: &[u32],
-) -> Option<Found>
+pub fn pair_on<M: Machine>(p: &Program, a: &mut M, b: &mut M, schedule: &[u32]) -> Option<Found>
     requires formed { IsWellFormed (view.program p.now) }
     requires equal { (M.seen b.old).code ≡ (M.seen a.old).code }
     requires declared { AreDeclaredBy (declared_by M.law (M.seen a.old)) p.now }
