@@ -5,7 +5,7 @@ use Rattle.cov_ast.specs.declared.decl.Program.{Program}
 use Rattle.cov_ast.specs.declared.stmt.Stmt.{Stmt}
 use Rattle.flow_model.specs.FirstDifference.{holders_of}
 use Rattle.cov_ast.specs.Plain.{skip, assign, lock, unlock, branch, loop, output}
-use Rattle.flow_model.specs.Source.{Item, run, put, test, emit, Holders, Outputs, Run}
+use Rattle.flow_model.specs.Source.{Item, run, put, test, emit, Outputs, Run}
 use Rattle.flow_model.specs.declared.machine.Holder.{Holder}
 use Rattle.source_machine.specs.Frames.{items, with_word}
 use Rattle.source_machine.specs.declared.change.Change.{Change}
