@@ -2,7 +2,7 @@
 use Rattle.std.proofs.Common.{◌≡◌, ℕ, zero, suc, ◌+◌, ◌<◌, ◌≤◌, List, [], ◌∷◌, ◌++◌, length, take, get_or, refl, sym, ap, ◌∙◌, subst, arith, length-append, append-nil}
 use Rattle.std.proofs.lemmas.List.{take_more}
 use Rattle.cov_expr.specs.Words.{IsSchedule}
-use Rattle.flow_model.specs.Runs.{after_steps, count_of, run_from, stayed_from}
+use Rattle.flow_model.specs.Runs.{count_of, run_from, stayed_from}
 use Rattle.flow_model.specs.declared.machine.Stepped.{Stepped}
 use Rattle.schedule_replay.specs.Machines.{DoAgree, GrowsByOne, HasStepped, IsAlikeIn, IsQuiet, Law, Seen, answer_of, declared_by}
 use Rattle.schedule_replay.specs.Inside.{HasRun, KeepsAgreement}

@@ -1,5 +1,5 @@
 -- Words of private contracts. What is promised doesn't rest on them.
-use Rattle.std.specs.Prelude.{◌≡◌, ℕ, ◌+◌, ◌≤◌, List, ◌++◌, length, take, Bool, true, false, Option, Some, None, Result, Ok, Err}
+use Rattle.std.specs.Prelude.{◌≡◌, ℕ, ◌+◌, ◌≤◌, List, length, take, Bool, true, false, Option, Some, None, Result, Ok, Err}
 use Rattle.cov_ast.specs.Plain.{Plain}
 use Rattle.flow_model.specs.Runs.{AgreeBefore, after_steps}
 use Rattle.risc_machine.specs.declared.parts.Instr.{Instr}

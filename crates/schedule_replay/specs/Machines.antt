@@ -1,9 +1,8 @@
 -- What a machine gives to be replayed: the law by which it runs, and what contracts see of it.
 --
 -- The source machine and the RISC machine stand at the end, a few lines each.
-use Rattle.std.specs.Prelude.{◌≡◌, ℕ, ◌≤◌, ◌+◌, List, ◌++◌, length, take, Option, Some, None}
-use Rattle.cov_ast.specs.Plain.{Plain, plain}
-use Rattle.cov_ast.specs.View as view
+use Rattle.std.specs.Prelude.{◌≡◌, ℕ, ◌≤◌, List, ◌++◌, length, take, Option, Some, None}
+use Rattle.cov_ast.specs.Plain.{Plain}
 use Rattle.cov_ast.specs.declared.decl.Program.{Program}
 use Rattle.flow_model.specs.Agreement.{Agree, IsAlikeAt, IsFirstApart, Shared, shared_of}
 use Rattle.flow_model.specs.FirstDifference as first

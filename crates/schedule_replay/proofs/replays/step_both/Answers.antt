@@ -1,5 +1,4 @@
-use Rattle.std.proofs.Common.{ap, sym, ◌∙◌, true≢false}
-use Rattle.flow_model.specs.Runs.{has_moved}
+use Rattle.std.proofs.Common.{sym, ◌∙◌, true≢false}
 use Rattle.schedule_replay.proofs.StepLaws.{kept_quiet, kept_still}
 use Rattle.schedule_replay.proofs.replays.step_both.Goals.{then-has_moved, else-has_moved}
 use Rattle.schedule_replay.proofs.replays.step_both.Goals as goal
