@@ -103,7 +103,7 @@ module _ (p : Plain) (sets : (t : ℕ) → AreSets p t) (apart : HasCompatibleMo
       alike : (w : ℕ) → AreAlike (turned u w (local s1.memory s1.holders s1.outputs (get_or js1 u []))).items (turned u w (local s2.memory s2.holders s2.outputs (get_or js2 u []))).items
       alike w =
           subst₂ AreAlike (items_after s1 js1 k.left u u_in w) (items_after s2 js2 k.right u u_in w)
-          ((k.future (replicate w u) (these_threads (length p.threads) w u u_in)).items u)
+          ((k.future (replicate w u) (these_threads (length p.threads) w u u_in)).threads u)
 
       moved : (core_line u (core_of s1 u) (line_of c s1 u)).position ≡ (core_line u (core_of s2 u) (line_of c s1 u)).position
       moved =

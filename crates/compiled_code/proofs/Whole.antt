@@ -16,7 +16,8 @@ use Rattle.flow_model.specs.Secure.{IsSecure}
 use Rattle.flow_model.specs.Source.{Item, Run, holder, is_held_by, run_from, items_of, begin, after, items_then}
 use Rattle.regalloc.specs.Plan.{start}
 use Rattle.compiled_code.specs.Matches.{AreRegisters, IsFinished, MatchesAfter, entries_of}
-use Rattle.compiled_code.specs.SecureCode.{CodesAgree, IsSecureCode}
+use Rattle.compiled_code.specs.SecureCode.{IsSecureCode}
+use Rattle.risc_machine.specs.CodeAgreement.{CodeStatesAgree}
 use Rattle.compiled_code.proofs.Cores.{core_of, core_step, core_from, core_lifted, same_from, same_lifted}
 use Rattle.compiled_code.proofs.Coupling.{src, Coupled, lifted, Lifted}
 use Rattle.compiled_code.proofs.Ends.{nothing_left}
@@ -190,5 +191,5 @@ module _ (p : Plain) (sets : (t : ℕ) → AreSets p t) (apart : HasCompatibleMo
         future = λ us h.
             subst₂ (λ a b. StatesAgree p (run_from a us) (run_from b us)) (sym (begins m1 rows1 r1 i1.complete)) (sym (begins m2 rows2 r2 i2.complete)) (secure m1 m2 i1 i2 st us h);
       }) in
-      subst₂ (CodesAgree p) (sym (same_from c s (code_begin c m1 rows1))) (sym (same_from c s (code_begin c m2 rows2)))
-      (record { memories = (e.twins.future [] tt).memories; outputs = (e.twins.future [] tt).outputs; positions = e.twins.positions })
+      subst₂ (CodeStatesAgree p) (sym (same_from c s (code_begin c m1 rows1))) (sym (same_from c s (code_begin c m2 rows2)))
+      (record { memories = (e.twins.future [] tt).memories; outputs = (e.twins.future [] tt).outputs; threads = λ t. ap (λ (ps : List ℕ). get_or ps t 0) e.twins.positions })

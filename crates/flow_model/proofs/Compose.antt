@@ -120,7 +120,7 @@ module _ (p : Plain) (m1 m2 : List ℕ) (compatible : HasCompatibleModes p) (s1 
   alike_at : (t : ℕ) → Dec (t ≡ u) → AreAlike (items_of (step s1 u) t) (items_of (step s2 u) t)
   unfolding copies_of
   alike_at t (yes e) = rw (e, items_same s1 u (turned s1 u) (rw k.left.threads u_in), items_same s2 u (turned s2 u) (rw k.right.threads u_in)) owes.items
-  alike_at t (no d) = rw (items_other s1 t u (turned s1 u) d, items_other s2 t u (turned s2 u) d) (k.agree.items t)
+  alike_at t (no d) = rw (items_other s1 t u (turned s1 u) d, items_other s2 t u (turned s2 u) d) (k.agree.threads t)
 
   -- t's game goes on with an outside move
   follows_other : (t : ℕ) → t < length p.threads → t ≢ u → Follows p m1 m2 s1 s2 t → Follows p m1 m2 (step s1 u) (step s2 u) t
@@ -153,7 +153,7 @@ module _ (p : Plain) (m1 m2 : List ℕ) (a : IsMemory (length p.vars) m1) (b : I
       record {
         left = sound_step p s1 u u_in k.left;
         right = sound_step p s2 u u_in k.right;
-        agree = record { memories = owes.memories; outputs = owes.outputs; items = λ t. alike_at p m1 m2 compatible s1 s2 u u_in k owes t (ℕ_discrete t u) };
+        agree = record { memories = owes.memories; outputs = owes.outputs; threads = λ t. alike_at p m1 m2 compatible s1 s2 u u_in k owes t (ℕ_discrete t u) };
         follows = λ t t_in. follows_at t t_in (ℕ_discrete t u);
       }
     where
@@ -204,7 +204,7 @@ paired_start p m1 m2 w low_controls a b st =
           visible = λ x l _. st.low x l;
         };
         outputs = refl;
-        items = λ t. refl;
+        threads = λ t. refl;
       };
       follows = λ t t_in. record { moves = []; lawful = tt; stands = standing (local_of (begin p m1) t) (local_of (begin p m2) t) _ _ _ _ (items_at_start p m1 t) (items_at_start p m2 t) };
     }

@@ -145,7 +145,7 @@ evaluated = record {
     visible = λ x is_low shown. only_first_low (0 ∷ 0 ∷ []) (0 ∷ 1 ∷ []) refl x is_low;
   };
   outputs = refl;
-  items = evaluated_alike;
+  threads = evaluated_alike;
 }
 
 leak-fit : AreFitStarts leak (0 ∷ 0 ∷ []) (0 ∷ 1 ∷ [])
@@ -188,7 +188,7 @@ empty_is_secure m1 m2 first second fit schedule entries =
     rw (no_steps schedule entries) (record {
       memories = record { holders = refl; controls = λ c h. cc; visible = λ x is_low shown. absurd (is_low refl) };
       outputs = refl;
-      items = λ t. refl;
+      threads = λ t. refl;
     })
 
 -- A control that isn't low makes a program without threads insecure: var h: high; var b: low when h == 0;
@@ -599,7 +599,7 @@ pending = record {
     visible = λ x is_low shown. spill_low (0 ∷ 0 ∷ []) (0 ∷ 1 ∷ []) refl x is_low;
   };
   outputs = refl;
-  items = pending_alike;
+  threads = pending_alike;
 }
 
 -- and no longer once it is put out.

@@ -1,6 +1,6 @@
 -- The first lock or variable in which two memories with holders don't agree, and the first variable or lock that makes two
 -- memories unfit to start from.
-use Rattle.std.specs.Prelude.{ℕ, ◌==◌, ◌&&◌, ◌||◌, List, ◌∷◌, length, map, get_or, Bool, true, false, not, is_some, option_map}
+use Rattle.std.specs.Prelude.{◌≡◌, ◌≢◌, ℕ, ◌==◌, ◌&&◌, ◌||◌, List, ◌∷◌, length, map, get_or, Bool, true, false, not, is_some, option_map}
 use Rattle.std.specs.Prelude.{Option, Some, None}
 use Rattle.std.specs.List.{find, list_any, range_with_len}
 use Rattle.cov_expr.specs.Term.{Term, value, is_set}
@@ -8,6 +8,7 @@ use Rattle.cov_expr.specs.Trees.{has_number}
 use Rattle.cov_ast.specs.Syntax.{Lock}
 use Rattle.cov_ast.specs.Declarations.{class_of, invariant_of, is_control}
 use Rattle.cov_ast.specs.Plain.{Plain}
+use Rattle.flow_model.specs.Agreement.{Shared, IsFirstApart}
 use Rattle.flow_model.specs.declared.agreement.Differ.{Differ}
 use Rattle.flow_model.specs.declared.agreement.Differ.TheVariants as differ
 use Rattle.flow_model.specs.declared.start.BadStart.{BadStart}
@@ -91,3 +92,18 @@ var_or_lock None l = option_map bad.Lock l
 -- invariant doesn't hold in both.
 abbrev pub first_bad_start : Plain → (m1 m2 : List ℕ) → Option BadStart
 first_bad_start p m1 m2 = var_or_lock (first_var p (is_low_apart p m1 m2)) (first_lock p (is_broken p m1 m2))
+
+-- In what states differ -----------------------------------------------------------------------------------------
+
+module _ {State : Type 0} (shared : State → Shared) (IsAlike : State → State → ℕ → Type 0) where
+  -- the first lock or variable in which the memories of two states don't agree
+  abbrev pub memory_difference : Plain → (s1 s2 : State) → Option Differ
+  memory_difference p s1 s2 = first_difference p (shared s1).memory (shared s1).holders (shared s2).memory (shared s2).holders
+
+  -- On what two states differ: the first lock, else the first variable, else the outputs, else the first thread.
+  abbrev pub DiffersIn : Plain → (s1 s2 : State) → Differ → Type 0
+  DiffersIn p s1 s2 (differ.Lock l) = memory_difference p s1 s2 ≡ Some (differ.Lock l)
+  DiffersIn p s1 s2 (differ.Var x) = memory_difference p s1 s2 ≡ Some (differ.Var x)
+  DiffersIn p s1 s2 differ.Output = (memory_difference p s1 s2 ≡ None) × ((shared s1).outputs ≢ (shared s2).outputs)
+  DiffersIn p s1 s2 (differ.Thread t) =
+      (memory_difference p s1 s2 ≡ None) × ((shared s1).outputs ≡ (shared s2).outputs) × IsFirstApart IsAlike s1 s2 (length p.threads) t

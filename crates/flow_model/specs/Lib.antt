@@ -1,3 +1,4 @@
+pub mod Runs
 pub mod Source
 pub mod Holdings
 pub mod Agreement

@@ -3,10 +3,13 @@
 -- One schedule entry is one step of one thread. An assignment takes two steps, one that evaluates and one that stores,
 -- and so does a guard, one that evaluates and one that branches, and an output, one that evaluates and one that puts out.
 -- (After the While machine of Sison and Murray.)
-use Rattle.std.specs.Prelude.{ℕ, ◌+◌, ◌==◌, List, [], ◌∷◌, ◌++◌, length, get_or, set, map, replicate, Bool, true, false, is_some, not, if◌then◌else◌}
+use Rattle.std.specs.Prelude.{ℕ, ◌==◌, List, [], ◌∷◌, ◌++◌, length, get_or, set, map, replicate, Bool, true, false, is_some, not, if◌then◌else◌}
 use Rattle.std.specs.Prelude.{Option, Some, None}
 use Rattle.cov_expr.specs.Term.{value, is_set}
 use Rattle.cov_ast.specs.Plain.{Cmd, skip, assign, lock, unlock, branch, loop, output, Cmds, none, next, ◌then_all◌, Plain}
+use Rattle.flow_model.specs.Runs as runs
+use Rattle.flow_model.specs.declared.machine.Stepped.{Stepped}
+use Rattle.flow_model.specs.declared.machine.Stepped.TheVariants as stepped
 
 -- What remains of a thread is a list of items: a statement, a store that is pending with its word, a test that is pending
 -- with its word and the two ways on, or an output that is pending with its word. Each carries the place of its statement.
@@ -122,21 +125,27 @@ stays_at t h (put at x word ∷ rest) = false
 stays_at t h (test at word a b ∷ rest) = false
 stays_at t h (emit at word ∷ rest) = false
 
+-- What a step says, by the items before it: a finished thread is idle, and one stays where the definition says so.
+abbrev pub step_says : ℕ → Holders → List Item → Stepped
+step_says t h [] = stepped.Idle
+step_says t h (i ∷ is) = if stays_at t h (i ∷ is) then stepped.Stayed else stepped.Moved
+
+abbrev pub says : Run → ℕ → Stepped
+says s t = step_says t s.holders (items_of s t)
+
 -- Runs ---------------------------------------------------------------------------------------------------------
 
 -- the start: all locks free, nothing put out, and the whole body of each thread
 abbrev pub begin : Plain → List ℕ → Run
 begin p m = record { memory = m; holders = replicate (length p.locks) None; outputs = []; items = map (λ t. items_then t.body []) p.threads }
 
--- the steps of a schedule in order
+-- the state after the steps of a schedule, in order
 abbrev pub run_from : Run → List ℕ → Run
-run_from s [] = s
-run_from s (t ∷ ts) = run_from (step s t) ts
+run_from s schedule = runs.run_from step s schedule
 
 -- how many of them stay
 abbrev pub stayed_from : Run → List ℕ → ℕ
-stayed_from s [] = 0
-stayed_from s (t ∷ ts) = (if stays_at t s.holders (items_of s t) then 1 else 0) + stayed_from (step s t) ts
+stayed_from s schedule = runs.stayed_from step says s schedule
 
 -- the state after a schedule, from a memory
 abbrev pub after : Plain → List ℕ → List ℕ → Run

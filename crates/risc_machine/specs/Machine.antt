@@ -5,6 +5,7 @@
 use Rattle.std.specs.Prelude.{ℕ, ◌+◌, List, [], ◌∷◌, ◌++◌, length, get_or, set, slice_get, map, replicate, Bool, false, is_some, not, if◌then◌else◌}
 use Rattle.std.specs.Prelude.{Option, Some, None}
 use Rattle.cov_expr.specs.Term.{apply, is_set}
+use Rattle.flow_model.specs.Runs as runs
 use Rattle.flow_model.specs.Source.{Holders, Outputs, holder, is_held_by}
 use Rattle.flow_model.specs.declared.machine.Stepped.{Stepped}
 use Rattle.flow_model.specs.declared.machine.Stepped.TheVariants as stepped
@@ -124,10 +125,13 @@ code_begin p m rows = record {
   positions = replicate (length p.threads) 0;
 }
 
--- the steps of a schedule in order
+-- the state after the steps of a schedule, in order
 abbrev pub code_from : Parts → CodeState → List ℕ → CodeState
-code_from p s [] = s
-code_from p s (t ∷ ts) = code_from p (code_step p s t) ts
+code_from p s schedule = runs.run_from (code_step p) s schedule
+
+-- how many of them stay
+abbrev pub code_stayed_from : Parts → CodeState → List ℕ → ℕ
+code_stayed_from p s schedule = runs.stayed_from (code_step p) (code_says p) s schedule
 
 -- the state after a schedule, from a memory and registers
 abbrev pub code_after : Parts → List ℕ → List (List ℕ) → List ℕ → CodeState

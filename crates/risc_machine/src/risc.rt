@@ -1,7 +1,9 @@
 //! The RISC machine: code that runs.
 
-ghost use Rattle.std.specs.Prelude.{◌≡◌, ◌<◌, ◌≤◌, ◌↔◌, length, replicate, IfOk, IsTrue, None};
+ghost use Rattle.std.specs.Prelude.{◌≡◌, ◌<◌, ◌≤◌, ◌↔◌, ℕ, length, replicate, IfOk, IsTrue, MatchOption, None};
+ghost use Rattle.flow_model.specs.Agreement.{IsFirstApart};
 ghost use Rattle.flow_model.specs.FirstDifference.{holders_of};
+ghost use Rattle.risc_machine.specs.CodeAgreement.{HasSamePosition};
 ghost use Rattle.risc_machine.specs.Machine as spec;
 
 use crate::code::Code;
@@ -150,6 +152,23 @@ impl<'c> Risc<'c> {
         ensures { result ≡ spec.position (self.now).state t }
     {
         self.state.positions.as_slice()[t as usize]
+    }
+
+    /// The first thread that doesn't stand at the same position in another machine of as many threads. It takes the time of
+    /// one look at each thread.
+    pub fn same_positions(&self, other: &Risc<'c>) -> Option<u32>
+        requires { length (self.now).parts.threads ≡ length (other.now).parts.threads }
+        ensures { MatchOption result ((t : ℕ) → HasSamePosition (self.now).state (other.now).state t)
+            (λ t. IsFirstApart HasSamePosition (self.now).state (other.now).state (length (self.now).parts.threads) t) }
+    {
+        let left = self.state.positions.as_slice();
+        let right = other.state.positions.as_slice();
+        for t in 0..self.code.parts().threads.len() {
+            if left[t] != right[t] {
+                return Some(t as u32);
+            }
+        }
+        None
     }
 }
 

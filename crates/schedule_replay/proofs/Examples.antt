@@ -3,12 +3,11 @@ use Rattle.std.proofs.Common.{◌≡◌, ℕ, List, [], ◌∷◌, Some, None, r
 use Rattle.std.specs.Prelude.{codes, Ok, Err}
 use Rattle.cov_ast.specs.declared.decl.Class.TheVariants as classes
 use Rattle.cov_ast.specs.declared.decl.VarDecl.{VarDecl}
-use Rattle.risc_machine.specs.Machine.{code_begin}
+use Rattle.risc_machine.specs.Machine.{code_begin, code_stayed_from}
 use Rattle.risc_machine.specs.declared.parts.Instr.TheVariants.{MovC, Store, Acquire, Release}
 use Rattle.risc_machine.specs.declared.parts.Line.{Line}
 use Rattle.risc_machine.specs.declared.parts.Parts.{Parts}
 use Rattle.serde_json.specs.Data.{Data, null, number, string, array, object, unsigned, no_items, item, no_members, member}
-use Rattle.schedule_replay.specs.CodeReplays.{code_stayed_from}
 use Rattle.schedule_replay.specs.Schedules.{schedule_of}
 use Rattle.schedule_replay.specs.Starts.{start_of}
 use Rattle.schedule_replay.specs.declared.fault.ScheduleFault.TheVariants as schedule

@@ -4,11 +4,13 @@ use Rattle.std.proofs.lemmas.List.{take-append-drop, take-append-le, take_all, l
 use Rattle.cov_expr.specs.Entailment.{Holds}
 use Rattle.cov_expr.specs.Term.{Term}
 use Rattle.cov_ast.specs.Plain.{Plain}
-use Rattle.flow_model.specs.Agreement.{StatesAgree}
+use Rattle.flow_model.specs.Runs as runs
+use Rattle.flow_model.specs.Runs.{AgreeBefore}
 use Rattle.flow_model.specs.Source.{Run, stayed_from}
 use Rattle.flow_model.specs.declared.agreement.Differ.{Differ}
-use Rattle.schedule_replay.specs.Inside.{GrowsByOne, HasSameFront}
-use Rattle.schedule_replay.specs.Replays.{after_steps, AgreeBefore, DiffersIn, IsFirstStepApart, StopsAt}
+use Rattle.schedule_replay.specs.Inside.{HasSameFront}
+use Rattle.schedule_replay.specs.Machines.{ComeApart, DifferIn, DoAgree, GrowsByOne, Law}
+use Rattle.schedule_replay.specs.Replays.{after_steps, StopsAt}
 
 -- Outputs ------------------------------------------------------------------------------------------------------
 
@@ -43,31 +45,37 @@ rest_same n xs ys e = ap (rest_of n) e
 
 -- Steps --------------------------------------------------------------------------------------------------------
 
-pub agree_more : (p : Plain) (r s : Run) (schedule : List ℕ) (i : ℕ) (now other : Run) → AgreeBefore p r s schedule (i + 1)
-    → now ≡ after_steps r schedule (i + 1) → other ≡ after_steps s schedule (i + 1) → StatesAgree p now other → AgreeBefore p r s schedule (i + 1 + 1)
-agree_more p r s schedule i now other before a b x =
-    below_more (λ k. 0 < k → StatesAgree p (after_steps r schedule k) (after_steps s schedule k)) (i + 1) before
-    (λ z. subst (λ y. StatesAgree p (after_steps r schedule (i + 1)) y) b (subst (λ y. StatesAgree p y other) a x))
+module _ {Code State : Type 0} (law : Law Code State) (p : Plain) (c : Code) (r s : State) (schedule : List ℕ) (i : ℕ) (now other : State) where
+  abbrev left : ℕ → State
+  left k = runs.after_steps (law.step c) r schedule k
 
--- behind the first step, the states at which the next begins agree
-pub agree_now : (p : Plain) (r s : Run) (schedule : List ℕ) (i : ℕ) (now other : Run) → 0 < i → AgreeBefore p r s schedule (i + 1)
-    → now ≡ after_steps r schedule i → other ≡ after_steps s schedule i → StatesAgree p now other
-agree_now p r s schedule i now other some before a b =
-    subst (λ x. StatesAgree p x other) (sym a) (subst (λ y. StatesAgree p (after_steps r schedule i) y) (sym b) (before i (omega arith) some))
+  abbrev right : ℕ → State
+  right k = runs.after_steps (law.step c) s schedule k
 
-pub first_apart : (p : Plain) (r s : Run) (schedule : List ℕ) (i : ℕ) (now other : Run) (d : Differ) → i < length schedule
-    → AgreeBefore p r s schedule (i + 1)
-    → now ≡ after_steps r schedule (i + 1) → other ≡ after_steps s schedule (i + 1)
-    → DiffersIn p now other d × ¬ StatesAgree p now other
-    → IsFirstStepApart p r s schedule (record { step = i + 1; differ = d })
-first_apart p r s schedule i now other d l before a b x = record {
-  some = omega arith;
-  within = omega arith;
-  before = before;
-  apart = λ y. x.1 (subst (λ z. StatesAgree p now z) (sym b)
-      (subst (λ z. StatesAgree p z (after_steps s schedule (i + 1))) (sym a) y));
-  differ = subst (λ z. DiffersIn p (after_steps r schedule (i + 1)) z d) b (subst (λ z. DiffersIn p z other d) a x.0);
-}
+  abbrev pub Before : ℕ → Type 0
+  Before n = AgreeBefore (law.step c) (DoAgree law p) r s schedule n
+
+  pub agree_more : Before (i + 1) → now ≡ left (i + 1) → other ≡ right (i + 1) → DoAgree law p now other → Before (i + 1 + 1)
+  agree_more before a b x =
+      below_more (λ k. 0 < k → DoAgree law p (left k) (right k)) (i + 1) before
+      (λ z. subst (λ y. DoAgree law p (left (i + 1)) y) b (subst (λ y. DoAgree law p y other) a x))
+
+  -- behind the first step, the states at which the next begins agree
+  pub agree_now : 0 < i → Before (i + 1) → now ≡ left i → other ≡ right i → DoAgree law p now other
+  agree_now some before a b = subst (λ x. DoAgree law p x other) (sym a) (subst (λ y. DoAgree law p (left i) y) (sym b) (before i (omega arith) some))
+
+  pub first_apart : (d : Differ) → i < length schedule → Before (i + 1) → now ≡ left (i + 1) → other ≡ right (i + 1)
+      → DifferIn law p now other d × ¬ DoAgree law p now other
+      → ComeApart law p c r s schedule (record { step = i + 1; differ = d })
+  first_apart d l before a b x = record {
+    some = omega arith;
+    within = omega arith;
+    before = before;
+    apart = λ y. x.1 (subst (λ z. DoAgree law p now z) (sym b) (subst (λ z. DoAgree law p z (right (i + 1))) (sym a) y));
+    differ = subst (λ z. DifferIn law p (left (i + 1)) z d) b (subst (λ z. DifferIn law p z other d) a x.0);
+  }
+
+-- Until an expression holds ------------------------------------------------------------------------------------
 
 -- where the test of the watch says no after the first steps
 pub no_hit : (e : Term) (r : Run) (schedule : List ℕ) (i : ℕ) (hit : Bool) (now : Run) (m : List ℕ) → now ≡ after_steps r schedule i → m ≡ now.memory

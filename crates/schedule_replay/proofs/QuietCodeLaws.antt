@@ -1,17 +1,20 @@
 -- Steps of code that leave what threads share as it is.
-use Rattle.std.proofs.Common.{◌≡◌, ◌≢◌, ◌⊎◌, inl, inr, ℕ, ◌<◌, length, get_or, Bool, true, false, Option, Some, None, if◌then◌else◌, refl, sym, ap, ◌∙◌, subst}
+use Rattle.std.proofs.Common.{◌≡◌, ◌≢◌, ◌⊎◌, inl, inr, ℕ, [], ◌∷◌, get_or, Bool, true, false, Option, Some, None, if◌then◌else◌, refl, sym, ap, ◌∙◌, subst, arith}
 use Rattle.std.proofs.lemmas.List.{get_or-set_other}
 use Rattle.cov_ast.specs.Plain.{Plain}
 use Rattle.flow_model.specs.Agreement.{MemoriesAgree}
+use Rattle.flow_model.specs.Runs.{has_moved}
 use Rattle.flow_model.specs.declared.machine.Stepped.TheVariants as stepped
-use Rattle.risc_machine.specs.Machine.{CodeState, position, effect, next_position, at_position, code_stays, after_line, line_of, lines_of, line_says, code_step, code_says}
+use Rattle.risc_machine.specs.CodeAgreement.{CodeStatesAgree}
+use Rattle.risc_machine.specs.Machine.{CodeState, register, position, effect, next_position, at_position, code_stays, after_line, line_of, lines_of, line_says, code_step, code_says}
 use Rattle.risc_machine.specs.declared.parts.Instr.{Instr}
 use Rattle.risc_machine.specs.declared.parts.Instr.TheVariants.{Load, Store, Jump, Jz, Nop, MovC, MovR, Bin, Acquire, Release, Out}
 use Rattle.risc_machine.specs.declared.parts.Line.{Line}
 use Rattle.risc_machine.specs.declared.parts.Parts.{Parts}
 use Rattle.std.specs.List.{slice_get}
-use Rattle.schedule_replay.specs.CodeReplays.{CodeStatesAgree}
-use Rattle.schedule_replay.specs.Inside.{KeepsCodeAgreement, has_moved, is_quiet_instr, is_quiet_line}
+use Rattle.schedule_replay.specs.Inside.{is_quiet_instr, is_quiet_line}
+use Rattle.schedule_replay.specs.Machines.{GrowsByOne, IsQuiet, code_law}
+use Rattle.schedule_replay.proofs.StepLaws.{same_outputs}
 use Rattle.schedule_replay.proofs.QuietLaws.{same_or_not}
 
 -- Steps that don't go on ---------------------------------------------------------------------------------------
@@ -25,12 +28,9 @@ line_still : (s : CodeState) (t : ℕ) (l : Option Line) → has_moved (line_say
 line_still s t None e = refl
 line_still s t (Some l) e = instr_still s t l.instr (code_stays t s.holders l.instr) e
 
--- Steps that don't go on keep agreement.
-pub kept_code_still : (c d : Parts) (s1 s2 now other : CodeState) (t : ℕ) → now ≡ code_step c s1 t → other ≡ code_step d s2 t
-    → has_moved (code_says c s1 t) ≡ false → has_moved (code_says d s2 t) ≡ false → KeepsCodeAgreement t s1 s2 now other
-kept_code_still c d s1 s2 now other t a b e f p inside h =
-    subst (λ x. CodeStatesAgree p x other) (sym (a ∙ line_still s1 t (line_of c s1 t) e))
-    (subst (λ y. CodeStatesAgree p s1 y) (sym (b ∙ line_still s2 t (line_of d s2 t) f)) h)
+-- A step that doesn't go on changes nothing.
+pub code_step_still : (c : Parts) (s : CodeState) (t : ℕ) → has_moved (code_says c s t) ≡ false → code_step c s t ≡ s
+code_step_still c s t e = line_still s t (line_of c s t) e
 
 -- Steps that change registers and a position alone -------------------------------------------------------------
 
@@ -66,32 +66,55 @@ line_quiet : (s : CodeState) (t : ℕ) (l : Option Line) → is_quiet_line l ≡
 line_quiet s t None e = record { memory = refl; holders = refl; outputs = refl; elsewhere = λ u d. refl }
 line_quiet s t (Some l) e = instr_quiet s t l.weight l.instr e
 
-module _ (p : Plain) (c : Parts) (s1 s2 : CodeState) (t : ℕ) (inside : t < length p.threads) (h : CodeStatesAgree p s1 s2) (quiet : is_quiet_line (line_of c s1 t) ≡ true) where
+module _ (p : Plain) (c : Parts) (s1 s2 : CodeState) (t : ℕ) (h : CodeStatesAgree p s1 s2) (quiet : is_quiet_line (line_of c s1 t) ≡ true) where
   first_step : IsQuietStep s1 (code_step c s1 t) t
   first_step = line_quiet s1 t (line_of c s1 t) quiet
 
   second_step : IsQuietStep s2 (code_step c s2 t) t
-  second_step = line_quiet s2 t (line_of c s2 t) (ap (λ k. is_quiet_line (slice_get (lines_of c t) k)) (sym (h.positions t inside)) ∙ quiet)
+  second_step = line_quiet s2 t (line_of c s2 t) (ap (λ k. is_quiet_line (slice_get (lines_of c t) k)) (sym (h.threads t)) ∙ quiet)
 
   quiet_memories : MemoriesAgree p (code_step c s1 t).memory (code_step c s1 t).holders (code_step c s2 t).memory (code_step c s2 t).holders
   quiet_memories = rw (first_step.memory, first_step.holders, second_step.memory, second_step.holders) h.memories
 
-  quiet_positions : (u : ℕ) → u < length p.threads → position (code_step c s1 t) t ≡ position (code_step c s2 t) t → (u ≡ t) ⊎ (u ≢ t) → position (code_step c s1 t) u ≡ position (code_step c s2 t) u
-  quiet_positions u l same (inl e) = subst (λ v. position (code_step c s1 t) v ≡ position (code_step c s2 t) v) (sym e) same
-  quiet_positions u l same (inr e) = first_step.elsewhere u e ∙ h.positions u l ∙ sym (second_step.elsewhere u e)
+  quiet_positions : (u : ℕ) → position (code_step c s1 t) t ≡ position (code_step c s2 t) t → (u ≡ t) ⊎ (u ≢ t) → position (code_step c s1 t) u ≡ position (code_step c s2 t) u
+  quiet_positions u same (inl e) = subst (λ v. position (code_step c s1 t) v ≡ position (code_step c s2 t) v) (sym e) same
+  quiet_positions u same (inr e) = first_step.elsewhere u e ∙ h.threads u ∙ sym (second_step.elsewhere u e)
 
   quiet_code_agree : position (code_step c s1 t) t ≡ position (code_step c s2 t) t → CodeStatesAgree p (code_step c s1 t) (code_step c s2 t)
   quiet_code_agree same = record {
     memories = quiet_memories;
     outputs = first_step.outputs ∙ h.outputs ∙ sym second_step.outputs;
-    positions = λ u l. quiet_positions u l same (same_or_not u t);
+    threads = λ u. quiet_positions u same (same_or_not u t);
   }
 
--- Where such a step leaves the position of the thread the same, agreement is kept.
-pub kept_code_quiet : (c d : Parts) (s1 s2 now other : CodeState) (t : ℕ) → d ≡ c → now ≡ code_step c s1 t → other ≡ code_step d s2 t
-    → is_quiet_line (line_of c s1 t) ≡ true → position now t ≡ position other t → KeepsCodeAgreement t s1 s2 now other
-kept_code_quiet c d s1 s2 now other t equal a b quiet same p inside h =
-    let b2 : other ≡ code_step c s2 t = b ∙ ap (λ q. code_step q s2 t) equal in
-    subst (λ x. CodeStatesAgree p x other) (sym a)
-    (subst (λ y. CodeStatesAgree p (code_step c s1 t) y) (sym b2)
-    (quiet_code_agree p c s1 s2 t inside h quiet (ap (λ x. position x t) (sym a) ∙ same ∙ ap (λ y. position y t) b2)))
+-- So the next step of a thread is quiet where its line is.
+pub code_is_quiet : (c : Parts) (s : CodeState) (t : ℕ) → is_quiet_line (line_of c s t) ≡ true → IsQuiet code_law c s t
+code_is_quiet c s t quiet p other agree same = quiet_code_agree p c s other t agree quiet same
+
+-- Outputs ------------------------------------------------------------------------------------------------------
+
+effect_grows : (s : CodeState) (t : ℕ) (i : Instr) → GrowsByOne s.outputs (effect s t i).outputs
+effect_grows s t (Load r x) = same_outputs s.outputs
+effect_grows s t (Store x r) = same_outputs s.outputs
+effect_grows s t (Jump i) = same_outputs s.outputs
+effect_grows s t (Jz r i) = same_outputs s.outputs
+effect_grows s t Nop = same_outputs s.outputs
+effect_grows s t (MovC r k) = same_outputs s.outputs
+effect_grows s t (MovR r q) = same_outputs s.outputs
+effect_grows s t (Bin op r q) = same_outputs s.outputs
+effect_grows s t (Acquire l) = same_outputs s.outputs
+effect_grows s t (Release l) = same_outputs s.outputs
+effect_grows s t (Out r) = record { more = register s t r ∷ []; few = omega arith; grown = refl }
+
+instr_grows : (s : CodeState) (t : ℕ) (i : Instr) (stays : Bool)
+    → GrowsByOne s.outputs (if stays then s else at_position (effect s t i) t (next_position s t i)).outputs
+instr_grows s t i true = same_outputs s.outputs
+instr_grows s t i false = effect_grows s t i
+
+line_grows : (s : CodeState) (t : ℕ) (l : Option Line) → GrowsByOne s.outputs (after_line s t l).outputs
+line_grows s t None = same_outputs s.outputs
+line_grows s t (Some l) = instr_grows s t l.instr (code_stays t s.holders l.instr)
+
+-- A step adds at most one output.
+pub code_step_grows : (c : Parts) (s : CodeState) (t : ℕ) → GrowsByOne s.outputs (code_step c s t).outputs
+code_step_grows c s t = line_grows s t (line_of c s t)

@@ -2,11 +2,15 @@
 use Rattle.std.proofs.Common.{◌≡◌, ◌≢◌, ◌⊎◌, inl, inr, ℕ, List, [], ◌∷◌, map, Bool, true, false, not, Option, Some, None, is_some, if◌then◌else◌, refl, sym, ap, ◌∙◌, subst, arith}
 use Rattle.std.proofs.lemmas.List.{set-get_or, get_or-set_other}
 use Rattle.cov_ast.specs.Plain.{Plain, skip, assign, lock, unlock, branch, loop, output}
-use Rattle.flow_model.specs.Agreement.{AreAlike, MemoriesAgree, StatesAgree, shape}
-use Rattle.flow_model.specs.Source.{Item, run, put, test, emit, Holders, Outputs, local, Run, turn, step, put_back, items_of, holder, is_held_by, after_lock, after_unlock}
+use Rattle.cov_ast.specs.declared.decl.Program.{Program}
+use Rattle.flow_model.specs.Agreement.{AreAlike, IsAlikeAt, MemoriesAgree, StatesAgree, shape}
+use Rattle.flow_model.specs.Runs.{has_moved}
+use Rattle.flow_model.specs.Source.{Item, run, put, test, emit, Holders, Outputs, local, Run, turn, step, put_back, items_of, holder, is_held_by, after_lock, after_unlock, step_says}
 use Rattle.flow_model.specs.declared.machine.Stepped.TheVariants as stepped
-use Rattle.source_machine.specs.SourceMachine.{change_of, step_says, IsAlikeAt}
-use Rattle.schedule_replay.specs.Inside.{KeepsAgreement, has_moved, is_quiet, stores}
+use Rattle.source_machine.specs.SourceMachine.{change_of}
+use Rattle.schedule_replay.specs.Inside.{is_quiet, stores}
+use Rattle.schedule_replay.specs.Machines.{GrowsByOne, IsQuiet, source_law}
+use Rattle.schedule_replay.proofs.StepLaws.{same_outputs}
 
 pub same_or_not : (u t : ℕ) → (u ≡ t) ⊎ (u ≢ t)
 same_or_not u t = grind arith
@@ -38,16 +42,10 @@ module _ (t : ℕ) (m : List ℕ) (h : Holders) (o : Outputs) where
   turn_still (emit at word ∷ rest) e = absurd cc
 
 -- A step that doesn't go on changes nothing.
-step_still : (r : Run) (t : ℕ) → has_moved (step_says t r.holders (items_of r t)) ≡ false → step r t ≡ r
+pub step_still : (r : Run) (t : ℕ) → has_moved (step_says t r.holders (items_of r t)) ≡ false → step r t ≡ r
 step_still r t e =
     ap (put_back r t) (turn_still t r.memory r.holders r.outputs (items_of r t) e)
     ∙ ap (λ is. record { memory = r.memory; holders = r.holders; outputs = r.outputs; items = is }) (set-get_or r.items t [])
-
--- so two of them keep agreement
-pub kept_still : (r s now other : Run) (t : ℕ) → now ≡ step r t → other ≡ step s t
-    → has_moved (step_says t r.holders (items_of r t)) ≡ false → has_moved (step_says t s.holders (items_of s t)) ≡ false → KeepsAgreement r s now other
-kept_still r s now other t a b e f p h =
-    subst (λ x. StatesAgree p x other) (sym (a ∙ step_still r t e)) (subst (λ y. StatesAgree p r y) (sym (b ∙ step_still s t f)) h)
 
 -- Steps that change nothing but what remains of a thread -------------------------------------------------------
 
@@ -86,7 +84,7 @@ module _ (p : Plain) (r s : Run) (t : ℕ) (h : StatesAgree p r s) (quiet : is_q
   first_turn = turn_quiet t r.memory r.holders r.outputs (items_of r t) quiet
 
   second_turn : turn t s.memory s.holders s.outputs (items_of s t) ≡ local s.memory s.holders s.outputs (turn t s.memory s.holders s.outputs (items_of s t)).items
-  second_turn = turn_quiet t s.memory s.holders s.outputs (items_of s t) (ap is_quiet (sym (change_alike (items_of r t) (items_of s t) (h.items t))) ∙ quiet)
+  second_turn = turn_quiet t s.memory s.holders s.outputs (items_of s t) (ap is_quiet (sym (change_alike (items_of r t) (items_of s t) (h.threads t))) ∙ quiet)
 
   quiet_memories : MemoriesAgree p (step r t).memory (step r t).holders (step s t).memory (step s t).holders
   quiet_memories =
@@ -97,22 +95,18 @@ module _ (p : Plain) (r s : Run) (t : ℕ) (h : StatesAgree p r s) (quiet : is_q
   quiet_items u (inl e) = subst (λ v. AreAlike (items_of (step r t) v) (items_of (step s t) v)) (sym e) alike
   quiet_items u (inr e) =
       ap (map shape) (get_or-set_other r.items t u (turn t r.memory r.holders r.outputs (items_of r t)).items [] e)
-      ∙ h.items u ∙ sym (ap (map shape) (get_or-set_other s.items t u (turn t s.memory s.holders s.outputs (items_of s t)).items [] e))
+      ∙ h.threads u ∙ sym (ap (map shape) (get_or-set_other s.items t u (turn t s.memory s.holders s.outputs (items_of s t)).items [] e))
 
   quiet_agree : StatesAgree p (step r t) (step s t)
   quiet_agree = record {
     memories = quiet_memories;
     outputs = ap (λ x. x.outputs) first_turn ∙ h.outputs ∙ sym (ap (λ x. x.outputs) second_turn);
-    items = λ u. quiet_items u (same_or_not u t);
+    threads = λ u. quiet_items u (same_or_not u t);
   }
 
--- Where such a step leaves the thread alike, agreement is kept.
-pub kept_quiet : (r s now other : Run) (t : ℕ) → now ≡ step r t → other ≡ step s t
-    → is_quiet (change_of (items_of r t)) ≡ true → IsAlikeAt now other t → KeepsAgreement r s now other
-kept_quiet r s now other t a b quiet alike p h =
-    subst (λ x. StatesAgree p x other) (sym a)
-    (subst (λ y. StatesAgree p (step r t) y) (sym b)
-    (quiet_agree p r s t h quiet (subst (λ y. IsAlikeAt (step r t) y t) b (subst (λ x. IsAlikeAt x other t) a alike))))
+-- So the next step of a thread is quiet where it changes nothing but what remains of the thread.
+pub source_is_quiet : (p : Program) (r : Run) (t : ℕ) → is_quiet (change_of (items_of r t)) ≡ true → IsQuiet source_law p r t
+source_is_quiet program r t quiet p other agree alike = quiet_agree p r other t agree quiet alike
 
 -- Steps that don't store ---------------------------------------------------------------------------------------
 
@@ -140,3 +134,30 @@ turn_memory t m h o (emit at word ∷ rest) e = refl
 -- A step that doesn't store leaves the memory.
 pub step_memory : (r : Run) (t : ℕ) → stores (change_of (items_of r t)) ≡ false → (step r t).memory ≡ r.memory
 step_memory r t e = turn_memory t r.memory r.holders r.outputs (items_of r t) e
+
+-- Outputs ------------------------------------------------------------------------------------------------------
+
+lock_grows : (t : ℕ) (m : List ℕ) (h : Holders) (o : Outputs) (at l : ℕ) (rest : List Item) (k : Option ℕ) → GrowsByOne o (after_lock t m h o at l rest k).outputs
+lock_grows t m h o at l rest None = same_outputs o
+lock_grows t m h o at l rest (Some u) = same_outputs o
+
+unlock_grows : (m : List ℕ) (h : Holders) (o : Outputs) (at l : ℕ) (rest : List Item) (b : Bool) → GrowsByOne o (after_unlock m h o at l rest b).outputs
+unlock_grows m h o at l rest true = same_outputs o
+unlock_grows m h o at l rest false = same_outputs o
+
+turn_grows : (t : ℕ) (m : List ℕ) (h : Holders) (o : Outputs) (is : List Item) → GrowsByOne o (turn t m h o is).outputs
+turn_grows t m h o [] = same_outputs o
+turn_grows t m h o (run at skip ∷ rest) = same_outputs o
+turn_grows t m h o (run at (assign x e) ∷ rest) = same_outputs o
+turn_grows t m h o (run at (lock l) ∷ rest) = lock_grows t m h o at l rest (holder h l)
+turn_grows t m h o (run at (unlock l) ∷ rest) = unlock_grows m h o at l rest (is_held_by (holder h l) t)
+turn_grows t m h o (run at (branch e a b) ∷ rest) = same_outputs o
+turn_grows t m h o (run at (loop e b) ∷ rest) = same_outputs o
+turn_grows t m h o (run at (output e) ∷ rest) = same_outputs o
+turn_grows t m h o (put at x word ∷ rest) = same_outputs o
+turn_grows t m h o (test at word a b ∷ rest) = same_outputs o
+turn_grows t m h o (emit at word ∷ rest) = record { more = word ∷ []; few = omega arith; grown = refl }
+
+-- A step adds at most one output.
+pub step_grows : (r : Run) (t : ℕ) → GrowsByOne r.outputs (step r t).outputs
+step_grows r t = turn_grows t r.memory r.holders r.outputs (items_of r t)

@@ -1,5 +1,5 @@
 -- The value that a file is, as `serde_json` reads it, and the whole numbers of values.
-use Rattle.std.specs.Prelude.{ℕ, List, ◌∷◌, nat_lt, if◌then◌else◌, Option, Some, None, option_and_then, Result, Ok, Err}
+use Rattle.std.specs.Prelude.{ℕ, List, ◌++◌, nat_lt, if◌then◌else◌, Option, Some, None, option_and_then, Result, Ok, Err}
 use Rattle.std.specs.Str.{is_utf8}
 use Rattle.serde_json.specs.Data.{Data}
 use Rattle.serde_json.specs.Find.{as_number, as_u64}
@@ -17,7 +17,7 @@ below bound (Some n) = if nat_lt n bound then Some n else None
 abbrev pub number_below : (bound : ℕ) → Data → Option ℕ
 number_below bound d = below bound (option_and_then as_u64 (as_number d))
 
--- a number in front of those that a reading gives
-abbrev pub prepended : {E : Type 0} → ℕ → Result (List ℕ) E → Result (List ℕ) E
-prepended n (Ok ns) = Ok (n ∷ ns)
-prepended n (Err fault) = Err fault
+-- numbers in front of those that a reading gives
+abbrev pub prefixed : {E : Type 0} → List ℕ → Result (List ℕ) E → Result (List ℕ) E
+prefixed ns (Ok more) = Ok (ns ++ more)
+prefixed ns (Err fault) = Err fault

@@ -1,16 +1,16 @@
 -- What a JSON value says as a schedule: a list of numbers of threads, which are counted from 0.
-use Rattle.std.specs.Prelude.{◌≡◌, ℕ, suc, List, [], nat_lt, if◌then◌else◌, Option, Some, None, Result, Ok, Err}
+use Rattle.std.specs.Prelude.{◌≡◌, ℕ, suc, List, [], ◌∷◌, nat_lt, if◌then◌else◌, Option, Some, None, Result, Ok, Err}
 use Rattle.cov_expr.specs.declared.limits.TheConstants.{MOST_ENTRIES}
 use Rattle.serde_json.specs.Data.{Data, Items, no_items, item}
 use Rattle.serde_json.specs.Events.{items_len}
 use Rattle.serde_json.specs.Find.{as_array}
-use Rattle.schedule_replay.specs.Json.{number_below, prepended}
+use Rattle.schedule_replay.specs.Json.{number_below, prefixed}
 use Rattle.schedule_replay.specs.declared.fault.ScheduleFault.{ScheduleFault}
 use Rattle.schedule_replay.specs.declared.fault.ScheduleFault.TheVariants as faults
 
 abbrev pub with_entry : ℕ → Option ℕ → Result (List ℕ) ScheduleFault → Result (List ℕ) ScheduleFault
 with_entry i None rest = Err (faults.BadEntry i)
-with_entry i (Some entry) rest = prepended entry rest
+with_entry i (Some entry) rest = prefixed (entry ∷ []) rest
 
 -- the entries from an index on, or the first that is no number of one of so many threads
 abbrev pub entries_from : (threads : ℕ) → (i : ℕ) → Items → Result (List ℕ) ScheduleFault

@@ -5,7 +5,7 @@ use Rattle.std.specs.Str.{bytes_eq}
 use Rattle.cov_ast.specs.declared.decl.VarDecl.{VarDecl}
 use Rattle.serde_json.specs.Data.{Data, Members, no_members, member}
 use Rattle.serde_json.specs.Find.{as_object, get_member}
-use Rattle.schedule_replay.specs.Json.{number_below, prepended}
+use Rattle.schedule_replay.specs.Json.{number_below, prefixed}
 use Rattle.schedule_replay.specs.declared.fault.StartFault.{StartFault}
 use Rattle.schedule_replay.specs.declared.fault.StartFault.TheVariants as faults
 
@@ -28,7 +28,7 @@ word_of ms name = option_and_then (number_below (2 ^ 32)) (get_member name ms)
 
 abbrev pub with_word : List ℕ → Option ℕ → Result (List ℕ) StartFault → Result (List ℕ) StartFault
 with_word name None rest = Err (faults.NotWord name)
-with_word name (Some word) rest = prepended word rest
+with_word name (Some word) rest = prefixed (word ∷ []) rest
 
 -- the word of each variable, or the first whose value is no word
 abbrev pub words_of : Members → List VarDecl → Result (List ℕ) StartFault

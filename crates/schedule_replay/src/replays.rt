@@ -1,6 +1,6 @@
-//! Replays of a schedule on programs: on one machine, until an expression holds, or on two side by side.
+//! Replays of a schedule on any machine: on one, or on two side by side; and those of programs.
 
-ghost use Rattle.std.specs.Prelude.{◌≡◌, ◌↔◌, ◌+◌, ◌<◌, ◌≤◌, false, length, take, IsNone, IsTrue, MatchOption};
+ghost use Rattle.std.specs.Prelude.{◌≡◌, ◌↔◌, ◌+◌, ◌<◌, ◌≤◌, false, length, take, IsTrue, MatchOption};
 ghost use Rattle.cov_expr.specs.declared.limits.TheConstants.{MOST_ENTRIES};
 ghost use Rattle.watch.specs.Watches.{expr_of, words_of};
 ghost use Rattle.cov_expr.specs.Entailment.{Holds};
@@ -8,14 +8,15 @@ ghost use Rattle.cov_expr.specs.Words.{IsSchedule};
 ghost use Rattle.cov_ast.specs.Plain.{plain};
 ghost use Rattle.cov_ast.specs.View as view;
 ghost use Rattle.cov_ast.specs.WellFormed.{IsWellFormed};
-ghost use Rattle.flow_model.specs.Agreement.{MemoriesAgree, StatesAgree};
-ghost use Rattle.flow_model.specs.FirstDifference.{first_difference};
+ghost use Rattle.flow_model.specs.Runs as runs;
 ghost use Rattle.flow_model.specs.Source as spec;
-ghost use Rattle.schedule_replay.specs.Inside.{HasSameFront, HasStepped, KeepsAgreement, next_stays};
+ghost use Rattle.schedule_replay.specs.Inside.{HasSameFront, KeepsAgreement};
 ghost use Rattle.schedule_replay.specs.Inside as inside;
-ghost use Rattle.schedule_replay.specs.Replays.{AgreeThroughout, DiffersIn, IsFirstStepApart, StopsAt, count_of, part_run};
+ghost use Rattle.schedule_replay.specs.Machines.{AreDeclaredBy, ComeApart, DifferIn, DoAgree, HasStepped, StayTogether, answer_of, declared_by, part_run, shared_in, state_after, stayed_of};
+ghost use Rattle.schedule_replay.specs.Replays.{AgreeThroughout, IsFirstStepApart, StopsAt};
 ghost use Rattle.source_machine.specs.SourceMachine.{run_of};
 
+use crate::machine::Machine;
 use cov_ast::Program;
 use flow_model::{Differ, Stepped, agree};
 use source_machine::{Change, Source};
@@ -51,11 +52,7 @@ pub fn run(s: &mut Source<'_>, schedule: &[u32]) -> u32
     ensures run { run_of s.new ≡ spec.run_from (run_of s.old) schedule.now }
     ensures stayed { result ≡ spec.stayed_from (run_of s.old) schedule.now }
 {
-    let mut stayed = 0;
-    for t in schedule {
-        stayed += advance(s, *t);
-    }
-    stayed
+    run_on(s, schedule)
 }
 
 /// Runs a schedule until an expression holds: it stops after the least number of steps, 0 included, after which the
@@ -118,9 +115,50 @@ pub fn pair<'p>(
     ensures first_run { run_of a.new ≡ spec.run_from (run_of a.old) (part_run schedule.now result) }
     ensures second_run { run_of b.new ≡ spec.run_from (run_of b.old) (part_run schedule.now result) }
 {
+    pair_on(p, a, b, schedule)
+}
+
+/// Runs a whole schedule on a machine, and answers how many of its steps stayed. It takes no memory.
+pub fn run_on<M: Machine>(m: &mut M, schedule: &[u32]) -> u32
+    requires threads { IsSchedule (declared_by M.law (M.seen m.old)).threads schedule.now }
+    requires entries { length schedule.now ≤ MOST_ENTRIES }
+    requires room { length (shared_in M.law (M.seen m.old)).outputs + length schedule.now ≤ (M.seen m.old).room }
+    ensures code { (M.seen m.new).code ≡ (M.seen m.old).code }
+    ensures room { (M.seen m.new).room ≡ (M.seen m.old).room }
+    ensures state { (M.seen m.new).state ≡ state_after M.law (M.seen m.old).code (M.seen m.old).state schedule.now }
+    ensures stayed { result ≡ stayed_of M.law (M.seen m.old).code (M.seen m.old).state schedule.now }
+{
+    let mut stayed = 0;
+    for t in schedule {
+        stayed += advance(m, *t);
+    }
+    stayed
+}
+
+/// Runs a schedule on two machines that run the same, side by side, until they don't agree after a step. `None` comes exactly
+/// where they agree after each step, and both have run the whole schedule then; else both stand after the first step after
+/// which they don't. The start is not looked at. It takes no memory, and the time of one look at each output, and at the
+/// declarations and the threads for each step that isn't quiet.
+pub fn pair_on<M: Machine>(p: &Program, a: &mut M, b: &mut M, schedule: &[u32]) -> Option<Found>
+    requires formed { IsWellFormed (view.program p.now) }
+    requires equal { (M.seen b.old).code ≡ (M.seen a.old).code }
+    requires declared { AreDeclaredBy (declared_by M.law (M.seen a.old)) p.now }
+    requires threads { IsSchedule (length p.now.threads) schedule.now }
+    requires entries { length schedule.now ≤ MOST_ENTRIES }
+    requires first_room { length (shared_in M.law (M.seen a.old)).outputs + length schedule.now ≤ (M.seen a.old).room }
+    requires second_room { length (shared_in M.law (M.seen b.old)).outputs + length schedule.now ≤ (M.seen b.old).room }
+    ensures found { MatchOption result (StayTogether M.law (plain (view.program p.now)) (M.seen a.old).code (M.seen a.old).state (M.seen b.old).state schedule.now)
+        (λ found. ComeApart M.law (plain (view.program p.now)) (M.seen a.old).code (M.seen a.old).state (M.seen b.old).state schedule.now found) }
+    ensures first_code { (M.seen a.new).code ≡ (M.seen a.old).code }
+    ensures second_code { (M.seen b.new).code ≡ (M.seen a.old).code }
+    ensures first_room { (M.seen a.new).room ≡ (M.seen a.old).room }
+    ensures second_room { (M.seen b.new).room ≡ (M.seen b.old).room }
+    ensures first_state { (M.seen a.new).state ≡ state_after M.law (M.seen a.old).code (M.seen a.old).state (part_run schedule.now result) }
+    ensures second_state { (M.seen b.new).state ≡ state_after M.law (M.seen a.old).code (M.seen b.old).state (part_run schedule.now result) }
+{
     let mut seen = 0;
     for (i, t) in schedule.iter().enumerate() {
-        let kept = advance_both(a, b, *t);
+        let kept = step_both(a, b, *t);
         if let Some(differ) = difference_unless(i > 0 && kept, p, a, b, seen) {
             return Some(Found {
                 step: i as u32 + 1,
@@ -133,44 +171,96 @@ pub fn pair<'p>(
 }
 
 /// One step of a thread, and 1 where it stayed, else 0.
-fn advance(s: &mut Source<'_>, t: u32) -> u32
-    requires thread { t < length (s.old).program.threads }
-    requires room { length (run_of s.old).outputs < (s.old).room }
-    ensures stepped { HasStepped s.old s.new t }
-    ensures stayed { result ≡ next_stays (run_of s.old) t }
+fn advance<M: Machine>(m: &mut M, t: u32) -> u32
+    requires thread { t < (declared_by M.law (M.seen m.old)).threads }
+    requires room { length (shared_in M.law (M.seen m.old)).outputs < (M.seen m.old).room }
+    ensures stepped { HasStepped M.law (M.seen m.old) (M.seen m.new) t }
+    ensures stayed { result ≡ runs.count_of (answer_of M.law (M.seen m.old) t) }
     ensures small { result ≤ 1 }
 {
-    count(s.step(t))
+    count(m.step(t))
 }
 
-/// One step of a thread on two machines of one program, and whether they surely agree after it if they did before: where
-/// neither went on, or where what remains of the thread is all that changed, and is alike.
-fn advance_both<'p>(a: &mut Source<'p>, b: &mut Source<'p>, t: u32) -> bool
-    requires program { (b.old).program ≡ (a.old).program }
-    requires thread { t < length (a.old).program.threads }
-    requires first_room { length (run_of a.old).outputs < (a.old).room }
-    requires second_room { length (run_of b.old).outputs < (b.old).room }
-    ensures first { HasStepped a.old a.new t }
-    ensures second { HasStepped b.old b.new t }
-    ensures kept { IsTrue result → KeepsAgreement (run_of a.old) (run_of b.old) (run_of a.new) (run_of b.new) }
+/// One step of a thread on two machines that run the same, and whether they surely agree after it if they did before: where
+/// neither went on, or where the step was quiet and the thread stands alike.
+fn step_both<M: Machine>(a: &mut M, b: &mut M, t: u32) -> bool
+    requires equal { (M.seen b.old).code ≡ (M.seen a.old).code }
+    requires thread { t < (declared_by M.law (M.seen a.old)).threads }
+    requires first_room { length (shared_in M.law (M.seen a.old)).outputs < (M.seen a.old).room }
+    requires second_room { length (shared_in M.law (M.seen b.old)).outputs < (M.seen b.old).room }
+    ensures first { HasStepped M.law (M.seen a.old) (M.seen a.new) t }
+    ensures second { HasStepped M.law (M.seen b.old) (M.seen b.new) t }
+    ensures kept { IsTrue result → KeepsAgreement M.law (M.seen a.old).state (M.seen b.old).state (M.seen a.new).state (M.seen b.new).state }
 {
-    let quiet = is_quiet(a.change(t));
+    let quiet = a.is_quiet(t);
     let first = a.step(t);
     let second = b.step(t);
     if has_moved(first) || has_moved(second) {
-        quiet && a.same_list(b, t)
+        quiet && a.is_alike(b, t)
     } else {
         true
     }
 }
 
-/// Whether a step changes nothing but what remains of its thread.
-fn is_quiet(change: Change) -> bool
-    ensures { result ≡ inside.is_quiet change }
+/// What two machines that run the same don't agree on, if anything, by a look at all of them unless it is known that they agree.
+fn difference_unless<M: Machine>(
+    known: bool,
+    p: &Program,
+    a: &M,
+    b: &M,
+    seen: usize,
+) -> Option<Differ>
+    requires formed { IsWellFormed (view.program p.now) }
+    requires equal { (M.seen a.now).code ≡ (M.seen b.now).code }
+    requires declared { AreDeclaredBy (declared_by M.law (M.seen a.now)) p.now }
+    requires seen { HasSameFront seen (shared_in M.law (M.seen a.now)).outputs (shared_in M.law (M.seen b.now)).outputs }
+    requires known { IsTrue known → DoAgree M.law (plain (view.program p.now)) (M.seen a.now).state (M.seen b.now).state }
+    ensures { MatchOption result (DoAgree M.law (plain (view.program p.now)) (M.seen a.now).state (M.seen b.now).state)
+        (λ d. DifferIn M.law (plain (view.program p.now)) (M.seen a.now).state (M.seen b.now).state d × ¬ DoAgree M.law (plain (view.program p.now)) (M.seen a.now).state (M.seen b.now).state) }
 {
-    match change {
-        Change::Nothing => true,
-        Change::Word(_) | Change::Holder(_) | Change::Outputs => false,
+    if known {
+        None
+    } else {
+        difference(p, a, b, seen)
+    }
+}
+
+/// What two machines that run the same don't agree on, if anything. So many outputs were seen to be the same already.
+fn difference<M: Machine>(p: &Program, a: &M, b: &M, seen: usize) -> Option<Differ>
+    requires formed { IsWellFormed (view.program p.now) }
+    requires equal { (M.seen a.now).code ≡ (M.seen b.now).code }
+    requires declared { AreDeclaredBy (declared_by M.law (M.seen a.now)) p.now }
+    requires seen { HasSameFront seen (shared_in M.law (M.seen a.now)).outputs (shared_in M.law (M.seen b.now)).outputs }
+    ensures { MatchOption result (DoAgree M.law (plain (view.program p.now)) (M.seen a.now).state (M.seen b.now).state)
+        (λ d. DifferIn M.law (plain (view.program p.now)) (M.seen a.now).state (M.seen b.now).state d × ¬ DoAgree M.law (plain (view.program p.now)) (M.seen a.now).state (M.seen b.now).state) }
+{
+    if let Some(differ) = agree(p, a.memory(), a.holders(), b.memory(), b.holders()) {
+        return Some(differ);
+    }
+    if !same_words(a.said(), b.said(), seen) {
+        return Some(Differ::Output);
+    }
+    a.first_apart(b).map(Differ::Thread)
+}
+
+/// Whether a thread went on.
+fn has_moved(stepped: Stepped) -> bool
+    ensures { result ≡ runs.has_moved stepped }
+{
+    match stepped {
+        Stepped::Moved => true,
+        Stepped::Stayed | Stepped::Idle => false,
+    }
+}
+
+/// 1 for a step that stayed, else 0.
+fn count(stepped: Stepped) -> u32
+    ensures count { result ≡ runs.count_of stepped }
+    ensures small { result ≤ 1 }
+{
+    match stepped {
+        Stepped::Stayed => 1,
+        Stepped::Moved | Stepped::Idle => 0,
     }
 }
 
@@ -184,16 +274,6 @@ fn stores(change: Change) -> bool
     }
 }
 
-/// Whether a thread went on.
-pub fn has_moved(stepped: Stepped) -> bool
-    ensures { result ≡ inside.has_moved stepped }
-{
-    match stepped {
-        Stepped::Moved => true,
-        Stepped::Stayed | Stepped::Idle => false,
-    }
-}
-
 /// Whether a watch hits in the memory of a machine. Where nothing was stored since it missed, it isn't asked.
 fn hits(stored: bool, s: &Source<'_>, w: &Watch) -> bool
     requires words { words_of w.now ≡ length (s.now).program.vars }
@@ -203,73 +283,8 @@ fn hits(stored: bool, s: &Source<'_>, w: &Watch) -> bool
     stored && w.hits(s.memory())
 }
 
-/// 1 for a step that stayed, else 0.
-pub fn count(stepped: Stepped) -> u32
-    ensures count { result ≡ count_of stepped }
-    ensures small { result ≤ 1 }
-{
-    match stepped {
-        Stepped::Stayed => 1,
-        Stepped::Moved | Stepped::Idle => 0,
-    }
-}
-
-/// What two machines of one program don't agree on, if anything, by a look at all of them unless it is known that they agree.
-fn difference_unless<'p>(
-    known: bool,
-    p: &'p Program,
-    a: &Source<'p>,
-    b: &Source<'p>,
-    seen: usize,
-) -> Option<Differ>
-    requires formed { IsWellFormed (view.program p.now) }
-    requires first { (a.now).program ≡ p.now }
-    requires second { (b.now).program ≡ p.now }
-    requires seen { HasSameFront seen (run_of a.now).outputs (run_of b.now).outputs }
-    requires known { IsTrue known → StatesAgree (plain (view.program p.now)) (run_of a.now) (run_of b.now) }
-    ensures { MatchOption result (StatesAgree (plain (view.program p.now)) (run_of a.now) (run_of b.now))
-        (λ d. DiffersIn (plain (view.program p.now)) (run_of a.now) (run_of b.now) d × ¬ StatesAgree (plain (view.program p.now)) (run_of a.now) (run_of b.now)) }
-{
-    if known {
-        None
-    } else {
-        difference(p, a, b, seen)
-    }
-}
-
-/// What two machines of one program don't agree on, if anything. So many outputs were seen to be the same already.
-fn difference<'p>(p: &'p Program, a: &Source<'p>, b: &Source<'p>, seen: usize) -> Option<Differ>
-    requires formed { IsWellFormed (view.program p.now) }
-    requires first { (a.now).program ≡ p.now }
-    requires second { (b.now).program ≡ p.now }
-    requires seen { HasSameFront seen (run_of a.now).outputs (run_of b.now).outputs }
-    ensures { MatchOption result (StatesAgree (plain (view.program p.now)) (run_of a.now) (run_of b.now))
-        (λ d. DiffersIn (plain (view.program p.now)) (run_of a.now) (run_of b.now) d × ¬ StatesAgree (plain (view.program p.now)) (run_of a.now) (run_of b.now)) }
-{
-    if let Some(differ) = memories_apart(p, a, b) {
-        return Some(differ);
-    }
-    if !same_words(a.said(), b.said(), seen) {
-        return Some(Differ::Output);
-    }
-    a.same_lists(b).map(Differ::Thread)
-}
-
-/// The first lock or variable on which two machines of one program don't agree.
-fn memories_apart<'p>(p: &'p Program, a: &Source<'p>, b: &Source<'p>) -> Option<Differ>
-    requires formed { IsWellFormed (view.program p.now) }
-    requires first { (a.now).program ≡ p.now }
-    requires second { (b.now).program ≡ p.now }
-    ensures first { result ≡ first_difference (plain (view.program p.now))
-        (run_of a.now).memory (run_of a.now).holders (run_of b.now).memory (run_of b.now).holders }
-    ensures agree { IsNone result ↔ MemoriesAgree (plain (view.program p.now))
-        (run_of a.now).memory (run_of a.now).holders (run_of b.now).memory (run_of b.now).holders }
-{
-    agree(p, a.memory(), a.holders(), b.memory(), b.holders())
-}
-
 /// Whether two lists are the same that begin with so many words of which that is known.
-pub fn same_words(left: &[u32], right: &[u32], seen: usize) -> bool
+fn same_words(left: &[u32], right: &[u32], seen: usize) -> bool
     requires { HasSameFront seen left.now right.now }
     ensures { IsTrue result ↔ (left.now ≡ right.now) }
 {

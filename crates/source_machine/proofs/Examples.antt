@@ -4,10 +4,9 @@ use Rattle.cov_expr.specs.Term.{const, var}
 use Rattle.cov_ast.specs.Plain.{no_state, lock, unlock, loop, output, assign, none, next}
 use Rattle.cov_ast.specs.Syntax.{Block, done, more}
 use Rattle.cov_ast.specs.Syntax as s
-use Rattle.flow_model.specs.Source.{Item, Holders, run, put, test, emit}
+use Rattle.flow_model.specs.Source.{Item, Holders, run, put, test, emit, step_says}
 use Rattle.flow_model.specs.declared.machine.Stepped.TheVariants as stepped
 use Rattle.source_machine.specs.Frames.{items, with_word}
-use Rattle.source_machine.specs.SourceMachine.{step_says}
 use Rattle.source_machine.specs.Inside.Entries.{entered, height}
 use Rattle.source_machine.specs.Inside.Firsts.{first_stm, stand_alike}
 use Rattle.source_machine.specs.Inside.Turns.{Turned, turned, moved}

@@ -9,10 +9,10 @@ use Rattle.cov_ast.specs.Syntax as s
 use Rattle.cov_ast.specs.View as view
 use Rattle.cov_ast.specs.declared.stmt.Stmt.{Stmt}
 use Rattle.flow_model.specs.FirstDifference.{held_by, holders_of}
-use Rattle.flow_model.specs.Source.{Item, Run, Local, turn, step}
+use Rattle.flow_model.specs.Source.{Item, Run, Local, turn, step, step_says}
 use Rattle.flow_model.specs.declared.machine.Stepped.{Stepped}
 use Rattle.source_machine.specs.Frames.{items, with_word}
-use Rattle.source_machine.specs.SourceMachine.{items_left, step_says}
+use Rattle.source_machine.specs.SourceMachine.{items_left}
 use Rattle.source_machine.specs.Inside.Entries.{AreFrames}
 use Rattle.source_machine.specs.Inside.Standing.{Stands}
 use Rattle.source_machine.specs.Inside.Sound.{standing, IsThread, AreThreads}

@@ -11,11 +11,11 @@ use Rattle.cov_ast.specs.declared.decl.ThreadDecl.{ThreadDecl}
 use Rattle.cov_ast.proofs.WellFormedLaws.{thread_in_range}
 use Rattle.flow_model.specs.Agreement.{AreAlike, shape}
 use Rattle.flow_model.specs.FirstDifference.{held_by, holders_of}
-use Rattle.flow_model.specs.Source.{Item, first_place, items_then, begin, step}
+use Rattle.flow_model.specs.Source.{Item, first_place, items_then, begin, step, step_says}
 use Rattle.source_machine.specs.Inside.Firsts.{first_change, first_stm, stand_alike}
 use Rattle.source_machine.specs.Frames.{items, with_word}
 use Rattle.source_machine.specs.Inside.Entries.{AreFrames}
-use Rattle.source_machine.specs.SourceMachine.{change_of, items_left, step_says}
+use Rattle.source_machine.specs.SourceMachine.{change_of, items_left}
 use Rattle.source_machine.specs.Inside.Sound.{standing, IsSound, IsThread, AreThreads}
 use Rattle.source_machine.specs.Inside.Standing.{Stands}
 use Rattle.source_machine.specs.Inside.Stacks.{frames_of, rooms, turned_from, turned_to, Starts, AllStart}

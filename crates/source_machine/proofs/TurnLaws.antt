@@ -7,10 +7,9 @@ use Rattle.cov_ast.specs.Plain as p
 use Rattle.cov_ast.specs.Syntax.{Block, done, more}
 use Rattle.cov_ast.specs.Syntax as s
 use Rattle.cov_ast.specs.WellFormed.{IsBlockInRange}
-use Rattle.flow_model.specs.Source.{Local, local, Holders, Outputs, holder, is_held_by, Item, turn, items_then, after_lock, after_unlock}
+use Rattle.flow_model.specs.Source.{Local, local, Holders, Outputs, holder, is_held_by, Item, turn, items_then, after_lock, after_unlock, step_says}
 use Rattle.flow_model.specs.declared.machine.Stepped.TheVariants as stepped
 use Rattle.source_machine.specs.Frames.{items, with_word}
-use Rattle.source_machine.specs.SourceMachine.{step_says}
 use Rattle.source_machine.specs.Inside.Entries.{entered, height, AreFrames}
 use Rattle.source_machine.specs.Inside.Turns.{Turned, turned, moved, past, locked, unlocked}
 use Rattle.source_machine.proofs.FrameLaws.{items_entered, items_then_last, length_entered, entered_fine}

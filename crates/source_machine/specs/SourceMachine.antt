@@ -1,15 +1,12 @@
 -- What contracts see of a program that runs, the run of the definition for which it stands, and what calls answer.
-use Rattle.std.specs.Prelude.{ℕ, ◌<◌, List, [], ◌∷◌, map, reverse, Option, if◌then◌else◌}
+use Rattle.std.specs.Prelude.{ℕ, List, [], ◌∷◌, map, reverse, Option}
 use Rattle.cov_ast.specs.View as view
 use Rattle.cov_ast.specs.declared.decl.Program.{Program}
 use Rattle.cov_ast.specs.declared.stmt.Stmt.{Stmt}
-use Rattle.flow_model.specs.Agreement.{AreAlike}
 use Rattle.flow_model.specs.FirstDifference.{holders_of}
 use Rattle.cov_ast.specs.Plain.{skip, assign, lock, unlock, branch, loop, output}
-use Rattle.flow_model.specs.Source.{Item, run, put, test, emit, Holders, Outputs, Run, items_of, stays_at}
+use Rattle.flow_model.specs.Source.{Item, run, put, test, emit, Outputs, Run}
 use Rattle.flow_model.specs.declared.machine.Holder.{Holder}
-use Rattle.flow_model.specs.declared.machine.Stepped.{Stepped}
-use Rattle.flow_model.specs.declared.machine.Stepped.TheVariants as stepped
 use Rattle.source_machine.specs.Frames.{items, with_word}
 use Rattle.source_machine.specs.declared.change.Change.{Change}
 use Rattle.source_machine.specs.declared.change.Change.TheVariants as change
@@ -39,11 +36,6 @@ run_of m = record { memory = m.memory; holders = holders_of m.holders; outputs =
 
 -- Answers ------------------------------------------------------------------------------------------------------
 
--- What a step answers, by the items before it: a finished thread is idle, and one stays where the definition says so.
-abbrev pub step_says : ℕ → Holders → List Item → Stepped
-step_says t h [] = stepped.Idle
-step_says t h (i ∷ is) = if stays_at t h (i ∷ is) then stepped.Stayed else stepped.Moved
-
 -- What the next step of a thread changes beside its items, by the items before it, where the step doesn't stay.
 abbrev pub change_of : List Item → Change
 change_of [] = change.Nothing
@@ -57,13 +49,3 @@ change_of (run at (output e) ∷ rest) = change.Nothing
 change_of (put at x word ∷ rest) = change.Word x
 change_of (test at word a b ∷ rest) = change.Nothing
 change_of (emit at word ∷ rest) = change.Outputs
-
--- What remains of a thread is the same in two runs, but for the words of pending stores and pending outputs.
-abbrev pub IsAlikeAt : Run → Run → ℕ → Type 0
-IsAlikeAt r s t = AreAlike (items_of r t) (items_of s t)
-
--- Of so many threads it is the first that isn't alike.
-pub record IsFirstApart (r s : Run) (count t : ℕ) : Type 0 where
-  pub inside : t < count
-  pub apart : ¬ IsAlikeAt r s t
-  pub before : (u : ℕ) → u < t → IsAlikeAt r s u

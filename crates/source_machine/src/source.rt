@@ -4,10 +4,11 @@ ghost use Rattle.std.specs.Prelude.{◌≡◌, ◌+◌, ◌<◌, ◌≤◌, ◌�
 ghost use Rattle.cov_ast.specs.View as view;
 ghost use Rattle.cov_ast.specs.Plain.{plain};
 ghost use Rattle.cov_ast.specs.WellFormed.{IsWellFormed, block_size, most_size};
+ghost use Rattle.flow_model.specs.Agreement.{IsAlikeAt, IsFirstApart};
 ghost use Rattle.flow_model.specs.FirstDifference.{holders_of};
 ghost use Rattle.flow_model.specs.Source as spec;
 ghost use Rattle.source_machine.specs.Inside.Stacks.{AllStart};
-ghost use Rattle.source_machine.specs.SourceMachine.{change_of, step_says, IsAlikeAt, IsFirstApart};
+ghost use Rattle.source_machine.specs.SourceMachine.{change_of};
 
 use crate::change::Change;
 use crate::shared::{Shared, all_free};
@@ -93,7 +94,7 @@ impl<'p> Source<'p> {
         ensures run { run_of self.new ≡ spec.step (run_of self.old) t }
         ensures room { (self.new).room ≡ (self.old).room }
         ensures grows { length (run_of self.new).outputs ≤ length (run_of self.old).outputs + 1 }
-        ensures says { result ≡ step_says t (run_of self.old).holders (spec.items_of (run_of self.old) t) }
+        ensures says { result ≡ spec.says (run_of self.old) t }
     {
         let thread = &mut self.threads[t as usize];
         thread.turn(&mut self.shared, t)
@@ -171,7 +172,7 @@ impl<'p> Source<'p> {
     pub fn same_lists(&self, other: &Source<'p>) -> Option<u32>
         requires { (self.now).program ≡ (other.now).program }
         ensures { MatchOption result ((t : ℕ) → IsAlikeAt (run_of self.now) (run_of other.now) t)
-            (λ t. IsFirstApart (run_of self.now) (run_of other.now) (length (self.now).program.threads) t) }
+            (λ t. IsFirstApart IsAlikeAt (run_of self.now) (run_of other.now) (length (self.now).program.threads) t) }
     {
         for t in 0..self.threads.len() {
             if !self.threads[t].stands_like(&other.threads[t]) {

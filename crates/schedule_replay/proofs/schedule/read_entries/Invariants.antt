@@ -1,6 +1,6 @@
 use Rattle.std.proofs.Common.{◌≡◌, drop}
 use Rattle.serde_json.specs.View.{items_view}
-use Rattle.schedule_replay.specs.Inside.{prefixed}
+use Rattle.schedule_replay.specs.Json.{prefixed}
 use Rattle.schedule_replay.specs.Schedules.{entries_from}
 use Rattle.schedule_replay.proofs.schedule.read_entries.Given as goal
 

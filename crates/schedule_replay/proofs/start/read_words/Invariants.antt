@@ -1,6 +1,6 @@
 use Rattle.std.proofs.Common.{◌≡◌, drop}
 use Rattle.serde_json.specs.View.{members_view}
-use Rattle.schedule_replay.specs.Inside.{prefixed}
+use Rattle.schedule_replay.specs.Json.{prefixed}
 use Rattle.schedule_replay.specs.Starts.{words_of}
 use Rattle.schedule_replay.proofs.start.read_words.Given as goal
 

@@ -1,6 +1,7 @@
 use Rattle.std.proofs.Common.{◌≡◌, ℕ, ◌<◌, ◌≤◌, length, ap, sym, ◌∙◌, subst, arith, below_more, ◌⊎◌, inl, inr}
 use Rattle.source_machine.specs.Inside.Sound.{IsSound}
-use Rattle.source_machine.specs.SourceMachine.{run_of, IsAlikeAt}
+use Rattle.source_machine.specs.SourceMachine.{run_of}
+use Rattle.flow_model.specs.Agreement.{IsAlikeAt}
 use Rattle.source_machine.proofs.SourceLaws.{count, few, counts, alike_at, apart_at, alike_past}
 use Rattle.source_machine.proofs.source.Source.same_lists.Goals as goal
 

@@ -1,5 +1,6 @@
 use Rattle.std.proofs.Common.{ℕ, ◌<◌}
-use Rattle.source_machine.specs.SourceMachine.{run_of, IsAlikeAt}
+use Rattle.source_machine.specs.SourceMachine.{run_of}
+use Rattle.flow_model.specs.Agreement.{IsAlikeAt}
 use Rattle.source_machine.proofs.source.Source.same_lists.Given as goal
 
 -- the threads so far are alike
