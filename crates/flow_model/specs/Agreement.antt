@@ -28,7 +28,7 @@ pub record Shared : Type 0 where
   pub holders : Holders
   pub outputs : Outputs
 
--- Two states of a machine, of which is said what threads share and when a thread stands alike in both.
+-- Two states of a machine, by what its threads share in a state and by when a thread stands alike in two.
 module _ {State : Type 0} (shared : State → Shared) (IsAlike : State → State → ℕ → Type 0) where
   -- The memories agree, the outputs are the same, and every thread stands alike.
   pub record Agree (p : Plain) (s1 s2 : State) : Type 0 where

@@ -1,5 +1,5 @@
--- The first lock or variable in which two memories with holders don't agree, and the first variable or lock that makes two
--- memories unfit to start from.
+-- The first lock or variable in which two memories with holders don't agree, the first variable or lock that makes two
+-- memories unfit to start from, and on what two states of a machine differ.
 use Rattle.std.specs.Prelude.{◌≡◌, ◌≢◌, ℕ, ◌==◌, ◌&&◌, ◌||◌, List, ◌∷◌, length, map, get_or, Bool, true, false, not, is_some, option_map}
 use Rattle.std.specs.Prelude.{Option, Some, None}
 use Rattle.std.specs.List.{find, list_any, range_with_len}
@@ -93,14 +93,14 @@ var_or_lock None l = option_map bad.Lock l
 abbrev pub first_bad_start : Plain → (m1 m2 : List ℕ) → Option BadStart
 first_bad_start p m1 m2 = var_or_lock (first_var p (is_low_apart p m1 m2)) (first_lock p (is_broken p m1 m2))
 
--- In what states differ -----------------------------------------------------------------------------------------
+-- On what two states differ ------------------------------------------------------------------------------------
 
 module _ {State : Type 0} (shared : State → Shared) (IsAlike : State → State → ℕ → Type 0) where
   -- the first lock or variable in which the memories of two states don't agree
   abbrev pub memory_difference : Plain → (s1 s2 : State) → Option Differ
   memory_difference p s1 s2 = first_difference p (shared s1).memory (shared s1).holders (shared s2).memory (shared s2).holders
 
-  -- On what two states differ: the first lock, else the first variable, else the outputs, else the first thread.
+  -- It is the first lock, else the first variable, else the outputs, else the first thread.
   abbrev pub DiffersIn : Plain → (s1 s2 : State) → Differ → Type 0
   DiffersIn p s1 s2 (differ.Lock l) = memory_difference p s1 s2 ≡ Some (differ.Lock l)
   DiffersIn p s1 s2 (differ.Var x) = memory_difference p s1 s2 ≡ Some (differ.Var x)

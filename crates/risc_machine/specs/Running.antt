@@ -4,7 +4,7 @@ use Rattle.risc_machine.specs.Machine.{CodeState}
 use Rattle.risc_machine.specs.declared.parts.Parts.{Parts}
 
 -- code that runs: its parts, the state of the definition, and for how many outputs there is room
-pub record Running : Type 0 where
+pub record RunningCode : Type 0 where
   pub parts : Parts
   pub state : CodeState
   pub room : ℕ

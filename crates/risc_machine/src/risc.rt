@@ -24,9 +24,9 @@ pub struct Risc<'c> {
 impl<'c> Model for Risc<'c> {
     ghost use Rattle.risc_machine.specs.Faults.{AreGood};
     ghost use Rattle.risc_machine.specs.Inside.{Fits, code_state, room_of};
-    ghost use Rattle.risc_machine.specs.Running.{Running};
+    ghost use Rattle.risc_machine.specs.Running.{RunningCode};
 
-    ghost Value = { Running };
+    ghost Value = { RunningCode };
 
     ghost use Rattle.std.specs.Coded.{codes};
     ghost use Rattle.cov_expr.specs.contracts.expr.Op as op;

@@ -1,5 +1,5 @@
 -- What replays of code leave and answer: what is said of every machine, at the RISC machine.
-use Rattle.std.specs.Prelude.{◌≡◌, ℕ, List, length}
+use Rattle.std.specs.Prelude.{ℕ, List}
 use Rattle.cov_ast.specs.Plain.{Plain, plain}
 use Rattle.cov_ast.specs.View as view
 use Rattle.cov_ast.specs.declared.decl.Program.{Program}
@@ -9,13 +9,12 @@ use Rattle.flow_model.specs.declared.agreement.Differ.{Differ}
 use Rattle.risc_machine.specs.CodeAgreement.{CodeStatesAgree, HasSamePosition, shared_of_code}
 use Rattle.risc_machine.specs.Machine.{CodeState, code_step}
 use Rattle.risc_machine.specs.declared.parts.Parts.{Parts}
+use Rattle.schedule_replay.specs.Machines.{AreDeclaredBy, code_law}
 use Rattle.schedule_replay.specs.declared.replays.Found.{Found}
 
 -- The code has as many variables, locks and threads as the program.
-pub record DeclaresAsMany (c : Parts) (p : Program) : Type 0 where
-  pub vars : length c.vars ≡ length p.vars
-  pub locks : length c.locks ≡ length p.locks
-  pub threads : length c.threads ≡ length p.threads
+abbrev pub DeclaresAsMany : Parts → Program → Type 0
+DeclaresAsMany c p = AreDeclaredBy (code_law.declared c) p
 
 -- Two runs of code agree after each step of the schedule. The start isn't looked at.
 abbrev pub CodeAgreesThroughout : Plain → Parts → (s1 s2 : CodeState) → List ℕ → Type 0

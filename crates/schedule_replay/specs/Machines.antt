@@ -12,10 +12,10 @@ use Rattle.flow_model.specs.declared.agreement.Differ.{Differ}
 use Rattle.flow_model.specs.declared.machine.Stepped.{Stepped}
 use Rattle.risc_machine.specs.CodeAgreement.{HasSamePosition, shared_of_code}
 use Rattle.risc_machine.specs.Machine.{CodeState, code_says, code_step}
-use Rattle.risc_machine.specs.Running.{Running}
+use Rattle.risc_machine.specs.Running.{RunningCode}
 use Rattle.risc_machine.specs.declared.parts.Parts.{Parts}
 use Rattle.schedule_replay.specs.declared.replays.Found.{Found}
-use Rattle.source_machine.specs.SourceMachine.{Machine, run_of}
+use Rattle.source_machine.specs.SourceMachine.{RunningProgram, run_of}
 
 -- how many variables, locks and threads there are
 pub record Declared : Type 0 where
@@ -122,7 +122,7 @@ source_law = record {
   IsAlike = IsAlikeAt;
 }
 
-abbrev pub seen_source : Machine → Seen Program source.Run
+abbrev pub seen_source : RunningProgram → Seen Program source.Run
 seen_source m = record { code = m.program; state = run_of m; room = m.room }
 
 -- the RISC machine
@@ -135,5 +135,5 @@ code_law = record {
   IsAlike = HasSamePosition;
 }
 
-abbrev pub seen_code : Running → Seen Parts CodeState
+abbrev pub seen_code : RunningCode → Seen Parts CodeState
 seen_code m = record { code = m.parts; state = m.state; room = m.room }

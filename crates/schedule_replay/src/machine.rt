@@ -1,7 +1,6 @@
 //! What a machine gives to be replayed, and that the source machine and the RISC machine give it.
 
 ghost use Rattle.std.specs.Prelude.{◌≡◌, ◌↔◌, ◌<◌, ℕ, false, length, IsTrue, MatchOption};
-ghost use Rattle.flow_model.specs.Agreement.{IsFirstApart};
 ghost use Rattle.flow_model.specs.FirstDifference.{holders_of};
 ghost use Rattle.flow_model.specs.Runs.{has_moved};
 ghost use Rattle.schedule_replay.specs.Inside as inside;

@@ -18,7 +18,7 @@ pub record Standing : Type 0 where
   pub word : Option ℕ
 
 -- a program that runs, with room for so many outputs
-pub record Machine : Type 0 where
+pub record RunningProgram : Type 0 where
   pub program : Program
   pub memory : List ℕ
   pub holders : List Holder
@@ -31,7 +31,7 @@ abbrev pub items_left : Standing → List Item
 items_left q = with_word q.word (items (reverse (map view.block q.frames)))
 
 -- the run of the definition
-abbrev pub run_of : Machine → Run
+abbrev pub run_of : RunningProgram → Run
 run_of m = record { memory = m.memory; holders = holders_of m.holders; outputs = m.outputs; items = map items_left m.threads }
 
 -- Answers ------------------------------------------------------------------------------------------------------

@@ -5,7 +5,7 @@
 //! - [`Change`]: what a step of a thread changes beside what remains of the thread.
 //!
 //! What runs do stands in `flow_model/specs`, over lists of items, and is promised as it stands there: `begin`, `step`,
-//! `stays_at` and `first_place` in `Source.antt`, and in `Agreement.antt` when items are alike. A machine starts as `begin`
+//! `stays_at`, `says` and `first_place` in `Source.antt`, and in `Agreement.antt` when items are alike. A machine starts as `begin`
 //! of its plain program, each of its steps is a `step` of its run, which stays exactly where `stays_at` says so, and
 //! `done`, `place`, `change`, `same_list` and `same_lists` speak of the items that remain.
 //!

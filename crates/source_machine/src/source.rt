@@ -30,9 +30,9 @@ pub struct Source<'p> {
 impl<'p> Model for Source<'p> {
     ghost use Rattle.std.specs.Prelude.{map, vec_capacity};
     ghost use Rattle.source_machine.specs.Inside.Sound.{standing, IsSound};
-    ghost use Rattle.source_machine.specs.SourceMachine.{Machine};
+    ghost use Rattle.source_machine.specs.SourceMachine.{RunningProgram};
 
-    ghost Value = { Machine };
+    ghost Value = { RunningProgram };
 
     ghost use Rattle.std.specs.Coded.{codes};
     ghost use Rattle.cov_expr.specs.contracts.expr.Expr as e;
