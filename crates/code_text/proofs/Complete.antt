@@ -1,12 +1,13 @@
 -- The listing of parts is read, as the parts in which each number of a variable or a lock is that of the first declaration of
 -- its name. These are the parts themselves where no name equals an earlier one.
 use Rattle.std.proofs.Common.{◌≡◌, ℕ, nat_lt, ◌<◌, ◌^◌, ◌==◌, ◌||◌, List, [], ◌∷◌, ◌++◌, length, map, flat_map, codes, zero, suc, refl, ap, sym, ◌∙◌, arith, append_assoc, true, if◌then◌else◌, Option, Some, None, Ok, ◌⊎◌, inl, inr}
+use Rattle.std.specs.Option.{option_or}
 use Rattle.std.proofs.lemmas.Bool.{ltb-true}
 use Rattle.std.proofs.lemmas.Fmt.{decimal_digit}
 use Rattle.cov_expr.specs.Names.{IsName}
 use Rattle.cov_expr.specs.declared.expr.Op.{Op}
 use Rattle.cov_expr.specs.declared.expr.Op.TheVariants.{Add, Sub, Mul, And, Or, Xor, Eq, Ne, Lt, Le, Both, Either}
-use Rattle.risc_machine.specs.Faults.{fault_of, repeated, names_of, thread_names, first_of, first_in, thread_fault, name_fault}
+use Rattle.risc_machine.specs.Faults.{fault_of, repeated, names_of, thread_names, first_in, thread_fault, name_fault}
 use Rattle.risc_machine.specs.declared.parts.CodeBad.TheVariants as bad
 use Rattle.risc_machine.specs.declared.parts.Instr.{Instr}
 use Rattle.risc_machine.specs.declared.parts.Instr.TheVariants.{Load, Store, Jump, Jz, Nop, MovC, MovR, Bin, Acquire, Release, Out}
@@ -195,8 +196,8 @@ module _ (p : Parts) (h : HasListing p) where
 
   pub repeated_is_fault : (q : Parts) → (q.version ≡ 1) ⊎ (q.version ≡ 2) → (n : List ℕ) → repeated [] (names_of q) ≡ Some n → fault_of q ≡ Some (bad.SameName n)
   repeated_is_fault q v n e =
-      ap (λ o. first_of o (first_of (name_fault (repeated [] (names_of q))) (first_in (thread_fault q) 0 q.threads))) (no_version_fault q v)
-      ∙ ap (λ o. first_of (name_fault o) (first_in (thread_fault q) 0 q.threads)) e
+      ap (λ o. option_or o (option_or (name_fault (repeated [] (names_of q))) (first_in (thread_fault q) 0 q.threads))) (no_version_fault q v)
+      ∙ ap (λ o. option_or (name_fault o) (first_in (thread_fault q) 0 q.threads)) e
 
   first_named : (n : List ℕ) → repeated [] (names_of p) ≡ Some n → fault_of (first_parts p) ≡ Some (bad.SameName n)
   first_named n e = repeated_is_fault (first_parts p) h.version n (ap (λ ns. repeated [] ((p.vars ++ p.locks) ++ ns)) (same_names p.version p.vars p.locks p.threads) ∙ e)

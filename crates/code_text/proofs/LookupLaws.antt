@@ -1,5 +1,6 @@
 -- Names that are looked up.
 use Rattle.std.proofs.Common.{◌≡◌, ℕ, ◌+◌, ◌<◌, List, [], ◌∷◌, ◌++◌, length, get_or, set, replicate, All, refl, ap, sym, ◌∙◌, subst, arith, Bool, true, false, not, ◌||◌, if◌then◌else◌, Option, Some, None, inl, inr, MatchOption, Result, Ok, Err, OnErr, cond, append_assoc}
+use Rattle.std.specs.Option.{option_or}
 use Rattle.std.proofs.lemmas.Bool.{cases_lt, ltb-true}
 use Rattle.std.proofs.Math.ListN.{get_or-append}
 use Rattle.std.proofs.lemmas.List.Elements.{All-nil, All-append, All-set}
@@ -12,7 +13,7 @@ use Rattle.std.specs.Str.{bytes_eq}
 use Rattle.cov_expr.specs.Names.{IsName}
 use Rattle.indexmap.specs.IndexMap.{IndexMap, get, Updates, IsEmpty, IsUnchanged}
 use Rattle.indexmap.specs.IndexSet.{contains, Updates as SetUpdates, IsEmpty as SetIsEmpty}
-use Rattle.risc_machine.specs.Faults.{first_of, repeated, names_of, thread_names}
+use Rattle.risc_machine.specs.Faults.{repeated, names_of, thread_names}
 use Rattle.risc_machine.specs.declared.parts.Line.{Line}
 use Rattle.risc_machine.specs.declared.parts.Parts.{Parts}
 use Rattle.risc_machine.specs.declared.parts.ThreadCode.{ThreadCode}
@@ -24,17 +25,17 @@ use Rattle.code_text.proofs.Every.{all_from, every_copy}
 use Rattle.code_text.proofs.FieldLaws.{id_is}
 use Rattle.code_text.proofs.RangeLaws.{id_ranges}
 
-id_append : (i : ℕ) (names : List (List ℕ)) (n f : List ℕ) → id_from i (names ++ n ∷ []) f ≡ first_of (id_from i names f) (if bytes_eq f n then Some (i + length names) else None)
+id_append : (i : ℕ) (names : List (List ℕ)) (n f : List ℕ) → id_from i (names ++ n ∷ []) f ≡ option_or (id_from i names f) (if bytes_eq f n then Some (i + length names) else None)
 id_append i [] n f = ap (λ k. if bytes_eq f n then Some k else None) (let e : i ≡ i + 0 = omega arith in e)
-id_append i (m ∷ ns) n f = by (bytes_eq f m) (id_append (i + 1) ns n f ∙ ap (λ k. first_of (id_from (i + 1) ns f) (if bytes_eq f n then Some k else None)) (let e : (i + 1) + length ns ≡ i + length (m ∷ ns) = omega arith in e))
+id_append i (m ∷ ns) n f = by (bytes_eq f m) (id_append (i + 1) ns n f ∙ ap (λ k. option_or (id_from (i + 1) ns f) (if bytes_eq f n then Some k else None)) (let e : (i + 1) + length ns ≡ i + length (m ∷ ns) = omega arith in e))
   where
-    by : (b : Bool) → id_from (i + 1) (ns ++ n ∷ []) f ≡ first_of (id_from (i + 1) ns f) (if bytes_eq f n then Some (i + length (m ∷ ns)) else None)
-        → (if b then Some i else id_from (i + 1) (ns ++ n ∷ []) f) ≡ first_of (if b then Some i else id_from (i + 1) ns f) (if bytes_eq f n then Some (i + length (m ∷ ns)) else None)
+    by : (b : Bool) → id_from (i + 1) (ns ++ n ∷ []) f ≡ option_or (id_from (i + 1) ns f) (if bytes_eq f n then Some (i + length (m ∷ ns)) else None)
+        → (if b then Some i else id_from (i + 1) (ns ++ n ∷ []) f) ≡ option_or (if b then Some i else id_from (i + 1) ns f) (if bytes_eq f n then Some (i + length (m ∷ ns)) else None)
     by true rest = refl
     by false rest = rest
 
-pub id_more : (names : List (List ℕ)) (n f : List ℕ) → id_of (names ++ n ∷ []) f ≡ first_of (id_of names f) (if bytes_eq f n then Some (length names) else None)
-id_more names n f = id_append 0 names n f ∙ ap (λ k. first_of (id_of names f) (if bytes_eq f n then Some k else None)) (let e : 0 + length names ≡ length names = omega arith in e)
+pub id_more : (names : List (List ℕ)) (n f : List ℕ) → id_of (names ++ n ∷ []) f ≡ option_or (id_of names f) (if bytes_eq f n then Some (length names) else None)
+id_more names n f = id_append 0 names n f ∙ ap (λ k. option_or (id_of names f) (if bytes_eq f n then Some k else None)) (let e : 0 + length names ≡ length names = omega arith in e)
 
 same_test : (f n : List ℕ) → bytes_eq f n ≡ bytes_eq n f
 same_test f n = by (bytes_eq f n) (bytes_eq n f) refl refl
@@ -45,7 +46,7 @@ same_test f n = by (bytes_eq f n) (bytes_eq n f) refl refl
     by true false g h = let e : true ≡ false = sym ((bytes_eq-Decides n f).1 (sym ((bytes_eq-Decides f n).0 g))) ∙ h in cc e
     by false true g h = let e : true ≡ false = sym ((bytes_eq-Decides f n).1 (sym ((bytes_eq-Decides n f).0 h))) ∙ g in cc e
 
-first_none : {A : Type 0} (x : Option A) → first_of x None ≡ x
+first_none : {A : Type 0} (x : Option A) → option_or x None ≡ x
 first_none None = refl
 first_none (Some a) = refl
 
@@ -72,29 +73,29 @@ module _ {S : Type 0} where
     pub indexed_new : (next : IndexMap (List ℕ) ℕ S) → None ≡ get bytes_eq index n → Updates bytes_eq index next n (Some (length names)) → IsIndexOf next (names ++ n ∷ [])
     indexed_new next none u = record { are_names = all_named; ids = λ f. u.0 f ∙ by f (bytes_eq n f) refl ∙ sym (id_more names n f) }
       where
-        by : (f : List ℕ) (b : Bool) → bytes_eq n f ≡ b → cond b (Some (length names)) (get bytes_eq index f) ≡ first_of (id_of names f) (if bytes_eq f n then Some (length names) else None)
+        by : (f : List ℕ) (b : Bool) → bytes_eq n f ≡ b → cond b (Some (length names)) (get bytes_eq index f) ≡ option_or (id_of names f) (if bytes_eq f n then Some (length names) else None)
         by f true e =
             let same : n ≡ f = (bytes_eq-Decides n f).0 e in
             let absent : id_of names f ≡ None = sym (is.ids f) ∙ ap (get bytes_eq index) (sym same) ∙ sym none in
-            sym (ap (λ o. first_of o (if bytes_eq f n then Some (length names) else None)) absent ∙ ap (λ c. if c then Some (length names) else None) (same_test f n ∙ e))
+            sym (ap (λ o. option_or o (if bytes_eq f n then Some (length names) else None)) absent ∙ ap (λ c. if c then Some (length names) else None) (same_test f n ∙ e))
         by f false e =
-            is.ids f ∙ sym (ap (λ c. first_of (id_of names f) (if c then Some (length names) else None)) (same_test f n ∙ e) ∙ first_none (id_of names f))
+            is.ids f ∙ sym (ap (λ c. option_or (id_of names f) (if c then Some (length names) else None)) (same_test f n ∙ e) ∙ first_none (id_of names f))
 
     -- a name that is there keeps its id
     pub indexed_old : (k : ℕ) → Some k ≡ get bytes_eq index n → IsIndexOf index (names ++ n ∷ [])
     indexed_old there some = record { are_names = all_named; ids = λ f. is.ids f ∙ by f (bytes_eq f n) refl (id_of names f) refl ∙ sym (id_more names n f) }
       where
-        by : (f : List ℕ) (b : Bool) → bytes_eq f n ≡ b → (o : Option ℕ) → id_of names f ≡ o → o ≡ first_of o (if b then Some (length names) else None)
+        by : (f : List ℕ) (b : Bool) → bytes_eq f n ≡ b → (o : Option ℕ) → id_of names f ≡ o → o ≡ option_or o (if b then Some (length names) else None)
         by f b e (Some k) is_k = refl
         by f false e None is_k = refl
         by f true e None is_k = let g : Some there ≡ None = some ∙ is.ids n ∙ ap (id_of names) (sym ((bytes_eq-Decides f n).0 e)) ∙ is_k in absurd cc
 
 -- the id of a name that was declared before, and of one that wasn't
 pub id_old : (names : List (List ℕ)) (n : List ℕ) (k : ℕ) → id_of names n ≡ Some k → id_of (names ++ n ∷ []) n ≡ Some k
-id_old names n k e = id_more names n n ∙ ap (λ o. first_of o (if bytes_eq n n then Some (length names) else None)) e
+id_old names n k e = id_more names n n ∙ ap (λ o. option_or o (if bytes_eq n n then Some (length names) else None)) e
 
 pub id_new : (names : List (List ℕ)) (n : List ℕ) → id_of names n ≡ None → id_of (names ++ n ∷ []) n ≡ Some (length names)
-id_new names n e = id_more names n n ∙ ap (λ o. first_of o (if bytes_eq n n then Some (length names) else None)) e ∙ ap (λ b. if b then Some (length names) else None) ((bytes_eq-Decides n n).1 refl)
+id_new names n e = id_more names n n ∙ ap (λ o. option_or o (if bytes_eq n n then Some (length names) else None)) e ∙ ap (λ b. if b then Some (length names) else None) ((bytes_eq-Decides n n).1 refl)
 
 -- Guesses ----------------------------------------------------------------------------------------------------------
 
@@ -108,7 +109,7 @@ still_guess names n g is id e =
     let inside = ltb-true id (length names) (id_ranges names (get_or names id []) id first) in
     ap (id_of (names ++ n ∷ [])) (get_or-append names (n ∷ []) [] id inside)
     ∙ id_more names n (get_or names id [])
-    ∙ ap (λ o. first_of o (if bytes_eq (get_or names id []) n then Some (length names) else None)) first
+    ∙ ap (λ o. option_or o (if bytes_eq (get_or names id []) n then Some (length names) else None)) first
 
 module _ (names : List (List ℕ)) (guesses : List (Option ℕ)) (all : AreGuesses guesses names) where
   guess_first : (i id : ℕ) → get_or guesses i None ≡ Some id → id_of names (get_or names id []) ≡ Some id
@@ -168,11 +169,11 @@ new_or_not false is_new n e = ap (λ c. if c then None else Some n) e
 
 -- a name more
 pub registered : (r next : Register) (names : List (List ℕ)) (n : List ℕ) (is_new : Bool) → IsRegisterOf r names → is_new ≡ not (contains bytes_eq r.known n) → SetUpdates bytes_eq r.known next.known n true
-    → next.repeated ≡ first_of r.repeated (if is_new then None else Some n) → IsRegisterOf next (names ++ n ∷ [])
+    → next.repeated ≡ option_or r.repeated (if is_new then None else Some n) → IsRegisterOf next (names ++ n ∷ [])
 registered r next names n is_new is new u e = record {
   known = λ f. u.0 f ∙ by f (bytes_eq n f) refl ∙ sym (list_any-append (bytes_eq f) names (n ∷ []));
-  first = e ∙ ap (first_of r.repeated) (new_or_not (contains bytes_eq r.known n) is_new n new)
-      ∙ ap (λ o. first_of o (if contains bytes_eq r.known n then Some n else None)) is.first ∙ ap (λ b. first_of (repeated [] names) (if b then Some n else None)) (is.known n)
+  first = e ∙ ap (option_or r.repeated) (new_or_not (contains bytes_eq r.known n) is_new n new)
+      ∙ ap (λ o. option_or o (if contains bytes_eq r.known n then Some n else None)) is.first ∙ ap (λ b. option_or (repeated [] names) (if b then Some n else None)) (is.known n)
       ∙ sym (repeated-append [] names (n ∷ []));
 }
   where

@@ -1,6 +1,7 @@
 //! Names of a listing by hashing: ids of what is declared, and the first name that is repeated.
 
 ghost use Rattle.std.specs.Prelude.{◌≡◌, ◌↔◌, ℕ, ◌++◌, ◌∷◌, [], List, ◌<◌, length, IfOk, IfSome, OnOk, OnErr, IsTrue, None, Some, if◌then◌else◌, replicate};
+ghost use Rattle.std.specs.Option.{option_or};
 ghost use Rattle.cov_expr.specs.Words.{IsWord};
 ghost use Rattle.cov_expr.specs.Names.{IsName};
 ghost use Rattle.code_text.specs.declared.names.TheConstants.{GUESSES};
@@ -208,7 +209,7 @@ impl Register {
 
 /// The first repeated name, behind a name more.
 fn first_repeated(before: Option<Name>, is_new: bool, name: Name) -> Option<Name>
-    ensures { result ≡ faults.first_of before (if is_new then None else Some name) }
+    ensures { result ≡ option_or before (if is_new then None else Some name) }
 {
     match before {
         Some(first) => Some(first),

@@ -1,5 +1,6 @@
 -- What is made of a well formed program is code.
 use Rattle.std.proofs.Common.{◌≡◌, ◌⊎◌, ℕ, zero, suc, ◌+◌, ◌<◌, ◌==◌, ◌||◌, not, nat_le, List, [], ◌∷◌, ◌++◌, length, map, Bool, true, false, if◌then◌else◌, Option, Some, None, refl, sym, ◌∙◌, ap, subst, arith, inl, inr, ⊎_elim}
+use Rattle.std.specs.Option.{option_or}
 use Rattle.std.specs.List.{list_any, range_with_len}
 use Rattle.std.specs.Str.{bytes_eq}
 use Rattle.std.proofs.Math.ListN.{get_or-map}
@@ -21,7 +22,7 @@ use Rattle.compiled_code.specs.Compiled.{compiled, thread_code, thread_lines}
 use Rattle.compiled_code.proofs.Assembled.{code_count, code_at, names_are}
 use Rattle.compiled_code.proofs.Faultless.{AreFine, fine_block, PassesLine, LinesPass, block_pass}
 use Rattle.compiled_code.proofs.Sizes.{cmds_size, block_sized, block_few}
-use Rattle.risc_machine.specs.Faults.{first_of, first_in, names_of, repeated, has_registers, has_variable, has_lock, has_target, has_version, line_fault, thread_fault, name_fault, fault_of, AreGood}
+use Rattle.risc_machine.specs.Faults.{first_in, names_of, repeated, has_registers, has_variable, has_lock, has_target, has_version, line_fault, thread_fault, name_fault, fault_of, AreGood}
 use Rattle.risc_machine.specs.declared.parts.CodeBad.TheVariants as bad
 use Rattle.risc_machine.specs.declared.parts.Line.{Line}
 use Rattle.risc_machine.specs.declared.parts.Parts.{Parts}
@@ -70,8 +71,8 @@ all_new (n ∷ ns) = (refl, all_new ns)
 passed : {A : Type 0} (b : Bool) (x : A) → b ≡ true → (if b then None else Some x) ≡ None
 passed b x h = ap (λ c. if c then None else Some x) h
 
-both_none : {A : Type 0} (o q : Option A) → o ≡ None → q ≡ None → first_of o q ≡ None
-both_none o q h k = ap (λ o. first_of o q) h ∙ k
+both_none : {A : Type 0} (o q : Option A) → o ≡ None → q ≡ None → option_or o q ≡ None
+both_none o q h k = ap (λ o. option_or o q) h ∙ k
 
 module _ (c : Parts) (t n : ℕ) where
   line_faultless : (i : ℕ) (l : Line) → PassesLine (length c.vars) (length c.locks) c.version n l → line_fault c t n i l ≡ None

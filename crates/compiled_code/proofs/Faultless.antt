@@ -1,5 +1,6 @@
 -- No fault applies to a line that is made of a body whose ids are in range.
 use Rattle.std.proofs.Common.{◌≡◌, ◌⊎◌, ℕ, suc, ◌+◌, ◌<◌, ◌≤◌, nat_lt, nat_le, List, [], ◌∷◌, ◌++◌, length, map, Bool, true, false, if◌then◌else◌, Option, Some, None, refl, sym, ◌∙◌, arith, inl, inr, ⊎_elim, length-set, length-append}
+use Rattle.std.specs.Option.{option_or}
 use Rattle.std.proofs.lemmas.Bool.{lt-ltb, le-leb, and_from, cases_lt}
 use Rattle.std.proofs.lemmas.List.{get_or_past, length-map}
 use Rattle.cov_expr.specs.declared.expr.Op.{Op}
@@ -17,7 +18,7 @@ use Rattle.regalloc.specs.Plan.{Plan, start, held, keep, stored, frees, room}
 use Rattle.compiled_code.specs.Compiled.{line, weigh, part_register, var_instr, unstable_of, load_unstable, term_instrs, fetch_at, fetched_plan, load_into, fetch_plan, fetch_instrs, expr_room, expr_plan, expr_register, expr_instrs, expr_lines, direct, eval_lines, eval_plan, eval_register, use_weight, store_from, store_plan, cmd_plan, block_plan, cmd_lines, block_lines}
 use Rattle.compiled_code.proofs.Gen.{fetch_some}
 use Rattle.compiled_code.proofs.Plans.{held_is, reg_low, part_in, room_long, meet_long}
-use Rattle.risc_machine.specs.Faults.{first_of, has_registers, has_variable, has_lock, has_target, has_version}
+use Rattle.risc_machine.specs.Faults.{has_registers, has_variable, has_lock, has_target, has_version}
 use Rattle.risc_machine.specs.declared.parts.Instr.{Instr}
 use Rattle.risc_machine.specs.declared.parts.Instr.TheVariants.{Load, Store, Jump, Jz, Nop, MovC, MovR, Bin, Acquire, Release, Out}
 use Rattle.risc_machine.specs.declared.parts.Line.{Line}
@@ -214,7 +215,7 @@ module _ (vars locks version lines : ℕ) where
   IsBelow None = Unit {0}
   IsBelow (Some x) = x < vars
 
-  first_below : (o q : Option ℕ) → IsBelow o → IsBelow q → IsBelow (first_of o q)
+  first_below : (o q : Option ℕ) → IsBelow o → IsBelow q → IsBelow (option_or o q)
   first_below None q a b = b
   first_below (Some x) q a b = a
 

@@ -1,5 +1,6 @@
 -- The code of an expression gives its value, and the plan after it is true.
 use Rattle.std.proofs.Common.{◌≡◌, ◌≢◌, ℕ, zero, suc, ◌+◌, ◌<◌, ◌≤◌, ◌==◌, List, [], ◌∷◌, ◌++◌, length, get_or, set, Bool, true, false, if◌then◌else◌, not, Option, Some, None, refl, sym, ◌∙◌, ap, ap₂, subst, arith, IsTrue, inl, inr, ⊎_elim, length-set, get_or-set_same, get_or-set_other, le_refl, eq-eqb, eqb-true}
+use Rattle.std.specs.Option.{option_or}
 use Rattle.std.proofs.Math.Dec.{eqb-suc-zero}
 use Rattle.std.proofs.lemmas.Bool.{or_left, or_right, or_cases, both_ways}
 use Rattle.cov_expr.specs.declared.expr.Op.{Op}
@@ -13,7 +14,6 @@ use Rattle.compiled_code.specs.Compiled.{expr_room, part_register, var_instr, un
 use Rattle.compiled_code.proofs.Cores.{exec_one, exec, exec_append, IsStraight, Straight, straight_append}
 use Rattle.compiled_code.proofs.Plans.{spoil_below, spoil_there, frees_spoil, held_is, kept_is, stored_is, reg_low, reg_apart, reg_free, frees_keep, part_in, room_gives, room_has}
 use Rattle.compiled_code.proofs.Shape.{Record, AfterStore, Yields}
-use Rattle.risc_machine.specs.Faults.{first_of}
 use Rattle.risc_machine.specs.declared.parts.Instr.{Instr}
 use Rattle.risc_machine.specs.declared.parts.Instr.TheVariants.{Load, MovC, Bin}
 
@@ -48,7 +48,7 @@ found st (neg e) = found_neg (unstable_of st e) (found st e)
     found_neg (Some u) f = f
 found st (bin o a b) = found_both (unstable_of st a) (unstable_of st b) (found st a) (found st b)
   where
-    found_both : (x y : Option ℕ) → FoundIn st a x → FoundIn st b y → FoundIn st (bin o a b) (first_of x y)
+    found_both : (x y : Option ℕ) → FoundIn st a x → FoundIn st b y → FoundIn st (bin o a b) (option_or x y)
     found_both (Some u) y f g = (or_left _ _ f.0, f.1)
     found_both None (Some u) f g = (or_right (mentions a u) _ g.0, g.1)
     found_both None None f g = λ x h. ⊎_elim (λ k. f x k) (λ k. g x k) (or_cases (mentions a x) (mentions b x) h)

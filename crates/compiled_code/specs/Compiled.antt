@@ -4,6 +4,7 @@
 -- write it. (After the compiler of Sison and Murray, whose registers have the same record; here its assumptions change along
 -- the text, with the locks.)
 use Rattle.std.specs.Prelude.{ℕ, suc, ◌+◌, List, [], ◌∷◌, ◌++◌, length, get_or, set, map, Bool, true, false, if◌then◌else◌, Option, Some, None}
+use Rattle.std.specs.Option.{option_or}
 use Rattle.std.specs.List.{range_with_len}
 use Rattle.cov_expr.specs.declared.expr.Op.TheVariants.{Eq}
 use Rattle.cov_expr.specs.Term.{Term, const, var, neg, bin}
@@ -14,7 +15,6 @@ use Rattle.cov_ast.specs.Plain.{Cmd, skip, assign, lock, unlock, branch, loop, o
 use Rattle.cov_ast.specs.Syntax.{Program}
 use Rattle.mode_state.specs.Sets.{is_stable}
 use Rattle.regalloc.specs.Plan.{Plan, start, held, keep, spoil, stored, restrict, meet, frees, part, room}
-use Rattle.risc_machine.specs.Faults.{first_of}
 use Rattle.risc_machine.specs.declared.parts.Instr.{Instr}
 use Rattle.risc_machine.specs.declared.parts.Instr.TheVariants.{Load, Store, Jump, Jz, Nop, MovC, MovR, Bin, Acquire, Release, Out}
 use Rattle.risc_machine.specs.declared.parts.Line.{Line}
@@ -46,7 +46,7 @@ abbrev pub unstable_of : (stable : ℕ → Bool) → Term → Option ℕ
 unstable_of stable (const k) = None
 unstable_of stable (var x) = if stable x then None else Some x
 unstable_of stable (neg e) = unstable_of stable e
-unstable_of stable (bin op a b) = first_of (unstable_of stable a) (unstable_of stable b)
+unstable_of stable (bin op a b) = option_or (unstable_of stable a) (unstable_of stable b)
 
 -- it is loaded into r7
 abbrev pub load_unstable : Option ℕ → List Instr

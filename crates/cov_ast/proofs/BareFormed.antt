@@ -11,7 +11,7 @@ use Rattle.cov_expr.specs.Words.{HasWords}
 use Rattle.cov_expr.proofs.Tests.{left_true, right_true}
 use Rattle.cov_ast.specs.Syntax.{Var, Lock, Proof, Stm, Block, done, more, Thread, Program}
 use Rattle.cov_ast.specs.Syntax as annotated
-use Rattle.cov_ast.specs.Plain.{no_state, in_front, bare_kind, bare_block, bare_thread, bare}
+use Rattle.cov_ast.specs.Plain.{no_state, with_statement, bare_kind, bare_block, bare_thread, bare}
 use Rattle.cov_ast.specs.WellFormed.{IsStateInRange, IsCertInRange, IsExprInRange, IsStmInRange, IsBlockInRange, IsThreadInRange, CertHasWords, StateHasWords, StmHasWords, BlockHasWords, IsBodyFine, IsSilent, IsSilentStm, IsWellFormed, are_distinct, places, places_within, stm_size, block_size}
 
 -- Parts of lists -----------------------------------------------------------------------------------------------
@@ -71,7 +71,7 @@ part_distinct (x ∷ xs) (y ∷ ys) (inr h) k = part_distinct (x ∷ xs) ys h (r
 
 mutual
   stm_places : (s : Stm) (at : ℕ) (rest whole : Block) → IsPart (places rest) (places whole)
-      → IsPart (places (in_front at (bare_kind s) rest)) (at ∷ places_within s ++ places whole)
+      → IsPart (places (with_statement at (bare_kind s) rest)) (at ∷ places_within s ++ places whole)
   stm_places annotated.skip at rest whole h = inl (refl, h)
   stm_places (annotated.assign x e q retypes) at rest whole h = inl (refl, h)
   stm_places (annotated.lock l) at rest whole h = inl (refl, h)
@@ -95,7 +95,7 @@ mutual
 
 mutual
   stm_smaller : (s : Stm) (at : ℕ) (rest whole : Block) → block_size rest ≤ block_size whole
-      → block_size (in_front at (bare_kind s) rest) ≤ 1 + stm_size s + block_size whole
+      → block_size (with_statement at (bare_kind s) rest) ≤ 1 + stm_size s + block_size whole
   stm_smaller annotated.skip at rest whole h = omega (arith, h)
   stm_smaller (annotated.assign x e q retypes) at rest whole h = omega (arith, h)
   stm_smaller (annotated.lock l) at rest whole h = omega (arith, h)
@@ -125,7 +125,7 @@ module _ (vars locks : ℕ) where
   bare_next at s rest h k = (h, All-nil (λ (p : Proof). IsCertInRange vars locks p.cert), k)
 
   mutual
-    stm_ids : (s : Stm) (at : ℕ) (rest : Block) → IsStmInRange vars locks s → IsBlockInRange vars locks rest → IsBlockInRange vars locks (in_front at (bare_kind s) rest)
+    stm_ids : (s : Stm) (at : ℕ) (rest : Block) → IsStmInRange vars locks s → IsBlockInRange vars locks rest → IsBlockInRange vars locks (with_statement at (bare_kind s) rest)
     stm_ids annotated.skip at rest h k = bare_next at annotated.skip rest h k
     stm_ids (annotated.assign x e q retypes) at rest h k =
         bare_next at (annotated.assign x e None []) rest (h.0, h.1, tt, All-nil (λ (t : ℕ × Term). (t.0 < vars) × IsExprInRange vars locks t.1)) k
@@ -154,7 +154,7 @@ next_of_words : (at : ℕ) (s : Stm) (rest : Block) → StmHasWords s → BlockH
 next_of_words at s rest h k = (h, All-nil (λ (p : Proof). CertHasWords p.cert), k)
 
 mutual
-  stm_words : (s : Stm) (at : ℕ) (rest : Block) → StmHasWords s → BlockHasWords rest → BlockHasWords (in_front at (bare_kind s) rest)
+  stm_words : (s : Stm) (at : ℕ) (rest : Block) → StmHasWords s → BlockHasWords rest → BlockHasWords (with_statement at (bare_kind s) rest)
   stm_words annotated.skip at rest h k = next_of_words at annotated.skip rest h k
   stm_words (annotated.assign x e q retypes) at rest h k =
       next_of_words at (annotated.assign x e None []) rest (h.0, tt, All-nil (λ (t : ℕ × Term). HasWords t.1)) k
@@ -174,7 +174,7 @@ mutual
 -- Versions -----------------------------------------------------------------------------------------------------
 
 mutual
-  stm_silent : (s : Stm) (at : ℕ) (rest : Block) → IsSilentStm s → IsSilent rest → IsSilent (in_front at (bare_kind s) rest)
+  stm_silent : (s : Stm) (at : ℕ) (rest : Block) → IsSilentStm s → IsSilent rest → IsSilent (with_statement at (bare_kind s) rest)
   stm_silent annotated.skip at rest h k = (h, k)
   stm_silent (annotated.assign x e q retypes) at rest h k = (h, k)
   stm_silent (annotated.lock l) at rest h k = (h, k)

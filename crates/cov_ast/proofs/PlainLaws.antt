@@ -2,10 +2,10 @@
 use Rattle.std.proofs.Common.{◌≡◌, ℕ, List, [], ◌∷◌, map, refl, ap, ap₂, ◌∙◌}
 use Rattle.cov_ast.specs.Syntax.{Stm, Block, done, more, Thread, Program}
 use Rattle.cov_ast.specs.Syntax as annotated
-use Rattle.cov_ast.specs.Plain.{next, branch, loop, plain_stm, plain_block, plain_thread, plain, in_front, bare_kind, bare_block, bare_thread, bare}
+use Rattle.cov_ast.specs.Plain.{next, branch, loop, plain_stm, plain_block, plain_thread, plain, with_statement, bare_kind, bare_block, bare_thread, bare}
 
 mutual
-  stm_bare : (s : Stm) (at : ℕ) (rest : Block) → plain_block (in_front at (bare_kind s) rest) ≡ plain_stm s at (plain_block rest)
+  stm_bare : (s : Stm) (at : ℕ) (rest : Block) → plain_block (with_statement at (bare_kind s) rest) ≡ plain_stm s at (plain_block rest)
   stm_bare annotated.skip at rest = refl
   stm_bare (annotated.assign x e q retypes) at rest = refl
   stm_bare (annotated.lock l) at rest = refl

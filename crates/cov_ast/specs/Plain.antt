@@ -69,9 +69,9 @@ abbrev pub no_state : State
 no_state = record { preds = []; types = [] }
 
 -- a statement in front of others, if there is one
-abbrev pub in_front : (at : ℕ) → Option Stm → Block → Block
-in_front at None rest = rest
-in_front at (Some s) rest = more at s [] rest
+abbrev pub with_statement : (at : ℕ) → Option Stm → Block → Block
+with_statement at None rest = rest
+with_statement at (Some s) rest = more at s [] rest
 
 abbrev mutual
   -- a statement without annotations; a note is nothing
@@ -87,7 +87,7 @@ abbrev mutual
 
   pub bare_block : Block → Block
   bare_block done = done
-  bare_block (more at s proofs b) = in_front at (bare_kind s) (bare_block b)
+  bare_block (more at s proofs b) = with_statement at (bare_kind s) (bare_block b)
 
 abbrev pub bare_thread : Thread → Thread
 bare_thread t = record { name = t.name; at = t.at; modes = t.modes; body = bare_block t.body; end = t.end }

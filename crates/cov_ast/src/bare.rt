@@ -151,7 +151,7 @@ fn add(
     kind: Option<StmtKind>,
 ) -> Result<(), NoMemory>
     ensures { OnOk result ((rest : syntax.Block) →
-        onto (map view.stmt body.new) rest ≡ onto (map view.stmt body.old) (spec.in_front at (option_map view.kind kind) rest)) }
+        onto (map view.stmt body.new) rest ≡ onto (map view.stmt body.old) (spec.with_statement at (option_map view.kind kind) rest)) }
 {
     if let Some(kind) = kind {
         let stmt = unproved(alloc, at, kind);

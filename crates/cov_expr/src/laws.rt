@@ -1,10 +1,11 @@
-//! Laws of expressions and of limits: functions with no body, whose contracts speak of all expressions and memories.
+//! Laws of expressions, of limits and of the hole: functions with no body, whose contracts speak of all expressions and memories.
 
-ghost use Rattle.std.specs.Prelude.{◌≡◌, ◌↔◌, ℕ, ◌<◌, List, IsTrue, false, length, slice_index, slice_set};
+ghost use Rattle.std.specs.Prelude.{◌≡◌, ◌↔◌, ℕ, ◌-◌, ◌^◌, ◌<◌, List, IsTrue, false, length, slice_index, slice_set};
 ghost use Rattle.cov_expr.specs.Limits.{AreTheLimits};
 ghost use Rattle.cov_expr.specs.Term.{Term, value};
 ghost use Rattle.cov_expr.specs.Trees as tree;
 ghost use Rattle.cov_expr.specs.Words.{AreWords, HasWords, IsWord};
+ghost use Rattle.cov_expr.specs.declared.expr.TheConstants.{HOLE};
 
 /// The test on trees is equality.
 pub fn same_is_equality()
@@ -34,4 +35,9 @@ pub fn values_are_words()
 /// Each limit is the number that is told of it.
 pub fn limits_have_their_values()
     ensures { AreTheLimits }
+{}
+
+/// The hole of a template is the largest word.
+pub fn hole_is_the_largest_word()
+    ensures { HOLE ≡ 2 ^ 32 - 1 }
 {}

@@ -28,8 +28,8 @@ pub use byte::{is_digit, is_lower, is_word};
 pub use expr::{Expr, HOLE, Op, apply, eval, same};
 pub use kind::Kind;
 pub use laws::{
-    closed_mentions_nothing, limits_have_their_values, same_is_equality, substitution_is_a_store,
-    value_depends_on_mentioned, values_are_words,
+    closed_mentions_nothing, hole_is_the_largest_word, limits_have_their_values, same_is_equality,
+    substitution_is_a_store, value_depends_on_mentioned, values_are_words,
 };
 pub use limits::{
     MOST_BLOCKS, MOST_BRACKETS, MOST_BYTES, MOST_CERT_NODES, MOST_ENTRIES, MOST_EXPRESSION_BYTES,

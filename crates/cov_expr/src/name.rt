@@ -15,7 +15,7 @@ use std::marker::Model;
 /// Contracts see it as these bytes.
 #[derive(Clone, Copy, Debug, Eq, Hash)]
 pub struct Name {
-    bytes: [u8; 32],
+    bytes: [u8; MOST_NAME_BYTES],
     len: u8,
 }
 
@@ -65,7 +65,7 @@ impl Name {
         requires { IsName text.now }
         ensures { result ≡ text.now }
     {
-        let mut bytes = [0; 32];
+        let mut bytes = [0; MOST_NAME_BYTES];
         bytes[..text.len()].copy_from_slice(text);
         Name {
             bytes,

@@ -5,7 +5,7 @@ use Rattle.cov_grammar.specs.PlacedTrees.{Rule, Meaning}
 use Rattle.cov_grammar.specs.Shapes.{Shape}
 use Rattle.cov_grammar.specs.Spells.{Is, FirstWrong}
 use Rattle.cov_grammar.specs.LookAhead.{fine}
-use Rattle.cov_grammar.specs.FirstKinds.{first_of, more_of}
+use Rattle.cov_grammar.specs.FirstKinds.{first_kinds, more_of}
 use Rattle.cov_grammar.specs.Reading.{Reading, got, stopped, spent, ◌>>=◌, rule_of, reading, ended, all_of}
 use Rattle.cov_grammar.proofs.Honest.{Fact, Honest}
 use Rattle.cov_grammar.proofs.Senses.{AtSome, OfShape, full_some, gather, spread}
@@ -14,10 +14,10 @@ use Rattle.cov_grammar.proofs.Shapely.{honest}
 use Rattle.cov_grammar.proofs.Complete.{complete}
 use Rattle.cov_grammar.proofs.Turns.{rule_honest, rule_complete, never}
 
-first_some : (r : Rule) (v : Meaning r) (ts : List Token) → AtSome r v ts → Begins (first_of r) ts
+first_some : (r : Rule) (v : Meaning r) (ts : List Token) → AtSome r v ts → Begins (first_kinds r) ts
 first_some r v ts h = first_at h.0 r v ts h.1
 
-module _ {A : Type 0} (a : Shape A) (f : fine first_of more_of a ≡ true) where
+module _ {A : Type 0} (a : Shape A) (f : fine first_kinds more_of a ≡ true) where
   reading_honest : Honest (OfShape a) (reading a)
   reading_honest = honest rule_of rule_honest a f
 

@@ -4,14 +4,14 @@ use Rattle.cov_grammar.specs.PlacedTrees.{Rule}
 use Rattle.cov_grammar.specs.Shapes.{Shape, rule}
 use Rattle.cov_grammar.specs.Grammar.{program, whole}
 use Rattle.cov_grammar.specs.LookAhead.{fine}
-use Rattle.cov_grammar.specs.FirstKinds.{first_of, more_of}
+use Rattle.cov_grammar.specs.FirstKinds.{first_kinds, more_of}
 use Rattle.cov_grammar.specs.ReadingLaws.{IsReadExactly, IsDecided}
 use Rattle.cov_grammar.proofs.TableLaws.{fine_program}
 use Rattle.cov_grammar.proofs.Exact.{all_sound, all_complete, all_first, all_ends}
 use Rattle.cov_grammar.proofs.Unique.{first_unique, spelled_right}
 use Rattle.cov_grammar.proofs.Wholes.{value_one, value_or_fault}
 
-pub read_exactly : {A : Type 0} (a : Shape A) → fine first_of more_of a ≡ true → IsReadExactly a
+pub read_exactly : {A : Type 0} (a : Shape A) → fine first_kinds more_of a ≡ true → IsReadExactly a
 read_exactly a f = record {
   sound = λ ts v. all_sound a f ts v;
   complete = λ ts v. all_complete a f v ts;
@@ -19,7 +19,7 @@ read_exactly a f = record {
   ends = all_ends a f;
 }
 
-pub decided : {A : Type 0} (a : Shape A) → fine first_of more_of a ≡ true → IsDecided a
+pub decided : {A : Type 0} (a : Shape A) → fine first_kinds more_of a ≡ true → IsDecided a
 decided a f = record {
   value_or_fault = value_or_fault a f;
   not_both = λ ts bad v. spelled_right a v ts bad;

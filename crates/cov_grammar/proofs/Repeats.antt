@@ -8,7 +8,7 @@ use Rattle.cov_expr.specs.declared.kind.Kind.{Kind}
 use Rattle.cov_grammar.specs.Shapes.{Shape, many, head}
 use Rattle.cov_grammar.specs.Grammar.{◌▸◌, separated}
 use Rattle.cov_grammar.specs.LookAhead.{starts, nullable, firsts, fine}
-use Rattle.cov_grammar.specs.FirstKinds.{first_of, more_of}
+use Rattle.cov_grammar.specs.FirstKinds.{first_kinds, more_of}
 use Rattle.cov_grammar.specs.Reading.{take_kind, Reading, got, stopped, spent, ◌>>=◌, Reader, rule_of, reading}
 use Rattle.cov_grammar.proofs.Many.{many_is}
 use Rattle.cov_grammar.proofs.Shapely.{honest, shrinks_of}
@@ -34,35 +34,35 @@ pushed_one xs v (got ys ts) = ap (λ zs. got zs ts) (append_assoc xs (v ∷ []) 
 pushed_one xs v (stopped ts) = refl
 pushed_one xs v spent = refl
 
-module _ {A : Type 0} (a : Shape A) (f : fine first_of more_of a ≡ true) (n : nullable a ≡ false) where
+module _ {A : Type 0} (a : Shape A) (f : fine first_kinds more_of a ≡ true) (n : nullable a ≡ false) where
   abbrev step : Bool → List A → Reader (List A)
   step b xs ts = pushed xs (if b then consed (reading a ts >>= λ v rest. pair v (reading (many a) rest)) else got [] ts)
 
-  turn : (xs : List A) (ts : List Token) (b : Bool) → starts (firsts first_of a) (head ts) ≡ b → pushed xs (reading (many a) ts) ≡ step b xs ts
+  turn : (xs : List A) (ts : List Token) (b : Bool) → starts (firsts first_kinds a) (head ts) ≡ b → pushed xs (reading (many a) ts) ≡ step b xs ts
   turn xs ts b e =
-      ap (pushed xs) (many_is (firsts first_of a) (reading a) (shrinks_of a (reading a) n (honest rule_of rule_honest a f)) ts)
+      ap (pushed xs) (many_is (firsts first_kinds a) (reading a) (shrinks_of a (reading a) n (honest rule_of rule_honest a f)) ts)
       ∙ ap (λ c. step c xs ts) e
 
-  pub rep_goes : (xs : List A) (v : A) (ts rest : List Token) → starts (firsts first_of a) (head ts) ≡ true → reading a ts ≡ got v rest → pushed (xs ++ v ∷ []) (reading (many a) rest) ≡ pushed xs (reading (many a) ts)
+  pub rep_goes : (xs : List A) (v : A) (ts rest : List Token) → starts (firsts first_kinds a) (head ts) ≡ true → reading a ts ≡ got v rest → pushed (xs ++ v ∷ []) (reading (many a) rest) ≡ pushed xs (reading (many a) ts)
   rep_goes xs v ts rest e h =
       sym (turn xs ts true e ∙ ap (λ o. pushed xs (consed (o >>= λ v rest. pair v (reading (many a) rest)))) h ∙ sym (pushed_one xs v (reading (many a) rest)))
 
-  pub rep_ends : (xs : List A) (ts : List Token) → starts (firsts first_of a) (head ts) ≡ false → pushed xs (reading (many a) ts) ≡ got xs ts
+  pub rep_ends : (xs : List A) (ts : List Token) → starts (firsts first_kinds a) (head ts) ≡ false → pushed xs (reading (many a) ts) ≡ got xs ts
   rep_ends xs ts e = turn xs ts false e ∙ ap (λ zs. got zs ts) (append-nil xs)
 
-  pub rep_breaks : (xs : List A) (ts rest : List Token) → starts (firsts first_of a) (head ts) ≡ true → reading a ts ≡ stopped rest → pushed xs (reading (many a) ts) ≡ stopped rest
+  pub rep_breaks : (xs : List A) (ts rest : List Token) → starts (firsts first_kinds a) (head ts) ≡ true → reading a ts ≡ stopped rest → pushed xs (reading (many a) ts) ≡ stopped rest
   rep_breaks xs ts rest e h = turn xs ts true e ∙ ap (λ o. pushed xs (consed (o >>= λ v rest. pair v (reading (many a) rest)))) h
 
 -- Items by the kinds that they begin with ----------------------------------------------------------------------
 
 -- A right side that can be repeated, and the kinds that it begins with.
 pub record Item {A : Type 0} (a : Shape A) (ks : List Kind) : Type 0 where
-  pub fine : fine first_of more_of a ≡ true
+  pub fine : fine first_kinds more_of a ≡ true
   pub full : nullable a ≡ false
-  pub first : firsts first_of a ≡ ks
+  pub first : firsts first_kinds a ≡ ks
 
 module _ {X A : Type 0} (view : X → A) (a : Shape A) (ks : List Kind) (i : Item a ks) where
-  ahead : (ts : List Token) (b : Bool) → starts ks (head ts) ≡ b → starts (firsts first_of a) (head ts) ≡ b
+  ahead : (ts : List Token) (b : Bool) → starts ks (head ts) ≡ b → starts (firsts first_kinds a) (head ts) ≡ b
   ahead ts b e = ap (λ js. starts js (head ts)) i.first ∙ e
 
   -- one more item

@@ -8,7 +8,7 @@ use Rattle.cov_grammar.specs.Shapes.{Shape, token, rule, seq, alt, opt, many, ac
 use Rattle.cov_grammar.specs.Grammar.{atom, template_atom, unary, prod, sum, band, bxor, bor, cmp, both, either, part, arguments, last_certs, more_certs, certificate, proof, proofs, retype, assigned, branched, looped, state, statement, braces, body, types}
 use Rattle.cov_grammar.specs.Spells.{Within}
 use Rattle.cov_grammar.specs.LookAhead.{nullable, firsts, has, kind_is, within}
-use Rattle.cov_grammar.specs.FirstKinds.{first_of}
+use Rattle.cov_grammar.specs.FirstKinds.{first_kinds}
 use Rattle.cov_grammar.proofs.Basics.{kind_itself, has_append, within_has}
 use Rattle.cov_grammar.proofs.TableLaws.{firsts_body}
 use Rattle.cov_grammar.proofs.Senses.{nullable_ok, full_at, AtSome}
@@ -79,34 +79,34 @@ begins_within : (xs ys : List Kind) (ts : List Token) → within xs ys ≡ true 
 begins_within xs ys [] w h = tt
 begins_within xs ys (t ∷ ts) w h = within_has xs ys t.kind w h
 
-module _ (S : Sense) (full : (r : Rule) (v : Meaning r) → S r v [] → ⊥) (first : (r : Rule) (v : Meaning r) (ts : List Token) → S r v ts → Begins (first_of r) ts) where
-  pub first_each : {A : Type 0} (a : Shape A) → ((v : A) (ts : List Token) → Spells S a v ts → Begins (firsts first_of a) ts) → (vs : List A) (ts : List Token) → Each (Spells S a) vs ts
-      → Begins (firsts first_of a) ts
-  first_each a f [] ts h = subst (Begins (firsts first_of a)) (sym h) tt
-  first_each a f (v ∷ vs) ts h = subst (Begins (firsts first_of a)) (sym h.4) (by h.0 (f v h.0 h.2) (first_each a f vs h.1 h.3))
+module _ (S : Sense) (full : (r : Rule) (v : Meaning r) → S r v [] → ⊥) (first : (r : Rule) (v : Meaning r) (ts : List Token) → S r v ts → Begins (first_kinds r) ts) where
+  pub first_each : {A : Type 0} (a : Shape A) → ((v : A) (ts : List Token) → Spells S a v ts → Begins (firsts first_kinds a) ts) → (vs : List A) (ts : List Token) → Each (Spells S a) vs ts
+      → Begins (firsts first_kinds a) ts
+  first_each a f [] ts h = subst (Begins (firsts first_kinds a)) (sym h) tt
+  first_each a f (v ∷ vs) ts h = subst (Begins (firsts first_kinds a)) (sym h.4) (by h.0 (f v h.0 h.2) (first_each a f vs h.1 h.3))
     where
-      by : (us : List Token) → Begins (firsts first_of a) us → Begins (firsts first_of a) h.1 → Begins (firsts first_of a) (us ++ h.1)
+      by : (us : List Token) → Begins (firsts first_kinds a) us → Begins (firsts first_kinds a) h.1 → Begins (firsts first_kinds a) (us ++ h.1)
       by [] x y = y
       by (u ∷ us) x y = x
 
-  pub first_ok : {A : Type 0} (a : Shape A) (v : A) (ts : List Token) → Spells S a v ts → Begins (firsts first_of a) ts
+  pub first_ok : {A : Type 0} (a : Shape A) (v : A) (ts : List Token) → Spells S a v ts → Begins (firsts first_kinds a) ts
   first_ok (token k) v ts h = subst (Begins (k ∷ [])) (sym h.1) (or_left (kind_is k v.kind) false (subst (λ j. kind_is k j ≡ true) (sym h.0) (kind_itself k)))
   first_ok (rule r) v ts h = first r v ts h
   first_ok (seq a b) v ts h =
-      subst (Begins (firsts first_of (seq a b))) (sym h.4) (by h.0 (nullable_ok S full a v.0 h.0) (first_ok a v.0 h.0 h.2) (first_ok b v.1 h.1 h.3) h.2)
+      subst (Begins (firsts first_kinds (seq a b))) (sym h.4) (by h.0 (nullable_ok S full a v.0 h.0) (first_ok a v.0 h.0 h.2) (first_ok b v.1 h.1 h.3) h.2)
     where
-      by : (us : List Token) → (us ≡ [] → Spells S a v.0 h.0 → nullable a ≡ true) → Begins (firsts first_of a) us → Begins (firsts first_of b) h.1 → Spells S a v.0 h.0 → Begins (firsts first_of (seq a b)) (us ++ h.1)
+      by : (us : List Token) → (us ≡ [] → Spells S a v.0 h.0 → nullable a ≡ true) → Begins (firsts first_kinds a) us → Begins (firsts first_kinds b) h.1 → Spells S a v.0 h.0 → Begins (firsts first_kinds (seq a b)) (us ++ h.1)
       by [] n x y s =
-          subst (λ c. Begins (firsts first_of a ++ (if c then firsts first_of b else [])) h.1) (sym (n refl s)) (begins_append_right (firsts first_of a) (firsts first_of b) h.1 y)
-      by (u ∷ us) n x y s = begins_append_left (firsts first_of a) (if nullable a then firsts first_of b else []) (u ∷ us) x
-  first_ok (alt a b) v ts (inl h) = begins_append_left (firsts first_of a) (firsts first_of b) ts (first_ok a v ts h)
-  first_ok (alt a b) v ts (inr h) = begins_append_right (firsts first_of a) (firsts first_of b) ts (first_ok b v ts h)
-  first_ok (opt a) None ts h = subst (Begins (firsts first_of a)) (sym h) tt
+          subst (λ c. Begins (firsts first_kinds a ++ (if c then firsts first_kinds b else [])) h.1) (sym (n refl s)) (begins_append_right (firsts first_kinds a) (firsts first_kinds b) h.1 y)
+      by (u ∷ us) n x y s = begins_append_left (firsts first_kinds a) (if nullable a then firsts first_kinds b else []) (u ∷ us) x
+  first_ok (alt a b) v ts (inl h) = begins_append_left (firsts first_kinds a) (firsts first_kinds b) ts (first_ok a v ts h)
+  first_ok (alt a b) v ts (inr h) = begins_append_right (firsts first_kinds a) (firsts first_kinds b) ts (first_ok b v ts h)
+  first_ok (opt a) None ts h = subst (Begins (firsts first_kinds a)) (sym h) tt
   first_ok (opt a) (Some v) ts h = first_ok a v ts h
   first_ok (many a) vs ts h = first_each a (first_ok a) vs ts h
   first_ok (act g a) v ts h = first_ok a h.0 ts h.2
   first_ok (placed a) v ts h = first_ok a v.1 ts h.1
 
-pub first_at : (d : ℕ) (r : Rule) (v : Meaning r) (ts : List Token) → Within d r v ts → Begins (first_of r) ts
+pub first_at : (d : ℕ) (r : Rule) (v : Meaning r) (ts : List Token) → Within d r v ts → Begins (first_kinds r) ts
 first_at zero r v ts h = absurd h
-first_at (suc d) r v ts h = begins_within (firsts first_of (body r)) (first_of r) ts (firsts_body r) (first_ok (Within d) (full_at d) (first_at d) (body r) v ts h)
+first_at (suc d) r v ts h = begins_within (firsts first_kinds (body r)) (first_kinds r) ts (firsts_body r) (first_ok (Within d) (full_at d) (first_at d) (body r) v ts h)

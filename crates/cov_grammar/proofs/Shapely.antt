@@ -7,7 +7,7 @@ use Rattle.cov_grammar.specs.PlacedTrees.{Rule}
 use Rattle.cov_grammar.specs.Shapes.{Shape, token, rule, seq, alt, opt, many, act, placed, place, head}
 use Rattle.cov_grammar.specs.Grammar.{body}
 use Rattle.cov_grammar.specs.LookAhead.{kind_is, nullable, firsts, fine}
-use Rattle.cov_grammar.specs.FirstKinds.{first_of, more_of}
+use Rattle.cov_grammar.specs.FirstKinds.{first_kinds, more_of}
 use Rattle.cov_grammar.specs.Reading.{Reading, got, stopped, spent, ◌>>=◌, Reader, Inner, take_kind, read, reads}
 use Rattle.cov_grammar.proofs.Basics.{kind_one, headless, true_false}
 use Rattle.cov_grammar.proofs.TableLaws.{fine_body}
@@ -110,34 +110,34 @@ shrinks_of a R f h ts v rest e = by (R ts) e (h ts)
     by spent g k = cc
 
 module _ (inner : Inner) (hi : (r : Rule) → Honest (AtSome r) (inner r)) where
-  pub honest : {A : Type 0} (a : Shape A) → fine first_of more_of a ≡ true → Honest (OfShape a) (read first_of inner a)
+  pub honest : {A : Type 0} (a : Shape A) → fine first_kinds more_of a ≡ true → Honest (OfShape a) (read first_kinds inner a)
   honest (token k) f = token_honest k
   honest (rule r) f = hi r
   honest (seq a b) f =
       let s = some_of b in
       let g = honest a (left_true _ _ f) in
-      let h = honest b (left_true _ _ (right_true (fine first_of more_of a) _ f)) in
-      λ ts. both_fact (OfShape a) (OfShape b) (read first_of inner a) (read first_of inner b) s.0 s.1 s.2 ts (read first_of inner a ts) refl (g ts) (λ v rest e. h rest)
+      let h = honest b (left_true _ _ (right_true (fine first_kinds more_of a) _ f)) in
+      λ ts. both_fact (OfShape a) (OfShape b) (read first_kinds inner a) (read first_kinds inner b) s.0 s.1 s.2 ts (read first_kinds inner a ts) refl (g ts) (λ v rest e. h rest)
   honest (alt a b) f =
       let g = honest a (left_true _ _ f) in
-      let h = honest b (left_true _ _ (right_true (fine first_of more_of a) _ f)) in
-      λ ts. either_fact (OfShape (alt a b)) (firsts first_of a) (read first_of inner a) (read first_of inner b) ts
-      (weaken_fact (OfShape a) (OfShape (alt a b)) (read first_of inner a) (λ v us p. inl p) ts (read first_of inner a ts) (g ts))
-      (weaken_fact (OfShape b) (OfShape (alt a b)) (read first_of inner b) (λ v us p. inr p) ts (read first_of inner b ts) (h ts))
+      let h = honest b (left_true _ _ (right_true (fine first_kinds more_of a) _ f)) in
+      λ ts. either_fact (OfShape (alt a b)) (firsts first_kinds a) (read first_kinds inner a) (read first_kinds inner b) ts
+      (weaken_fact (OfShape a) (OfShape (alt a b)) (read first_kinds inner a) (λ v us p. inl p) ts (read first_kinds inner a ts) (g ts))
+      (weaken_fact (OfShape b) (OfShape (alt a b)) (read first_kinds inner b) (λ v us p. inr p) ts (read first_kinds inner b ts) (h ts))
   honest (opt a) f =
       let g = honest a (left_true _ _ f) in
-      λ ts. either_fact (OfShape (opt a)) (firsts first_of a) (made Some (read first_of inner a)) (λ us. got None us) ts
-      (made_honest (OfShape a) (OfShape (opt a)) (read first_of inner a) Some (λ v us p. p) g ts)
+      λ ts. either_fact (OfShape (opt a)) (firsts first_kinds a) (made Some (read first_kinds inner a)) (λ us. got None us) ts
+      (made_honest (OfShape a) (OfShape (opt a)) (read first_kinds inner a) Some (λ v us p. p) g ts)
       (none_fact a ts)
   honest (many a) f =
       let g = honest a (left_true _ _ f) in
-      let full = not-true (nullable a) (left_true _ _ (right_true (fine first_of more_of a) _ f)) in
-      many_honest (OfShape a) (firsts first_of a) (read first_of inner a) (shrinks_of a (read first_of inner a) full g) g
-  honest (act h a) f = made_honest (OfShape a) (OfShape (act h a)) (read first_of inner a) h (λ v us p. (v, refl, p)) (honest a f)
+      let full = not-true (nullable a) (left_true _ _ (right_true (fine first_kinds more_of a) _ f)) in
+      many_honest (OfShape a) (firsts first_kinds a) (read first_kinds inner a) (shrinks_of a (read first_kinds inner a) full g) g
+  honest (act h a) f = made_honest (OfShape a) (OfShape (act h a)) (read first_kinds inner a) h (λ v us p. (v, refl, p)) (honest a f)
   honest (placed a) f =
       let g = honest a (left_true _ _ f) in
-      let full = not-true (nullable a) (right_true (fine first_of more_of a) _ f) in
-      λ ts. placed_fact (OfShape a) (read first_of inner a) (no_empty a full) ts (read first_of inner a ts) (g ts)
+      let full = not-true (nullable a) (right_true (fine first_kinds more_of a) _ f) in
+      λ ts. placed_fact (OfShape a) (read first_kinds inner a) (no_empty a full) ts (read first_kinds inner a ts) (g ts)
 
 pub rules_honest : (d : ℕ) (r : Rule) → Honest (AtSome r) (reads d r)
 rules_honest zero r ts = tt

@@ -7,7 +7,7 @@ use Rattle.cov_grammar.specs.Shapes.{Shape, token, rule, seq, alt, opt, many, ac
 use Rattle.cov_grammar.specs.Grammar.{atom, template_atom, unary, prod, sum, band, bxor, bor, cmp, both, either, part, arguments, last_certs, more_certs, certificate, proof, proofs, retype, assigned, branched, looped, state, statement, braces, body, types}
 use Rattle.cov_grammar.specs.Spells.{Within}
 use Rattle.cov_grammar.specs.LookAhead.{kind_is, starts, nullable, firsts, fine, more}
-use Rattle.cov_grammar.specs.FirstKinds.{first_of, more_of}
+use Rattle.cov_grammar.specs.FirstKinds.{first_kinds, more_of}
 use Rattle.cov_grammar.specs.Reading.{Reading, got, stopped, spent, ◌>>=◌, Reader, Inner, read_many, read, reads, rule_of}
 use Rattle.cov_grammar.proofs.TableLaws.{fine_body, more_body}
 use Rattle.cov_grammar.proofs.Honest.{Fact, Honest}
@@ -50,19 +50,19 @@ many_below ks R S h (suc n) ts =
     (inr refl)
 
 module _ (I J : Inner) (h : (r : Rule) → Below (I r) (J r)) where
-  below : {A : Type 0} (a : Shape A) → Below (read first_of I a) (read first_of J a)
+  below : {A : Type 0} (a : Shape A) → Below (read first_kinds I a) (read first_kinds J a)
   below (token k) ts = inr refl
   below (rule r) ts = h r ts
   below (seq a b) ts =
-      bind_below (read first_of I a ts) (read first_of J a ts) (λ v rest. read first_of I b rest >>= λ w last. got (v, w) last) (λ v rest. read first_of J b rest >>= λ w last. got (v, w) last) (below a ts)
-      (λ v rest. bind_below (read first_of I b rest) (read first_of J b rest) (λ w last. got (v, w) last) (λ w last. got (v, w) last) (below b rest) (λ w last. inr refl))
-  below (alt a b) ts = if_below (starts (firsts first_of a) (head ts)) _ _ _ _ (below a ts) (below b ts)
+      bind_below (read first_kinds I a ts) (read first_kinds J a ts) (λ v rest. read first_kinds I b rest >>= λ w last. got (v, w) last) (λ v rest. read first_kinds J b rest >>= λ w last. got (v, w) last) (below a ts)
+      (λ v rest. bind_below (read first_kinds I b rest) (read first_kinds J b rest) (λ w last. got (v, w) last) (λ w last. got (v, w) last) (below b rest) (λ w last. inr refl))
+  below (alt a b) ts = if_below (starts (firsts first_kinds a) (head ts)) _ _ _ _ (below a ts) (below b ts)
   below (opt a) ts =
-      if_below (starts (firsts first_of a) (head ts)) _ _ (got None ts) (got None ts)
-      (bind_below (read first_of I a ts) (read first_of J a ts) (λ v rest. got (Some v) rest) (λ v rest. got (Some v) rest) (below a ts) (λ v rest. inr refl)) (inr refl)
-  below (many a) ts = many_below (firsts first_of a) (read first_of I a) (read first_of J a) (below a) (length ts) ts
-  below (act f a) ts = bind_below (read first_of I a ts) (read first_of J a ts) (λ v rest. got (f v) rest) (λ v rest. got (f v) rest) (below a ts) (λ v rest. inr refl)
-  below (placed a) ts = bind_below (read first_of I a ts) (read first_of J a ts) (λ v rest. got (place ts, v) rest) (λ v rest. got (place ts, v) rest) (below a ts) (λ v rest. inr refl)
+      if_below (starts (firsts first_kinds a) (head ts)) _ _ (got None ts) (got None ts)
+      (bind_below (read first_kinds I a ts) (read first_kinds J a ts) (λ v rest. got (Some v) rest) (λ v rest. got (Some v) rest) (below a ts) (λ v rest. inr refl)) (inr refl)
+  below (many a) ts = many_below (firsts first_kinds a) (read first_kinds I a) (read first_kinds J a) (below a) (length ts) ts
+  below (act f a) ts = bind_below (read first_kinds I a ts) (read first_kinds J a ts) (λ v rest. got (f v) rest) (λ v rest. got (f v) rest) (below a ts) (λ v rest. inr refl)
+  below (placed a) ts = bind_below (read first_kinds I a ts) (read first_kinds J a ts) (λ v rest. got (place ts, v) rest) (λ v rest. got (place ts, v) rest) (below a ts) (λ v rest. inr refl)
 
 below_left : (d e : ℕ) (r : Rule) → Below (reads d r) (reads (top d e) r)
 below_left zero e r ts = inl refl
@@ -154,7 +154,7 @@ module _ (d : ℕ) (inner : Inner) (hi : (r : Rule) → Honest (AtSome r) (inner
           on (inr q) = omega (arith, s ts q.0 q.1 q.2, k q.1 (got_spent (read_many ks R n q.1) (λ vs last. q.0 ∷ vs) q.3))
       by false e k = cc
 
-  cost_of : {A : Type 0} (a : Shape A) → fine first_of more_of a ≡ true → (ts : List Token) → read first_of inner a ts ≡ spent → cost (guarded a) d ≤ length ts
+  cost_of : {A : Type 0} (a : Shape A) → fine first_kinds more_of a ≡ true → (ts : List Token) → read first_kinds inner a ts ≡ spent → cost (guarded a) d ≤ length ts
   cost_of (token k) f [] h = cc
   cost_of (token k) f (t ∷ ts) h = by (kind_is k t.kind) h
     where
@@ -162,35 +162,35 @@ module _ (d : ℕ) (inner : Inner) (hi : (r : Rule) → Honest (AtSome r) (inner
       by true e = cc
       by false e = cc
   cost_of (rule r) f ts h = costs r ts h
-  cost_of {A} (seq {A = B} a b) f ts h = by (bind_spent (read first_of inner a ts) (λ v rest. pairs v (read first_of inner b rest)) h)
-      (cost_of a (left_true _ _ f) ts) (cost_of b (left_true _ _ (right_true (fine first_of more_of a) _ f)))
+  cost_of {A} (seq {A = B} a b) f ts h = by (bind_spent (read first_kinds inner a ts) (λ v rest. pairs v (read first_kinds inner b rest)) h)
+      (cost_of a (left_true _ _ f) ts) (cost_of b (left_true _ _ (right_true (fine first_kinds more_of a) _ f)))
     where
-      by : (read first_of inner a ts ≡ spent) ⊎ ((v : B) × (rest : List Token) × (read first_of inner a ts ≡ got v rest) × (pairs v (read first_of inner b rest) ≡ spent))
-          → (read first_of inner a ts ≡ spent → cost (guarded a) d ≤ length ts) → ((rest : List Token) → read first_of inner b rest ≡ spent → cost (guarded b) d ≤ length rest)
+      by : (read first_kinds inner a ts ≡ spent) ⊎ ((v : B) × (rest : List Token) × (read first_kinds inner a ts ≡ got v rest) × (pairs v (read first_kinds inner b rest) ≡ spent))
+          → (read first_kinds inner a ts ≡ spent → cost (guarded a) d ≤ length ts) → ((rest : List Token) → read first_kinds inner b rest ≡ spent → cost (guarded b) d ≤ length rest)
           → cost (guarded (seq a b)) d ≤ length ts
       by (inl e) x y = omega (arith, x e, cost_and_left (guarded a) (not (nullable a) || guarded b) d)
       by (inr q) x y =
           let ha = honest inner hi a (left_true _ _ f) in
-          cost_behind (guarded a) (nullable a) (guarded b) d (length ts) (length q.1) (λ n. shrinks_of a (read first_of inner a) n ha ts q.0 q.1 q.2)
-          (no_longer (OfShape a) (read first_of inner a) ts q.0 q.1 (read first_of inner a ts) q.2 (ha ts))
-          (y q.1 (got_spent (read first_of inner b q.1) (λ w last. (q.0, w)) q.3))
-  cost_of (alt a b) f ts h = by (starts (firsts first_of a) (head ts)) h (cost_of a (left_true _ _ f) ts) (cost_of b (left_true _ _ (right_true (fine first_of more_of a) _ f)) ts)
+          cost_behind (guarded a) (nullable a) (guarded b) d (length ts) (length q.1) (λ n. shrinks_of a (read first_kinds inner a) n ha ts q.0 q.1 q.2)
+          (no_longer (OfShape a) (read first_kinds inner a) ts q.0 q.1 (read first_kinds inner a ts) q.2 (ha ts))
+          (y q.1 (got_spent (read first_kinds inner b q.1) (λ w last. (q.0, w)) q.3))
+  cost_of (alt a b) f ts h = by (starts (firsts first_kinds a) (head ts)) h (cost_of a (left_true _ _ f) ts) (cost_of b (left_true _ _ (right_true (fine first_kinds more_of a) _ f)) ts)
     where
-      by : (c : Bool) → (if c then read first_of inner a ts else read first_of inner b ts) ≡ spent → (read first_of inner a ts ≡ spent → cost (guarded a) d ≤ length ts) → (read first_of inner b ts ≡ spent → cost (guarded b) d ≤ length ts)
+      by : (c : Bool) → (if c then read first_kinds inner a ts else read first_kinds inner b ts) ≡ spent → (read first_kinds inner a ts ≡ spent → cost (guarded a) d ≤ length ts) → (read first_kinds inner b ts ≡ spent → cost (guarded b) d ≤ length ts)
           → cost (guarded a && guarded b) d ≤ length ts
       by true e x y = omega (arith, x e, cost_and_left (guarded a) (guarded b) d)
       by false e x y = omega (arith, y e, cost_and_right (guarded a) (guarded b) d)
-  cost_of (opt a) f ts h = by (starts (firsts first_of a) (head ts)) h (cost_of a (left_true _ _ f) ts)
+  cost_of (opt a) f ts h = by (starts (firsts first_kinds a) (head ts)) h (cost_of a (left_true _ _ f) ts)
     where
-      by : (c : Bool) → (if c then (read first_of inner a ts >>= λ v rest. got (Some v) rest) else got None ts) ≡ spent → (read first_of inner a ts ≡ spent → cost (guarded a) d ≤ length ts) → cost (guarded a) d ≤ length ts
-      by true e x = x (got_spent (read first_of inner a ts) (λ v rest. Some v) e)
+      by : (c : Bool) → (if c then (read first_kinds inner a ts >>= λ v rest. got (Some v) rest) else got None ts) ≡ spent → (read first_kinds inner a ts ≡ spent → cost (guarded a) d ≤ length ts) → cost (guarded a) d ≤ length ts
+      by true e x = x (got_spent (read first_kinds inner a ts) (λ v rest. Some v) e)
       by false e x = cc
   cost_of (many a) f ts h =
       let ha = honest inner hi a (left_true _ _ f) in
-      many_cost (firsts first_of a) (read first_of inner a) (cost (guarded a) d) (cost_of a (left_true _ _ f))
-      (λ us v rest e. no_longer (OfShape a) (read first_of inner a) us v rest (read first_of inner a us) e (ha us)) (length ts) ts h
-  cost_of (act k a) f ts h = cost_of a f ts (got_spent (read first_of inner a ts) (λ v rest. k v) h)
-  cost_of (placed a) f ts h = cost_of a (left_true _ _ f) ts (got_spent (read first_of inner a ts) (λ v rest. (place ts, v)) h)
+      many_cost (firsts first_kinds a) (read first_kinds inner a) (cost (guarded a) d) (cost_of a (left_true _ _ f))
+      (λ us v rest e. no_longer (OfShape a) (read first_kinds inner a) us v rest (read first_kinds inner a us) e (ha us)) (length ts) ts h
+  cost_of (act k a) f ts h = cost_of a f ts (got_spent (read first_kinds inner a ts) (λ v rest. k v) h)
+  cost_of (placed a) f ts h = cost_of a (left_true _ _ f) ts (got_spent (read first_kinds inner a ts) (λ v rest. (place ts, v)) h)
 
 turns_cost : (d : ℕ) (r : Rule) (ts : List Token) → reads d r ts ≡ spent → d ≤ length ts
 turns_cost zero r ts h = omega arith
@@ -217,9 +217,9 @@ or_spent o p (inl e) n = absurd (n e)
 or_spent o p (inr e) n = e
 
 -- a rule reads what its right side reads
-pub rule_is : (r : Rule) (ts : List Token) → rule_of r ts ≡ read first_of rule_of (body r) ts
+pub rule_is : (r : Rule) (ts : List Token) → rule_of r ts ≡ read first_kinds rule_of (body r) ts
 unfolding rule_of
-rule_is r ts = or_spent (reads (suc (length ts)) r ts) (read first_of rule_of (body r) ts) (below (reads (length ts)) rule_of (below_rule (length ts)) (body r) ts) (rule_never r ts)
+rule_is r ts = or_spent (reads (suc (length ts)) r ts) (read first_kinds rule_of (body r) ts) (below (reads (length ts)) rule_of (below_rule (length ts)) (body r) ts) (rule_never r ts)
 
 fact_below : {A : Type 0} (P : A → List Token → Type 0) (R S : Reader A) → Below R S → (ts : List Token) (out : Reading A) → Fact P R ts out → Fact P S ts out
 fact_below {A} P R S b ts (got v rest) h = record { front = h.front; split = h.split; is = h.is; local = λ x e. onto (got v x) (h.front ++ x) (h.local x e) (λ q. cc) }
@@ -245,7 +245,7 @@ rules_complete : (d : ℕ) (r : Rule) (v : Meaning r) (us w : List Token) → Wi
 rules_complete zero r v us w h f = absurd h
 rules_complete (suc d) r v us w h f =
     complete (Within d) (full_at d) (first_at d) (reads d) (rules_honest d) (rules_complete d) (body r) (fine_body r) v us w h
-    (starts_less (more first_of more_of (body r)) (more_of r) (head w) (λ k e. within_not (more first_of more_of (body r)) (more_of r) k (more_body r) e) f)
+    (starts_less (more first_kinds more_of (body r)) (more_of r) (head w) (λ k e. within_not (more first_kinds more_of (body r)) (more_of r) k (more_body r) e) f)
 
 pub rule_complete : (r : Rule) (v : Meaning r) (us w : List Token) → AtSome r v us → starts (more_of r) (head w) ≡ false → rule_of r (us ++ w) ≡ got v w
 rule_complete r v us w h f =
@@ -253,7 +253,7 @@ rule_complete r v us w h f =
     sym (or_spent (reads h.0 r (us ++ w)) (rule_of r (us ++ w)) (below_rule h.0 r (us ++ w)) (λ q. let no : got v w ≡ spent = sym e ∙ q in cc)) ∙ e
 
 -- reading always ends
-pub never : {A : Type 0} (a : Shape A) → fine first_of more_of a ≡ true → (ts : List Token) → read first_of rule_of a ts ≡ spent → ⊥
+pub never : {A : Type 0} (a : Shape A) → fine first_kinds more_of a ≡ true → (ts : List Token) → read first_kinds rule_of a ts ≡ spent → ⊥
 never a f ts h =
     let d = suc (length ts) in
     let l = cost_of d rule_of rule_honest (λ r us e. absurd (rule_never r us e)) a f ts h in

@@ -10,7 +10,7 @@ use Rattle.cov_grammar.specs.declared.fault.TokenFault.TheVariants as faults
 use Rattle.cov_grammar.specs.Shapes.{Shape}
 use Rattle.cov_grammar.specs.Spells.{Is, FirstWrong}
 use Rattle.cov_grammar.specs.LookAhead.{fine}
-use Rattle.cov_grammar.specs.FirstKinds.{first_of, more_of}
+use Rattle.cov_grammar.specs.FirstKinds.{first_kinds, more_of}
 use Rattle.cov_grammar.specs.Reading.{Reading, got, stopped, spent, ◌>>=◌, reading, ended, all_of}
 use Rattle.cov_grammar.specs.ReaderAnswers.{Gives, whole_answer, Stands, Answers, Only}
 use Rattle.cov_grammar.proofs.Exact.{all_sound, all_complete, all_first, all_ends}
@@ -24,7 +24,7 @@ finish_stands view end (t ∷ ts) (Err stops.Unexpected) o h = (t ∷ ts, ap (λ
 finish_stands view end [] (Err stops.NoMemory) o h = tt
 finish_stands view end (t ∷ ts) (Err stops.NoMemory) o h = tt
 
-module _ {X A : Type 0} (a : Shape A) (f : fine first_of more_of a ≡ true) (view : X → A) (end : ℕ) (ts : List Token) where
+module _ {X A : Type 0} (a : Shape A) (f : fine first_kinds more_of a ≡ true) (view : X → A) (end : ℕ) (ts : List Token) where
   -- an answer that is what reading gives is right
   pub whole_answers : (r : Result X TokenFault) → Stands view end r (all_of a ts) → Answers a view end ts r
   whole_answers (Ok x) h = all_sound a f ts (view x) h
@@ -39,7 +39,7 @@ module _ {X A : Type 0} (a : Shape A) (f : fine first_of more_of a ≡ true) (vi
 
 -- Trees and faults of tokens -----------------------------------------------------------------------------------
 
-module _ {A : Type 0} (a : Shape A) (f : fine first_of more_of a ≡ true) (ts : List Token) where
+module _ {A : Type 0} (a : Shape A) (f : fine first_kinds more_of a ≡ true) (ts : List Token) where
   -- tokens spell one value at most
   pub value_one : (v w : A) → Is a v ts → Is a w ts → v ≡ w
   value_one v w h g = let e : got v [] ≡ got w [] = sym (all_complete a f v ts h) ∙ all_complete a f w ts g in cc

@@ -9,7 +9,7 @@ use Rattle.cov_grammar.specs.PlacedTrees.{Rule, Meaning}
 use Rattle.cov_grammar.specs.Shapes.{Shape, token, rule, seq, alt, opt, many, act, placed, place, head}
 use Rattle.cov_grammar.specs.Grammar.{body}
 use Rattle.cov_grammar.specs.LookAhead.{kind_is, starts, firsts}
-use Rattle.cov_grammar.specs.FirstKinds.{first_of}
+use Rattle.cov_grammar.specs.FirstKinds.{first_kinds}
 
 -- A value and the tokens behind it; or the tokens from the first wrong one on; or no more turns, which never comes of
 -- the grammar.
@@ -60,7 +60,7 @@ read ks inner (placed a) ts = read ks inner a ts >>= λ v rest. got (place ts, v
 -- a rule, with rules inside one another in at most so many turns
 abbrev pub reads : ℕ → Inner
 reads zero r ts = spent
-reads (suc d) r ts = read first_of (reads d) (body r) ts
+reads (suc d) r ts = read first_kinds (reads d) (body r) ts
 
 -- a rule, in a turn more than there are tokens: each rule inside another stands behind a token, so that is enough
 unfoldable pub rule_of : Inner
@@ -68,7 +68,7 @@ rule_of r ts = reads (suc (length ts)) r ts
 
 -- a right side, at the front of the tokens
 abbrev pub reading : {A : Type 0} → Shape A → Reader A
-reading a ts = read first_of rule_of a ts
+reading a ts = read first_kinds rule_of a ts
 
 -- a value where nothing is left; else the first token behind it is wrong
 abbrev pub ended : {A : Type 0} → A → List Token → Reading A

@@ -20,13 +20,14 @@
 //! this name alone is opened, once, and that no byte is read but up to one past the limit (`HasAsked` of
 //! `specs/Disks.antt`), and that as many bytes are answered as were written; and `IsCaused` of `specs/Disks.antt` and
 //! `IsPutCaused` of `specs/Outputs.antt` say that a fault stands for one error, or for a call that was interrupted each
-//! time that it was made, and that no other answer had an error. The system tells nothing: its three calls stand in
+//! time that it was made, and that no other answer had an error. [`retries_have_their_value`] has no body: it says how often that is. The system tells nothing: its three calls stand in
 //! `src/system.rt`.
 #![tactic(auto)]
 
 mod counts;
 mod disk;
 mod disk_shelf;
+mod laws;
 mod mem_shelf;
 mod mem_sink;
 mod output;
@@ -38,6 +39,7 @@ mod trouble;
 
 pub use disk::Disk;
 pub use disk_shelf::{DiskShelf, FileShelf};
+pub use laws::retries_have_their_value;
 pub use mem_shelf::MemShelf;
 pub use mem_sink::MemSink;
 pub use output::Output;

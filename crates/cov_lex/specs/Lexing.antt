@@ -5,6 +5,7 @@ use Rattle.std.specs.Str.{bytes_eq}
 use Rattle.std.specs.Str.Parse.{digits_value}
 use Rattle.cov_expr.specs.Bytes.{is_lower, is_digit, is_word}
 use Rattle.cov_expr.specs.Spellings.{is_keyword}
+use Rattle.cov_expr.specs.declared.limits.TheConstants.{MOST_NAME_BYTES}
 use Rattle.cov_lex.specs.Signs.{is_blank, doubles, singles}
 use Rattle.cov_lex.specs.declared.token.TokenKind.{TokenKind}
 use Rattle.cov_lex.specs.declared.token.TokenKind.TheVariants.{Keyword, Name, Number, Sign}
@@ -21,7 +22,7 @@ pub data Piece : Type 0 where
 
 -- a whole run of word bytes that begins at an offset
 abbrev pub word_of : ℕ → List ℕ → Result Piece LexFault
-word_of at run = if nat_lt 32 (length run) then Err (NameTooLong at) else Ok (Part (if is_keyword run then Keyword else Name) (length run))
+word_of at run = if nat_lt MOST_NAME_BYTES (length run) then Err (NameTooLong at) else Ok (Part (if is_keyword run then Keyword else Name) (length run))
 
 -- a whole run of digits
 abbrev pub number_of : ℕ → List ℕ → Result Piece LexFault

@@ -9,7 +9,7 @@ ghost use Rattle.cov_read.specs.StateViews as states;
 use crate::exprs::{expr_of, exprs_of};
 use crate::turned::turned;
 use cov_expr::{Expr, List, NoMemory};
-use cov_read::{Cert, Proof, State, Typed};
+use cov_read::{PlacedCert, PlacedProof, PlacedState, Typed};
 use std::alloc::Global;
 
 fn boxed(alloc: Global, cert: cov_ast::Cert) -> Result<Box<cov_ast::Cert>, NoMemory>
@@ -20,42 +20,42 @@ fn boxed(alloc: Global, cert: cov_ast::Cert) -> Result<Box<cov_ast::Cert>, NoMem
 
 /// A certificate without places.
 #[cycle(made)]
-fn cert_of(alloc: Global, cert: Cert) -> Result<cov_ast::Cert, NoMemory>
+fn cert_of(alloc: Global, cert: PlacedCert) -> Result<cov_ast::Cert, NoMemory>
     ensures { IfOk result (λ made. ast.cert made ≡ spec.cert_of (certs.cert cert)) }
 {
     Ok(match cert {
-        Cert::Auto => cov_ast::Cert::Auto,
-        Cert::Calc => cov_ast::Cert::Calc,
-        Cert::Refl => cov_ast::Cert::Refl,
-        Cert::Ring => cov_ast::Cert::Ring,
-        Cert::Range => cov_ast::Cert::Range,
-        Cert::Hyp(i) => cov_ast::Cert::Hyp(i),
-        Cert::Clash(i) => cov_ast::Cert::Clash(i),
-        Cert::Absurd(i, j) => cov_ast::Cert::Absurd(i, j),
-        Cert::And(c, d) => {
+        PlacedCert::Auto => cov_ast::Cert::Auto,
+        PlacedCert::Calc => cov_ast::Cert::Calc,
+        PlacedCert::Refl => cov_ast::Cert::Refl,
+        PlacedCert::Ring => cov_ast::Cert::Ring,
+        PlacedCert::Range => cov_ast::Cert::Range,
+        PlacedCert::Hyp(i) => cov_ast::Cert::Hyp(i),
+        PlacedCert::Clash(i) => cov_ast::Cert::Clash(i),
+        PlacedCert::Absurd(i, j) => cov_ast::Cert::Absurd(i, j),
+        PlacedCert::And(c, d) => {
             let (c, d) = parts_of(alloc, c, d)?;
             cov_ast::Cert::And(c, d)
         }
-        Cert::Left(c) => cov_ast::Cert::Left(part_of(alloc, c)?),
-        Cert::Right(c) => cov_ast::Cert::Right(part_of(alloc, c)?),
-        Cert::Unpack(i, c) => cov_ast::Cert::Unpack(i, part_of(alloc, c)?),
-        Cert::Cases(i, c, d) => {
+        PlacedCert::Left(c) => cov_ast::Cert::Left(part_of(alloc, c)?),
+        PlacedCert::Right(c) => cov_ast::Cert::Right(part_of(alloc, c)?),
+        PlacedCert::Unpack(i, c) => cov_ast::Cert::Unpack(i, part_of(alloc, c)?),
+        PlacedCert::Cases(i, c, d) => {
             let (c, d) = parts_of(alloc, c, d)?;
             cov_ast::Cert::Cases(i, c, d)
         }
-        Cert::Split(e, c, d) => {
+        PlacedCert::Split(e, c, d) => {
             let (c, d) = parts_of(alloc, c, d)?;
             cov_ast::Cert::Split(expr_of(e), c, d)
         }
-        Cert::Have(e, c, d) => {
+        PlacedCert::Have(e, c, d) => {
             let (c, d) = parts_of(alloc, c, d)?;
             cov_ast::Cert::Have(expr_of(e), c, d)
         }
-        Cert::Not(c) => cov_ast::Cert::Not(part_of(alloc, c)?),
-        Cert::Contra(c) => cov_ast::Cert::Contra(part_of(alloc, c)?),
-        Cert::Fwd(i, e, c) => cov_ast::Cert::Fwd(i, expr_of(e), part_of(alloc, c)?),
-        Cert::Rev(i, e, c) => cov_ast::Cert::Rev(i, expr_of(e), part_of(alloc, c)?),
-        Cert::Axiom(k, es, c) => {
+        PlacedCert::Not(c) => cov_ast::Cert::Not(part_of(alloc, c)?),
+        PlacedCert::Contra(c) => cov_ast::Cert::Contra(part_of(alloc, c)?),
+        PlacedCert::Fwd(i, e, c) => cov_ast::Cert::Fwd(i, expr_of(e), part_of(alloc, c)?),
+        PlacedCert::Rev(i, e, c) => cov_ast::Cert::Rev(i, expr_of(e), part_of(alloc, c)?),
+        PlacedCert::Axiom(k, es, c) => {
             cov_ast::Cert::Axiom(k, exprs_of(alloc, es)?, part_of(alloc, c)?)
         }
     })
@@ -63,7 +63,7 @@ fn cert_of(alloc: Global, cert: Cert) -> Result<cov_ast::Cert, NoMemory>
 
 /// A part of a certificate.
 #[cycle(made)]
-fn part_of(alloc: Global, part: Box<Cert>) -> Result<Box<cov_ast::Cert>, NoMemory>
+fn part_of(alloc: Global, part: Box<PlacedCert>) -> Result<Box<cov_ast::Cert>, NoMemory>
     ensures { IfOk result (λ made. ast.cert made.value ≡ spec.cert_of (certs.cert part.value)) }
 {
     let cert = cert_of(alloc, Box::into_inner(part))?;
@@ -74,8 +74,8 @@ fn part_of(alloc: Global, part: Box<Cert>) -> Result<Box<cov_ast::Cert>, NoMemor
 #[cycle(made)]
 fn parts_of(
     alloc: Global,
-    first: Box<Cert>,
-    second: Box<Cert>,
+    first: Box<PlacedCert>,
+    second: Box<PlacedCert>,
 ) -> Result<(Box<cov_ast::Cert>, Box<cov_ast::Cert>), NoMemory>
     ensures first { IfOk result (λ made. ast.cert made.0.value ≡ spec.cert_of (certs.cert first.value)) }
     ensures second { IfOk result (λ made. ast.cert made.1.value ≡ spec.cert_of (certs.cert second.value)) }
@@ -86,10 +86,10 @@ fn parts_of(
 }
 
 /// A proof without its place.
-fn proof_of(alloc: Global, proof: Proof) -> Result<cov_ast::Proof, NoMemory>
+fn proof_of(alloc: Global, proof: PlacedProof) -> Result<cov_ast::Proof, NoMemory>
     ensures { IfOk result (λ made. ast.proof made ≡ spec.proof_of (states.proof proof)) }
 {
-    let Proof {
+    let PlacedProof {
         number,
         at: _,
         cert,
@@ -99,7 +99,7 @@ fn proof_of(alloc: Global, proof: Proof) -> Result<cov_ast::Proof, NoMemory>
 }
 
 /// The proofs of a statement.
-pub fn proofs_of(alloc: Global, proofs: List<Proof>) -> Result<List<cov_ast::Proof>, NoMemory>
+pub fn proofs_of(alloc: Global, proofs: List<PlacedProof>) -> Result<List<cov_ast::Proof>, NoMemory>
     ensures { IfOk result (λ made. map ast.proof made ≡ map spec.proof_of (map states.proof proofs)) }
 {
     let mut rest = turned(proofs);
@@ -152,10 +152,10 @@ fn types_of(alloc: Global, pairs: List<Typed>) -> Result<List<(u32, Expr)>, NoMe
 }
 
 /// A state without places.
-pub fn state_of(alloc: Global, state: State) -> Result<cov_ast::State, NoMemory>
+pub fn state_of(alloc: Global, state: PlacedState) -> Result<cov_ast::State, NoMemory>
     ensures { IfOk result (λ made. ast.state made ≡ spec.state_of (states.state state)) }
 {
-    let State {
+    let PlacedState {
         at: _,
         preds,
         types,
@@ -167,7 +167,10 @@ pub fn state_of(alloc: Global, state: State) -> Result<cov_ast::State, NoMemory>
 }
 
 /// A state, or one that says nothing.
-pub fn state_or_none(alloc: Global, state: Option<Box<State>>) -> Result<cov_ast::State, NoMemory>
+pub fn state_or_none(
+    alloc: Global,
+    state: Option<Box<PlacedState>>,
+) -> Result<cov_ast::State, NoMemory>
     ensures { IfOk result (λ made. ast.state made ≡ spec.state_or_none (option_map (λ j. states.state j.value) state)) }
 {
     match state {

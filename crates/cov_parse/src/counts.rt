@@ -8,7 +8,7 @@ ghost use Rattle.cov_read.specs.StmtViews as stmts;
 ghost use Rattle.cov_read.specs.DeclViews as decls;
 
 use cov_expr::{MOST_LOCKS, MOST_STATEMENTS, MOST_THREADS, MOST_VARIABLES};
-use cov_read::{PlacedProgram, Stmt, StmtKind, Thread};
+use cov_read::{PlacedProgram, PlacedStmt, PlacedStmtKind, PlacedThread};
 use cov_text::{Counted, Excess, Limit};
 
 /// How many statements may still come, or the place of the first one that is too many.
@@ -74,7 +74,7 @@ pub fn past_statements(program: &PlacedProgram) -> Option<Excess>
 }
 
 /// Counts the statements of threads, of which so many may come.
-fn count_threads(threads: &[Thread], room: u32) -> Counting
+fn count_threads(threads: &[PlacedThread], room: u32) -> Counting
     ensures { result ≡ counted room (flat_map (λ h. spec.places_of h.body) (map decls.thread threads.now)) }
 {
     let mut left = room;
@@ -89,7 +89,7 @@ fn count_threads(threads: &[Thread], room: u32) -> Counting
 
 /// Counts statements, those inside others too.
 #[cycle(count)]
-fn count_stmts(body: &[Stmt], room: u32) -> Counting
+fn count_stmts(body: &[PlacedStmt], room: u32) -> Counting
     ensures { result ≡ counted room (spec.places (stms (map stmts.stmt body.now))) }
 {
     let mut left = room;
@@ -107,7 +107,7 @@ fn count_stmts(body: &[Stmt], room: u32) -> Counting
 
 /// Counts the statements behind others.
 #[cycle(count)]
-fn count_more(before: Counting, body: &[Stmt]) -> Counting
+fn count_more(before: Counting, body: &[PlacedStmt]) -> Counting
     ensures { result ≡ onward before (spec.places (stms (map stmts.stmt body.now))) }
 {
     match before {
@@ -117,16 +117,16 @@ fn count_more(before: Counting, body: &[Stmt]) -> Counting
 }
 
 #[cycle(count)]
-fn count_inside(kind: &StmtKind, room: u32) -> Counting
+fn count_inside(kind: &PlacedStmtKind, room: u32) -> Counting
     ensures { result ≡ counted room (spec.places_in (stmts.kind kind.now)) }
 {
     match kind {
-        StmtKind::Skip | StmtKind::Lock(_) => Counting::Left(room),
-        StmtKind::Assign(..) | StmtKind::Unlock(..) => Counting::Left(room),
-        StmtKind::Note(..) | StmtKind::Output(..) => Counting::Left(room),
-        StmtKind::If(_, _, first, _, second, _, _) => {
+        PlacedStmtKind::Skip | PlacedStmtKind::Lock(_) => Counting::Left(room),
+        PlacedStmtKind::Assign(..) | PlacedStmtKind::Unlock(..) => Counting::Left(room),
+        PlacedStmtKind::Note(..) | PlacedStmtKind::Output(..) => Counting::Left(room),
+        PlacedStmtKind::If(_, _, first, _, second, _, _) => {
             count_more(count_stmts(first.as_slice(), room), second.as_slice())
         }
-        StmtKind::While(_, _, _, body, _) => count_stmts(body.as_slice(), room),
+        PlacedStmtKind::While(_, _, _, body, _) => count_stmts(body.as_slice(), room),
     }
 }

@@ -14,8 +14,8 @@ use cov_expr::{
     MOST_BLOCKS, MOST_CERT_NODES, MOST_HEIGHT, MOST_NODES, MOST_PREDICATES, MOST_TYPES,
 };
 use cov_read::{
-    Braces, Cert, ClassDecl, Lock, PlacedProgram, Proof, State, Stmt, StmtKind, Thread, Typed,
-    Variable, Whole,
+    Braces, ClassDecl, PlacedCert, PlacedLock, PlacedProgram, PlacedProof, PlacedState, PlacedStmt,
+    PlacedStmtKind, PlacedThread, PlacedVariable, Typed, Whole,
 };
 use cov_text::{Counted, Excess, Limit};
 
@@ -85,25 +85,34 @@ fn in_pairs(pairs: &[Typed]) -> Option<Excess>
 }
 
 /// The fault of least place of the expressions in a certificate.
-fn inside_cert(cert: &Cert) -> Option<Excess>
+fn inside_cert(cert: &PlacedCert) -> Option<Excess>
     ensures { result ≡ spec.inside_cert (certs.cert cert.now) }
 {
     match cert {
-        Cert::Auto | Cert::Calc | Cert::Refl | Cert::Ring | Cert::Range => None,
-        Cert::Hyp(_) | Cert::Clash(_) | Cert::Absurd(_, _) => None,
-        Cert::And(c, d) | Cert::Cases(_, c, d) => sooner(inside_cert(c), inside_cert(d)),
-        Cert::Split(e, c, d) | Cert::Have(e, c, d) => {
+        PlacedCert::Auto
+        | PlacedCert::Calc
+        | PlacedCert::Refl
+        | PlacedCert::Ring
+        | PlacedCert::Range => None,
+        PlacedCert::Hyp(_) | PlacedCert::Clash(_) | PlacedCert::Absurd(_, _) => None,
+        PlacedCert::And(c, d) | PlacedCert::Cases(_, c, d) => sooner(
+            inside_cert(c),
+            inside_cert(d),
+        ),
+        PlacedCert::Split(e, c, d) | PlacedCert::Have(e, c, d) => {
             sooner(in_expr(e), sooner(inside_cert(c), inside_cert(d)))
         }
-        Cert::Left(c) | Cert::Right(c) | Cert::Unpack(_, c) | Cert::Not(c) | Cert::Contra(c) => {
-            inside_cert(c)
-        }
-        Cert::Fwd(_, e, c) | Cert::Rev(_, e, c) => sooner(in_expr(e), inside_cert(c)),
-        Cert::Axiom(_, es, c) => sooner(in_exprs(es.as_slice()), inside_cert(c)),
+        PlacedCert::Left(c)
+        | PlacedCert::Right(c)
+        | PlacedCert::Unpack(_, c)
+        | PlacedCert::Not(c)
+        | PlacedCert::Contra(c) => { inside_cert(c) }
+        PlacedCert::Fwd(_, e, c) | PlacedCert::Rev(_, e, c) => sooner(in_expr(e), inside_cert(c)),
+        PlacedCert::Axiom(_, es, c) => sooner(in_exprs(es.as_slice()), inside_cert(c)),
     }
 }
 
-fn in_proof(proof: &Proof) -> Option<Excess>
+fn in_proof(proof: &PlacedProof) -> Option<Excess>
     ensures { result ≡ spec.in_proof (states.proof proof.now) }
 {
     let at = proof.at;
@@ -124,7 +133,7 @@ fn in_proof(proof: &Proof) -> Option<Excess>
     sooner(whole, inside_cert(&proof.cert))
 }
 
-fn in_proofs(proofs: &[Proof]) -> Option<Excess>
+fn in_proofs(proofs: &[PlacedProof]) -> Option<Excess>
     ensures { result ≡ spec.least spec.in_proof (map states.proof proofs.now) }
 {
     let mut found = None;
@@ -145,7 +154,7 @@ fn crowd(at: u32, most: usize, n: usize, limit: Limit, rest: Option<Excess>) -> 
     }
 }
 
-fn in_state(state: &State) -> Option<Excess>
+fn in_state(state: &PlacedState) -> Option<Excess>
     ensures { result ≡ spec.in_state (states.state state.now) }
 {
     let types = crowd(
@@ -169,7 +178,7 @@ fn in_state(state: &State) -> Option<Excess>
     sooner(preds, inside)
 }
 
-fn in_state_option(state: &Option<Box<State>>) -> Option<Excess>
+fn in_state_option(state: &Option<Box<PlacedState>>) -> Option<Excess>
     ensures { result ≡ spec.in_state_option (option_map (λ j. states.state j.value) state.now) }
 {
     match state {
@@ -180,36 +189,39 @@ fn in_state_option(state: &Option<Box<State>>) -> Option<Excess>
 
 /// The fault of least place of a statement, in which so many blocks more may be nested.
 #[cycle(block)]
-fn in_stm(room: u32, kind: &StmtKind) -> Option<Excess>
+fn in_stm(room: u32, kind: &PlacedStmtKind) -> Option<Excess>
     ensures { result ≡ spec.in_stm room (stmts.kind kind.now) }
 {
     match kind {
-        StmtKind::Skip | StmtKind::Lock(_) => None,
-        StmtKind::Assign(_, e, class, retypes, proofs) => {
+        PlacedStmtKind::Skip | PlacedStmtKind::Lock(_) => None,
+        PlacedStmtKind::Assign(_, e, class, retypes, proofs) => {
             let behind = sooner(in_pairs(retypes.as_slice()), in_proofs(proofs.as_slice()));
             sooner(in_expr(e), sooner(in_option(class), behind))
         }
-        StmtKind::Unlock(_, proofs) => in_proofs(proofs.as_slice()),
-        StmtKind::If(e, first, first_body, second, second_body, state, proofs) => {
+        PlacedStmtKind::Unlock(_, proofs) => in_proofs(proofs.as_slice()),
+        PlacedStmtKind::If(e, first, first_body, second, second_body, state, proofs) => {
             let inner = room.saturating_sub(1);
             let behind = sooner(in_state_option(state), in_proofs(proofs.as_slice()));
             let second = in_block(inner, *second, second_body.as_slice());
             let first = in_block(inner, *first, first_body.as_slice());
             sooner(in_expr(e), sooner(first, sooner(second, behind)))
         }
-        StmtKind::While(e, state, braces, body, proofs) => {
+        PlacedStmtKind::While(e, state, braces, body, proofs) => {
             let inner = room.saturating_sub(1);
             let body = in_block(inner, *braces, body.as_slice());
             let behind = sooner(body, in_proofs(proofs.as_slice()));
             sooner(in_expr(e), sooner(in_state_option(state), behind))
         }
-        StmtKind::Note(state, proofs) => sooner(in_state(state), in_proofs(proofs.as_slice())),
-        StmtKind::Output(e, proofs) => sooner(in_expr(e), in_proofs(proofs.as_slice())),
+        PlacedStmtKind::Note(state, proofs) => sooner(
+            in_state(state),
+            in_proofs(proofs.as_slice()),
+        ),
+        PlacedStmtKind::Output(e, proofs) => sooner(in_expr(e), in_proofs(proofs.as_slice())),
     }
 }
 
 #[cycle(block)]
-fn in_block(room: u32, braces: Braces, body: &[Stmt]) -> Option<Excess>
+fn in_block(room: u32, braces: Braces, body: &[PlacedStmt]) -> Option<Excess>
     ensures { result ≡ spec.in_block room (stmts.block_of braces (map stmts.stmt body.now)) }
 {
     let deep = if room == 0 {
@@ -224,7 +236,7 @@ fn in_block(room: u32, braces: Braces, body: &[Stmt]) -> Option<Excess>
 }
 
 #[cycle(block)]
-fn in_stms(room: u32, body: &[Stmt]) -> Option<Excess>
+fn in_stms(room: u32, body: &[PlacedStmt]) -> Option<Excess>
     ensures { result ≡ spec.in_stms room (stms (map stmts.stmt body.now)) }
 {
     let mut found = None;
@@ -234,7 +246,7 @@ fn in_stms(room: u32, body: &[Stmt]) -> Option<Excess>
     found
 }
 
-fn in_var(var: &Variable) -> Option<Excess>
+fn in_var(var: &PlacedVariable) -> Option<Excess>
     ensures { result ≡ spec.in_var (decls.var var.now) }
 {
     match &var.class {
@@ -243,7 +255,7 @@ fn in_var(var: &Variable) -> Option<Excess>
     }
 }
 
-fn in_vars(vars: &[Variable]) -> Option<Excess>
+fn in_vars(vars: &[PlacedVariable]) -> Option<Excess>
     ensures { result ≡ spec.least spec.in_var (map decls.var vars.now) }
 {
     let mut found = None;
@@ -253,7 +265,7 @@ fn in_vars(vars: &[Variable]) -> Option<Excess>
     found
 }
 
-fn in_locks(locks: &[Lock]) -> Option<Excess>
+fn in_locks(locks: &[PlacedLock]) -> Option<Excess>
     ensures { result ≡ spec.least spec.in_lock (map decls.lock locks.now) }
 {
     let mut found = None;
@@ -263,7 +275,7 @@ fn in_locks(locks: &[Lock]) -> Option<Excess>
     found
 }
 
-fn in_threads(threads: &[Thread]) -> Option<Excess>
+fn in_threads(threads: &[PlacedThread]) -> Option<Excess>
     ensures { result ≡ spec.least spec.in_thread (map decls.thread threads.now) }
 {
     let mut found = None;

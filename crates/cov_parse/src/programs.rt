@@ -17,13 +17,14 @@ use crate::turned::turned;
 use cov_ast::{Class, LockDecl, Modes, NameTable, NameUse, Parsed, ThreadDecl, VarDecl};
 use cov_expr::{List, Name, NoMemory};
 use cov_read::{
-    ClassDecl, Lock, Pair, PlacedProgram, Proof, State, Stmt, StmtKind, Thread, Variable, Whole,
+    ClassDecl, Pair, PlacedLock, PlacedProgram, PlacedProof, PlacedState, PlacedStmt,
+    PlacedStmtKind, PlacedThread, PlacedVariable, Whole,
 };
 use std::alloc::Global;
 
 /// Statements without the places of their braces.
 #[cycle(made)]
-fn stmts_of(alloc: Global, body: List<Stmt>) -> Result<List<cov_ast::Stmt>, NoMemory>
+fn stmts_of(alloc: Global, body: List<PlacedStmt>) -> Result<List<cov_ast::Stmt>, NoMemory>
     ensures { IfOk result (λ made. ast.block made ≡ spec.stms_of (stms (map stmts.stmt body))) }
 {
     let mut rest = turned(body);
@@ -36,38 +37,44 @@ fn stmts_of(alloc: Global, body: List<Stmt>) -> Result<List<cov_ast::Stmt>, NoMe
 
 /// Adds a statement, and its proofs.
 #[cycle(made)]
-fn add_stmt(alloc: Global, stmt: Stmt, made: &mut List<cov_ast::Stmt>) -> Result<(), NoMemory>
+fn add_stmt(alloc: Global, stmt: PlacedStmt, made: &mut List<cov_ast::Stmt>) -> Result<(), NoMemory>
     ensures { OnOk result (map ast.stmt made.new ≡ map ast.stmt made.old ++ spec.stmt_of (stmts.stmt stmt) ∷ []) }
 {
-    let Stmt { at, kind } = stmt;
+    let PlacedStmt { at, kind } = stmt;
     match kind {
-        StmtKind::Skip => add_made(alloc, made, at, cov_ast::StmtKind::Skip, List::new(alloc)),
-        StmtKind::Assign(x, e, class, retypes, proofs) => {
+        PlacedStmtKind::Skip => add_made(
+            alloc,
+            made,
+            at,
+            cov_ast::StmtKind::Skip,
+            List::new(alloc),
+        ),
+        PlacedStmtKind::Assign(x, e, class, retypes, proofs) => {
             let retypes = retypes_of(alloc, retypes)?;
             let kind = cov_ast::StmtKind::Assign(x, expr_of(e), option_of(class), retypes);
             add_made(alloc, made, at, kind, proofs)
         }
-        StmtKind::Lock(lock) => {
+        PlacedStmtKind::Lock(lock) => {
             let kind = cov_ast::StmtKind::Lock(lock);
             add_made(alloc, made, at, kind, List::new(alloc))
         }
-        StmtKind::Unlock(lock, proofs) => {
+        PlacedStmtKind::Unlock(lock, proofs) => {
             let kind = cov_ast::StmtKind::Unlock(lock);
             add_made(alloc, made, at, kind, proofs)
         }
-        StmtKind::If(e, _, first, _, second, join, proofs) => {
+        PlacedStmtKind::If(e, _, first, _, second, join, proofs) => {
             let kind = branched_of(alloc, e, first, second, join)?;
             add_made(alloc, made, at, kind, proofs)
         }
-        StmtKind::While(e, inv, _, body, proofs) => {
+        PlacedStmtKind::While(e, inv, _, body, proofs) => {
             let kind = looped_of(alloc, e, inv, body)?;
             add_made(alloc, made, at, kind, proofs)
         }
-        StmtKind::Note(state, proofs) => {
+        PlacedStmtKind::Note(state, proofs) => {
             let kind = cov_ast::StmtKind::Note(state_of(alloc, state)?);
             add_made(alloc, made, at, kind, proofs)
         }
-        StmtKind::Output(e, proofs) => {
+        PlacedStmtKind::Output(e, proofs) => {
             let kind = cov_ast::StmtKind::Output(expr_of(e));
             add_made(alloc, made, at, kind, proofs)
         }
@@ -79,9 +86,9 @@ fn add_stmt(alloc: Global, stmt: Stmt, made: &mut List<cov_ast::Stmt>) -> Result
 fn branched_of(
     alloc: Global,
     e: Whole,
-    first: List<Stmt>,
-    second: List<Stmt>,
-    join: Option<Box<State>>,
+    first: List<PlacedStmt>,
+    second: List<PlacedStmt>,
+    join: Option<Box<PlacedState>>,
 ) -> Result<cov_ast::StmtKind, NoMemory>
     ensures { IfOk result (λ made. ast.kind made ≡ syntax.branch (spec.expr_of (certs.whole e)) (spec.stms_of (stms (map stmts.stmt first))) (spec.stms_of (stms (map stmts.stmt second))) (spec.state_or_none (option_map (λ j. states.state j.value) join))) }
 {
@@ -96,8 +103,8 @@ fn branched_of(
 fn looped_of(
     alloc: Global,
     e: Whole,
-    inv: Option<Box<State>>,
-    body: List<Stmt>,
+    inv: Option<Box<PlacedState>>,
+    body: List<PlacedStmt>,
 ) -> Result<cov_ast::StmtKind, NoMemory>
     ensures { IfOk result (λ made. ast.kind made ≡ syntax.loop (spec.expr_of (certs.whole e)) (spec.state_or_none (option_map (λ j. states.state j.value) inv)) (spec.stms_of (stms (map stmts.stmt body)))) }
 {
@@ -112,7 +119,7 @@ fn add_made(
     made: &mut List<cov_ast::Stmt>,
     at: u32,
     kind: cov_ast::StmtKind,
-    proofs: List<Proof>,
+    proofs: List<PlacedProof>,
 ) -> Result<(), NoMemory>
     ensures { OnOk result (map ast.stmt made.new ≡ map ast.stmt made.old ++ (record { at = at; stm = ast.kind kind; proofs = map spec.proof_of (map states.proof proofs) }) ∷ []) }
 {
@@ -139,7 +146,7 @@ fn class_of(class: ClassDecl) -> Class
     }
 }
 
-fn var_of(names: &NameTable, var: Variable) -> VarDecl
+fn var_of(names: &NameTable, var: PlacedVariable) -> VarDecl
     requires { (decls.var var).name.0 < length names.now }
     ensures { ast.var result ≡ spec.var_of names.now (decls.var var) }
 {
@@ -153,7 +160,7 @@ fn var_of(names: &NameTable, var: Variable) -> VarDecl
 fn vars_of(
     alloc: Global,
     names: &NameTable,
-    vars: List<Variable>,
+    vars: List<PlacedVariable>,
 ) -> Result<List<VarDecl>, NoMemory>
     requires { All (λ v. v.name.0 < length names.now) (map decls.var vars) }
     ensures { IfOk result (λ made. map ast.var made ≡ map (spec.var_of names.now) (map decls.var vars)) }
@@ -167,7 +174,7 @@ fn vars_of(
 }
 
 #[tactic(auto, using(crate::proofs::BlockLaws::numbers_same))]
-fn lock_of(names: &NameTable, lock: Lock) -> LockDecl
+fn lock_of(names: &NameTable, lock: PlacedLock) -> LockDecl
     requires { (decls.lock lock).name.0 < length names.now }
     ensures { ast.lock result ≡ spec.lock_of names.now (decls.lock lock) }
 {
@@ -180,7 +187,11 @@ fn lock_of(names: &NameTable, lock: Lock) -> LockDecl
     }
 }
 
-fn locks_of(alloc: Global, names: &NameTable, locks: List<Lock>) -> Result<List<LockDecl>, NoMemory>
+fn locks_of(
+    alloc: Global,
+    names: &NameTable,
+    locks: List<PlacedLock>,
+) -> Result<List<LockDecl>, NoMemory>
     requires { All (λ l. l.name.0 < length names.now) (map decls.lock locks) }
     ensures { IfOk result (λ made. map ast.lock made ≡ map (spec.lock_of names.now) (map decls.lock locks)) }
 {
@@ -204,7 +215,7 @@ fn modes_of(assumes: Pair, guarantees: Pair) -> Modes
     }
 }
 
-fn thread_of(alloc: Global, names: &NameTable, thread: Thread) -> Result<ThreadDecl, NoMemory>
+fn thread_of(alloc: Global, names: &NameTable, thread: PlacedThread) -> Result<ThreadDecl, NoMemory>
     requires { (decls.thread thread).name.0 < length names.now }
     ensures { IfOk result (λ made. ast.thread made ≡ spec.thread_of names.now (decls.thread thread)) }
 {
@@ -220,7 +231,7 @@ fn thread_of(alloc: Global, names: &NameTable, thread: Thread) -> Result<ThreadD
 fn threads_of(
     alloc: Global,
     names: &NameTable,
-    threads: List<Thread>,
+    threads: List<PlacedThread>,
 ) -> Result<List<ThreadDecl>, NoMemory>
     requires { All (λ h. h.name.0 < length names.now) (map decls.thread threads) }
     ensures { IfOk result (λ made. map ast.thread made ≡ map (spec.thread_of names.now) (map decls.thread threads)) }
@@ -237,9 +248,9 @@ fn threads_of(
 fn declarations_of(
     alloc: Global,
     names: &NameTable,
-    vars: List<Variable>,
-    locks: List<Lock>,
-    threads: List<Thread>,
+    vars: List<PlacedVariable>,
+    locks: List<PlacedLock>,
+    threads: List<PlacedThread>,
 ) -> Result<(List<VarDecl>, List<LockDecl>, List<ThreadDecl>), NoMemory>
     requires vars { All (λ v. v.name.0 < length names.now) (map decls.var vars) }
     requires locks { All (λ l. l.name.0 < length names.now) (map decls.lock locks) }

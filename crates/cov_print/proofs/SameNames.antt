@@ -12,7 +12,7 @@ use Rattle.cov_lex.proofs.Spelled.{are_tokens}
 use Rattle.cov_expr.specs.declared.kind.Kind.{Kind}
 use Rattle.cov_ast.specs.NameTables.{number_of}
 use Rattle.cov_lex.specs.Classified.{kind_of}
-use Rattle.cov_text.specs.Numbered.{with_word, with_token, names_onto, value_of, word_of}
+use Rattle.cov_text.specs.Numbered.{with_word, with_token, names_onto, token_value, word_of}
 use Rattle.cov_text.proofs.NameNumbers.{token_inside}
 use Rattle.cov_print.specs.Spelling as spec
 use Rattle.cov_print.proofs.Written as w
@@ -105,7 +105,7 @@ module _ (all : List (List ℕ)) where
         (by t.kind h.0.0 h.0.1 (every_left (IsIn all) (named_bytes t.kind (bytes_of text t)) (name_bytes text ts) i), good_words ts h.1 (every_right (IsIn all) (named_bytes t.kind (bytes_of text t)) (name_bytes text ts) i))
       where
         by : (kind : TokenKind) → Spells (bytes_of text t) kind → IsSmall kind → Every (IsIn all) (named_bytes kind (bytes_of text t))
-            → IsGood (known all) (record { kind = kind_of kind (bytes_of text t); at = t.at; end = t.end; value = value_of kind (bytes_of text t) all })
+            → IsGood (known all) (record { kind = kind_of kind (bytes_of text t); at = t.at; end = t.end; value = token_value kind (bytes_of text t) all })
         by raw.Name s m n = record { named = λ e. number_below all (bytes_of text t) n.0; small = λ e. cc }
         by raw.Keyword s m n = record {
           named = λ e. absurd (true≢false (sym (keyword_mute (bytes_of text t) s) ∙ ap is_mute e));
@@ -120,7 +120,7 @@ module _ (all : List (List ℕ)) where
     pub own_names : known all HOLE ≡ false → (ts : List lexed.Token) → Every (IsSound text) ts → Every (IsIn all) (name_bytes text ts) → spelled (leaves (map (word_of text all) ts)) ≡ name_bytes text ts
     own_names hole [] h i = refl
     own_names hole (t ∷ ts) h i =
-        spelled_append (leaf (kind_of t.kind (bytes_of text t)) (value_of t.kind (bytes_of text t) all)) (leaves (map (word_of text all) ts))
+        spelled_append (leaf (kind_of t.kind (bytes_of text t)) (token_value t.kind (bytes_of text t) all)) (leaves (map (word_of text all) ts))
         ∙ ap (λ l. l ++ spelled (leaves (map (word_of text all) ts))) (by t.kind h.0.0 (every_left (IsIn all) (named_bytes t.kind (bytes_of text t)) (name_bytes text ts) i))
         ∙ ap (λ l. named_bytes t.kind (bytes_of text t) ++ l) (own_names hole ts h.1 (every_right (IsIn all) (named_bytes t.kind (bytes_of text t)) (name_bytes text ts) i))
       where
@@ -128,7 +128,7 @@ module _ (all : List (List ℕ)) where
         mute b j e = ap (map (spec.name all)) (mute_leaf (known all) hole j 0 e (kept (known all)) refl (kept_one (known all) HOLE false hole))
 
         by : (kind : TokenKind) → Spells (bytes_of text t) kind → Every (IsIn all) (named_bytes kind (bytes_of text t))
-            → spelled (leaf (kind_of kind (bytes_of text t)) (value_of kind (bytes_of text t) all)) ≡ named_bytes kind (bytes_of text t)
+            → spelled (leaf (kind_of kind (bytes_of text t)) (token_value kind (bytes_of text t) all)) ≡ named_bytes kind (bytes_of text t)
         by raw.Name s n = spelled_one (number_of all (bytes_of text t)) (number_below all (bytes_of text t) n.0) ∙ ap (λ b. b ∷ []) (name_number all (codes "_") (bytes_of text t) n.0)
         by raw.Keyword s n = mute (bytes_of text t) (kind_of raw.Keyword (bytes_of text t)) (keyword_mute (bytes_of text t) s)
         by (raw.Number n) s i = refl
@@ -142,10 +142,10 @@ module _ (all : List (List ℕ)) where
           name_leaves ts,
           by t.kind,
           length-append (named_bytes t.kind (bytes_of text t)) (name_bytes text ts),
-          length-append (leaf (kind_of t.kind (bytes_of text t)) (value_of t.kind (bytes_of text t) all)) (leaves (map (word_of text all) ts)),
+          length-append (leaf (kind_of t.kind (bytes_of text t)) (token_value t.kind (bytes_of text t) all)) (leaves (map (word_of text all) ts)),
         )
       where
-        by : (kind : TokenKind) → length (named_bytes kind (bytes_of text t)) ≤ length (leaf (kind_of kind (bytes_of text t)) (value_of kind (bytes_of text t) all))
+        by : (kind : TokenKind) → length (named_bytes kind (bytes_of text t)) ≤ length (leaf (kind_of kind (bytes_of text t)) (token_value kind (bytes_of text t) all))
         by raw.Name = omega arith
         by raw.Keyword = omega arith
         by (raw.Number n) = omega arith
@@ -189,10 +189,10 @@ module _ (all : List (List ℕ)) where
         by (w.plain j) f s = s.1
         by (w.name x) f s = (
           ap (λ q. kind_of q (bytes_of text h.0)) s.0,
-          ap (λ q. value_of q (bytes_of text h.0) all) s.0 ∙ ap (number_of all) s.1 ∙ number_name all (codes "_") distinct x f,
+          ap (λ q. token_value q (bytes_of text h.0) all) s.0 ∙ ap (number_of all) s.1 ∙ number_name all (codes "_") distinct x f,
         )
         by (w.hole x) f s = s.1
-        by (w.number n) f s = (ap (λ q. kind_of q (bytes_of text h.0)) s, ap (λ q. value_of q (bytes_of text h.0) all) s)
+        by (w.number n) f s = (ap (λ q. kind_of q (bytes_of text h.0)) s, ap (λ q. token_value q (bytes_of text h.0) all) s)
 
 -- there are no more tokens than bytes
 pub tokens_few : (text : List ℕ) (ts : List lexed.Token) → tokens_of text ≡ Ok ts → length ts ≤ length text

@@ -15,7 +15,7 @@ use Rattle.cov_grammar.specs.PlacedTrees.{expr, template}
 use Rattle.cov_grammar.specs.LookAhead.{kind_is, has, starts, nullable, firsts, fine}
 use Rattle.cov_grammar.specs.Shapes.{Shape, opt, many, head}
 use Rattle.cov_grammar.specs.Reading.{Reading, got, stopped, spent, ◌>>=◌, Reader, take_kind, reading}
-use Rattle.cov_grammar.specs.FirstKinds.{first_of, more_of}
+use Rattle.cov_grammar.specs.FirstKinds.{first_kinds, more_of}
 use Rattle.cov_grammar.specs.Grammar.{signs, grouped, compared, negated, atom, template_atom, unary, prod, sum, band, bxor, bor, cmp, both, either, body}
 use Rattle.cov_read.specs.Inside.Levels.{first_sign, other_signs, level, operand, repeats, next_index, levels, tail, atom_of, rule_for, tails_by, tails, onward, levelled, SignOf, SignAt, IsDone, Ends, Skips}
 use Rattle.cov_grammar.proofs.Repeats.{Item, pushed, pushed_none, item_goes, item_ends, item_breaks}
@@ -37,14 +37,14 @@ sign_here_last x ts rest t h e = (h, ap (λ o. o >>= λ v us. got x.1 us) e)
 
 pub sign_here : (x y : Kind × Op) (ys : List (Kind × Op)) (ts rest : List Token) (t : Token) → starts (x.0 ∷ []) (head ts) ≡ true → take_kind x.0 ts ≡ got t rest → SignOf x (y ∷ ys) ts (Some x.1) rest
 sign_here x y ys ts rest t h e = (
-  starts_cons x.0 (firsts first_of (signs y ys)) (head ts) ∙ or_left _ _ h,
+  starts_cons x.0 (firsts first_kinds (signs y ys)) (head ts) ∙ or_left _ _ h,
   ap (λ b. if b then (take_kind x.0 ts >>= λ v us. got x.1 us) else reading (signs y ys) ts) h ∙ ap (λ o. o >>= λ v us. got x.1 us) e,
 )
 
 pub sign_later : (x y : Kind × Op) (ys : List (Kind × Op)) (ts rest : List Token) (o : Option Op) → starts (x.0 ∷ []) (head ts) ≡ false → SignOf y ys ts o rest → SignOf x (y ∷ ys) ts o rest
-sign_later x y ys ts rest None h g = (starts_cons x.0 (firsts first_of (signs y ys)) (head ts) ∙ ap (λ b. b || starts (firsts first_of (signs y ys)) (head ts)) h ∙ g.0, g.1)
+sign_later x y ys ts rest None h g = (starts_cons x.0 (firsts first_kinds (signs y ys)) (head ts) ∙ ap (λ b. b || starts (firsts first_kinds (signs y ys)) (head ts)) h ∙ g.0, g.1)
 sign_later x y ys ts rest (Some op) h g = (
-  starts_cons x.0 (firsts first_of (signs y ys)) (head ts) ∙ ap (λ b. b || starts (firsts first_of (signs y ys)) (head ts)) h ∙ g.0,
+  starts_cons x.0 (firsts first_kinds (signs y ys)) (head ts) ∙ ap (λ b. b || starts (firsts first_kinds (signs y ys)) (head ts)) h ∙ g.0,
   ap (λ b. if b then (take_kind x.0 ts >>= λ v us. got x.1 us) else reading (signs y ys) ts) h ∙ g.1,
 )
 
@@ -153,7 +153,7 @@ rule_levels false ts = rule_is expr ts ∙ either_is atom ts
 
 -- What stands behind an operand --------------------------------------------------------------------------------
 
-fine_tail : (l : Level) (holes : Bool) → fine first_of more_of (tail l (atom_of holes)) ≡ true
+fine_tail : (l : Level) (holes : Bool) → fine first_kinds more_of (tail l (atom_of holes)) ≡ true
 unfolding kind_is atom template_atom unary prod sum band bxor bor cmp both either tail
 fine_tail Prod true = refl
 fine_tail Prod false = refl
@@ -186,11 +186,11 @@ module _ (l : Level) (holes : Bool) where
   unfolding tail
   full_tail = ap (λ b. b && nullable (operand l A)) (full_signs (first_sign l) (other_signs l))
 
-  firsts_tail : firsts first_of X ≡ firsts first_of S
+  firsts_tail : firsts first_kinds X ≡ firsts first_kinds S
   unfolding tail
-  firsts_tail = ap (λ b. firsts first_of S ++ (if b then firsts first_of (operand l A) else [])) (full_signs (first_sign l) (other_signs l)) ∙ append-nil (firsts first_of S)
+  firsts_tail = ap (λ b. firsts first_kinds S ++ (if b then firsts first_kinds (operand l A) else [])) (full_signs (first_sign l) (other_signs l)) ∙ append-nil (firsts first_kinds S)
 
-  tail_item : Item X (firsts first_of S)
+  tail_item : Item X (firsts first_kinds S)
   tail_item = record { fine = fine_tail l holes; full = full_tail; first = firsts_tail }
 
   tail_got : (op : Op) (u : Term) (ts us rest : List Token) → reading S ts ≡ got op us → reading (operand l A) us ≡ got u rest → reading X ts ≡ got (op, u) rest
@@ -206,7 +206,7 @@ module _ (l : Level) (holes : Bool) where
   abbrev some : Reading (Op × Term) → Reading (Option (Op × Term))
   some o = o >>= λ v rest. got (Some v) rest
 
-  opt_is : (ts : List Token) (b : Bool) → starts (firsts first_of S) (head ts) ≡ b → reading (opt X) ts ≡ (if b then some (reading X ts) else got None ts)
+  opt_is : (ts : List Token) (b : Bool) → starts (firsts first_kinds S) (head ts) ≡ b → reading (opt X) ts ≡ (if b then some (reading X ts) else got None ts)
   opt_is ts b e = ap (λ c. if c then some (reading X ts) else got None ts) (ap (λ js. starts js (head ts)) firsts_tail ∙ e)
 
   abbrev folded : Term → Reading (List (Op × Term)) → Reading Term
@@ -216,8 +216,8 @@ module _ (l : Level) (holes : Bool) where
   settled t o = o >>= λ x rest. got (compared t x) rest
 
   -- no operator
-  tails_end : (b : Bool) (t : Term) (ts : List Token) → starts (firsts first_of S) (head ts) ≡ false → tails_by b l A t ts ≡ got t ts
-  tails_end true t ts h = ap (folded t) (sym (pushed_none (reading (many X) ts)) ∙ item_ends (λ x. x) X (firsts first_of S) tail_item [] ts h)
+  tails_end : (b : Bool) (t : Term) (ts : List Token) → starts (firsts first_kinds S) (head ts) ≡ false → tails_by b l A t ts ≡ got t ts
+  tails_end true t ts h = ap (folded t) (sym (pushed_none (reading (many X) ts)) ∙ item_ends (λ x. x) X (firsts first_kinds S) tail_item [] ts h)
   tails_end false t ts h = ap (settled t) (opt_is ts false h)
 
   -- what is still to come behind an operator and its operand
@@ -230,14 +230,14 @@ module _ (l : Level) (holes : Bool) where
   push_one op t u (stopped bad) = refl
   push_one op t u spent = refl
 
-  tails_go : (b : Bool) (op : Op) (t u : Term) (ts rest : List Token) → starts (firsts first_of S) (head ts) ≡ true → reading X ts ≡ got (op, u) rest → tails_by b l A t ts ≡ rest_by b (bin op t u) rest
+  tails_go : (b : Bool) (op : Op) (t u : Term) (ts rest : List Token) → starts (firsts first_kinds S) (head ts) ≡ true → reading X ts ≡ got (op, u) rest → tails_by b l A t ts ≡ rest_by b (bin op t u) rest
   tails_go true op t u ts rest h g =
-      ap (folded t) (sym (item_goes (λ x. x) X (firsts first_of S) tail_item [] ((op, u) ∷ []) (op, u) ts rest h g refl ∙ pushed_none (reading (many X) ts)))
+      ap (folded t) (sym (item_goes (λ x. x) X (firsts first_kinds S) tail_item [] ((op, u) ∷ []) (op, u) ts rest h g refl ∙ pushed_none (reading (many X) ts)))
       ∙ push_one op t u (reading (many X) rest)
   tails_go false op t u ts rest h g = ap (settled t) (opt_is ts true h ∙ ap some g)
 
-  tails_break : (b : Bool) (t : Term) (ts rest : List Token) → starts (firsts first_of S) (head ts) ≡ true → reading X ts ≡ stopped rest → tails_by b l A t ts ≡ stopped rest
-  tails_break true t ts rest h g = ap (folded t) (sym (pushed_none (reading (many X) ts)) ∙ item_breaks (λ x. x) X (firsts first_of S) tail_item [] ts rest h g)
+  tails_break : (b : Bool) (t : Term) (ts rest : List Token) → starts (firsts first_kinds S) (head ts) ≡ true → reading X ts ≡ stopped rest → tails_by b l A t ts ≡ stopped rest
+  tails_break true t ts rest h g = ap (folded t) (sym (pushed_none (reading (many X) ts)) ∙ item_breaks (λ x. x) X (firsts first_kinds S) tail_item [] ts rest h g)
   tails_break false t ts rest h g = ap (settled t) (opt_is ts true h ∙ ap some g)
 
 -- Levels that are still to come --------------------------------------------------------------------------------
@@ -251,7 +251,7 @@ skip_level ls from i ts us vs h e s before holes t =
     before holes t
     ∙ ap (λ js. onward js (atom_of holes) t ts) (ahead ls i h)
     ∙ ap (λ o. o >>= λ u rest. onward (drop (suc i) ls) (atom_of holes) u rest)
-    (tails_end (get_or ls i Prod) holes (repeats (get_or ls i Prod)) t ts (subst (λ x. starts (firsts first_of (signs (first_sign (get_or ls i Prod)) (other_signs (get_or ls i Prod)))) (head x) ≡ false) e s.0))
+    (tails_end (get_or ls i Prod) holes (repeats (get_or ls i Prod)) t ts (subst (λ x. starts (firsts first_kinds (signs (first_sign (get_or ls i Prod)) (other_signs (get_or ls i Prod)))) (head x) ≡ false) e s.0))
     ∙ ap (λ n. onward (drop n ls) (atom_of holes) t ts) (let n : suc i ≡ i + 1 = omega arith in n)
 
 pub skip_none : (ls : List Level) (from : ℕ) (ts : List Token) → Skips ls from from ts
@@ -312,7 +312,7 @@ module _ (ls : List Level) (holes : Bool) (index : ℕ) (front : ls ≡ take (le
 -- Tokens that are no operators ---------------------------------------------------------------------------------
 
 abbrev begins : Level → Kind → Bool
-begins l j = has (firsts first_of (signs (first_sign l) (other_signs l))) j
+begins l j = has (firsts first_kinds (signs (first_sign l) (other_signs l))) j
 
 abbrev any : List Level → Kind → Bool
 any [] j = false
@@ -344,7 +344,7 @@ head_is j (t ∷ ts) h = ap Some (sym (kind_one j t.kind (by (kind_is j t.kind) 
 none_begins : (j : Kind) (ts : List Token) → any levels j ≡ false → starts (j ∷ []) (head ts) ≡ true → Ends ts
 none_begins j ts none h [] holes t = refl
 none_begins j ts none h (l ∷ ls) holes t =
-    ap (λ o. o >>= λ u rest. onward ls (atom_of holes) u rest) (tails_end l holes (repeats l) t ts (ap (starts (firsts first_of (signs (first_sign l) (other_signs l)))) (head_is j ts h) ∙ none_of j none l))
+    ap (λ o. o >>= λ u rest. onward ls (atom_of holes) u rest) (tails_end l holes (repeats l) t ts (ap (starts (firsts first_kinds (signs (first_sign l) (other_signs l)))) (head_is j ts h) ∙ none_of j none l))
     ∙ none_begins j ts none h ls holes t
 
 pub ends_semicolon : (ts : List Token) → starts (k.Semicolon ∷ []) (head ts) ≡ true → Ends ts

@@ -12,7 +12,7 @@ pub struct Whole {
 
 /// A certificate.
 #[derive(Drop)]
-pub enum Cert {
+pub enum PlacedCert {
     Auto,
     Calc,
     Refl,
@@ -21,16 +21,16 @@ pub enum Cert {
     Hyp(u32),
     Clash(u32),
     Absurd(u32, u32),
-    And(Box<Cert>, Box<Cert>),
-    Left(Box<Cert>),
-    Right(Box<Cert>),
-    Unpack(u32, Box<Cert>),
-    Cases(u32, Box<Cert>, Box<Cert>),
-    Split(Whole, Box<Cert>, Box<Cert>),
-    Have(Whole, Box<Cert>, Box<Cert>),
-    Not(Box<Cert>),
-    Contra(Box<Cert>),
-    Fwd(u32, Whole, Box<Cert>),
-    Rev(u32, Whole, Box<Cert>),
-    Axiom(u32, List<Whole>, Box<Cert>),
+    And(Box<PlacedCert>, Box<PlacedCert>),
+    Left(Box<PlacedCert>),
+    Right(Box<PlacedCert>),
+    Unpack(u32, Box<PlacedCert>),
+    Cases(u32, Box<PlacedCert>, Box<PlacedCert>),
+    Split(Whole, Box<PlacedCert>, Box<PlacedCert>),
+    Have(Whole, Box<PlacedCert>, Box<PlacedCert>),
+    Not(Box<PlacedCert>),
+    Contra(Box<PlacedCert>),
+    Fwd(u32, Whole, Box<PlacedCert>),
+    Rev(u32, Whole, Box<PlacedCert>),
+    Axiom(u32, List<Whole>, Box<PlacedCert>),
 }

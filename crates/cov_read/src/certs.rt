@@ -11,13 +11,13 @@ ghost use Rattle.cov_grammar.specs.ReaderAnswers.{Gives, Shorter};
 ghost use Rattle.cov_read.specs.Inside.Levels.{rule_for};
 ghost use Rattle.cov_read.specs.CertViews as views;
 
-use crate::cert::{Cert, Whole};
+use crate::cert::{PlacedCert, Whole};
 use crate::expressions::read_expr;
 use cov_expr::{List, NoMemory};
 use cov_grammar::{Kind, Stop, TokenReader};
 use std::alloc::Global;
 
-fn boxed_cert(alloc: Global, cert: Cert) -> Result<Box<Cert>, NoMemory>
+fn boxed_cert(alloc: Global, cert: PlacedCert) -> Result<Box<PlacedCert>, NoMemory>
     ensures { IfOk result (λ b. b.value ≡ cert) }
 {
     Ok(Box::new(alloc, cert)?)
@@ -54,24 +54,24 @@ fn read_in_brackets(reader: &mut TokenReader<'_>, alloc: Global, holes: bool) ->
 
 #[cycle(cert)]
 #[tactic(auto, unfolding(cov_grammar::specs::Grammar::part))]
-fn read_part(reader: &mut TokenReader<'_>, alloc: Global) -> Result<Cert, Stop>
+fn read_part(reader: &mut TokenReader<'_>, alloc: Global) -> Result<PlacedCert, Stop>
     ensures reads { Gives views.cert reader.new result (reading grammar.part reader.old) }
     ensures shorter { length reader.new ≤ length reader.old }
 {
     if let Some(_) = reader.take(Kind::Auto) {
-        return Ok(Cert::Auto);
+        return Ok(PlacedCert::Auto);
     }
     if let Some(_) = reader.take(Kind::Calc) {
-        return Ok(Cert::Calc);
+        return Ok(PlacedCert::Calc);
     }
     if let Some(_) = reader.take(Kind::Refl) {
-        return Ok(Cert::Refl);
+        return Ok(PlacedCert::Refl);
     }
     if let Some(_) = reader.take(Kind::Ring) {
-        return Ok(Cert::Ring);
+        return Ok(PlacedCert::Ring);
     }
     if let Some(_) = reader.take(Kind::Range) {
-        return Ok(Cert::Range);
+        return Ok(PlacedCert::Range);
     }
     reader.expect(Kind::OpenParen)?;
     let inside = read_cert(reader, alloc)?;
@@ -80,7 +80,7 @@ fn read_part(reader: &mut TokenReader<'_>, alloc: Global) -> Result<Cert, Stop>
 }
 
 #[cycle(cert)]
-fn read_one_part(reader: &mut TokenReader<'_>, alloc: Global) -> Result<Box<Cert>, Stop>
+fn read_one_part(reader: &mut TokenReader<'_>, alloc: Global) -> Result<Box<PlacedCert>, Stop>
     ensures reads { Gives views.boxed reader.new result (reading grammar.part reader.old) }
     ensures shorter { length reader.new ≤ length reader.old }
 {
@@ -92,7 +92,7 @@ fn read_one_part(reader: &mut TokenReader<'_>, alloc: Global) -> Result<Box<Cert
 fn read_two_parts(
     reader: &mut TokenReader<'_>,
     alloc: Global,
-) -> Result<(Box<Cert>, Box<Cert>), Stop>
+) -> Result<(Box<PlacedCert>, Box<PlacedCert>), Stop>
     ensures reads { Gives views.two reader.new result (reading (seq grammar.part grammar.part) reader.old) }
     ensures shorter { length reader.new ≤ length reader.old }
 {
@@ -103,7 +103,7 @@ fn read_two_parts(
 
 #[cycle(cert)]
 #[tactic(auto, using(crate::proofs::CertLaws::rule_cert))]
-pub fn read_cert(reader: &mut TokenReader<'_>, alloc: Global) -> Result<Cert, Stop>
+pub fn read_cert(reader: &mut TokenReader<'_>, alloc: Global) -> Result<PlacedCert, Stop>
     ensures reads { Gives views.cert reader.new result (reading (rule trees.cert) reader.old) }
     ensures shorter { length reader.new ≤ length reader.old }
 {
@@ -112,88 +112,88 @@ pub fn read_cert(reader: &mut TokenReader<'_>, alloc: Global) -> Result<Cert, St
 
 #[cycle(cert)]
 #[tactic(auto, unfolding(cov_grammar::specs::Grammar::certificate))]
-fn read_certificate(reader: &mut TokenReader<'_>, alloc: Global) -> Result<Cert, Stop>
+fn read_certificate(reader: &mut TokenReader<'_>, alloc: Global) -> Result<PlacedCert, Stop>
     ensures reads { Gives views.cert reader.new result (reading grammar.certificate reader.old) }
     ensures shorter { length reader.new ≤ length reader.old }
 {
     if let Some(_) = reader.take(Kind::Hyp) {
-        return Ok(Cert::Hyp(read_number(reader)?));
+        return Ok(PlacedCert::Hyp(read_number(reader)?));
     }
     if let Some(_) = reader.take(Kind::Clash) {
-        return Ok(Cert::Clash(read_number(reader)?));
+        return Ok(PlacedCert::Clash(read_number(reader)?));
     }
     if let Some(_) = reader.take(Kind::Absurd) {
         let first = read_number(reader)?;
         let second = read_number(reader)?;
-        return Ok(Cert::Absurd(first, second));
+        return Ok(PlacedCert::Absurd(first, second));
     }
     if let Some(_) = reader.take(Kind::And) {
         let (first, second) = read_two_parts(reader, alloc)?;
-        return Ok(Cert::And(first, second));
+        return Ok(PlacedCert::And(first, second));
     }
     read_more_certs(reader, alloc)
 }
 
 #[cycle(cert)]
 #[tactic(auto, unfolding(cov_grammar::specs::Grammar::more_certs))]
-fn read_more_certs(reader: &mut TokenReader<'_>, alloc: Global) -> Result<Cert, Stop>
+fn read_more_certs(reader: &mut TokenReader<'_>, alloc: Global) -> Result<PlacedCert, Stop>
     ensures reads { Gives views.cert reader.new result (reading grammar.more_certs reader.old) }
     ensures shorter { length reader.new ≤ length reader.old }
 {
     if let Some(_) = reader.take(Kind::Left) {
-        return Ok(Cert::Left(read_one_part(reader, alloc)?));
+        return Ok(PlacedCert::Left(read_one_part(reader, alloc)?));
     }
     if let Some(_) = reader.take(Kind::Right) {
-        return Ok(Cert::Right(read_one_part(reader, alloc)?));
+        return Ok(PlacedCert::Right(read_one_part(reader, alloc)?));
     }
     if let Some(_) = reader.take(Kind::Use) {
         let number = read_number(reader)?;
-        return Ok(Cert::Unpack(number, read_one_part(reader, alloc)?));
+        return Ok(PlacedCert::Unpack(number, read_one_part(reader, alloc)?));
     }
     if let Some(_) = reader.take(Kind::Cases) {
         let number = read_number(reader)?;
         let (first, second) = read_two_parts(reader, alloc)?;
-        return Ok(Cert::Cases(number, first, second));
+        return Ok(PlacedCert::Cases(number, first, second));
     }
     if let Some(_) = reader.take(Kind::Split) {
         let whole = read_in_brackets(reader, alloc, false)?;
         let (first, second) = read_two_parts(reader, alloc)?;
-        return Ok(Cert::Split(whole, first, second));
+        return Ok(PlacedCert::Split(whole, first, second));
     }
     read_last_certs(reader, alloc)
 }
 
 #[cycle(cert)]
 #[tactic(auto, unfolding(cov_grammar::specs::Grammar::last_certs))]
-fn read_last_certs(reader: &mut TokenReader<'_>, alloc: Global) -> Result<Cert, Stop>
+fn read_last_certs(reader: &mut TokenReader<'_>, alloc: Global) -> Result<PlacedCert, Stop>
     ensures reads { Gives views.cert reader.new result (reading grammar.last_certs reader.old) }
     ensures shorter { length reader.new ≤ length reader.old }
 {
     if let Some(_) = reader.take(Kind::Have) {
         let whole = read_in_brackets(reader, alloc, false)?;
         let (first, second) = read_two_parts(reader, alloc)?;
-        return Ok(Cert::Have(whole, first, second));
+        return Ok(PlacedCert::Have(whole, first, second));
     }
     if let Some(_) = reader.take(Kind::Not) {
-        return Ok(Cert::Not(read_one_part(reader, alloc)?));
+        return Ok(PlacedCert::Not(read_one_part(reader, alloc)?));
     }
     if let Some(_) = reader.take(Kind::Contra) {
-        return Ok(Cert::Contra(read_one_part(reader, alloc)?));
+        return Ok(PlacedCert::Contra(read_one_part(reader, alloc)?));
     }
     if let Some(_) = reader.take(Kind::Fwd) {
         let number = read_number(reader)?;
         let template = read_in_brackets(reader, alloc, true)?;
-        return Ok(Cert::Fwd(number, template, read_one_part(reader, alloc)?));
+        return Ok(PlacedCert::Fwd(number, template, read_one_part(reader, alloc)?));
     }
     if let Some(_) = reader.take(Kind::Rev) {
         let number = read_number(reader)?;
         let template = read_in_brackets(reader, alloc, true)?;
-        return Ok(Cert::Rev(number, template, read_one_part(reader, alloc)?));
+        return Ok(PlacedCert::Rev(number, template, read_one_part(reader, alloc)?));
     }
     if let Some(_) = reader.take(Kind::Axiom) {
         let number = read_number(reader)?;
         let arguments = read_arguments(reader, alloc)?;
-        return Ok(Cert::Axiom(number, arguments, read_one_part(reader, alloc)?));
+        return Ok(PlacedCert::Axiom(number, arguments, read_one_part(reader, alloc)?));
     }
     read_part(reader, alloc)
 }

@@ -1,7 +1,7 @@
 //! Programs of a text and their declarations, with places.
 
 use crate::cert::Whole;
-use crate::stmt::{Braces, Stmt};
+use crate::stmt::{Braces, PlacedStmt};
 use cov_expr::List;
 
 #[derive(Drop)]
@@ -12,14 +12,14 @@ pub enum ClassDecl {
 }
 
 #[derive(Drop)]
-pub struct Variable {
+pub struct PlacedVariable {
     pub name: u32,
     pub at: u32,
     pub class: ClassDecl,
 }
 
 #[derive(Drop)]
-pub struct Lock {
+pub struct PlacedLock {
     pub name: u32,
     pub at: u32,
     pub nowrite: List<u32>,
@@ -35,20 +35,20 @@ pub struct Pair {
 }
 
 #[derive(Drop)]
-pub struct Thread {
+pub struct PlacedThread {
     pub name: u32,
     pub at: u32,
     pub assumes: Pair,
     pub guarantees: Pair,
     pub braces: Braces,
-    pub body: List<Stmt>,
+    pub body: List<PlacedStmt>,
 }
 
 /// A program with its places.
 #[derive(Drop)]
 pub struct PlacedProgram {
     pub version: u8,
-    pub vars: List<Variable>,
-    pub locks: List<Lock>,
-    pub threads: List<Thread>,
+    pub vars: List<PlacedVariable>,
+    pub locks: List<PlacedLock>,
+    pub threads: List<PlacedThread>,
 }

@@ -8,7 +8,7 @@ ghost use Rattle.cov_grammar.specs.Reading.{reading};
 ghost use Rattle.cov_grammar.specs.ReaderAnswers.{Gives, Shorter};
 ghost use Rattle.cov_read.specs.DeclViews as decls;
 
-use crate::decl::{ClassDecl, Lock, Pair, PlacedProgram, Thread, Variable};
+use crate::decl::{ClassDecl, Pair, PlacedLock, PlacedProgram, PlacedThread, PlacedVariable};
 use crate::stmts::{read_block, read_whole_behind};
 use cov_expr::List;
 use cov_grammar::{Kind, Stop, TokenReader};
@@ -30,7 +30,7 @@ fn read_class(reader: &mut TokenReader<'_>, alloc: Global) -> Result<ClassDecl, 
 }
 
 #[tactic(auto, unfolding(cov_grammar::specs::Grammar::var_decl))]
-fn read_variable(reader: &mut TokenReader<'_>, alloc: Global) -> Result<Variable, Stop>
+fn read_variable(reader: &mut TokenReader<'_>, alloc: Global) -> Result<PlacedVariable, Stop>
     ensures reads { Gives decls.var reader.new result (reading grammar.var_decl reader.old) }
     ensures shorter { Shorter reader.old reader.new result }
 {
@@ -39,7 +39,7 @@ fn read_variable(reader: &mut TokenReader<'_>, alloc: Global) -> Result<Variable
     reader.expect(Kind::Colon)?;
     let class = read_class(reader, alloc)?;
     reader.expect(Kind::Semicolon)?;
-    Ok(Variable {
+    Ok(PlacedVariable {
         name: name.value,
         at: name.at,
         class,
@@ -110,7 +110,7 @@ fn read_hidden_behind(
 }
 
 #[tactic(auto, unfolding(cov_grammar::specs::Grammar::lock_decl))]
-fn read_lock(reader: &mut TokenReader<'_>, alloc: Global) -> Result<Lock, Stop>
+fn read_lock(reader: &mut TokenReader<'_>, alloc: Global) -> Result<PlacedLock, Stop>
     ensures reads { Gives decls.lock reader.new result (reading grammar.lock_decl reader.old) }
     ensures shorter { Shorter reader.old reader.new result }
 {
@@ -120,7 +120,7 @@ fn read_lock(reader: &mut TokenReader<'_>, alloc: Global) -> Result<Lock, Stop>
     let hide = read_names_behind(reader, alloc, Kind::Hide)?;
     let inv = read_whole_behind(reader, alloc, Kind::Inv)?;
     reader.expect(Kind::Semicolon)?;
-    Ok(Lock {
+    Ok(PlacedLock {
         name: name.value,
         at: name.at,
         nowrite,
@@ -163,7 +163,7 @@ fn read_two_modes(reader: &mut TokenReader<'_>, alloc: Global, word: Kind) -> Re
 }
 
 #[tactic(auto, unfolding(cov_grammar::specs::Grammar::thread_decl))]
-fn read_thread(reader: &mut TokenReader<'_>, alloc: Global) -> Result<Thread, Stop>
+fn read_thread(reader: &mut TokenReader<'_>, alloc: Global) -> Result<PlacedThread, Stop>
     ensures reads { Gives decls.thread reader.new result (reading grammar.thread_decl reader.old) }
     ensures shorter { Shorter reader.old reader.new result }
 {
@@ -172,7 +172,7 @@ fn read_thread(reader: &mut TokenReader<'_>, alloc: Global) -> Result<Thread, St
     let assumes = read_two_modes(reader, alloc, Kind::Assume)?;
     let guarantees = read_two_modes(reader, alloc, Kind::Guarantee)?;
     let (braces, body) = read_block(reader, alloc)?;
-    Ok(Thread {
+    Ok(PlacedThread {
         name: name.value,
         at: name.at,
         assumes,
@@ -182,7 +182,7 @@ fn read_thread(reader: &mut TokenReader<'_>, alloc: Global) -> Result<Thread, St
     })
 }
 
-fn read_variables(reader: &mut TokenReader<'_>, alloc: Global) -> Result<List<Variable>, Stop>
+fn read_variables(reader: &mut TokenReader<'_>, alloc: Global) -> Result<List<PlacedVariable>, Stop>
     ensures reads { Gives (map decls.var) reader.new result (reading (many grammar.var_decl) reader.old) }
     ensures shorter { length reader.new ≤ length reader.old }
 {
@@ -194,7 +194,7 @@ fn read_variables(reader: &mut TokenReader<'_>, alloc: Global) -> Result<List<Va
     Ok(list)
 }
 
-fn read_locks(reader: &mut TokenReader<'_>, alloc: Global) -> Result<List<Lock>, Stop>
+fn read_locks(reader: &mut TokenReader<'_>, alloc: Global) -> Result<List<PlacedLock>, Stop>
     ensures reads { Gives (map decls.lock) reader.new result (reading (many grammar.lock_decl) reader.old) }
     ensures shorter { length reader.new ≤ length reader.old }
 {
@@ -206,7 +206,7 @@ fn read_locks(reader: &mut TokenReader<'_>, alloc: Global) -> Result<List<Lock>,
     Ok(list)
 }
 
-fn read_threads(reader: &mut TokenReader<'_>, alloc: Global) -> Result<List<Thread>, Stop>
+fn read_threads(reader: &mut TokenReader<'_>, alloc: Global) -> Result<List<PlacedThread>, Stop>
     ensures reads { Gives (map decls.thread) reader.new result (reading (many grammar.thread_decl) reader.old) }
     ensures shorter { length reader.new ≤ length reader.old }
 {

@@ -18,11 +18,11 @@ mod stmt;
 mod stmts;
 mod written;
 
-pub use cert::{Cert, Whole};
+pub use cert::{PlacedCert, Whole};
 pub use certs::read_whole;
-pub use decl::{ClassDecl, Lock, Pair, PlacedProgram, Thread, Variable};
+pub use decl::{ClassDecl, Pair, PlacedLock, PlacedProgram, PlacedThread, PlacedVariable};
 pub use decls::read_program;
 pub use measures::HEIGHT;
-pub use states::{Proof, State, Typed};
-pub use stmt::{Braces, Stmt, StmtKind};
+pub use states::{PlacedProof, PlacedState, Typed};
+pub use stmt::{Braces, PlacedStmt, PlacedStmtKind};
 pub use written::Written;

@@ -9,7 +9,7 @@ ghost use Rattle.cov_grammar.specs.ReaderAnswers.{Gives, Shorter};
 ghost use Rattle.cov_read.specs.CertViews as views;
 ghost use Rattle.cov_read.specs.StateViews as states;
 
-use crate::cert::{Cert, Whole};
+use crate::cert::{PlacedCert, Whole};
 use crate::certs::{read_cert, read_number, read_whole, read_wholes};
 use cov_expr::{List, NoMemory};
 use cov_grammar::{Kind, Stop, TokenReader};
@@ -24,7 +24,7 @@ pub struct Typed {
 
 /// What a join, a loop or a note states.
 #[derive(Drop)]
-pub struct State {
+pub struct PlacedState {
     pub at: u32,
     pub preds: List<Whole>,
     pub types: List<Typed>,
@@ -32,10 +32,10 @@ pub struct State {
 
 /// A proof of the entailment of a number.
 #[derive(Drop)]
-pub struct Proof {
+pub struct PlacedProof {
     pub number: u32,
     pub at: u32,
-    pub cert: Cert,
+    pub cert: PlacedCert,
 }
 
 /// Predicates, if an expression is next.
@@ -94,7 +94,7 @@ fn read_types(reader: &mut TokenReader<'_>, alloc: Global) -> Result<List<Typed>
 
 /// A state in braces.
 #[tactic(auto, unfolding(cov_grammar::specs::Grammar::state))]
-pub fn read_state(reader: &mut TokenReader<'_>, alloc: Global) -> Result<State, Stop>
+pub fn read_state(reader: &mut TokenReader<'_>, alloc: Global) -> Result<PlacedState, Stop>
     ensures reads { Gives states.state reader.new result (reading grammar.state reader.old) }
     ensures shorter { length reader.new ≤ length reader.old }
 {
@@ -102,7 +102,7 @@ pub fn read_state(reader: &mut TokenReader<'_>, alloc: Global) -> Result<State, 
     let preds = read_predicates(reader, alloc)?;
     let types = read_types(reader, alloc)?;
     reader.expect(Kind::CloseBrace)?;
-    Ok(State {
+    Ok(PlacedState {
         at: open.at,
         preds,
         types,
@@ -110,7 +110,7 @@ pub fn read_state(reader: &mut TokenReader<'_>, alloc: Global) -> Result<State, 
 }
 
 /// A state in memory of its own.
-fn boxed(alloc: Global, state: State) -> Result<Box<State>, NoMemory>
+fn boxed(alloc: Global, state: PlacedState) -> Result<Box<PlacedState>, NoMemory>
     ensures { IfOk result (λ made. made.value ≡ state) }
 {
     Ok(Box::new(alloc, state)?)
@@ -121,7 +121,7 @@ pub fn read_state_behind(
     reader: &mut TokenReader<'_>,
     alloc: Global,
     word: Kind,
-) -> Result<Option<Box<State>>, Stop>
+) -> Result<Option<Box<PlacedState>>, Stop>
     ensures reads { Gives (option_map (λ j. states.state j.value)) reader.new result (reading (opt (grammar.◌▸◌ word grammar.state)) reader.old) }
     ensures shorter { length reader.new ≤ length reader.old }
 {
@@ -135,7 +135,7 @@ pub fn read_state_behind(
 
 /// A proof with its number.
 #[tactic(auto, unfolding(cov_grammar::specs::Grammar::proof))]
-fn read_proof(reader: &mut TokenReader<'_>, alloc: Global) -> Result<Proof, Stop>
+fn read_proof(reader: &mut TokenReader<'_>, alloc: Global) -> Result<PlacedProof, Stop>
     ensures reads { Gives states.proof reader.new result (reading grammar.proof reader.old) }
     ensures shorter { Shorter reader.old reader.new result }
 {
@@ -143,10 +143,10 @@ fn read_proof(reader: &mut TokenReader<'_>, alloc: Global) -> Result<Proof, Stop
     reader.expect(Kind::Colon)?;
     let at = reader.place(0);
     let cert = read_cert(reader, alloc)?;
-    Ok(Proof { number, at, cert })
+    Ok(PlacedProof { number, at, cert })
 }
 
-fn read_proof_list(reader: &mut TokenReader<'_>, alloc: Global) -> Result<List<Proof>, Stop>
+fn read_proof_list(reader: &mut TokenReader<'_>, alloc: Global) -> Result<List<PlacedProof>, Stop>
     ensures reads { Gives (map states.proof) reader.new result (reading (grammar.separated kinds.Comma grammar.proof) reader.old) }
     ensures shorter { length reader.new ≤ length reader.old }
 {
@@ -162,7 +162,7 @@ fn read_proof_list(reader: &mut TokenReader<'_>, alloc: Global) -> Result<List<P
 
 /// The proofs behind by, if it is next.
 #[tactic(auto, unfolding(cov_grammar::specs::Grammar::proofs))]
-pub fn read_proofs(reader: &mut TokenReader<'_>, alloc: Global) -> Result<List<Proof>, Stop>
+pub fn read_proofs(reader: &mut TokenReader<'_>, alloc: Global) -> Result<List<PlacedProof>, Stop>
     ensures reads { Gives (map states.proof) reader.new result (reading grammar.proofs reader.old) }
     ensures shorter { length reader.new ≤ length reader.old }
 {

@@ -13,8 +13,8 @@ ghost use Rattle.cov_read.specs.StmtViews as stmts;
 
 use crate::cert::Whole;
 use crate::certs::read_whole;
-use crate::states::{Proof, Typed, read_proofs, read_state, read_state_behind};
-use crate::stmt::{Braces, Stmt, StmtKind};
+use crate::states::{PlacedProof, Typed, read_proofs, read_state, read_state_behind};
+use crate::stmt::{Braces, PlacedStmt, PlacedStmtKind};
 use cov_expr::List;
 use cov_grammar::{Kind, Stop, TokenReader};
 use std::alloc::Global;
@@ -67,7 +67,7 @@ fn read_retypes(reader: &mut TokenReader<'_>, alloc: Global) -> Result<List<Type
 fn read_assigned(
     reader: &mut TokenReader<'_>,
     alloc: Global,
-) -> Result<(Whole, Option<Whole>, List<Typed>, List<Proof>), Stop>
+) -> Result<(Whole, Option<Whole>, List<Typed>, List<PlacedProof>), Stop>
     ensures reads { Gives stmts.assigned reader.new result (reading grammar.assigned reader.old) }
     ensures shorter { length reader.new ≤ length reader.old }
 {
@@ -83,7 +83,10 @@ fn read_assigned(
 /// A block in braces.
 #[cycle(block)]
 #[tactic(auto, using(crate::proofs::StmtLaws::rule_block))]
-pub fn read_block(reader: &mut TokenReader<'_>, alloc: Global) -> Result<(Braces, List<Stmt>), Stop>
+pub fn read_block(
+    reader: &mut TokenReader<'_>,
+    alloc: Global,
+) -> Result<(Braces, List<PlacedStmt>), Stop>
     ensures reads { Gives stmts.block reader.new result (reading (rule trees.block) reader.old) }
     ensures shorter { length reader.new ≤ length reader.old }
 {
@@ -92,7 +95,10 @@ pub fn read_block(reader: &mut TokenReader<'_>, alloc: Global) -> Result<(Braces
 
 #[cycle(block)]
 #[tactic(auto, unfolding(cov_grammar::specs::Grammar::braces))]
-fn read_braces(reader: &mut TokenReader<'_>, alloc: Global) -> Result<(Braces, List<Stmt>), Stop>
+fn read_braces(
+    reader: &mut TokenReader<'_>,
+    alloc: Global,
+) -> Result<(Braces, List<PlacedStmt>), Stop>
     ensures reads { Gives stmts.block reader.new result (reading grammar.braces reader.old) }
     ensures shorter { length reader.new ≤ length reader.old }
 {
@@ -107,7 +113,7 @@ fn read_braces(reader: &mut TokenReader<'_>, alloc: Global) -> Result<(Braces, L
 }
 
 #[cycle(block)]
-fn read_body(reader: &mut TokenReader<'_>, alloc: Global) -> Result<List<Stmt>, Stop>
+fn read_body(reader: &mut TokenReader<'_>, alloc: Global) -> Result<List<PlacedStmt>, Stop>
     ensures reads { Gives (map stmts.stmt) reader.new result (reading (many (placed grammar.statement)) reader.old) }
     ensures shorter { length reader.new ≤ length reader.old }
 {
@@ -129,39 +135,39 @@ fn read_body(reader: &mut TokenReader<'_>, alloc: Global) -> Result<List<Stmt>, 
 }
 
 #[cycle(block)]
-fn read_stmt(reader: &mut TokenReader<'_>, alloc: Global) -> Result<Stmt, Stop>
+fn read_stmt(reader: &mut TokenReader<'_>, alloc: Global) -> Result<PlacedStmt, Stop>
     ensures reads { Gives stmts.stmt reader.new result (reading (placed grammar.statement) reader.old) }
     ensures shorter { Shorter reader.old reader.new result }
 {
     let at = reader.place(0);
     let kind = read_statement(reader, alloc)?;
-    Ok(Stmt { at, kind })
+    Ok(PlacedStmt { at, kind })
 }
 
 #[cycle(block)]
 #[tactic(auto, unfolding(cov_grammar::specs::Grammar::statement))]
-fn read_statement(reader: &mut TokenReader<'_>, alloc: Global) -> Result<StmtKind, Stop>
+fn read_statement(reader: &mut TokenReader<'_>, alloc: Global) -> Result<PlacedStmtKind, Stop>
     ensures reads { Gives stmts.kind reader.new result (reading grammar.statement reader.old) }
     ensures shorter { Shorter reader.old reader.new result }
 {
     if let Some(_) = reader.take(Kind::Skip) {
         reader.expect(Kind::Semicolon)?;
-        return Ok(StmtKind::Skip);
+        return Ok(PlacedStmtKind::Skip);
     }
     if let Some(name) = reader.take(Kind::Name) {
         let (value, class, retypes, proofs) = read_assigned(reader, alloc)?;
-        return Ok(StmtKind::Assign(name.value, value, class, retypes, proofs));
+        return Ok(PlacedStmtKind::Assign(name.value, value, class, retypes, proofs));
     }
     if let Some(_) = reader.take(Kind::Lock) {
         let lock = reader.expect(Kind::Name)?;
         reader.expect(Kind::Semicolon)?;
-        return Ok(StmtKind::Lock(lock.value));
+        return Ok(PlacedStmtKind::Lock(lock.value));
     }
     if let Some(_) = reader.take(Kind::Unlock) {
         let lock = reader.expect(Kind::Name)?;
         let proofs = read_proofs(reader, alloc)?;
         reader.expect(Kind::Semicolon)?;
-        return Ok(StmtKind::Unlock(lock.value, proofs));
+        return Ok(PlacedStmtKind::Unlock(lock.value, proofs));
     }
     if let Some(_) = reader.take(Kind::If) {
         return read_branched(reader, alloc);
@@ -173,18 +179,18 @@ fn read_statement(reader: &mut TokenReader<'_>, alloc: Global) -> Result<StmtKin
         let state = read_state(reader, alloc)?;
         let proofs = read_proofs(reader, alloc)?;
         reader.expect(Kind::Semicolon)?;
-        return Ok(StmtKind::Note(state, proofs));
+        return Ok(PlacedStmtKind::Note(state, proofs));
     }
     reader.expect(Kind::Output)?;
     let value = read_whole(reader, alloc, false)?;
     let proofs = read_proofs(reader, alloc)?;
     reader.expect(Kind::Semicolon)?;
-    Ok(StmtKind::Output(value, proofs))
+    Ok(PlacedStmtKind::Output(value, proofs))
 }
 
 #[cycle(block)]
 #[tactic(auto, unfolding(cov_grammar::specs::Grammar::branched))]
-fn read_branched(reader: &mut TokenReader<'_>, alloc: Global) -> Result<StmtKind, Stop>
+fn read_branched(reader: &mut TokenReader<'_>, alloc: Global) -> Result<PlacedStmtKind, Stop>
     ensures reads { Gives stmts.kind reader.new result (reading grammar.branched reader.old) }
     ensures shorter { length reader.new ≤ length reader.old }
 {
@@ -194,12 +200,12 @@ fn read_branched(reader: &mut TokenReader<'_>, alloc: Global) -> Result<StmtKind
     let (second, second_body) = read_block(reader, alloc)?;
     let state = read_state_behind(reader, alloc, Kind::Join)?;
     let proofs = read_proofs(reader, alloc)?;
-    Ok(StmtKind::If(guard, first, first_body, second, second_body, state, proofs))
+    Ok(PlacedStmtKind::If(guard, first, first_body, second, second_body, state, proofs))
 }
 
 #[cycle(block)]
 #[tactic(auto, unfolding(cov_grammar::specs::Grammar::looped))]
-fn read_looped(reader: &mut TokenReader<'_>, alloc: Global) -> Result<StmtKind, Stop>
+fn read_looped(reader: &mut TokenReader<'_>, alloc: Global) -> Result<PlacedStmtKind, Stop>
     ensures reads { Gives stmts.kind reader.new result (reading grammar.looped reader.old) }
     ensures shorter { length reader.new ≤ length reader.old }
 {
@@ -207,5 +213,5 @@ fn read_looped(reader: &mut TokenReader<'_>, alloc: Global) -> Result<StmtKind, 
     let state = read_state_behind(reader, alloc, Kind::Inv)?;
     let (braces, body) = read_block(reader, alloc)?;
     let proofs = read_proofs(reader, alloc)?;
-    Ok(StmtKind::While(guard, state, braces, body, proofs))
+    Ok(PlacedStmtKind::While(guard, state, braces, body, proofs))
 }

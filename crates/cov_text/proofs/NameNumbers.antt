@@ -12,7 +12,7 @@ use Rattle.cov_lex.specs.Tokens.{bytes_of, AreTokens, IsToken, Spells}
 use Rattle.cov_lex.proofs.Lexical.{only_names}
 use Rattle.cov_expr.specs.Names.{IsName}
 use Rattle.cov_ast.specs.NameTables.{number_of, with_name}
-use Rattle.cov_text.specs.Numbered.{with_word, with_token, names_onto, value_of, word_of}
+use Rattle.cov_text.specs.Numbered.{with_word, with_token, names_onto, token_value, word_of}
 use Rattle.cov_lex.specs.Classified.{kind_of, classified, AreClassified}
 use Rattle.cov_lex.specs.Classified.{number_value as lexical_value}
 use Rattle.cov_grammar.specs.LookAhead.{kind_is}
@@ -75,7 +75,7 @@ all_go_on text ns (t ∷ ts) =
       is = rest.is ∙ ap (λ xs. xs ++ rest.more) one.is ∙ append_assoc ns one.more rest.more;
     }
 
-value_kept : (kind : TokenKind) (word : List ℕ) (ns ms : List (List ℕ)) → value_of kind word (with_word kind word ns ++ ms) ≡ value_of kind word ns
+value_kept : (kind : TokenKind) (word : List ℕ) (ns ms : List (List ℕ)) → token_value kind word (with_word kind word ns ++ ms) ≡ token_value kind word ns
 value_kept raw.Name word ns ms = with_name_kept word ns ms
 value_kept raw.Keyword word ns ms = refl
 value_kept (raw.Number n) word ns ms = refl
@@ -86,7 +86,7 @@ pub word_kept : (text : List ℕ) (ns : List (List ℕ)) (t : lexed.Token) (ts :
 word_kept text ns t ts =
     let rest = all_go_on text (with_token text ns t) ts in
     ap (λ v. record { kind = kind_of t.kind (bytes_of text t); at = t.at; end = t.end; value = v })
-    (ap (value_of t.kind (bytes_of text t)) rest.is ∙ value_kept t.kind (bytes_of text t) ns rest.more)
+    (ap (token_value t.kind (bytes_of text t)) rest.is ∙ value_kept t.kind (bytes_of text t) ns rest.more)
 
 -- How many -----------------------------------------------------------------------------------------------------
 
@@ -198,7 +198,7 @@ module _ (text : List ℕ) (d : lexed.Token) (i : ℕ) (inside : i < length (lex
       moved names' tokens' (e ∙ sym (ap (λ kind. with_word kind (bytes_of text here) names) named))
       (s ∙ ap (λ ts. slice_set ts i w) split ∙ set_behind before_it (map (classified text) (drop (i + 1) (lexed_of text))) (classified text here) w i so_many
       ∙ ap (λ u. (before_it ++ u ∷ []) ++ map (classified text) (drop (i + 1) (lexed_of text)))
-      (g ∙ ap (λ n. record { kind = kind_of here.kind (bytes_of text here); at = here.at; end = here.end; value = n }) (f ∙ sym (ap (λ kind. value_of kind (bytes_of text here) names) named))))
+      (g ∙ ap (λ n. record { kind = kind_of here.kind (bytes_of text here); at = here.at; end = here.end; value = n }) (f ∙ sym (ap (λ kind. token_value kind (bytes_of text here) names) named))))
 
   -- any other token stays
   pub other_step : kind_is k.Name (kind_of here.kind (bytes_of text here)) ≡ false → Numbering text names tokens (i + 1)
@@ -208,7 +208,7 @@ module _ (text : List ℕ) (d : lexed.Token) (i : ℕ) (inside : i < length (lex
       (split ∙ sym (append_assoc before_it (classified text here ∷ []) (map (classified text) (drop (i + 1) (lexed_of text))))
       ∙ ap (λ v. (before_it ++ record { kind = kind_of here.kind (bytes_of text here); at = here.at; end = here.end; value = v } ∷ []) ++ map (classified text) (drop (i + 1) (lexed_of text))) (sym same.1))
     where
-      by : (kind : TokenKind) → kind_is k.Name (kind_of kind (bytes_of text here)) ≡ false → (with_word kind (bytes_of text here) names ≡ names) × (value_of kind (bytes_of text here) names ≡ lexical_value kind)
+      by : (kind : TokenKind) → kind_is k.Name (kind_of kind (bytes_of text here)) ≡ false → (with_word kind (bytes_of text here) names ≡ names) × (token_value kind (bytes_of text here) names ≡ lexical_value kind)
       by raw.Name o = let no : true ≡ false = sym (kind_itself k.Name) ∙ o in cc
       by raw.Keyword o = (refl, refl)
       by (raw.Number n) o = (refl, refl)

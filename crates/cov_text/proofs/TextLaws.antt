@@ -5,7 +5,7 @@ use Rattle.cov_lex.specs.declared.fault.LexFault.{LexFault}
 use Rattle.cov_lex.specs.Lexing.{tokens_of}
 use Rattle.cov_grammar.specs.Shapes.{Shape}
 use Rattle.cov_grammar.specs.LookAhead.{fine}
-use Rattle.cov_grammar.specs.FirstKinds.{first_of, more_of}
+use Rattle.cov_grammar.specs.FirstKinds.{first_kinds, more_of}
 use Rattle.cov_grammar.proofs.Wholes.{value_one}
 use Rattle.cov_grammar.proofs.Unique.{spelled_right}
 use Rattle.cov_text.specs.declared.fault.ParseFault.{ParseFault}
@@ -37,7 +37,7 @@ names_are text ts e = ap (words.names_of text) (lexed_is text ts e)
 
 module _ {A X B : Type 0} (a : Shape A) (limits : A → Option Excess) (text : List ℕ) (view : X → B) (made : A → B) where
   -- a text that spells a tree within the limits has no fault
-  no_fault : fine first_of more_of a ≡ true → (tree : A) → IsText a limits text tree → (fault : ParseFault) → IsFault a limits text fault → ⊥
+  no_fault : fine first_kinds more_of a ≡ true → (tree : A) → IsText a limits text tree → (fault : ParseFault) → IsFault a limits text fault → ⊥
   no_fault f tree is fault h =
       ⊎_elim (λ first. by_first (tokens_of text) is.tokens.lexes first)
       (⊎_elim (λ g. spelled_right a tree (words_of text) g.bad is.spelled g.first)
@@ -49,7 +49,7 @@ module _ {A X B : Type 0} (a : Shape A) (limits : A → Option Excess) (text : L
       by_first (Ok ts) e g = let no : None ≡ Some g.0 = sym is.tokens.shallow ∙ g.1 in cc
       by_first (Err x) e g = cc
 
-  pub only_is : fine first_of more_of a ≡ true → (tree : A) → IsText a limits text tree → (r : Result X ParseFault) → Answers a limits text view made r → Only view (made tree) r
+  pub only_is : fine first_kinds more_of a ≡ true → (tree : A) → IsText a limits text tree → (r : Result X ParseFault) → Answers a limits text view made r → Only view (made tree) r
   only_is f tree is (Ok x) h = h.2 ∙ ap made (value_one a f (words_of text) h.0 tree h.1.spelled is.spelled)
   only_is f tree is (Err (faults.BadByte at)) h = no_fault f tree is (faults.BadByte at) h
   only_is f tree is (Err (faults.NumberTooLarge at)) h = no_fault f tree is (faults.NumberTooLarge at) h

@@ -18,7 +18,7 @@ use Rattle.cov_lex.specs.Tokens.{IsToken, Spells, bytes_of}
 use Rattle.cov_lex.proofs.Spelled.{are_tokens}
 use Rattle.cov_expr.specs.declared.kind.Kind.TheVariants as k
 use Rattle.cov_ast.specs.NameTables.{number_of, with_name}
-use Rattle.cov_text.specs.Numbered.{with_word, with_token, names_onto, value_of, word_of}
+use Rattle.cov_text.specs.Numbered.{with_word, with_token, names_onto, token_value, word_of}
 use Rattle.cov_lex.specs.Classified.{kind_of}
 use Rattle.cov_lex.proofs.Lexical.{only_names}
 use Rattle.cov_text.specs.Text.{words_of, numbered_of, names_of, lexed_of}
@@ -116,7 +116,7 @@ there_onto text word ns (t ∷ ts) h = there_onto text word (with_token text ns 
 
 -- a token that the grammar takes as a name has the number of a name
 number_below : (text : List ℕ) (ns : List (List ℕ)) (ts : List lexed.Token) (kind : TokenKind) (word : List ℕ) → Spells word kind → (all : List (List ℕ)) → all ≡ names_onto text (with_word kind word ns) ts
-    → kind_of kind word ≡ k.Name → value_of kind word all < length all
+    → kind_of kind word ≡ k.Name → token_value kind word all < length all
 number_below text ns ts raw.Name word is all e h = below_there word all (ap (list_any (bytes_eq word)) e ∙ there_onto text word (with_name ns word) ts (there_with word ns))
 number_below text ns ts raw.Keyword word is all e h = let no : raw.Keyword ≡ raw.Name = only_names raw.Keyword word is h in cc
 number_below text ns ts (raw.Number m) word is all e h = let no : raw.Number m ≡ raw.Name = only_names (raw.Number m) word is h in cc

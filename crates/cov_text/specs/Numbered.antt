@@ -32,16 +32,16 @@ names_of text ts = names_onto text [] ts
 -- Tokens -------------------------------------------------------------------------------------------------------
 
 -- the number of a name among names, the value of a number
-abbrev pub value_of : TokenKind → List ℕ → List (List ℕ) → ℕ
-value_of raw.Name word names = number_of names word
-value_of raw.Keyword word names = 0
-value_of (raw.Number n) word names = n
-value_of raw.Sign word names = 0
+abbrev pub token_value : TokenKind → List ℕ → List (List ℕ) → ℕ
+token_value raw.Name word names = number_of names word
+token_value raw.Keyword word names = 0
+token_value (raw.Number n) word names = n
+token_value raw.Sign word names = 0
 
 -- a token among names
 abbrev pub word_of : List ℕ → List (List ℕ) → lexed.Token → Token
 word_of text names t =
-    record { kind = kind_of t.kind (bytes_of text t); at = t.at; end = t.end; value = value_of t.kind (bytes_of text t) names }
+    record { kind = kind_of t.kind (bytes_of text t); at = t.at; end = t.end; value = token_value t.kind (bytes_of text t) names }
 
 abbrev pub words_of : List ℕ → List lexed.Token → List Token
 words_of text ts = map (word_of text (names_of text ts)) ts

@@ -2,13 +2,14 @@
 
 ghost use Rattle.std.specs.Prelude.{◌≡◌, ℕ, ◌||◌, ◌<◌, ◌≤◌, false, length, replicate, set, IfSome};
 ghost use Rattle.cov_expr.specs.Trees as tree;
+ghost use Rattle.cov_expr.specs.declared.limits.TheConstants.{MOST_VARIABLES};
 ghost use Rattle.cov_ast.specs.Tables.{table, has, with_all};
 ghost use Rattle.mode_state.specs.Bits.{in_words, IsNext};
 
 use crate::bits::{has_bit, next_bit, with_bit};
 use std::marker::Model;
 
-/// A set of numbers below a bound of at most 256, as four words.
+/// A set of numbers below a bound, which is at most that of the variables of a program, as four words.
 #[derive(Drop)]
 pub struct Mask {
     words: [u64; 4],
@@ -17,6 +18,7 @@ pub struct Mask {
 
 impl Model for Mask {
     ghost use Rattle.std.specs.Prelude.{List, Bool, ◌≤◌};
+    ghost use Rattle.cov_expr.specs.declared.limits.TheConstants.{MOST_VARIABLES};
     ghost use Rattle.cov_ast.specs.Tables.{table};
     ghost use Rattle.mode_state.specs.Bits.{in_words};
 
@@ -24,13 +26,13 @@ impl Model for Mask {
 
     ghost view = { λ s. table s.bound (in_words s.words) };
 
-    ghost invariant = { λ s. s.bound ≤ 256 };
+    ghost invariant = { λ s. s.bound ≤ MOST_VARIABLES };
 }
 
 impl Mask {
     /// The empty set.
     pub fn new(bound: u32) -> Self
-        requires { bound ≤ 256 }
+        requires { bound ≤ MOST_VARIABLES }
         ensures { result ≡ replicate bound false }
     {
         Mask {
@@ -42,7 +44,7 @@ impl Mask {
     /// The set of these numbers; those past the bound are left out.
     #[tactic(auto, using(crate::proofs::MaskLaws::none_with))]
     pub fn of(bound: u32, numbers: &[u32]) -> Self
-        requires { bound ≤ 256 }
+        requires { bound ≤ MOST_VARIABLES }
         ensures { result ≡ table bound (tree.has_number numbers.now) }
     {
         let mut made = Mask::new(bound);
@@ -53,7 +55,7 @@ impl Mask {
     /// The set of the numbers of two lists; those past the bound are left out.
     #[tactic(auto, using(crate::proofs::MaskLaws::none_with_both))]
     pub fn of_both(bound: u32, first: &[u32], second: &[u32]) -> Self
-        requires { bound ≤ 256 }
+        requires { bound ≤ MOST_VARIABLES }
         ensures { result ≡ table bound (λ x. tree.has_number first.now x || tree.has_number second.now x) }
     {
         let mut made = Mask::new(bound);
@@ -110,7 +112,7 @@ impl Mask {
     /// The first number of the set from a number on.
     pub fn next_from(&self, from: u32) -> Option<u32>
         ensures next { IsNext (has self.now) from (length self.now) result }
-        ensures small { IfSome result (λ x. x < 256) }
+        ensures small { IfSome result (λ x. x < MOST_VARIABLES) }
     {
         match next_in(&self.words, from) {
             Some(x) if x < self.bound => Some(x),
@@ -121,14 +123,14 @@ impl Mask {
 
 /// Four words with the numbers of both.
 fn joined(a: &[u64; 4], b: &[u64; 4]) -> [u64; 4]
-    ensures { (x : ℕ) → x < 256 → in_words result x ≡ (in_words a.now x || in_words b.now x) }
+    ensures { (x : ℕ) → x < MOST_VARIABLES → in_words result x ≡ (in_words a.now x || in_words b.now x) }
 {
     [a[0] | b[0], a[1] | b[1], a[2] | b[2], a[3] | b[3]]
 }
 
 /// The first number of four words from a number on.
 fn next_in(words: &[u64; 4], from: u32) -> Option<u32>
-    ensures { IsNext (in_words words.now) from 256 result }
+    ensures { IsNext (in_words words.now) from MOST_VARIABLES result }
 {
     for word in (from / 64)..4 {
         let first = from.saturating_sub(word * 64);

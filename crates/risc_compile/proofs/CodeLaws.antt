@@ -13,7 +13,7 @@ use Rattle.mode_state.specs.Sets.{Sets, is_stable, modes_at}
 use Rattle.regalloc.specs.Plan.{Plan, start, restrict, meet}
 use Rattle.regalloc.specs.Stable.{KeepsBelow, KeepsStable}
 use Rattle.compiled_code.specs.Compiled.{block_lines, block_plan, cmd_lines, cmd_plan, direct, eval_lines, eval_plan, eval_register, line, store_from}
-use Rattle.risc_compile.specs.Inside.{AddsBlock, AddsGuarded, Stands, WhereStable, after, after_guarded, evaluated_by, used_value, with_lines}
+use Rattle.risc_compile.specs.Inside.{AddsBlock, AddsGuarded, Stands, WhereStable, after, after_guarded, after_value, used_value, with_lines}
 use Rattle.risc_compile.specs.declared.expressions.Value.{Value}
 use Rattle.risc_compile.specs.declared.emitter.Emitter.{Emitter}
 use Rattle.risc_compile.proofs.PlanLaws.{below_less, eval_below, expr_below, meet_less, restrict_less, start_below, store_below}
@@ -140,11 +140,11 @@ module _ (p : Plain) (t : ℕ) where
       patched ∙ (λ i. let r : Emitter = record (whole i) { lines = set (whole i).lines (at i) (line value.weight (Jz value.register ((past ∙ ap (λ (e : Emitter). length e.lines) whole ∙ there) i))) } in r)
       ∙ ap (λ (ls : List Line). let r : Emitter = record (after_guarded p t value cmds target old) { lines = ls } in r) lines
 
-  evaluated_stands : (e : Emitter) (a : Term) (from : Option ℕ) → HasVarsBelow a (length p.vars) → Stands p t e → Stands p t (evaluated_by (is_stable p t e.modes.held) a from e)
+  evaluated_stands : (e : Emitter) (a : Term) (from : Option ℕ) → HasVarsBelow a (length p.vars) → Stands p t e → Stands p t (after_value (is_stable p t e.modes.held) a from e)
   evaluated_stands e a from inside h = record { modes = h.modes; below = eval_below (length p.vars) (is_stable p t e.modes.held) a e.plan from inside h.below }
 
   pub branch_code : (a : Term) (then_block else_block : Block) (join : State) (value : Value) (jump end : ℕ) (kept : Plan) (old one m two n q : Emitter)
-      → WhereStable old.modes a (λ stable. let from = direct stable old.plan a in (one ≡ evaluated_by stable a from old) × (value ≡ used_value stable a from old))
+      → WhereStable old.modes a (λ stable. let from = direct stable old.plan a in (one ≡ after_value stable a from old) × (value ≡ used_value stable a from old))
       → AddsGuarded value then_block 0 one m → length m.lines ≡ jump + 1 → two ≡ record one { lines = m.lines } → AddsBlock else_block two n → end ≡ length n.lines
       → q ≡ record n { lines = set n.lines jump (line 0 (Jump end)) } → kept ≡ meet m.plan q.plan
       → Stands p t old → IsStmInRange (length p.vars) (length p.locks) (branch a then_block else_block join)
@@ -153,7 +153,7 @@ module _ (p : Plain) (t : ℕ) where
       let stable = is_stable p t old.modes.held in
       let from = direct stable old.plan a in
       let begun = eval p t h.modes range.0 in
-      let inside = evaluated_by stable a from old in
+      let inside = after_value stable a from old in
       let used = used_value stable a from old in
       let stands : Stands p t inside = evaluated_stands old a from range.0 h in
       let yes_cmds = plain_block then_block in
@@ -192,7 +192,7 @@ module _ (p : Plain) (t : ℕ) where
       (λ i. let r : Emitter = record { lines = lines i; plan = plan i; modes = (first i).modes } in r)
 
   pub loop_code : (a : Term) (b : Block) (inv : State) (value : Value) (head : ℕ) (old one m : Emitter) → head ≡ length old.lines
-      → WhereStable old.modes a (λ stable. (one ≡ evaluated_by stable a None (record old { plan = start })) × (value ≡ used_value stable a None (record old { plan = start })))
+      → WhereStable old.modes a (λ stable. (one ≡ after_value stable a None (record old { plan = start })) × (value ≡ used_value stable a None (record old { plan = start })))
       → AddsGuarded value b head one m
       → Stands p t old → IsStmInRange (length p.vars) (length p.locks) (loop a inv b)
       → ◌≡◌ {A = Emitter} (record { lines = m.lines; plan = one.plan; modes = one.modes }) (after p t (next 0 (plain.loop a (plain_block b)) none) old)
@@ -200,7 +200,7 @@ module _ (p : Plain) (t : ℕ) where
       let stable = is_stable p t old.modes.held in
       let begun = eval p t h.modes range.0 in
       let empty : Emitter = record old { plan = start } in
-      let inside = evaluated_by stable a None empty in
+      let inside = after_value stable a None empty in
       let used = used_value stable a None empty in
       let stands : Stands p t inside = evaluated_stands empty a None range.0 (record { modes = h.modes; below = start_below (length p.vars) }) in
       let cmds = plain_block b in

@@ -8,7 +8,7 @@ use Rattle.cov_expr.specs.declared.expr.Op.{Op}
 use Rattle.mode_state.specs.Sets.{is_stable}
 use Rattle.regalloc.specs.Plan.{Plan}
 use Rattle.compiled_code.specs.Compiled.{expr_plan, expr_register, expr_room, fetch_instrs, fetch_plan, line, load_unstable, part_register, term_instrs, unstable_of, weigh}
-use Rattle.risc_compile.specs.Inside.{WhereStable, evaluated, fetched, with_instrs, with_lines, with_room}
+use Rattle.risc_compile.specs.Inside.{WhereStable, after_expression, fetched, with_instrs, with_lines, with_room}
 use Rattle.risc_compile.specs.declared.emitter.Emitter.{Emitter}
 use Rattle.risc_compile.proofs.PlanLaws.{fetch_instrs_append, fetch_plan_append}
 use Rattle.risc_machine.specs.declared.parts.Instr.{Instr}
@@ -97,7 +97,7 @@ pub expr_code : (e : Term) (from r parts : ℕ) (old begun loaded termed weighed
     → WhereStable loaded.modes e (λ stable. termed ≡ with_instrs loaded (term_instrs stable loaded.plan e 0))
     → ((before : List Line) (instrs : List Instr) → termed.lines ≡ before ++ map (line 0) instrs → from ≡ length before → weighed ≡ record termed { lines = before ++ weigh instrs })
     → r ≡ part_register weighed.plan 0
-    → WhereStable old.modes e (λ stable. (weighed ≡ evaluated stable e old) × (r ≡ expr_register stable old.plan e))
+    → WhereStable old.modes e (λ stable. (weighed ≡ after_expression stable e old) × (r ≡ expr_register stable old.plan e))
 expr_code e from r parts old begun loaded termed weighed at wide begins loads terms weighs value p t is inside =
     let stable = is_stable p t old.modes.held in
     let load = load_unstable (unstable_of stable e) in
@@ -116,7 +116,7 @@ expr_code e from r parts old begun loaded termed weighed at wide begins loads te
     let lines : ((old.lines ++ map (line 0) load) ++ map (line 0) fetch) ++ map (line 0) rest ≡ old.lines ++ map (line 0) (load ++ (fetch ++ rest)) =
     append_assoc (old.lines ++ map (line 0) load) (map (line 0) fetch) (map (line 0) rest) ∙ append_assoc old.lines (map (line 0) load) (map (line 0) fetch ++ map (line 0) rest)
     ∙ ap (λ (ls : List Line). old.lines ++ ls) (sym (map_append load (fetch ++ rest) ∙ ap (λ (ls : List Line). map (line 0) load ++ ls) (map_append fetch rest))) in
-    let whole : weighed ≡ evaluated stable e old =
+    let whole : weighed ≡ after_expression stable e old =
     weighs old.lines (load ++ (fetch ++ rest)) (ap (λ (m : Emitter). m.lines) third ∙ lines) at
     ∙ ap (λ (m : Emitter). let n : Emitter = record m { lines = old.lines ++ weigh (load ++ (fetch ++ rest)) } in n) third in
     (whole, value ∙ ap (λ (m : Emitter). part_register m.plan 0) whole)

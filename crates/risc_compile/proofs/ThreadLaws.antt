@@ -1,5 +1,6 @@
 -- Laws of the code of threads and of the parts of a program.
 use Rattle.std.proofs.Common.{◌≡◌, ℕ, ◌<◌, List, [], length, get_or, map, Option, Some, None, refl, sym, ◌∙◌, ap, arith}
+use Rattle.std.specs.Option.{option_or}
 use Rattle.std.proofs.lemmas.List.{get_or-map, length-map}
 use Rattle.cov_ast.specs.Declarations.{no_thread, thread_at}
 use Rattle.cov_ast.specs.LocksAlong.{no_locks}
@@ -15,7 +16,7 @@ use Rattle.compiled_code.specs.Compiled.{block_lines, thread_code}
 use Rattle.risc_compile.specs.Inside.{AddsBlock, Stands, after}
 use Rattle.risc_compile.specs.declared.emitter.Emitter.{Emitter}
 use Rattle.risc_compile.proofs.PlanLaws.{start_below}
-use Rattle.risc_machine.specs.Faults.{first_of, name_fault}
+use Rattle.risc_machine.specs.Faults.{name_fault}
 use Rattle.risc_machine.specs.declared.parts.CodeBad.{CodeBad}
 use Rattle.risc_machine.specs.declared.parts.Line.{Line}
 use Rattle.risc_machine.specs.declared.parts.ThreadCode.{ThreadCode}
@@ -55,7 +56,7 @@ thread_is p t thread lines inside is made =
     ∙ (λ i. let c : ThreadCode = record { name = (seen i).name; lines = block_lines q t (seen i).body (no_locks q) start 0 } in c)
 
 -- Parts without a fault have no name that equals an earlier one.
-pub names_distinct : (version : Option CodeBad) (name : Option (List ℕ)) (rest : Option CodeBad) → first_of version (first_of (name_fault name) rest) ≡ None → name ≡ None
+pub names_distinct : (version : Option CodeBad) (name : Option (List ℕ)) (rest : Option CodeBad) → option_or version (option_or (name_fault name) rest) ≡ None → name ≡ None
 names_distinct (Some v) name rest none = absurd (cc)
 names_distinct None None rest none = refl
 names_distinct None (Some n) rest none = absurd (cc)

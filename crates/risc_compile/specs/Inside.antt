@@ -48,12 +48,12 @@ abbrev pub fetched : (stable : ℕ → Bool) → (parts : ℕ) → List ℕ → 
 fetched stable parts xs e = record e { lines = e.lines ++ map (line 0) (fetch_instrs stable parts xs e.plan); plan = fetch_plan stable parts xs e.plan }
 
 -- after an expression
-abbrev pub evaluated : (stable : ℕ → Bool) → Term → Emitter → Emitter
-evaluated stable t e = record e { lines = e.lines ++ expr_lines stable e.plan t; plan = expr_plan stable e.plan t }
+abbrev pub after_expression : (stable : ℕ → Bool) → Term → Emitter → Emitter
+after_expression stable t e = record e { lines = e.lines ++ expr_lines stable e.plan t; plan = expr_plan stable e.plan t }
 
 -- after an expression whose value a register keeps, or is to be computed
-abbrev pub evaluated_by : (stable : ℕ → Bool) → Term → (direct : Option ℕ) → Emitter → Emitter
-evaluated_by stable t direct e = record e { lines = e.lines ++ eval_lines stable e.plan t direct; plan = eval_plan stable e.plan t direct }
+abbrev pub after_value : (stable : ℕ → Bool) → Term → (direct : Option ℕ) → Emitter → Emitter
+after_value stable t direct e = record e { lines = e.lines ++ eval_lines stable e.plan t direct; plan = eval_plan stable e.plan t direct }
 
 -- where its value is, and for how many steps the instruction stands that uses it
 abbrev pub used_value : (stable : ℕ → Bool) → Term → (direct : Option ℕ) → Emitter → Value

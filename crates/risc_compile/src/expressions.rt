@@ -6,7 +6,7 @@ ghost use Rattle.cov_expr.specs.Trees as tree;
 ghost use Rattle.cov_expr.specs.View.{term};
 ghost use Rattle.compiled_code.specs.Compiled as spec;
 ghost use Rattle.regalloc.specs.Plan as plan;
-ghost use Rattle.risc_compile.specs.Inside.{WhereStable, evaluated, evaluated_by, fetched, used_value, with_instrs, with_room};
+ghost use Rattle.risc_compile.specs.Inside.{WhereStable, after_expression, after_value, fetched, used_value, with_instrs, with_room};
 
 use crate::emitter::Emitter;
 use cov_expr::{Expr, NoMemory, Op};
@@ -144,7 +144,7 @@ impl Emitter {
         ensures length { OnOk result ((length (self.old).lines ≤ length (self.new).lines) × (length (self.new).lines ≤ length (self.old).lines + (3 * tree.nodes (term e.now) + 1))) }
         ensures small { IfOk result (λ r. r < 8) }
         ensures code { IfOk result (λ r. WhereStable (self.old).modes (term e.now) (λ stable.
-            (self.new ≡ evaluated stable (term e.now) self.old) × (r ≡ spec.expr_register stable (self.old).plan (term e.now)))) }
+            (self.new ≡ after_expression stable (term e.now) self.old) × (r ≡ spec.expr_register stable (self.old).plan (term e.now)))) }
     {
         let start = self.lines.len();
         let parts = width(e);
@@ -171,7 +171,7 @@ impl Emitter {
         ensures length { OnOk result ((length (self.old).lines ≤ length (self.new).lines) × (length (self.new).lines ≤ length (self.old).lines + (3 * tree.nodes (term e.now) + 1))) }
         ensures small { IfOk result (λ value. value.register < 8) }
         ensures code { IfOk result (λ value. WhereStable (self.old).modes (term e.now) (λ stable.
-            (self.new ≡ evaluated_by stable (term e.now) None self.old) × (value ≡ used_value stable (term e.now) None self.old))) }
+            (self.new ≡ after_value stable (term e.now) None self.old) × (value ≡ used_value stable (term e.now) None self.old))) }
     {
         Ok(Value {
             register: self.computed(e)?,
@@ -186,7 +186,7 @@ impl Emitter {
         ensures length { OnOk result ((length (self.old).lines ≤ length (self.new).lines) × (length (self.new).lines ≤ length (self.old).lines + (3 * tree.nodes (term e.now) + 1))) }
         ensures code { IfOk result (λ value. WhereStable (self.old).modes (term e.now) (λ stable.
             let direct = spec.direct stable (self.old).plan (term e.now) in
-            (self.new ≡ evaluated_by stable (term e.now) direct self.old) × (value ≡ used_value stable (term e.now) direct self.old))) }
+            (self.new ≡ after_value stable (term e.now) direct self.old) × (value ≡ used_value stable (term e.now) direct self.old))) }
     {
         match self.direct(e) {
             Some(register) => Ok(Value {

@@ -1,5 +1,6 @@
 -- Which parts are code, and what the first fault of others is.
 use Rattle.std.specs.Prelude.{◌≡◌, ℕ, ◌+◌, nat_lt, nat_le, ◌==◌, ◌||◌, ◌&&◌, List, [], ◌∷◌, ◌++◌, length, map, Bool, true, if◌then◌else◌, Option, Some, None, All}
+use Rattle.std.specs.Option.{option_or}
 use Rattle.std.specs.List.{list_any}
 use Rattle.std.specs.Str.{bytes_eq}
 use Rattle.cov_expr.specs.Words.{IsWord}
@@ -11,15 +12,10 @@ use Rattle.risc_machine.specs.declared.parts.Line.{Line}
 use Rattle.risc_machine.specs.declared.parts.Parts.{Parts}
 use Rattle.risc_machine.specs.declared.parts.ThreadCode.{ThreadCode}
 
--- the first of two that is there
-abbrev pub first_of : {A : Type 0} → Option A → Option A → Option A
-first_of (Some x) y = Some x
-first_of None y = y
-
 -- the first of what is found at the items of a list, the first of which has the number `i`
 abbrev pub first_in : {A B : Type 0} → (ℕ → A → Option B) → ℕ → List A → Option B
 first_in found i [] = None
-first_in found i (x ∷ xs) = first_of (found i x) (first_in found (i + 1) xs)
+first_in found i (x ∷ xs) = option_or (found i x) (first_in found (i + 1) xs)
 
 -- Names --------------------------------------------------------------------------------------------------------
 
@@ -113,11 +109,11 @@ has_version version (Out r) = nat_le 2 version
 -- the first fault of the line at position `i` of thread `t`, which has so many lines
 abbrev pub line_fault : Parts → (t lines i : ℕ) → Line → Option CodeBad
 line_fault p t lines i l =
-    first_of (if nat_le l.weight 2 then None else Some (bad.BadWeight t i))
-    (first_of (if has_registers l.instr then None else Some (bad.BadRegister t i))
-    (first_of (if has_variable (length p.vars) l.instr then None else Some (bad.BadVariable t i))
-    (first_of (if has_lock (length p.locks) l.instr then None else Some (bad.BadLock t i))
-    (first_of (if has_target lines l.instr then None else Some (bad.BadTarget t i))
+    option_or (if nat_le l.weight 2 then None else Some (bad.BadWeight t i))
+    (option_or (if has_registers l.instr then None else Some (bad.BadRegister t i))
+    (option_or (if has_variable (length p.vars) l.instr then None else Some (bad.BadVariable t i))
+    (option_or (if has_lock (length p.locks) l.instr then None else Some (bad.BadLock t i))
+    (option_or (if has_target lines l.instr then None else Some (bad.BadTarget t i))
     (if has_version p.version l.instr then None else Some (bad.BadOut t i))))))
 
 -- the first fault of the lines of thread `t`
@@ -134,8 +130,8 @@ name_fault (Some name) = Some (bad.SameName name)
 -- and by position.
 abbrev pub fault_of : Parts → Option CodeBad
 fault_of p =
-    first_of (if p.version == 1 || p.version == 2 then None else Some (bad.BadVersion p.version))
-    (first_of (name_fault (repeated [] (names_of p))) (first_in (thread_fault p) 0 p.threads))
+    option_or (if p.version == 1 || p.version == 2 then None else Some (bad.BadVersion p.version))
+    (option_or (name_fault (repeated [] (names_of p))) (first_in (thread_fault p) 0 p.threads))
 
 -- The length of each list is a word, and so is each number of an item.
 pub record AreCounted (p : Parts) : Type 0 where

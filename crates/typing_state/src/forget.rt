@@ -3,6 +3,7 @@
 ghost use Rattle.std.specs.Prelude.{◌≡◌, ◌<◌, ◌≤◌, ◌&&◌, [], length, map, not, option_map, get_or, set, IfOk, OnOk};
 ghost use Rattle.std.specs.Prelude.{None};
 ghost use Rattle.cov_expr.specs.View.{term};
+ghost use Rattle.cov_expr.specs.declared.limits.TheConstants.{MOST_VARIABLES};
 ghost use Rattle.cov_ast.specs.Plain.{Plain, plain};
 ghost use Rattle.cov_ast.specs.Tables.{has};
 ghost use Rattle.cov_ast.specs.View as view;
@@ -75,7 +76,7 @@ fn next_changed(p: &Program, modes: &ModeState, types: &Types, l: u32, from: u32
 /// The first variable from a number on whose type may mention another one.
 fn next_mentioning(p: &Program, types: &Types, x: u32, from: u32) -> Option<u32>
     requires formed { IsWellFormed (view.program p.now) }
-    requires small { x < 256 }
+    requires small { x < MOST_VARIABLES }
     ensures { AreDone (λ k. is_free x (get_or (map (option_map term) types.now) k None)) from (length p.now.vars) result }
 {
     if_below(var_count(p), types.next_mentioning(x, from))
@@ -149,7 +150,7 @@ pub fn forget_types(
     types: &mut Types,
 ) -> Result<(), NoMemory>
     requires formed { IsWellFormed (view.program p.now) }
-    requires small { x < 256 }
+    requires small { x < MOST_VARIABLES }
     ensures { OnOk result (AtEach (plain (view.program p.now)) modes.now variables.now (λ t held. length types.old ≤ length p.now.vars
         → map (option_map term) types.new ≡ after.retyped (after.forgotten_type (plain (view.program p.now)) t held x) (map (option_map term) types.old))) }
 {
@@ -170,7 +171,7 @@ fn forget_type(
     z: u32,
 ) -> Result<(), NoMemory>
     requires variable { z < length p.now.vars }
-    requires small { x < 256 }
+    requires small { x < MOST_VARIABLES }
     ensures { OnOk result (AtEach (plain (view.program p.now)) modes.now variables.now (λ t held.
         map (option_map term) types.new ≡ set (map (option_map term) types.old) z
         (option_map (after.forgotten_type (plain (view.program p.now)) t held x z) (get_or (map (option_map term) types.old) z None)))) }
@@ -255,7 +256,7 @@ fn retype(
     types: &mut Types,
 ) -> Result<(), NoMemory>
     requires formed { IsWellFormed (view.program p.now) }
-    requires small { x < 256 }
+    requires small { x < MOST_VARIABLES }
     ensures { OnOk result (AtEach (plain (view.program p.now)) modes.now variables.now (λ t held. length types.old ≤ length p.now.vars
         → map (option_map term) types.new ≡ after.retyped (λ z g. after.listed_or (map view.retype retypes.now) z (after.forgotten_type (plain (view.program p.now)) t held x z g))
         (map (option_map term) types.old))) }

@@ -3,16 +3,17 @@
 ghost use Rattle.std.specs.Prelude.{◌≡◌};
 ghost use Rattle.cov_expr.specs.Trees.{mentions, occurrences};
 ghost use Rattle.cov_expr.specs.View.{term};
+ghost use Rattle.cov_expr.specs.declared.limits.TheConstants.{MOST_VARIABLES};
 ghost use Rattle.cov_ast.specs.Tables.{table, with_all};
 
-use cov_expr::Expr;
+use cov_expr::{Expr, MOST_VARIABLES};
 use mode_state::Mask;
 
-/// The variables below 256 that an expression mentions.
+/// The variables that an expression mentions, of as many as a program may have.
 pub fn mentioned(e: &Expr) -> Mask
-    ensures { result ≡ table 256 (mentions (term e.now)) }
+    ensures { result ≡ table MOST_VARIABLES (mentions (term e.now)) }
 {
-    let mut found = Mask::new(256);
+    let mut found = Mask::new(MOST_VARIABLES as u32);
     add_variables(e, &mut found);
     found
 }

@@ -3,6 +3,7 @@
 ghost use Rattle.std.specs.Prelude.{◌≡◌, ◌<◌, ◌≤◌, ◌||◌, ℕ, true, false, [], ◌∷◌, ◌++◌, length, map, option_copied, option_map, get_or, set, is_some, not, IfOk, IfSome, OnOk, None, if◌then◌else◌};
 ghost use Rattle.std.specs.List.{list_all};
 ghost use Rattle.cov_expr.specs.Trees as tree;
+ghost use Rattle.cov_expr.specs.declared.limits.TheConstants.{MOST_VARIABLES};
 ghost use Rattle.cov_expr.specs.View.{term};
 ghost use Rattle.cov_ast.specs.Tables.{has};
 ghost use Rattle.cov_ast.specs.View as view;
@@ -11,10 +12,10 @@ ghost use Rattle.typing_state.specs.Inside.Groups.{is_free};
 ghost use Rattle.typing_state.specs.Terms.{is_small, is_small_type, is_closed_type};
 ghost use Rattle.typing_state.specs.Next.{AreDone};
 
-use crate::groups::Groups;
+use crate::groups::{GROUP_SIZE, Groups};
 use crate::mentioned::mentioned;
 use cov_ast::Retype;
-use cov_expr::{Expr, List, MOST_NODES, NoMemory, closed, copy, nodes_at_most};
+use cov_expr::{Expr, List, MOST_NODES, MOST_VARIABLES, NoMemory, closed, copy, nodes_at_most};
 use mode_state::Mask;
 use std::alloc::Global;
 use std::marker::Model;
@@ -26,7 +27,7 @@ pub struct Type {
     expr: Expr,
     small: bool,
     closed: bool,
-    /// The variables below 256 that it mentions.
+    /// The variables that it mentions, of as many as a program may have.
     mentioned: Mask,
 }
 
@@ -36,6 +37,7 @@ impl Model for Type {
     ghost use Rattle.cov_expr.specs.contracts.expr.Expr as e;
     ghost use Rattle.cov_expr.specs.declared.expr.Expr.{Expr};
     ghost use Rattle.cov_expr.specs.View.{term};
+    ghost use Rattle.cov_expr.specs.declared.limits.TheConstants.{MOST_VARIABLES};
     ghost use Rattle.cov_expr.specs.Trees.{is_closed, mentions};
     ghost use Rattle.cov_ast.specs.Tables.{table};
     ghost use Rattle.typing_state.specs.Terms.{is_small};
@@ -47,7 +49,7 @@ impl Model for Type {
     ghost view = { λ q. q.expr };
 
     ghost invariant = { λ q. (q.small ≡ is_small (term q.expr)) × (q.closed ≡ is_closed (term q.expr))
-        × (q.mentioned ≡ table 256 (mentions (term q.expr))) };
+        × (q.mentioned ≡ table MOST_VARIABLES (mentions (term q.expr))) };
 }
 
 impl Type {
@@ -86,19 +88,19 @@ impl Type {
         self.closed
     }
 
-    /// Whether a variable below 256 is mentioned.
+    /// Whether a variable is mentioned.
     fn mentions(&self, x: u32) -> bool
-        requires { x < 256 }
+        requires { x < MOST_VARIABLES }
         ensures { result ≡ tree.mentions (term self.now) x }
     {
         self.mentioned.has(x)
     }
 
-    /// Adds the variables below 256 that it mentions to a set.
+    /// Adds the variables that it mentions, of as many as a program may have, to a set.
     pub fn add_mentioned(&self, set: &mut Mask)
-        requires { length set.old ≡ 256 }
-        ensures length { length set.new ≡ 256 }
-        ensures mentioned { (x : ℕ) → x < 256 → has set.new x ≡ (has set.old x || tree.mentions (term self.now) x) }
+        requires { length set.old ≡ MOST_VARIABLES }
+        ensures length { length set.new ≡ MOST_VARIABLES }
+        ensures mentioned { (x : ℕ) → x < MOST_VARIABLES → has set.new x ≡ (has set.old x || tree.mentions (term self.now) x) }
     {
         set.insert_set(&self.mentioned);
     }
@@ -123,6 +125,7 @@ impl Model for Types {
     ghost use Rattle.cov_expr.specs.contracts.expr.Expr as e;
     ghost use Rattle.cov_expr.specs.declared.expr.Expr.{Expr};
     ghost use Rattle.cov_expr.specs.View.{term};
+    ghost use Rattle.cov_expr.specs.declared.limits.TheConstants.{MOST_VARIABLES};
     ghost use Rattle.typing_state.specs.Inside.Groups.{AreGrouped};
     ghost use Rattle.typing_state.specs.Terms.{is_small_type, is_closed_type};
 
@@ -133,7 +136,7 @@ impl Model for Types {
     ghost view = { λ s. map (option_map (λ q. q.value)) s.known };
 
     ghost invariant = { λ s. (s.large ≡ count_by (λ q. not (is_small_type (option_map (λ q. term q.value) q))) s.known)
-        × (length s.varying ≡ 256) × ((x : ℕ) → x < 256 → has s.varying x ≡ false
+        × (length s.varying ≡ MOST_VARIABLES) × ((x : ℕ) → x < MOST_VARIABLES → has s.varying x ≡ false
         → is_closed_type (get_or (map (option_map term) (map (option_map (λ q. q.value)) s.known)) x None) ≡ true)
         × AreGrouped s.groups (map (option_map term) (map (option_map (λ q. q.value)) s.known)) };
 }
@@ -146,7 +149,7 @@ impl Types {
         Ok(Types {
             known: List::new(alloc),
             large: 0,
-            varying: Mask::new(256),
+            varying: Mask::new(MOST_VARIABLES as u32),
             groups: Groups::new(alloc)?,
         })
     }
@@ -172,7 +175,7 @@ impl Types {
         let index = self.known.len();
         self.groups.mark(index, &q);
         self.known.push(q)?;
-        if index < 256 {
+        if index < MOST_VARIABLES {
             self.varying.put(index as u32, varies);
         }
         // (there are no more large ones than variables)
@@ -214,18 +217,18 @@ impl Types {
         }
     }
 
-    /// The first of the variables below 256, from a number on, whose type may mention a variable.
+    /// The first variable, of as many as a program may have and from a number on, whose type may mention a variable.
     pub fn next_varying(&self, from: u32) -> Option<u32>
-        ensures { AreDone (λ k. is_closed_type (get_or (map (option_map term) self.now) k None)) from 256 result }
+        ensures { AreDone (λ k. is_closed_type (get_or (map (option_map term) self.now) k None)) from MOST_VARIABLES result }
     {
         self.varying.next_from(from)
     }
 
-    /// The first of the variables below 256, from a number on, whose type mentions another variable. Of sixteen variables none of
-    /// whose types mentions it none is looked at.
+    /// The first variable, of as many as a program may have and from a number on, whose type mentions another one. Of a group none
+    /// of whose types mentions it no variable is looked at.
     pub fn next_mentioning(&self, x: u32, from: u32) -> Option<u32>
-        requires { x < 256 }
-        ensures done { AreDone (λ k. is_free x (get_or (map (option_map term) self.now) k None)) from 256 result }
+        requires { x < MOST_VARIABLES }
+        ensures done { AreDone (λ k. is_free x (get_or (map (option_map term) self.now) k None)) from MOST_VARIABLES result }
         ensures mentioning { IfSome result (λ z. is_free x (get_or (map (option_map term) self.now) z None) ≡ false) }
     {
         let mut start = from;
@@ -242,29 +245,29 @@ impl Types {
     /// A number up to which no type from a variable on mentions another variable. It is the variable itself exactly where its
     /// type does.
     fn past_free(&self, z: u32, x: u32) -> u32
-        requires small { x < 256 }
-        requires below { z < 256 }
+        requires small { x < MOST_VARIABLES }
+        requires below { z < MOST_VARIABLES }
         ensures further { z ≤ result }
-        ensures free { (k : ℕ) → z ≤ k → k < result → k < 256 → is_free x (get_or (map (option_map term) self.now) k None) ≡ true }
+        ensures free { (k : ℕ) → z ≤ k → k < result → k < MOST_VARIABLES → is_free x (get_or (map (option_map term) self.now) k None) ≡ true }
         ensures stays { result ≡ z → is_free x (get_or (map (option_map term) self.now) z None) ≡ false }
     {
-        let group = (z / 16) as usize;
+        let group = (z / GROUP_SIZE) as usize;
         let next = self.groups.next_with(x, group);
         if group < next {
-            return next as u32 * 16;
+            return next as u32 * GROUP_SIZE;
         }
         self.past_free_of_group(z, x)
     }
 
-    /// The same of the sixteen variables alone to which this one belongs.
+    /// The same of the group alone to which this variable belongs.
     fn past_free_of_group(&self, z: u32, x: u32) -> u32
-        requires small { x < 256 }
-        requires below { z < 256 }
+        requires small { x < MOST_VARIABLES }
+        requires below { z < MOST_VARIABLES }
         ensures further { z ≤ result }
         ensures free { (k : ℕ) → z ≤ k → k < result → is_free x (get_or (map (option_map term) self.now) k None) ≡ true }
         ensures stays { result ≡ z → is_free x (get_or (map (option_map term) self.now) z None) ≡ false }
     {
-        let end = (z / 16 + 1) * 16;
+        let end = (z / GROUP_SIZE + 1) * GROUP_SIZE;
         for k in z..end {
             if !self.is_free(k, x) {
                 return k;
@@ -275,7 +278,7 @@ impl Types {
 
     /// Whether the type of a variable, if there is one, doesn't mention another variable.
     pub fn is_free(&self, z: u32, x: u32) -> bool
-        requires { x < 256 }
+        requires { x < MOST_VARIABLES }
         ensures { result ≡ is_free x (get_or (map (option_map term) self.now) z None) }
     {
         match self.known.as_slice().get(z as usize) {
@@ -301,9 +304,9 @@ fn expr_of(q: &Option<Rc<Type, Global>>) -> Option<&Expr>
     }
 }
 
-/// Whether a type, if there is one, doesn't mention a variable below 256.
+/// Whether a type, if there is one, doesn't mention a variable.
 fn is_free(q: &Option<Rc<Type, Global>>, x: u32) -> bool
-    requires { x < 256 }
+    requires { x < MOST_VARIABLES }
     ensures { result ≡ is_free x (option_map (λ q. term q.value) q.now) }
 {
     match q {

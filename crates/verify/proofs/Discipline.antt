@@ -28,7 +28,7 @@ use Rattle.mode_compat.specs.HeldSets.{AreHeldBy, AreSetsOf}
 use Rattle.typing_state.specs.After.{start}
 use Rattle.typing_law.specs.ThreadObligations.{thread_obligations, block_obligations, end_obligation, end_point}
 use Rattle.verify.specs.Accepted.{IsAccepted}
-use Rattle.verify.specs.Disciplined.{held_at, held_in_front_of, evaluated, IsEvaluable, IsDisciplinedAt, IsDisciplined}
+use Rattle.verify.specs.Disciplined.{held_at, held_in_front_of, evaluated_expression, IsEvaluable, IsDisciplinedAt, IsDisciplined}
 use Rattle.verify.proofs.Parts.{thread_holds}
 use Rattle.verify.proofs.Placed.{Reads, PlacedCmd, Placed, placed_block, block_sized}
 use Rattle.verify.proofs.Places.{places_found}
@@ -228,7 +228,7 @@ module _ (p : Plain) (t : ℕ) (at_place : ℕ → List Bool) where
         ]
     own_turn m h said (emit at w ∷ is) H nh nH held k = still m h (said ++ w ∷ []) is H nH held (left is H k.1)
 
-    evaluates : (h : Holders) (is : List Item) (H : List Bool) → AreHeldBy h t H → IsLeft is H → IfSome (evaluated is) (IsEvaluable p h t)
+    evaluates : (h : Holders) (is : List Item) (H : List Bool) → AreHeldBy h t H → IsLeft is H → IfSome (evaluated_expression is) (IsEvaluable p h t)
     evaluates h [] H held k = tt
     evaluates h (run at skip ∷ is) H held k = tt
     evaluates h (run at (assign x e) ∷ is) H held k = evaluable p h t H (sets h H held) e k.2.1
@@ -300,7 +300,7 @@ module _ (p : Program) where
         let stand = k.stands t inside in
         record {
           locks = holds_locks p s.holders t (items_of s t) stand.held stand.by stand.rest;
-          evaluates = for_some (evaluated (items_of s t)) (IsEvaluable (plain p) s.holders t)
+          evaluates = for_some (evaluated_expression (items_of s t)) (IsEvaluable (plain p) s.holders t)
               (evaluates (plain p) t (held_at p t) (λ h H. sets h t H) s.holders (items_of s t) stand.held stand.by stand.rest);
           spares = λ u x u_in d stable. (goes s k t inside).1.words x (λ w. apart s.holders u t x inside d w stable);
         }

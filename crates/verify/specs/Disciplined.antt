@@ -59,18 +59,18 @@ held_in_front_of p t [] = []
 held_in_front_of p t (i ∷ is) = held_at p t (place_of i)
 
 -- the expression that the next step evaluates, if it evaluates one
-abbrev pub evaluated : List Item → Option Term
-evaluated [] = None
-evaluated (run at code.skip ∷ is) = None
-evaluated (run at (code.assign x e) ∷ is) = Some e
-evaluated (run at (code.lock l) ∷ is) = None
-evaluated (run at (code.unlock l) ∷ is) = None
-evaluated (run at (code.branch e yes_block no_block) ∷ is) = Some e
-evaluated (run at (code.loop e body) ∷ is) = Some e
-evaluated (run at (code.output e) ∷ is) = Some e
-evaluated (put at x word ∷ is) = None
-evaluated (test at word yes_block no_block ∷ is) = None
-evaluated (emit at word ∷ is) = None
+abbrev pub evaluated_expression : List Item → Option Term
+evaluated_expression [] = None
+evaluated_expression (run at code.skip ∷ is) = None
+evaluated_expression (run at (code.assign x e) ∷ is) = Some e
+evaluated_expression (run at (code.lock l) ∷ is) = None
+evaluated_expression (run at (code.unlock l) ∷ is) = None
+evaluated_expression (run at (code.branch e yes_block no_block) ∷ is) = Some e
+evaluated_expression (run at (code.loop e body) ∷ is) = Some e
+evaluated_expression (run at (code.output e) ∷ is) = Some e
+evaluated_expression (put at x word ∷ is) = None
+evaluated_expression (test at word yes_block no_block ∷ is) = None
+evaluated_expression (emit at word ∷ is) = None
 
 -- The expression has width at most 7, and of any two occurrences of variables in it one is stable now: others may write at
 -- most one of the words that are read.
@@ -82,7 +82,7 @@ pub record IsEvaluable (p : Plain) (h : Holders) (t : ℕ) (e : Term) : Type 0 w
 -- changes no word that is stable now for another thread.
 pub record IsDisciplinedAt (p : Program) (s : Run) (t : ℕ) : Type 0 where
   pub locks : AreHeldBy s.holders t (held_in_front_of p t (items_of s t))
-  pub evaluates : ForSome (evaluated (items_of s t)) (IsEvaluable (plain p) s.holders t)
+  pub evaluates : ForSome (evaluated_expression (items_of s t)) (IsEvaluable (plain p) s.holders t)
   pub spares : (u x : ℕ) → u < length (plain p).threads → u ≢ t → IsStableNow (plain p) s.holders u x → SameAt (step s t).memory s.memory x
 
 -- Each thread is so from every memory, fit to start from or not, after every schedule.

@@ -7,6 +7,7 @@ use Rattle.cov_expr.specs.Bytes.{is_digit}
 use Rattle.cov_expr.specs.Names.{is_word_text}
 use Rattle.cov_expr.specs.Spellings.{is_keyword}
 use Rattle.cov_expr.specs.declared.expr.Op.{Op}
+use Rattle.cov_expr.specs.declared.limits.TheConstants.{MOST_NAME_BYTES}
 use Rattle.cov_expr.specs.declared.expr.Op.TheVariants as op
 use Rattle.risc_machine.specs.declared.parts.Instr.{Instr}
 use Rattle.risc_machine.specs.declared.parts.Instr.TheVariants.{Load, Store, Jump, Jz, Nop, MovC, MovR, Bin, Acquire, Release, Out}
@@ -25,7 +26,7 @@ pieces at (b ∷ bs) = if b == at then [] ∷ pieces at bs else onto b (pieces a
 -- Fields -------------------------------------------------------------------------------------------------------
 
 abbrev pub is_name : List ℕ → Bool
-is_name f = nat_lt 0 (length f) && nat_le (length f) 32 && is_word_text f && not (is_keyword f)
+is_name f = nat_lt 0 (length f) && nat_le (length f) MOST_NAME_BYTES && is_word_text f && not (is_keyword f)
 
 abbrev pub name_of : List ℕ → Option (List ℕ)
 name_of f = if is_name f then Some f else None

@@ -10,7 +10,7 @@ use Rattle.cov_grammar.specs.declared.token.Token.{Token}
 use Rattle.cov_grammar.specs.PlacedTrees.{expr, template}
 use Rattle.cov_grammar.specs.Shapes.{Shape, rule, seq, opt, many, head}
 use Rattle.cov_grammar.specs.LookAhead.{starts, firsts}
-use Rattle.cov_grammar.specs.FirstKinds.{first_of}
+use Rattle.cov_grammar.specs.FirstKinds.{first_kinds}
 use Rattle.cov_grammar.specs.Reading.{Reader, ◌>>=◌, reading, got}
 use Rattle.cov_grammar.specs.Grammar.{signs, grouped, compared, atom, template_atom, unary, prod, sum, band, bxor, bor, cmp, both, either}
 use Rattle.cov_read.specs.declared.level.Level.{Level}
@@ -114,8 +114,8 @@ levelled ls a ts = reading (unary a) ts >>= λ t rest. onward ls a t rest
 
 -- What was answered is the operator of the next token, if it is one of these signs, and else that it is none of them.
 abbrev pub SignOf : Kind × Op → List (Kind × Op) → List Token → Option Op → (after : List Token) → Type 0
-SignOf x ys ts None rest = (starts (firsts first_of (signs x ys)) (head ts) ≡ false) × (rest ≡ ts)
-SignOf x ys ts (Some op) rest = (starts (firsts first_of (signs x ys)) (head ts) ≡ true) × (reading (signs x ys) ts ≡ got op rest)
+SignOf x ys ts None rest = (starts (firsts first_kinds (signs x ys)) (head ts) ≡ false) × (rest ≡ ts)
+SignOf x ys ts (Some op) rest = (starts (firsts first_kinds (signs x ys)) (head ts) ≡ true) × (reading (signs x ys) ts ≡ got op rest)
 
 -- the same of the signs of a level
 abbrev pub SignAt : Level → List Token → Option Op → (after : List Token) → Type 0

@@ -22,8 +22,8 @@ abbrev pub moved : List ℕ → Holders → Outputs → List Block → Turned
 moved m h o bs = record { memory = m; holders = h; outputs = o; frames = bs; word = None; answer = stepped.Moved }
 
 -- it evaluated the expression of its first statement
-abbrev pub evaluated : List ℕ → Holders → Outputs → List Block → ℕ → Turned
-evaluated m h o bs word = record { memory = m; holders = h; outputs = o; frames = bs; word = Some word; answer = stepped.Moved }
+abbrev pub after_evaluation : List ℕ → Holders → Outputs → List Block → ℕ → Turned
+after_evaluation m h o bs word = record { memory = m; holders = h; outputs = o; frames = bs; word = Some word; answer = stepped.Moved }
 
 -- nothing changed
 abbrev pub unchanged : List ℕ → Holders → Outputs → List Block → Option ℕ → Stepped → Turned
@@ -43,19 +43,19 @@ module _ (m : List ℕ) (h : Holders) (o : Outputs) (bs : List Block) (rest : Bl
   unlocked word l false = unchanged m h o bs word stepped.Stayed
 
   abbrev pub assigned : ℕ → Term → (word : Option ℕ) → Turned
-  assigned x e None = evaluated m h o bs (value e m)
+  assigned x e None = after_evaluation m h o bs (value e m)
   assigned x e (Some word) = moved (set m x word) h o (past rest bs)
 
   abbrev pub branched : Term → (one other : Block) → (word : Option ℕ) → Turned
-  branched e one other None = evaluated m h o bs (value e m)
+  branched e one other None = after_evaluation m h o bs (value e m)
   branched e one other (Some word) = moved m h o (entered (if is_set word then one else other) (past rest bs))
 
   abbrev pub looped : Term → (body : Block) → (word : Option ℕ) → Turned
-  looped e body None = evaluated m h o bs (value e m)
+  looped e body None = after_evaluation m h o bs (value e m)
   looped e body (Some word) = moved m h o (if is_set word then entered body bs else past rest bs)
 
   abbrev pub put_out : Term → (word : Option ℕ) → Turned
-  put_out e None = evaluated m h o bs (value e m)
+  put_out e None = after_evaluation m h o bs (value e m)
   put_out e (Some word) = moved m h (o ++ word ∷ []) (past rest bs)
 
   -- at a first statement

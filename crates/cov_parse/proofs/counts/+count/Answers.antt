@@ -1,6 +1,6 @@
 use Rattle.std.proofs.Common.{◌≡◌, ◌∙◌, ◌-◌, ◌++◌, sym, ap, map, arith, rules}
 use Rattle.cov_grammar.specs.PlacedTrees.{stms}
-use Rattle.cov_read.specs.declared.stmt.Stmt.{the_lemmas}
+use Rattle.cov_read.specs.declared.stmt.PlacedStmt.{the_lemmas}
 use Rattle.cov_text.specs.Limits.{places, places_in}
 use Rattle.cov_parse.specs.Inside.Measures.{counted, onward}
 use Rattle.cov_read.specs.StmtViews as views

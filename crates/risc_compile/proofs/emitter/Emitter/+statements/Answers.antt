@@ -7,7 +7,7 @@ use Rattle.cov_ast.specs.View as view
 use Rattle.cov_ast.specs.WellFormed.{IsBlockInRange, block_size, stm_size}
 use Rattle.mode_state.specs.Sets.{Sets}
 use Rattle.regalloc.specs.Plan.{Plan, meet}
-use Rattle.risc_compile.specs.Inside.{AddsStm, Stands, WhereStable, after, evaluated_by, used_value}
+use Rattle.risc_compile.specs.Inside.{AddsStm, Stands, WhereStable, after, after_value, used_value}
 use Rattle.risc_compile.specs.declared.emitter.Emitter.{Emitter}
 use Rattle.risc_compile.proofs.CodeLaws.{after_more, branch_code, guarded_code, loop_code, stm_stands}
 use Rattle.risc_compile.proofs.ExprLaws.{wide_nodes}
@@ -104,7 +104,7 @@ while_loop-returns-clause-code t c inv p u h range =
     let m = c.guarded.new.self in
     let e = term c.args.e.now in
     let begun = subst
-    (λ (plan : Plan). WhereStable old.modes e (λ stable. (one ≡ evaluated_by stable e None (record old { plan = plan }))
+    (λ (plan : Plan). WhereStable old.modes e (λ stable. (one ≡ after_value stable e None (record old { plan = plan }))
     × (c.in_ok-value.value ≡ used_value stable e None (record old { plan = plan })))) c.start-self.ensures c.in_ok-value.ensures.code in
     (λ i. let r : Emitter = record { lines = m.lines; plan = c.copy-plan.ensures i; modes = c.in_ok-modes.ensures i } in r)
     ∙ loop_code p u e (view.block c.args.body.now) inv c.in_ok-value.value c.position-head.result old one m c.position-head.ensures begun c.in_ok-guarded.ensures.code h range
