@@ -1,7 +1,8 @@
 //! Programs and their declarations: variables, locks and threads.
 
-ghost use Rattle.std.specs.Prelude.{◌≡◌, ◌<◌, length, IfOk};
-ghost use Rattle.cov_ast.specs.View.{program, lock};
+ghost use Rattle.std.specs.Prelude.{◌≡◌, ◌<◌, length, get_or, IfOk};
+ghost use Rattle.cov_ast.specs.Syntax.{Thread};
+ghost use Rattle.cov_ast.specs.View.{block, program, lock};
 ghost use Rattle.cov_ast.specs.Tables.{table};
 ghost use Rattle.cov_ast.specs.Plain.{plain};
 ghost use Rattle.cov_ast.specs.Declarations.{name_of, lists};
@@ -101,5 +102,13 @@ impl Program {
         ensures { result ≡ name_of (plain (program self.now)) x }
     {
         self.vars.as_slice()[x as usize].name
+    }
+
+    /// The statements of a thread.
+    pub fn body_of(&self, t: u32) -> &[Stmt]
+        requires { t < length self.now.threads }
+        ensures { (past_the_end : Thread) → block result.now ≡ (get_or (program self.now).threads t past_the_end).body }
+    {
+        self.threads.as_slice()[t as usize].body.as_slice()
     }
 }

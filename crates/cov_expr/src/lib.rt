@@ -5,7 +5,7 @@
 //! - [`Expr`]: an expression. Contracts see it as the plain tree `term e` of `specs/Term.antt`.
 //! - [`eval`]: its value in a memory. [`same`]: whether two trees are equal.
 //! - [`closed`], [`mentions`], [`has_conjunct`], [`vars`]: its parts. [`copy`], [`subst`]: trees made from others.
-//! - [`has_number`]: whether a number, as that of a variable, stands in a list.
+//! - [`has_number`]: whether a number, as that of a variable, stands in a list. [`has_same`]: whether an expression does.
 //! - [`width_at_most`], [`height_at_most`], [`nodes_at_most`], [`nodes_left`]: its measures.
 //! - [`MOST_BYTES`] and the constants beside it: the limits of texts, programs, other inputs and listings.
 //! - [`same_is_equality`] and the functions beside it have no body: their contracts are laws.
@@ -40,5 +40,5 @@ pub use limits::{
 pub use list::{Blob, List, NoMemory};
 pub use measures::{height_at_most, nodes_at_most, nodes_left, width_at_most};
 pub use name::Name;
-pub use parts::{closed, has_conjunct, has_number, mentions, vars};
+pub use parts::{closed, has_conjunct, has_number, has_same, mentions, vars};
 pub use spelling::{SPELLINGS, is_keyword, kind_of};

@@ -1,6 +1,6 @@
 //! Parts of expressions: their variables, and the conjuncts of a conjunction.
 
-ghost use Rattle.std.specs.Prelude.{◌≡◌, [], ◌∷◌, OnOk, IfOk};
+ghost use Rattle.std.specs.Prelude.{◌≡◌, [], ◌∷◌, OnOk, IfOk, map};
 ghost use Rattle.cov_expr.specs.Trees as tree;
 ghost use Rattle.cov_expr.specs.View.{term};
 
@@ -85,4 +85,16 @@ pub fn has_number(numbers: &[u32], x: u32) -> bool
     ensures { result ≡ tree.has_number numbers.now x }
 {
     numbers.iter().any(|y| *y == x)
+}
+
+/// Whether an expression is one of a list, tree for tree.
+pub fn has_same(all: &[Expr], e: &Expr) -> bool
+    ensures { result ≡ tree.has_term (map term all.now) (term e.now) }
+{
+    for one in all {
+        if same(one, e) {
+            return true;
+        }
+    }
+    false
 }

@@ -2,7 +2,6 @@
 
 ghost use Rattle.std.specs.Prelude.{◌≡◌, ◌++◌, ◌||◌, map};
 ghost use Rattle.std.specs.List.{list_any};
-ghost use Rattle.cov_expr.specs.Trees.{has_term};
 ghost use Rattle.cov_expr.specs.View.{term};
 ghost use Rattle.entail_cert.specs.HeldTerms.{held_term};
 ghost use Rattle.entail_cert.specs.Valid.{is_all_known, is_known};
@@ -10,7 +9,7 @@ ghost use Rattle.entail_cert.specs.Valid as spec;
 
 use crate::held::Held;
 use crate::parts::{is_false, is_true};
-use cov_expr::{Expr, Op, has_conjunct, same};
+use cov_expr::{Expr, Op, has_conjunct, has_same};
 
 /// Whether some expression is closed and doesn't hold.
 pub fn has_false(es: &[Expr]) -> bool
@@ -30,18 +29,6 @@ pub fn has_false_fact(facts: &[Held<'_>]) -> bool
 {
     for f in facts {
         if is_false(f.expr()) {
-            return true;
-        }
-    }
-    false
-}
-
-/// Whether an expression is one of the hypotheses.
-fn states(hyps: &[Expr], e: &Expr) -> bool
-    ensures { result ≡ has_term (map term hyps.now) (term e.now) }
-{
-    for h in hyps {
-        if same(h, e) {
             return true;
         }
     }
@@ -79,7 +66,7 @@ pub fn knows_each(goal: &Expr, first: &[Expr], more: &[Held<'_>]) -> bool
 {
     match goal {
         Expr::Bin(Op::Both, a, b) => {
-            states(first, goal) || (knows_each(a, first, more) && knows_each(b, first, more))
+            has_same(first, goal) || (knows_each(a, first, more) && knows_each(b, first, more))
         }
         Expr::Const(_) | Expr::Var(_) | Expr::Not(_) | Expr::Bin(..) => knows_one(
             goal, first, more,

@@ -10,7 +10,7 @@ use Rattle.cov_ast.specs.Plain.{Plain, plain}
 use Rattle.cov_ast.specs.Syntax.{Stm, skip, assign, lock, unlock, branch, loop, note, output, Block, done, more, Proof, Program}
 use Rattle.cov_ast.specs.WellFormed.{IsWellFormed, are_distinct, places, places_within}
 use Rattle.mode_compat.specs.Compatible.{no_thread, numbered}
-use Rattle.statement_paths.specs.Paths.{Step, passed, yes, no, head, Way, here, behind, way_to, way_within}
+use Rattle.statement_paths.specs.Paths.{Step, passed, yes, no, head, Way, here, with_steps_in_front, way_to, way_within}
 use Rattle.typing_law.specs.Blocks.{after_stm, after_block}
 use Rattle.typing_law.specs.Counts.{entailment_count}
 use Rattle.typing_law.specs.Entailments.{Entailment, assign_entailments, guard_follows, state_follows, unlock_entailments}
@@ -20,10 +20,10 @@ use Rattle.typing_state.specs.After.{meet, start, with_guard}
 use Rattle.typing_state.specs.Point.{Point}
 use Rattle.cov_ast.specs.LocksAlong.{no_locks}
 use Rattle.held_locks.specs.LocksHeld.{held_along}
-use Rattle.entail_questions.specs.Questions.{asked, asked_among, asked_behind, questions}
+use Rattle.entail_questions.specs.Questions.{asked, asked_among, asked_of_way, questions}
 use Rattle.entail_questions.specs.declared.kinds.Asked.{Asked}
 use Rattle.entail_questions.specs.declared.kinds.Question.{Question}
-use Rattle.entail_questions.proofs.HeldAtPoints.{after_held}
+use Rattle.held_locks.proofs.HeldAtPoints.{after_held}
 use Rattle.entail_questions.proofs.QuestionCounts.{as_many}
 
 -- What is there --------------------------------------------------------------------------------------------------
@@ -141,12 +141,12 @@ module _ (place number : ℕ) where
     second_asked : (held : List Bool) (first second : Option Way) → first ≡ None → There (asked_from held second) → There (asked_from held (option_or first second))
     second_asked held first second none h = subst (λ o. There (asked_from held (option_or o second))) (sym none) h
 
-    one_step : (held : List Bool) (s : Step) (o : Option Way) → There (asked_from (held_along (s ∷ []) held) o) → There (asked_from held (option_map (behind (s ∷ [])) o))
+    one_step : (held : List Bool) (s : Step) (o : Option Way) → There (asked_from (held_along (s ∷ []) held) o) → There (asked_from held (option_map (with_steps_in_front (s ∷ [])) o))
     one_step held s None h = h
     one_step held s (Some w) h = h
 
     two_steps : (held : List Bool) (s s2 : Step) (o : Option Way) → There (asked_from (held_along (s ∷ s2 ∷ []) held) o)
-        → There (asked_from held (option_map (behind (s ∷ s2 ∷ [])) o))
+        → There (asked_from held (option_map (with_steps_in_front (s ∷ s2 ∷ [])) o))
     two_steps held s s2 None h = h
     two_steps held s s2 (Some w) h = h
 
@@ -186,18 +186,18 @@ module _ (place number : ℕ) where
       no_way_within at (lock l) out = refl
       no_way_within at (unlock l) out = refl
       no_way_within at (branch e a b join) out =
-          ap (λ o. option_or (option_map (behind (yes at e ∷ [])) o) (option_map (behind (no at e ∷ [])) (way_to b place))) (no_way a (λ h. out (in_left place (places a) (places b) h)))
-          ∙ ap (λ o. option_map (behind (no at e ∷ [])) o) (no_way b (λ h. out (in_right place (places a) (places b) h)))
-      no_way_within at (loop e inv b) out = ap (λ o. option_map (behind (head at inv ∷ yes at e ∷ [])) o) (no_way b out)
+          ap (λ o. option_or (option_map (with_steps_in_front (yes at e ∷ [])) o) (option_map (with_steps_in_front (no at e ∷ [])) (way_to b place))) (no_way a (λ h. out (in_left place (places a) (places b) h)))
+          ∙ ap (λ o. option_map (with_steps_in_front (no at e ∷ [])) o) (no_way b (λ h. out (in_right place (places a) (places b) h)))
+      no_way_within at (loop e inv b) out = ap (λ o. option_map (with_steps_in_front (head at inv ∷ yes at e ∷ [])) o) (no_way b out)
       no_way_within at (note j) out = refl
       no_way_within at (output e) out = refl
 
       pub no_way : (b : Block) → (In place (places b) → ⊥) → way_to b place ≡ None
       no_way done out = refl
       no_way (more at s proofs rest) out =
-          ap (λ o. option_or o (option_map (behind (passed at s ∷ [])) (way_to rest place)))
+          ap (λ o. option_or o (option_map (with_steps_in_front (passed at s ∷ [])) (way_to rest place)))
           (no_way_from at s proofs (λ h. out (inl h)) (no_way_within at s (λ h. out (inr (in_left place (places_within s) (places rest) h)))))
-          ∙ ap (λ o. option_map (behind (passed at s ∷ [])) o) (no_way rest (λ h. out (inr (in_right place (places_within s) (places rest) h))))
+          ∙ ap (λ o. option_map (with_steps_in_front (passed at s ∷ [])) o) (no_way rest (λ h. out (inr (in_right place (places_within s) (places rest) h))))
 
     -- Where an entailment stands ---------------------------------------------------------------------------------------
 
@@ -271,8 +271,8 @@ module _ (place number : ℕ) where
           let gs = guard_follows p t a e ∷ [] in
           let hs = state_follows (after_block p t yes_block start) join ++ state_follows (after_block p t no_block other) join in
           let all : length (questions p t a.held s) ≡ suc (length hs) = as_many p t s a in
-          let first = option_map (behind (yes at e ∷ [])) (way_to yes_block place) in
-          let second = option_map (behind (no at e ∷ [])) (way_to no_block place) in
+          let first = option_map (with_steps_in_front (yes at e ∷ [])) (way_to yes_block place) in
+          let second = option_map (with_steps_in_front (no at e ∷ [])) (way_to no_block place) in
           in_four (There (asked_from a.held (way_from at s proofs))) (placed_from at 1 gs) (block_entailments p t yes_block start)
           (block_entailments p t no_block other) (placed_from at (suc (length gs)) hs) h
           (λ k. own_asked s proofs at a 1 1 (of_placed at 1 gs k) (omega arith) (omega (arith, all)))
@@ -285,7 +285,7 @@ module _ (place number : ℕ) where
           further_in at s proofs a.held
           (λ is. d.0 (in_right at (places yes_block) (places no_block) (subst (λ z. In z (places no_block)) (sym is) stands)))
           (second_asked a.held first second
-          (ap (λ o. option_map (behind (yes at e ∷ [])) o) (no_way yes_block (apart place (places yes_block) (places no_block) d.1 stands)))
+          (ap (λ o. option_map (with_steps_in_front (yes at e ∷ [])) o) (no_way yes_block (apart place (places yes_block) (places no_block) d.1 stands)))
           (one_step a.held (no at e) (way_to no_block place) (asked_in no_block other (differ_right (places yes_block) (places no_block) d.1) k))))
           (λ k. own_asked s proofs at a 2 (length hs) (of_placed at 2 hs k) (omega arith) (omega (arith, all)))
       asked_at (loop e inv b) proofs at a d h =
@@ -312,7 +312,7 @@ module _ (place number : ℕ) where
       asked_in done a d h = absurd h
       asked_in (more at s proofs rest) a d h =
           let first = way_from at s proofs in
-          let second = option_map (behind (passed at s ∷ [])) (way_to rest place) in
+          let second = option_map (with_steps_in_front (passed at s ∷ [])) (way_to rest place) in
           by_either (There (asked_from a.held (option_or first second))) (in_one (stm_entailments p t s at a) (block_entailments p t rest (after_stm p t s a)) h)
           (λ k. first_asked a.held first second (asked_at s proofs at a (differ_left (at ∷ places_within s) (places rest) d) k))
           (λ k. let stands = stands_in rest (after_stm p t s a) k in
@@ -324,7 +324,7 @@ module _ (place number : ℕ) where
           (subst (λ held. There (asked_from held (way_to rest place))) (sym (after_held p t s a))
           (asked_in rest (after_stm p t s a) (differ_right (at ∷ places_within s) (places rest) d) k))))
 
-    of_way : (o : Option Way) → There (asked_from (no_locks p) o) → There (asked_behind p t o number)
+    of_way : (o : Option Way) → There (asked_from (no_locks p) o) → There (asked_of_way p t o number)
     of_way None h = h
     of_way (Some w) h = h
 

@@ -3,7 +3,7 @@ use Rattle.std.proofs.Common.{◌≡◌, ℕ, ◌==◌, List, [], ◌∷◌, Boo
 use Rattle.std.specs.Option.{option_or}
 use Rattle.cov_ast.specs.Syntax.{Stm, skip, assign, lock, unlock, branch, loop, note, output, Block, done, more}
 use Rattle.cov_ast.specs.WellFormed.{IsStmInRange, IsBlockInRange}
-use Rattle.statement_paths.specs.Paths.{Step, passed, yes, no, head, Way, here, behind, way_to, way_within}
+use Rattle.statement_paths.specs.Paths.{Step, passed, yes, no, head, Way, here, with_steps_in_front, way_to, way_within}
 
 module _ (vars locks : ℕ) where
   abbrev LeadsInRange : Option Way → Type 0
@@ -14,7 +14,7 @@ module _ (vars locks : ℕ) where
   either None second h k = k
   either (Some w) second h k = h
 
-  further : (steps : List Step) (way : Option Way) → LeadsInRange way → LeadsInRange (option_map (behind steps) way)
+  further : (steps : List Step) (way : Option Way) → LeadsInRange way → LeadsInRange (option_map (with_steps_in_front steps) way)
   further steps None h = tt
   further steps (Some w) h = h
 
@@ -29,8 +29,8 @@ module _ (vars locks : ℕ) where
     within_in_range at (lock l) place range = tt
     within_in_range at (unlock l) place range = tt
     within_in_range at (branch e a b join) place range =
-        let first = option_map (behind (yes at e ∷ [])) (way_to a place) in
-        let second = option_map (behind (no at e ∷ [])) (way_to b place) in
+        let first = option_map (with_steps_in_front (yes at e ∷ [])) (way_to a place) in
+        let second = option_map (with_steps_in_front (no at e ∷ [])) (way_to b place) in
         either first second (further (yes at e ∷ []) (way_to a place) (way_in_range a place range.1)) (further (no at e ∷ []) (way_to b place) (way_in_range b place range.2))
     within_in_range at (loop e inv b) place range = further (head at inv ∷ yes at e ∷ []) (way_to b place) (way_in_range b place range.2)
     within_in_range at (note j) place range = tt
@@ -39,7 +39,7 @@ module _ (vars locks : ℕ) where
     way_in_range : (b : Block) (place : ℕ) → IsBlockInRange vars locks b → LeadsInRange (way_to b place)
     way_in_range done place range = tt
     way_in_range (more at s proofs rest) place range =
-        either (if at == place then Some (here s proofs) else way_within at s place) (option_map (behind (passed at s ∷ [])) (way_to rest place))
+        either (if at == place then Some (here s proofs) else way_within at s place) (option_map (with_steps_in_front (passed at s ∷ [])) (way_to rest place))
         (itself (at == place) (here s proofs) (way_within at s place) range.0 (within_in_range at s place range.0))
         (further (passed at s ∷ []) (way_to rest place) (way_in_range rest place range.2))
 

@@ -1,4 +1,3 @@
 pub mod Questions
 pub mod QuestionLines
 pub mod OwnEntailments
-pub mod Controls

@@ -39,20 +39,20 @@ subject p (q.Predicate end i) = decimal i
 subject p (q.TypeOf end z) = name_of p z
 
 -- where a predicate is to hold
-abbrev pub behind_number : End → List ℕ
-behind_number e.Here = codes " of the note holds"
-behind_number e.Entry = codes " of `inv` holds where the loop is entered"
-behind_number e.FirstBlock = codes " of `join` holds at the end of the first block"
-behind_number e.SecondBlock = codes " of `join` holds at the end of the `else` block"
-behind_number e.Body = codes " of `inv` holds at the end of the block"
+abbrev pub predicate_end : End → List ℕ
+predicate_end e.Here = codes " of the note holds"
+predicate_end e.Entry = codes " of `inv` holds where the loop is entered"
+predicate_end e.FirstBlock = codes " of `join` holds at the end of the first block"
+predicate_end e.SecondBlock = codes " of `join` holds at the end of the `else` block"
+predicate_end e.Body = codes " of `inv` holds at the end of the block"
 
 -- where a variable is to be public
-abbrev pub behind_type : End → List ℕ
-behind_type e.Here = codes " holds, that variable is public here"
-behind_type e.Entry = codes " holds, that variable is public where the loop is entered"
-behind_type e.FirstBlock = codes " holds, that variable is public at the end of the first block"
-behind_type e.SecondBlock = codes " holds, that variable is public at the end of the `else` block"
-behind_type e.Body = codes " holds, that variable is public at the end of the block"
+abbrev pub type_end : End → List ℕ
+type_end e.Here = codes " holds, that variable is public here"
+type_end e.Entry = codes " holds, that variable is public where the loop is entered"
+type_end e.FirstBlock = codes " holds, that variable is public at the end of the first block"
+type_end e.SecondBlock = codes " holds, that variable is public at the end of the `else` block"
+type_end e.Body = codes " holds, that variable is public at the end of the block"
 
 -- what stands behind the name or the number
 abbrev pub question_end : Question → List ℕ
@@ -65,8 +65,8 @@ question_end (q.Freed x) = codes " is low, it is public, since the lock hides it
 question_end q.Guard = []
 question_end q.HeadGuard = []
 question_end q.Printed = []
-question_end (q.Predicate end i) = behind_number end
-question_end (q.TypeOf end z) = behind_type end
+question_end (q.Predicate end i) = predicate_end end
+question_end (q.TypeOf end z) = type_end end
 
 -- what is asked, as a sentence
 abbrev pub sentence : Plain → Question → List ℕ

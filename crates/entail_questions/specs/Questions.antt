@@ -80,11 +80,11 @@ asked_among all zero = None
 asked_among all (suc i) = option_map (λ found. record { question = found; of = length all }) (slice_get all i)
 
 -- of the statement at the end of a way, if there is one
-abbrev pub asked_behind : Plain → (t : ℕ) → Option Way → (number : ℕ) → Option Asked
-asked_behind p t None number = None
-asked_behind p t (Some w) number = asked_among (questions p t (held_along w.steps (no_locks p)) w.stm) number
+abbrev pub asked_of_way : Plain → (t : ℕ) → Option Way → (number : ℕ) → Option Asked
+asked_of_way p t None number = None
+asked_of_way p t (Some w) number = asked_among (questions p t (held_along w.steps (no_locks p)) w.stm) number
 
 -- What the entailment with this number asks, of those of the statement at this place of a thread. `None` comes where there is no
 -- such statement or no such entailment.
 abbrev pub asked : Program → (t place number : ℕ) → Option Asked
-asked p t place number = asked_behind (plain p) t (way_to (numbered p t).body place) number
+asked p t place number = asked_of_way (plain p) t (way_to (numbered p t).body place) number

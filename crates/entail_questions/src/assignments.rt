@@ -1,22 +1,17 @@
 //! What is asked of an assignment.
 
-ghost use Rattle.std.specs.Prelude.{◌≡◌, ◌<◌, ◌≤◌, [], ◌∷◌, ◌++◌, if◌then◌else◌, IfOk, OnOk, filter, length, map, option_map};
+ghost use Rattle.std.specs.Prelude.{◌≡◌, ◌<◌, ◌≤◌, [], ◌∷◌, ◌++◌, if◌then◌else◌, OnOk, filter, length, map, option_map};
 ghost use Rattle.std.specs.List.{range_with_len};
-ghost use Rattle.cov_expr.specs.Trees as trees;
 ghost use Rattle.cov_expr.specs.View.{term};
-ghost use Rattle.cov_ast.specs.Declarations as declared;
-ghost use Rattle.cov_ast.specs.Plain.{class_term, plain};
+ghost use Rattle.cov_ast.specs.Plain.{plain};
 ghost use Rattle.cov_ast.specs.Tables.{has};
 ghost use Rattle.cov_ast.specs.View as view;
-ghost use Rattle.cov_ast.specs.WellFormed.{IsWellFormed};
-ghost use Rattle.entail_questions.specs.Controls as sets;
 ghost use Rattle.entail_questions.specs.Questions as spec;
 
 use crate::kinds::Question;
-use cov_ast::{Class, NumberSet, Program, Retype};
-use cov_expr::{Expr, List, NoMemory, mentions};
-use policy_class::controls;
-use std::alloc::Global;
+use cov_ast::{NumberSet, Program, Retype};
+use cov_expr::{Expr, List, NoMemory};
+use policy_class::{controls, is_control};
 
 /// Adds what is asked of an assignment to a variable, where the others may not read those of a set.
 pub fn add_assignment(
@@ -118,38 +113,4 @@ fn add_retypes(retypes: &[Retype], made: &mut List<Question>) -> Result<(), NoMe
         made.push(Question::Retyped(retype.var))?;
     }
     Ok(())
-}
-
-/// The variables that classes mention. It takes time in proportion to the classes, for each variable.
-pub fn control_set(alloc: Global, p: &Program) -> Result<NumberSet, NoMemory>
-    requires { IsWellFormed (view.program p.now) }
-    ensures { IfOk result (λ made. made ≡ sets.controls (plain (view.program p.now))) }
-{
-    let mut marks = List::new(alloc);
-    for x in 0..p.vars.len() as u32 {
-        marks.push(is_control(p, x))?;
-    }
-    Ok(NumberSet::from_marks(marks))
-}
-
-/// Whether the class of some variable mentions this one. It takes time in proportion to the classes.
-pub fn is_control(p: &Program, x: u32) -> bool
-    ensures { result ≡ declared.is_control (plain (view.program p.now)) x }
-{
-    for var in p.vars.as_slice() {
-        if depends(&var.class, x) {
-            return true;
-        }
-    }
-    false
-}
-
-/// Whether a class mentions a variable.
-fn depends(class: &Class, x: u32) -> bool
-    ensures { result ≡ trees.mentions (class_term (view.class class.now)) x }
-{
-    match class {
-        Class::Low | Class::High => false,
-        Class::When(e) => mentions(e, x),
-    }
 }

@@ -4,10 +4,8 @@ ghost use Rattle.std.specs.Prelude.{◌≡◌, ◌<◌, ℕ, length, IsSome};
 ghost use Rattle.cov_ast.specs.Plain.{Plain};
 ghost use Rattle.cov_ast.specs.Syntax.{Program, Stm};
 ghost use Rattle.cov_ast.specs.WellFormed.{IsWellFormed};
-ghost use Rattle.typing_law.specs.Blocks.{after_stm};
 ghost use Rattle.typing_law.specs.ThreadEntailments.{entailment_among, thread_entailments};
 ghost use Rattle.typing_state.specs.Point.{Point};
-ghost use Rattle.held_locks.specs.LocksHeld.{held_past};
 ghost use Rattle.entail_questions.specs.OwnEntailments.{own_entailments};
 ghost use Rattle.entail_questions.specs.Questions as spec;
 
@@ -15,12 +13,6 @@ ghost use Rattle.entail_questions.specs.Questions as spec;
 #[tactic(auto, using(crate::proofs::QuestionCounts::as_many))]
 pub fn each_entailment_has_a_question()
     ensures { (p : Plain) (t : ℕ) (s : Stm) (a : Point) → length (spec.questions p t a.held s) ≡ length (own_entailments p t s a) }
-{}
-
-/// A law: the locks that are held behind a statement are those of the point behind it.
-#[tactic(auto, using(crate::proofs::HeldAtPoints::after_held))]
-pub fn held_locks_are_those_of_points()
-    ensures { (p : Plain) (t : ℕ) (s : Stm) (a : Point) → held_past s a.held ≡ (after_stm p t s a).held }
 {}
 
 /// A law: where a thread has an entailment with a number at a place, by the rules of types, a question is given for the two.

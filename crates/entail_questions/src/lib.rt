@@ -2,18 +2,14 @@
 //!
 //! - [`question`]: what the entailment with a number asks, of those of the statement at a place ([`Asked`], [`Question`], [`End`]).
 //! - [`add_question`]: the same as a line of text.
-//! - [`body_of`]: the statements of a thread.
-//! - [`is_control`], [`control_set`]: whether the class of some variable mentions another, and the variables that are so mentioned.
-//! - [`each_entailment_has_a_question`], [`held_locks_are_those_of_points`] and [`what_is_listed_is_asked`] have no body: their contracts are
-//!   laws, that this goes by the rules of types.
+//! - [`each_entailment_has_a_question`] and [`what_is_listed_is_asked`] have no body: their contracts are laws, that this goes by the rules
+//!   of types.
 //!
 //! | `src/` | `specs/` | what it has |
 //! |---|---|---|
 //! | `statements`, `assignments`, `states` | `Questions` | what the entailments of a statement ask, in their order |
 //! | `lines` | `QuestionLines` | the sentences |
 //! | `laws` | `OwnEntailments` | the entailments of a statement by the rules of types |
-//!
-//! `specs/Controls.antt` has the set of the variables that classes mention.
 #![tactic(auto)]
 
 mod assignments;
@@ -24,10 +20,7 @@ mod numbered;
 mod statements;
 mod states;
 
-pub use assignments::{control_set, is_control};
 pub use kinds::{Asked, End, Question};
-pub use laws::{
-    each_entailment_has_a_question, held_locks_are_those_of_points, what_is_listed_is_asked,
-};
+pub use laws::{each_entailment_has_a_question, what_is_listed_is_asked};
 pub use lines::add_question;
-pub use numbered::{body_of, question};
+pub use numbered::question;

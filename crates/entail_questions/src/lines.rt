@@ -105,15 +105,15 @@ fn question_end(question: Question) -> &'static str
         Question::Retyped(_) => " holds after the assignment, that variable is public before",
         Question::Invariant(_) => " holds",
         Question::Freed(_) => " is low, it is public, since the lock hides it no longer",
-        Question::Predicate(end, _) => behind_number(end),
-        Question::TypeOf(end, _) => behind_type(end),
+        Question::Predicate(end, _) => predicate_end(end),
+        Question::TypeOf(end, _) => type_end(end),
         Question::Written | Question::Guard | Question::HeadGuard | Question::Printed => "",
     }
 }
 
 /// Where a predicate is to hold.
-fn behind_number(end: End) -> &'static str
-    ensures { result.now ≡ spec.behind_number end }
+fn predicate_end(end: End) -> &'static str
+    ensures { result.now ≡ spec.predicate_end end }
 {
     match end {
         End::Here => " of the note holds",
@@ -125,8 +125,8 @@ fn behind_number(end: End) -> &'static str
 }
 
 /// Where a variable is to be public.
-fn behind_type(end: End) -> &'static str
-    ensures { result.now ≡ spec.behind_type end }
+fn type_end(end: End) -> &'static str
+    ensures { result.now ≡ spec.type_end end }
 {
     match end {
         End::Here => " holds, that variable is public here",

@@ -3,14 +3,13 @@
 ghost use Rattle.std.specs.Prelude.{◌≡◌, ◌<◌, IfOk, length, MatchOption, ◌≤◌, ◌-◌};
 ghost use Rattle.cov_ast.specs.View as view;
 ghost use Rattle.cov_ast.specs.WellFormed.{IsWellFormed};
-ghost use Rattle.mode_compat.specs.Compatible.{numbered};
 ghost use Rattle.entail_questions.specs.Questions as spec;
 
 use crate::kinds::{Asked, Question};
 use crate::statements::questions;
-use cov_ast::{Program, Stmt};
+use cov_ast::Program;
 use cov_expr::NoMemory;
-use held_locks::hidden_behind;
+use held_locks::hidden_after_steps;
 use statement_paths::way_to;
 use std::alloc::Global;
 
@@ -29,10 +28,10 @@ pub fn question(
     requires thread { t < length p.now.threads }
     ensures { IfOk result (λ found. found ≡ spec.asked (view.program p.now) t place number) }
 {
-    let Some(way) = way_to(alloc, body_of(p, t), place)? else {
+    let Some(way) = way_to(alloc, p.body_of(t), place)? else {
         return Ok(None);
     };
-    let hidden = hidden_behind(alloc, p, t, way.steps.as_slice())?;
+    let hidden = hidden_after_steps(alloc, p, t, way.steps.as_slice())?;
     let all = questions(alloc, p, &hidden, &way.stmt.kind)?;
     Ok(asked_among(all.as_slice(), number))
 }
@@ -53,12 +52,4 @@ fn index_of(number: u32) -> Option<usize>
     ensures { MatchOption result (number ≡ 0) (λ index. (1 ≤ number) × (index ≡ number - 1)) }
 {
     (number as usize).checked_sub(1)
-}
-
-/// The statements of a thread.
-pub fn body_of(p: &Program, t: u32) -> &[Stmt]
-    requires { t < length p.now.threads }
-    ensures { view.block result.now ≡ (numbered (view.program p.now) t).body }
-{
-    p.threads.as_slice()[t as usize].body.as_slice()
 }

@@ -9,11 +9,12 @@ ghost use Rattle.cov_ast.specs.View as view;
 ghost use Rattle.cov_ast.specs.WellFormed.{IsStmInRange, IsWellFormed};
 ghost use Rattle.entail_questions.specs.Questions as spec;
 
-use crate::assignments::{add_assignment, is_control};
+use crate::assignments::add_assignment;
 use crate::kinds::{End, Question};
 use crate::states::add_state;
 use cov_ast::{NumberSet, Program, State, StmtKind};
 use cov_expr::{Expr, List, NoMemory};
+use policy_class::is_control;
 use std::alloc::Global;
 
 /// What the entailments of a statement ask, in their order, where the others may not read the variables of a set.

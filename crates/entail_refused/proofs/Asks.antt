@@ -17,10 +17,10 @@ use Rattle.typing_state.specs.Point.{Point, is_tracked}
 use Rattle.typing_law.specs.Blocks.{after_block, after_stm, value_type}
 use Rattle.typing_law.specs.Counts.{entailment_count, is_entailment}
 use Rattle.typing_law.specs.Entailments.{Entailment, assign_entailments, guard_follows, is_proved, state_follows, unlock_entailments}
-use Rattle.typing_law.specs.ThreadEntailments.{PlacedEntailment, block_entailments, placed_from, stm_entailments}
+use Rattle.typing_law.specs.ThreadEntailments.{PlacedEntailment, block_entailments, placed_from, placed_proofs, proofs_within, stm_entailments}
 use Rattle.typing_law.specs.ThreadObligations.{block_obligations, few_preds, flat, guard_obligations, narrow, numbers, of_var, one_unstable, over_controls, proved, reads, same_locks, small_terms, state_obligations, stm_parts, type_obligations}
 use Rattle.typing_law.proofs.Counting.{count_cons, count_guard, count_numbers, count_reads, count_stable, count_state, count_types}
-use Rattle.entail_refused.proofs.GivenProofs.{AreGiven, given_left, given_right, given_proofs, given_within}
+use Rattle.entail_refused.proofs.GivenProofs.{AreGiven, given_left, given_right}
 
 -- of which thread something is asked, where, by which detail, and whether it holds
 abbrev pub Ask : Type 0
@@ -86,7 +86,7 @@ module _ (given : ℕ → List Proof) (t : ℕ) where
 
   module _ (p : Plain) where
     mutual
-      pub stm_step : (s : Stm) (at : ℕ) (proofs : List Proof) (a : Point) → given at ≡ proofs → AreGiven given (given_within s)
+      pub stm_step : (s : Stm) (at : ℕ) (proofs : List Proof) (a : Point) → given at ≡ proofs → AreGiven given (proofs_within s)
           → GoInStep (flat (stm_parts p t s at proofs a)) (stm_entailments p t s at a)
       stm_step skip at proofs a here inside = asks_behind (numbers p t at 0 proofs) [] (count_numbers p t at 0 proofs)
       stm_step (assign x e q retypes) at proofs a here inside =
@@ -126,8 +126,8 @@ module _ (given : ℕ → List Proof) (t : ℕ) where
           let behind : GoInStep joined last_asks =
           asks_behind (state_obligations p t at yes_end.held join) sized (count_state p t at yes_end.held join)
           ∙ step_last p at proofs here (suc (length gs)) (length gs + length hs) hs in
-          let first = block_step yes_block yes_start (given_left given (given_proofs yes_block) (given_proofs no_block) inside) in
-          let second = block_step no_block no_start (given_right given (given_proofs yes_block) (given_proofs no_block) inside) in
+          let first = block_step yes_block yes_start (given_left given (placed_proofs yes_block) (placed_proofs no_block) inside) in
+          let second = block_step no_block no_start (given_right given (placed_proofs yes_block) (placed_proofs no_block) inside) in
           asks_behind (guard_obligations p t at a.held e) few (count_guard p t at a.held e)
           ∙ step_then (proved p t at proofs 1 gs) blocks (placed_from at 1 gs) (yes_asks ++ (no_asks ++ last_asks)) (step_proved p at proofs here 1 gs)
           (step_then yes (no ++ joined) yes_asks (no_asks ++ last_asks) first (step_then no joined no_asks last_asks second behind))
@@ -161,9 +161,9 @@ module _ (given : ℕ → List Proof) (t : ℕ) where
           asks_behind (guard_obligations p t at a.held e) (small_terms p t at gs (a ∷ []) ++ last) (count_guard p t at a.held e)
           ∙ step_last p at proofs here 1 (length gs) gs
 
-      pub block_step : (b : Block) (a : Point) → AreGiven given (given_proofs b) → GoInStep (block_obligations p t b a) (block_entailments p t b a)
+      pub block_step : (b : Block) (a : Point) → AreGiven given (placed_proofs b) → GoInStep (block_obligations p t b a) (block_entailments p t b a)
       block_step done a h = refl
       block_step (more at s proofs b) a h =
           step_then (flat (stm_parts p t s at proofs a)) (block_obligations p t b (after_stm p t s a)) (stm_entailments p t s at a)
-          (block_entailments p t b (after_stm p t s a)) (stm_step s at proofs a h.0 (given_left given (given_within s) (given_proofs b) h.1))
-          (block_step b (after_stm p t s a) (given_right given (given_within s) (given_proofs b) h.1))
+          (block_entailments p t b (after_stm p t s a)) (stm_step s at proofs a h.0 (given_left given (proofs_within s) (placed_proofs b) h.1))
+          (block_step b (after_stm p t s a) (given_right given (proofs_within s) (placed_proofs b) h.1))

@@ -4,13 +4,14 @@ use Rattle.std.proofs.lemmas.Fmt.{decimal_digit}
 use Rattle.cov_expr.specs.Term.{const, var}
 use Rattle.cov_ast.specs.Declarations.{no_modes}
 use Rattle.cov_ast.specs.Obligations.{first_false}
-use Rattle.cov_ast.specs.Syntax.{Program, assign, calc, done, high, low, more}
+use Rattle.cov_ast.specs.Syntax.{Block, Program, assign, branch, calc, done, high, low, more, range, ring}
 use Rattle.cov_ast.specs.declared.refusal.Detail.TheVariants.{Nothing, Number}
 use Rattle.cov_ast.specs.declared.refusal.Refusal.{Refusal}
 use Rattle.cov_ast.specs.declared.refusal.Rule.TheVariants.{V8, V9}
 use Rattle.typing_law.specs.ThreadEntailments.{PlacedEntailment, thread_entailments}
 use Rattle.verify.specs.Accepted.{program_obligations}
 use Rattle.entail_refused.specs.Asked.{asked}
+use Rattle.entail_refused.specs.GivenCertificates.{cert_of}
 use Rattle.entail_refused.specs.GivenElsewhere.{line_without}
 use Rattle.entail_refused.specs.RefusedEntailment.{has_valid_certificate}
 
@@ -75,3 +76,24 @@ given_for_this_one = refl
 
 given_for_none : line_without 1 [] ≡ []
 given_for_none = refl
+
+-- if a { } else { s := 0 by { 1: calc, 2: ring }; } by { 2: range }, from the places 0 and 17 on
+abbrev branching : Block
+branching =
+    more 0
+    (branch (var 0) done
+    (more 17 (assign 1 (const 0) None []) (record { number = 1; cert = calc } ∷ record { number = 2; cert = ring } ∷ []) done)
+    (record { preds = []; types = [] }))
+    (record { number = 2; cert = range } ∷ []) done
+
+given_inside : cert_of branching 17 2 ≡ Some ring
+given_inside = refl
+
+given_outside : cert_of branching 0 2 ≡ Some range
+given_outside = refl
+
+not_given : cert_of branching 0 1 ≡ None
+not_given = refl
+
+no_statement : cert_of branching 1 1 ≡ None
+no_statement = refl

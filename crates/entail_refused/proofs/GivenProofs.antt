@@ -1,33 +1,19 @@
 -- The certificates of statements, by place: where the places of a thread's statements differ, each place leads to its own.
 use Rattle.std.proofs.Common.{◌≡◌, ℕ, ◌==◌, List, [], ◌∷◌, ◌++◌, map, Bool, true, false, not, cond, if◌then◌else◌, Option, Some, None, refl, sym, ap, ◌∙◌, subst, eq-eqb, eqb-true}
-use Rattle.std.specs.Prelude.{unwrap_or}
+use Rattle.std.specs.Prelude.{option_map, unwrap_or}
 use Rattle.std.specs.List.{list_any}
+use Rattle.std.specs.Option.{option_or}
 use Rattle.std.proofs.lemmas.Bool.{and_parts, or_left, or_right, not-true, false_from_ne_true, true≢false}
 use Rattle.std.proofs.lemmas.List.{map-append}
 use Rattle.cov_ast.specs.Syntax.{Stm, skip, assign, lock, unlock, branch, loop, note, output, Block, done, more, Proof, auto}
 use Rattle.cov_ast.specs.WellFormed.{are_distinct, places, places_within}
-use Rattle.entail_text.specs.Given.{cert_among, cert_of, first_of, proofs_at, proofs_within}
+use Rattle.entail_cert.specs.Valid.{is_valid}
 use Rattle.entail_text.specs.Given as text
+use Rattle.statement_paths.specs.Paths.{Step, passed, yes, no, head, Way, with_steps_in_front, here, way_to, way_within}
 use Rattle.typing_law.specs.Entailments.{Entailment, is_proved}
 use Rattle.typing_law.specs.Entailments as rules
-use Rattle.entail_cert.specs.Valid.{is_valid}
-
-abbrev mutual
-  -- the certificates of the statements in a statement, with their places
-  pub given_within : Stm → List (ℕ × List Proof)
-  given_within skip = []
-  given_within (assign x e q retypes) = []
-  given_within (lock l) = []
-  given_within (unlock l) = []
-  given_within (branch e a b join) = given_proofs a ++ given_proofs b
-  given_within (loop e inv b) = given_proofs b
-  given_within (note j) = []
-  given_within (output e) = []
-
-  -- those of the statements of a block, and of those in them
-  pub given_proofs : Block → List (ℕ × List Proof)
-  given_proofs done = []
-  given_proofs (more at s proofs b) = (at, proofs) ∷ (given_within s ++ given_proofs b)
+use Rattle.typing_law.specs.ThreadEntailments.{placed_proofs, proofs_within}
+use Rattle.entail_refused.specs.GivenCertificates.{cert_among, cert_of}
 
 -- each place leads to the certificates there
 module _ (given : ℕ → List Proof) where
@@ -49,55 +35,72 @@ abbrev keys : List (ℕ × List Proof) → List ℕ
 keys rs = map (λ r. r.0) rs
 
 mutual
-  stm_keys : (s : Stm) → keys (given_within s) ≡ places_within s
+  stm_keys : (s : Stm) → keys (proofs_within s) ≡ places_within s
   stm_keys skip = refl
   stm_keys (assign x e q retypes) = refl
   stm_keys (lock l) = refl
   stm_keys (unlock l) = refl
-  stm_keys (branch e a b join) = map-append (λ r. r.0) (given_proofs a) (given_proofs b) ∙ (λ i. block_keys a i ++ block_keys b i)
+  stm_keys (branch e a b join) = map-append (λ r. r.0) (placed_proofs a) (placed_proofs b) ∙ (λ i. block_keys a i ++ block_keys b i)
   stm_keys (loop e inv b) = block_keys b
   stm_keys (note j) = refl
   stm_keys (output e) = refl
 
-  block_keys : (b : Block) → keys (given_proofs b) ≡ places b
+  block_keys : (b : Block) → keys (placed_proofs b) ≡ places b
   block_keys done = refl
   block_keys (more at s proofs b) =
-      ap (λ xs. at ∷ xs) (map-append (λ r. r.0) (given_within s) (given_proofs b) ∙ (λ i. stm_keys s i ++ block_keys b i))
+      ap (λ xs. at ∷ xs) (map-append (λ r. r.0) (proofs_within s) (placed_proofs b) ∙ (λ i. stm_keys s i ++ block_keys b i))
 
 -- the first of a place
 abbrev look_up : ℕ → List (ℕ × List Proof) → Option (List Proof)
 look_up place [] = None
 look_up place (r ∷ rs) = if r.0 == place then Some r.1 else look_up place rs
 
-look_up-append : (place : ℕ) (rs qs : List (ℕ × List Proof)) → look_up place (rs ++ qs) ≡ first_of (look_up place rs) (look_up place qs)
+look_up-append : (place : ℕ) (rs qs : List (ℕ × List Proof)) → look_up place (rs ++ qs) ≡ option_or (look_up place rs) (look_up place qs)
 look_up-append place [] qs = refl
 look_up-append place (r ∷ rs) qs = go (look_up-append place rs qs) (r.0 == place)
   where
-    go : look_up place (rs ++ qs) ≡ first_of (look_up place rs) (look_up place qs) → (b : Bool)
-        → cond b (Some r.1) (look_up place (rs ++ qs)) ≡ first_of (cond b (Some r.1) (look_up place rs)) (look_up place qs)
+    go : look_up place (rs ++ qs) ≡ option_or (look_up place rs) (look_up place qs) → (b : Bool)
+        → cond b (Some r.1) (look_up place (rs ++ qs)) ≡ option_or (cond b (Some r.1) (look_up place rs)) (look_up place qs)
     go h true = refl
     go h false = h
 
-mutual
-  stm_found : (s : Stm) (place : ℕ) → proofs_within s place ≡ look_up place (given_within s)
-  stm_found skip place = refl
-  stm_found (assign x e q retypes) place = refl
-  stm_found (lock l) place = refl
-  stm_found (unlock l) place = refl
-  stm_found (branch e a b join) place =
-      (λ i. first_of (block_found a place i) (block_found b place i)) ∙ sym (look_up-append place (given_proofs a) (given_proofs b))
-  stm_found (loop e inv b) place = block_found b place
-  stm_found (note j) place = refl
-  stm_found (output e) place = refl
+-- the certificates at the end of a way
+abbrev proofs_of : Option Way → Option (List Proof)
+proofs_of o = option_map (λ w. w.proofs) o
 
-  block_found : (b : Block) (place : ℕ) → proofs_at b place ≡ look_up place (given_proofs b)
+proofs_behind : (front : List Step) (o : Option Way) → proofs_of (option_map (with_steps_in_front front) o) ≡ proofs_of o
+proofs_behind front None = refl
+proofs_behind front (Some w) = refl
+
+proofs_of_either : (a b : Option Way) → proofs_of (option_or a b) ≡ option_or (proofs_of a) (proofs_of b)
+proofs_of_either None b = refl
+proofs_of_either (Some w) b = refl
+
+mutual
+  stm_found : (at : ℕ) (s : Stm) (place : ℕ) → proofs_of (way_within at s place) ≡ look_up place (proofs_within s)
+  stm_found at skip place = refl
+  stm_found at (assign x e q retypes) place = refl
+  stm_found at (lock l) place = refl
+  stm_found at (unlock l) place = refl
+  stm_found at (branch e a b join) place =
+      proofs_of_either (option_map (with_steps_in_front (yes at e ∷ [])) (way_to a place)) (option_map (with_steps_in_front (no at e ∷ [])) (way_to b place))
+      ∙ (λ i. option_or (proofs_behind (yes at e ∷ []) (way_to a place) i) (proofs_behind (no at e ∷ []) (way_to b place) i))
+      ∙ (λ i. option_or (block_found a place i) (block_found b place i)) ∙ sym (look_up-append place (placed_proofs a) (placed_proofs b))
+  stm_found at (loop e inv b) place = proofs_behind (head at inv ∷ yes at e ∷ []) (way_to b place) ∙ block_found b place
+  stm_found at (note j) place = refl
+  stm_found at (output e) place = refl
+
+  block_found : (b : Block) (place : ℕ) → proofs_of (way_to b place) ≡ look_up place (placed_proofs b)
   block_found done place = refl
   block_found (more at s proofs b) place =
-      go ((λ i. first_of (stm_found s place i) (block_found b place i)) ∙ sym (look_up-append place (given_within s) (given_proofs b))) (at == place)
+      proofs_of_either (cond (at == place) (Some (here s proofs)) (way_within at s place)) (option_map (with_steps_in_front (passed at s ∷ [])) (way_to b place))
+      ∙ ap (option_or (proofs_of (cond (at == place) (Some (here s proofs)) (way_within at s place))))
+      (proofs_behind (passed at s ∷ []) (way_to b place) ∙ block_found b place)
+      ∙ go (ap (λ o. option_or o (look_up place (placed_proofs b))) (stm_found at s place) ∙ sym (look_up-append place (proofs_within s) (placed_proofs b))) (at == place)
     where
-      go : first_of (proofs_within s place) (proofs_at b place) ≡ look_up place (given_within s ++ given_proofs b) → (c : Bool)
-          → first_of (cond c (Some proofs) (proofs_within s place)) (proofs_at b place)
-          ≡ cond c (Some proofs) (look_up place (given_within s ++ given_proofs b))
+      go : option_or (proofs_of (way_within at s place)) (look_up place (placed_proofs b)) ≡ look_up place (proofs_within s ++ placed_proofs b) → (c : Bool)
+          → option_or (proofs_of (cond c (Some (here s proofs)) (way_within at s place))) (look_up place (placed_proofs b))
+          ≡ cond c (Some proofs) (look_up place (proofs_within s ++ placed_proofs b))
       go h true = refl
       go h false = h
 
@@ -116,11 +119,11 @@ each_given f (r ∷ rs) d h =
 
 -- the certificates of the statement at a place
 abbrev pub given_at : Block → ℕ → List Proof
-given_at b place = unwrap_or (proofs_at b place) []
+given_at b place = unwrap_or (proofs_of (way_to b place)) []
 
-pub all_given : (b : Block) → are_distinct (◌==◌) (places b) ≡ true → AreGiven (given_at b) (given_proofs b)
+pub all_given : (b : Block) → are_distinct (◌==◌) (places b) ≡ true → AreGiven (given_at b) (placed_proofs b)
 all_given b d =
-    each_given (given_at b) (given_proofs b) (subst (λ xs. are_distinct (◌==◌) xs ≡ true) (sym (block_keys b)) d)
+    each_given (given_at b) (placed_proofs b) (subst (λ xs. are_distinct (◌==◌) xs ≡ true) (sym (block_keys b)) d)
     (λ x i. ap (λ o. unwrap_or o []) (block_found b x))
 
 -- One certificate ------------------------------------------------------------------------------------------------------
@@ -135,11 +138,11 @@ same_cert (q ∷ qs) n = go (same_cert qs n) (q.number == n)
     go h false = h
 
 -- an entailment is proved by the certificate that is given for it
-proved_as_given : (o : Option (List Proof)) (n : ℕ) (g : Entailment)
-    → is_proved (unwrap_or o []) n g ≡ is_valid g.hyps g.goal (unwrap_or (cert_among o n) auto)
+proved_as_given : (o : Option Way) (n : ℕ) (g : Entailment)
+    → is_proved (unwrap_or (proofs_of o) []) n g ≡ is_valid g.hyps g.goal (unwrap_or (cert_among o n) auto)
 proved_as_given None n g = refl
-proved_as_given (Some qs) n g = ap (is_valid g.hyps g.goal) (same_cert qs n)
+proved_as_given (Some w) n g = ap (is_valid g.hyps g.goal) (same_cert w.proofs n)
 
 pub unproved_as_given : (b : Block) (place n : ℕ) (g : Entailment) → is_proved (given_at b place) n g ≡ false
     → is_valid g.hyps g.goal (unwrap_or (cert_of b place n) auto) ≡ false
-unproved_as_given b place n g h = sym (proved_as_given (proofs_at b place) n g) ∙ h
+unproved_as_given b place n g h = sym (proved_as_given (way_to b place) n g) ∙ h

@@ -12,7 +12,7 @@ use Rattle.cov_ast.specs.Syntax.{State, Stm, skip, assign, lock, unlock, branch,
 use Rattle.cov_ast.specs.WellFormed.{IsWellFormed, places, places_within}
 use Rattle.mode_compat.specs.Compatible.{no_thread, numbered}
 use Rattle.mode_state.specs.Sets.{is_hidden}
-use Rattle.statement_paths.specs.Paths.{passed, yes, no, head, Way, here, behind, way_to, way_within}
+use Rattle.statement_paths.specs.Paths.{passed, yes, no, head, Way, here, with_steps_in_front, way_to, way_within}
 use Rattle.typing_law.specs.Blocks.{after_stm, after_block, value_type}
 use Rattle.typing_law.specs.Counts.{entailment_count}
 use Rattle.typing_law.specs.Entailments.{Entailment, assign_entailments, controlled_follows, controlled_values, freed_value, from_one_more, from_preds, guard_follows, retype_follows, shown_controlled, shown_value, state_follows, type_follows, unlock_entailments, written_type}
@@ -23,21 +23,21 @@ use Rattle.typing_state.specs.Point.{Point}
 use Rattle.cov_ast.specs.LocksAlong.{no_locks}
 use Rattle.held_locks.specs.LocksHeld.{held_along}
 use Rattle.entail_questions.specs.OwnEntailments.{own_entailments}
-use Rattle.entail_questions.specs.Questions.{asked_among, asked_behind, of_controlled, of_preds, of_shown, of_state, of_unlock, of_written, questions}
+use Rattle.entail_questions.specs.Questions.{asked_among, asked_of_way, of_controlled, of_preds, of_shown, of_state, of_unlock, of_written, questions}
 use Rattle.entail_questions.specs.declared.kinds.Asked.{Asked}
 use Rattle.entail_questions.specs.declared.kinds.End.{End}
 use Rattle.entail_questions.specs.declared.kinds.End.TheVariants as ends
 use Rattle.entail_questions.specs.declared.kinds.Question.{Question}
 use Rattle.entail_questions.specs.declared.kinds.Question.TheVariants as q
 use Rattle.entail_questions.proofs.EachAsked.{Differ, In, There, apart, differ, differ_left, differ_right, in_left, in_right, no_way, no_way_from, no_way_within, stands_in, way_from}
-use Rattle.entail_questions.proofs.HeldAtPoints.{after_held}
-use Rattle.hypothesis_origins.specs.Points.{after_steps, point_behind}
+use Rattle.held_locks.proofs.HeldAtPoints.{after_held}
+use Rattle.hypothesis_origins.specs.Points.{after_steps, point_after_steps}
 use Rattle.type_origins.proofs.GoalLaws.{as_asked}
 use Rattle.type_origins.specs.GoalTypes.{asked_point, goal_of}
 use Rattle.entail_refused.proofs.SitePoints.{past_block, to_the_point}
 use Rattle.entail_refused.specs.Remarked.{asks_more}
 use Rattle.entail_refused.specs.SiteHypotheses.{AreOf, IsOfSite}
-use Rattle.entail_refused.specs.Sites.{Site, site_at, site_behind, steps_to_end, steps_to_point}
+use Rattle.entail_refused.specs.Sites.{Site, site_at, site_of_way, steps_to_end, steps_to_point}
 
 -- Two lists, place by place --------------------------------------------------------------------------------------
 
@@ -266,21 +266,21 @@ module _ (place number : ℕ) where
     second_way : (a : Point) (first second : Option Way) (g : PlacedEntailment) → first ≡ None → OfWay a second g → OfWay a (option_or first second) g
     second_way a first second g none h = subst (λ o. OfWay a (option_or o second) g) (sym none) h
 
-    past_one : (a : Point) (at : ℕ) (s : Stm) (o : Option Way) (g : PlacedEntailment) → OfWay (after_stm p t s a) o g → OfWay a (option_map (behind (passed at s ∷ [])) o) g
+    past_one : (a : Point) (at : ℕ) (s : Stm) (o : Option Way) (g : PlacedEntailment) → OfWay (after_stm p t s a) o g → OfWay a (option_map (with_steps_in_front (passed at s ∷ [])) o) g
     past_one a at s None g h = h
     past_one a at s (Some w) g h =
-        subst (λ held. OfQuestion a (behind (passed at s ∷ []) w) g (asked_among (questions p t (held_along w.steps held) w.stm) number)) (sym (after_held p t s a)) h
+        subst (λ held. OfQuestion a (with_steps_in_front (passed at s ∷ []) w) g (asked_among (questions p t (held_along w.steps held) w.stm) number)) (sym (after_held p t s a)) h
 
-    into_first : (a : Point) (at : ℕ) (e : Term) (o : Option Way) (g : PlacedEntailment) → OfWay (with_guard p t a e) o g → OfWay a (option_map (behind (yes at e ∷ [])) o) g
+    into_first : (a : Point) (at : ℕ) (e : Term) (o : Option Way) (g : PlacedEntailment) → OfWay (with_guard p t a e) o g → OfWay a (option_map (with_steps_in_front (yes at e ∷ [])) o) g
     into_first a at e None g h = h
     into_first a at e (Some w) g h = h
 
-    into_second : (a : Point) (at : ℕ) (e : Term) (o : Option Way) (g : PlacedEntailment) → OfWay (with_guard p t a (neg e)) o g → OfWay a (option_map (behind (no at e ∷ [])) o) g
+    into_second : (a : Point) (at : ℕ) (e : Term) (o : Option Way) (g : PlacedEntailment) → OfWay (with_guard p t a (neg e)) o g → OfWay a (option_map (with_steps_in_front (no at e ∷ [])) o) g
     into_second a at e None g h = h
     into_second a at e (Some w) g h = h
 
     into_loop : (a : Point) (at : ℕ) (e : Term) (inv : State) (o : Option Way) (g : PlacedEntailment) → OfWay (with_guard p t (meet p t a inv) e) o g
-        → OfWay a (option_map (behind (head at inv ∷ yes at e ∷ [])) o) g
+        → OfWay a (option_map (with_steps_in_front (head at inv ∷ yes at e ∷ [])) o) g
     into_loop a at e inv None g h = h
     into_loop a at e inv (Some w) g h = h
 
@@ -348,8 +348,8 @@ module _ (place number : ℕ) where
           let other = with_guard p t a (neg e) in
           let gs = guard_follows p t a e ∷ [] in
           let hs = state_follows (after_block p t yes_block start) join ++ state_follows (after_block p t no_block other) join in
-          let first = option_map (behind (yes at e ∷ [])) (way_to yes_block place) in
-          let second = option_map (behind (no at e ∷ [])) (way_to no_block place) in
+          let first = option_map (with_steps_in_front (yes at e ∷ [])) (way_to yes_block place) in
+          let second = option_map (with_steps_in_front (no at e ∷ [])) (way_to no_block place) in
           in_four (Here at s proofs a g) (placed_from at 1 gs) (block_entailments p t yes_block start) (block_entailments p t no_block other) (placed_from at 2 hs) g h
           (λ k. own_part at s proofs a g [] gs hs 1 refl refl k)
           (λ k. let stand = stands_in place number p t yes_block start (is_there (block_entailments p t yes_block start) g k) in
@@ -361,7 +361,7 @@ module _ (place number : ℕ) where
           further_in at s proofs a g
           (λ is. d.0 (in_right at (places yes_block) (places no_block) (subst (λ z. In z (places no_block)) (sym is) stand)))
           (second_way a first second g
-          (ap (λ o. option_map (behind (yes at e ∷ [])) o) (no_way place number p t yes_block (apart place (places yes_block) (places no_block) d.1 stand)))
+          (ap (λ o. option_map (with_steps_in_front (yes at e ∷ [])) o) (no_way place number p t yes_block (apart place (places yes_block) (places no_block) d.1 stand)))
           (into_second a at e (way_to no_block place) g (sited_in no_block other g (differ_right (places yes_block) (places no_block) d.1) k))))
           (λ k. own_part at s proofs a g gs hs [] 2 refl (ap (λ es. guard_follows p t a e ∷ es) (append-nil hs)) k)
       sited_at (loop e inv b) proofs at a g d h =
@@ -384,7 +384,7 @@ module _ (place number : ℕ) where
       sited_in done a g d h = let c : ◌≡◌ {A = Option PlacedEntailment} None (Some g) = h in cc
       sited_in (more at s proofs rest) a g d h =
           let first = way_from place number p t at s proofs in
-          let second = option_map (behind (passed at s ∷ [])) (way_to rest place) in
+          let second = option_map (with_steps_in_front (passed at s ∷ [])) (way_to rest place) in
           by_either (OfWay a (option_or first second) g) (in_one (stm_entailments p t s at a) (block_entailments p t rest (after_stm p t s a)) g h)
           (λ k. first_way a first second g (sited_at s proofs at a g (differ_left (at ∷ places_within s) (places rest) d) k))
           (λ k. let stand = stands_in place number p t rest (after_stm p t s a) (is_there (block_entailments p t rest (after_stm p t s a)) g k) in
@@ -397,13 +397,13 @@ module _ (place number : ℕ) where
     -- The site -----------------------------------------------------------------------------------------------------
 
     abbrev HasSite : Option Way → Option Asked → PlacedEntailment → Type 0
-    HasSite w k g = (site : Site) × (site_behind place w k ≡ Some site) × OfPoint p t site.question site.stm (point_behind p t site.steps) g.entailment
+    HasSite w k g = (site : Site) × (site_of_way place w k ≡ Some site) × OfPoint p t site.question site.stm (point_after_steps p t site.steps) g.entailment
 
     of_asked : (w : Way) (k : Option Asked) (g : PlacedEntailment) → OfQuestion (start p t) w g k → HasSite (Some w) k g
     of_asked w None g h = absurd h
     of_asked w (Some k) g h = (site_at w.steps k.question place w.stm, refl, h)
 
-    of_way : (o : Option Way) (g : PlacedEntailment) → OfWay (start p t) o g → HasSite o (asked_behind p t o number) g
+    of_way : (o : Option Way) (g : PlacedEntailment) → OfWay (start p t) o g → HasSite o (asked_of_way p t o number) g
     of_way None g h = absurd h
     of_way (Some w) g h = of_asked w (asked_among (questions p t (held_along w.steps (no_locks p)) w.stm) number) g h
 

@@ -8,7 +8,7 @@ use Rattle.entail_questions.specs.declared.kinds.End.TheVariants as e
 use Rattle.entail_questions.specs.declared.kinds.Question.{Question}
 use Rattle.entail_questions.specs.declared.kinds.Question.TheVariants as q
 use Rattle.hypothesis_origins.proofs.PointLaws.{appended}
-use Rattle.hypothesis_origins.specs.Points.{after_steps, point_behind}
+use Rattle.hypothesis_origins.specs.Points.{after_steps, point_after_steps}
 use Rattle.statement_paths.specs.Paths.{Step, passed_all, to_body_end, to_first_end, to_head, to_second_end}
 use Rattle.type_origins.specs.GoalTypes.{asked_point, at_body_end, at_end, at_first_end, at_head, at_second_end}
 use Rattle.typing_law.specs.Blocks.{after_block, after_stm}
@@ -83,5 +83,5 @@ module _ (p : Plain) (t : ℕ) where
   to_the_point (q.TypeOf end z) at s a = to_the_end end at s a
 
   pub at_the_point : (steps : List Step) (question : Question) (at : ℕ) (s : Stm)
-      → point_behind p t (site_at steps question at s).steps ≡ asked_point p t question s (point_behind p t steps)
-  at_the_point steps question at s = appended p t steps (steps_to_point question at s) (start p t) ∙ to_the_point question at s (point_behind p t steps)
+      → point_after_steps p t (site_at steps question at s).steps ≡ asked_point p t question s (point_after_steps p t steps)
+  at_the_point steps question at s = appended p t steps (steps_to_point question at s) (start p t) ∙ to_the_point question at s (point_after_steps p t steps)

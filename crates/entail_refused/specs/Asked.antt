@@ -9,14 +9,14 @@ use Rattle.cov_ast.specs.declared.refusal.Rule.TheVariants.{V9}
 use Rattle.cov_ast.specs.declared.refusal.Detail.{Detail}
 use Rattle.cov_ast.specs.declared.refusal.Detail.TheVariants.{Number}
 use Rattle.entail_questions.specs.QuestionLines.{question_line}
-use Rattle.entail_text.specs.Given.{cert_of}
 use Rattle.entail_text.specs.EntailmentLines.{entailment_text}
-use Rattle.entail_text.specs.VariableNames.{variable_names}
+use Rattle.text_parts.specs.VariableNames.{variable_names}
 use Rattle.entail_text.specs.ZeroGoals.{zero_line}
 use Rattle.mode_compat.specs.Compatible.{numbered}
 use Rattle.mode_compat.specs.Declared.{declaration_obligations}
 use Rattle.typing_law.specs.ThreadEntailments.{PlacedEntailment, entailment_among, thread_entailments}
 use Rattle.entail_refused.specs.Further.{further_lines}
+use Rattle.entail_refused.specs.GivenCertificates.{cert_of}
 use Rattle.entail_refused.specs.GivenElsewhere.{given_lines}
 use Rattle.entail_refused.specs.Remarked.{remarks_on}
 use Rattle.entail_refused.specs.Sites.{Site, site_of}
@@ -30,19 +30,19 @@ module _ (p : Program) (bytes : List ℕ) where
       ++ zero_line g.entailment.goal
 
   -- what is told of an entailment that is asked there
-  abbrev pub told_at : (t : ℕ) → Option Site → PlacedEntailment → List ℕ
-  told_at t site g =
+  abbrev pub lines_at_site : (t : ℕ) → Option Site → PlacedEntailment → List ℕ
+  lines_at_site t site g =
       question_line p t g.place g.number ++ entailment_lines t site g ++ given_lines p t g ++ further_lines p t bytes site g.entailment.hyps
 
   -- What is told of an entailment of a thread: what it asks, its lines, where no certificate is given for it, for which entailments
   -- of the statement some are, and what is told of the point.
-  abbrev pub told_of : (t : ℕ) → Option PlacedEntailment → List ℕ
-  told_of t None = []
-  told_of t (Some g) = told_at t (site_of p t g.place g.number) g
+  abbrev pub lines_of_entailment : (t : ℕ) → Option PlacedEntailment → List ℕ
+  lines_of_entailment t None = []
+  lines_of_entailment t (Some g) = lines_at_site t (site_of p t g.place g.number) g
 
   -- the entailment of a number at a place, of a program whose declarations keep the rules
   abbrev pub asked_in : (t place number : ℕ) → List ℕ
-  asked_in t place number = if all_hold (declaration_obligations p) then told_of t (entailment_among (thread_entailments p t) place number) else []
+  asked_in t place number = if all_hold (declaration_obligations p) then lines_of_entailment t (entailment_among (thread_entailments p t) place number) else []
 
   -- the same, where the program has so many threads
   abbrev pub asked_of : (t place number : ℕ) → List ℕ

@@ -13,11 +13,11 @@ use Rattle.entail_refused.specs.Sites.{Site}
 -- What the state drops that is asked of -------------------------------------------------------------------------
 
 -- the predicates of the state of a statement, with the word for it, if it has one
-abbrev pub state_of : Stm → Option (List ℕ × List Term)
-state_of (branch e a b join) = Some (codes "join", join.preds)
-state_of (loop e inv b) = Some (codes "inv", inv.preds)
-state_of (note j) = Some (codes "note", j.preds)
-state_of s = None
+abbrev pub word_and_predicates : Stm → Option (List ℕ × List Term)
+word_and_predicates (branch e a b join) = Some (codes "join", join.preds)
+word_and_predicates (loop e inv b) = Some (codes "inv", inv.preds)
+word_and_predicates (note j) = Some (codes "note", j.preds)
+word_and_predicates s = None
 
 abbrev pub dropped_by : Option (List ℕ × List Term) → (hypotheses : List Term) → List ℕ
 dropped_by None hypotheses = []
@@ -25,8 +25,8 @@ dropped_by (Some s) hypotheses = dropped_line s.0 s.1 hypotheses
 
 -- Where something of a state is asked, which hypotheses it drops. The last of those of a type is the type, and no predicate.
 abbrev pub dropped_at : Question → Stm → (hypotheses : List Term) → List ℕ
-dropped_at (q.Predicate end i) s hypotheses = dropped_by (state_of s) hypotheses
-dropped_at (q.TypeOf end z) s hypotheses = dropped_by (state_of s) (take (length hypotheses - 1) hypotheses)
+dropped_at (q.Predicate end i) s hypotheses = dropped_by (word_and_predicates s) hypotheses
+dropped_at (q.TypeOf end z) s hypotheses = dropped_by (word_and_predicates s) (take (length hypotheses - 1) hypotheses)
 dropped_at question s hypotheses = []
 
 -- All that is told -----------------------------------------------------------------------------------------------

@@ -28,10 +28,10 @@ abbrev pub lines_of : List Proof → PlacedEntailment → List ℕ
 lines_of proofs g = line_without g.number proofs ++ other_line proofs g.number g.entailment.hyps g.entailment.goal
 
 -- of the statement at the end of a way, if there is one
-abbrev pub lines_behind : Option Way → PlacedEntailment → List ℕ
-lines_behind None g = []
-lines_behind (Some w) g = lines_of w.proofs g
+abbrev pub given_lines_of_way : Option Way → PlacedEntailment → List ℕ
+given_lines_of_way None g = []
+given_lines_of_way (Some w) g = lines_of w.proofs g
 
 -- of the statement of an entailment of a thread
 abbrev pub given_lines : Program → (t : ℕ) → PlacedEntailment → List ℕ
-given_lines p t g = lines_behind (way_to (numbered p t).body g.place) g
+given_lines p t g = given_lines_of_way (way_to (numbered p t).body g.place) g

@@ -5,3 +5,4 @@ pub mod GivenElsewhere
 pub mod Remarked
 pub mod RefusedEntailment
 pub mod SiteHypotheses
+pub mod GivenCertificates

@@ -4,10 +4,10 @@ use Rattle.cov_ast.specs.Syntax.{Program, auto}
 use Rattle.cov_ast.specs.declared.refusal.Detail.TheVariants.{Number}
 use Rattle.cov_ast.specs.declared.refusal.Refusal.{Refusal}
 use Rattle.entail_cert.specs.Valid.{is_valid}
-use Rattle.entail_text.specs.Given.{cert_of}
 use Rattle.mode_compat.specs.Compatible.{numbered}
 use Rattle.typing_law.specs.ThreadEntailments.{PlacedEntailment, entailment_among, thread_entailments}
-use Rattle.entail_refused.specs.Asked.{asked, told_of}
+use Rattle.entail_refused.specs.Asked.{asked, lines_of_entailment}
+use Rattle.entail_refused.specs.GivenCertificates.{cert_of}
 
 -- whether the certificate that a thread gives for an entailment is valid; `auto` stands for one that isn't given
 abbrev pub has_valid_certificate : Program → (t : ℕ) → PlacedEntailment → Bool
@@ -28,4 +28,4 @@ pub record IsToldOf (p : Program) (bytes : List ℕ) (r : Refusal) : Type 0 wher
   pub thread : ℕ
   pub inside : thread < length p.threads
   pub names : NamesUnproved p thread r
-  pub told : asked p bytes r.rule r.thread r.place r.detail ≡ told_of p bytes thread (Some names.named)
+  pub told : asked p bytes r.rule r.thread r.place r.detail ≡ lines_of_entailment p bytes thread (Some names.named)

@@ -7,7 +7,7 @@ use Rattle.std.specs.Prelude.{◌≡◌, ℕ, List, [], ◌∷◌, ◌++◌, Boo
 use Rattle.cov_ast.specs.Plain.{plain}
 use Rattle.cov_ast.specs.Syntax.{Program}
 use Rattle.cov_expr.specs.Term.{Term}
-use Rattle.hypothesis_origins.specs.Points.{point_behind}
+use Rattle.hypothesis_origins.specs.Points.{point_after_steps}
 use Rattle.type_origins.specs.GoalTypes.{goal_of}
 use Rattle.typing_law.specs.ThreadEntailments.{PlacedEntailment}
 use Rattle.entail_refused.specs.Remarked.{asks_more}
@@ -23,5 +23,5 @@ AreOf false preds hyps = hyps ≡ preds
 pub record IsOfSite (p : Program) (t place number : ℕ) (g : PlacedEntailment) : Type 0 where
   pub site : Site
   pub there : site_of p t place number ≡ Some site
-  pub known : AreOf (asks_more site.question) (point_behind (plain p) t site.steps).preds g.entailment.hyps
-  pub goal : g.entailment.goal ≡ goal_of (plain p) t site.question site.stm (point_behind (plain p) t site.steps)
+  pub known : AreOf (asks_more site.question) (point_after_steps (plain p) t site.steps).preds g.entailment.hyps
+  pub goal : g.entailment.goal ≡ goal_of (plain p) t site.question site.stm (point_after_steps (plain p) t site.steps)

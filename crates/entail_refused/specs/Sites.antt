@@ -49,13 +49,13 @@ abbrev pub site_at : List Step → Question → (at : ℕ) → Stm → Site
 site_at steps question at s = record { steps = steps ++ steps_to_point question at s; question = question; stm = s }
 
 -- where this is the way to the statement, and this is asked there
-abbrev pub site_behind : (at : ℕ) → Option Way → Option Asked → Option Site
-site_behind at (Some w) (Some a) = Some (site_at w.steps a.question at w.stm)
-site_behind at w a = None
+abbrev pub site_of_way : (at : ℕ) → Option Way → Option Asked → Option Site
+site_of_way at (Some w) (Some a) = Some (site_at w.steps a.question at w.stm)
+site_of_way at w a = None
 
 -- of the entailment with a number, of those of the statement at a place of a thread
 abbrev pub site_of : Program → (t place number : ℕ) → Option Site
-site_of p t place number = site_behind place (way_to (numbered p t).body place) (asked p t place number)
+site_of p t place number = site_of_way place (way_to (numbered p t).body place) (asked p t place number)
 
 -- what the code has
 abbrev pub site : declared.Site → Site

@@ -51,7 +51,7 @@ fn add_dropped_by(
     hypotheses: &[Expr],
     text: &mut Blob,
 ) -> Result<(), NoMemory>
-    ensures { OnOk result (text.new ≡ text.old ++ spec.dropped_by (spec.state_of (view.kind kind.now)) (map term hypotheses.now)) }
+    ensures { OnOk result (text.new ≡ text.old ++ spec.dropped_by (spec.word_and_predicates (view.kind kind.now)) (map term hypotheses.now)) }
 {
     match kind {
         StmtKind::If(_, _, _, join) => {

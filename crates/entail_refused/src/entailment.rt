@@ -10,14 +10,15 @@ ghost use Rattle.entail_refused.specs.Asked as spec;
 ghost use Rattle.entail_refused.specs.Sites as sites;
 
 use crate::further::add_further;
-use crate::given::add_given;
+use crate::given::{add_given, cert_of};
 use crate::remarked::remarks_on;
 use crate::site::{Site, site_of};
 use cov_ast::{CheckFault, Detail, Program, Refusal, Rule};
 use cov_expr::{Blob, NoMemory};
-use entail_questions::{add_question, body_of};
-use entail_text::{add_told, add_zero, cert_of, variable_names};
+use entail_questions::add_question;
+use entail_text::{add_told, add_zero};
 use std::alloc::Global;
+use text_parts::variable_names;
 use typing_law::Entail;
 use typing_rules::entailment_at;
 use verify::check_declared;
@@ -121,7 +122,7 @@ fn add_entailment(
     requires formed { IsWellFormed (view.program p.now) }
     requires declared { IsTrue (all_hold (declaration_obligations (view.program p.now))) }
     requires thread { t < length p.now.threads }
-    ensures { OnOk result (text.new ≡ text.old ++ spec.told_of (view.program p.now) bytes.now t (entailment_among (thread_entailments (view.program p.now) t) place number)) }
+    ensures { OnOk result (text.new ≡ text.old ++ spec.lines_of_entailment (view.program p.now) bytes.now t (entailment_among (thread_entailments (view.program p.now) t) place number)) }
 {
     match entailment_at(alloc, p, t, place, number)? {
         Some(e) => add_found(alloc, p, bytes, t, &e, text),
@@ -141,7 +142,7 @@ fn add_found(
 ) -> Result<(), NoMemory>
     requires formed { IsWellFormed (view.program p.now) }
     requires thread { t < length p.now.threads }
-    ensures { OnOk result (text.new ≡ text.old ++ spec.told_of (view.program p.now) bytes.now t (Some (view_entail e.now))) }
+    ensures { OnOk result (text.new ≡ text.old ++ spec.lines_of_entailment (view.program p.now) bytes.now t (Some (view_entail e.now))) }
 {
     let site = site_of(alloc, p, t, e.place, e.number)?;
     add_question(alloc, p, t, e.place, e.number, text)?;
@@ -165,7 +166,7 @@ fn add_lines(
     ensures { OnOk result (text.new ≡ text.old ++ spec.entailment_lines (view.program p.now) bytes.now t (option_map sites.site site.now) (view_entail e.now)) }
 {
     let names = variable_names(alloc, p)?;
-    let cert = cert_of(body_of(p, t), e.place, e.number);
+    let cert = cert_of(alloc, p, t, e)?;
     let remarks = remarks_on(alloc, p, bytes, site, e.hyps.as_slice())?;
     add_told(
         alloc,

@@ -1,18 +1,35 @@
-//! For which entailments of a statement certificates are given.
+//! The certificates that a statement gives, for an entailment and for others.
 
-ghost use Rattle.std.specs.Prelude.{◌≡◌, ◌<◌, ◌++◌, OnOk, flat_map, length, map};
+ghost use Rattle.std.specs.Prelude.{◌≡◌, ◌<◌, ◌++◌, IfOk, OnOk, flat_map, length, map, option_map};
 ghost use Rattle.cov_ast.specs.View as view;
+ghost use Rattle.mode_compat.specs.Compatible.{numbered};
 ghost use Rattle.typing_law.specs.ThreadEntailments.{view_entail};
+ghost use Rattle.entail_refused.specs.GivenCertificates as certificates;
 ghost use Rattle.entail_refused.specs.GivenElsewhere as spec;
 
-use cov_ast::{Program, Proof};
+use cov_ast::{Cert, Program, Proof};
 use cov_expr::{Blob, NoMemory};
-use entail_questions::body_of;
-use entail_text::add_other;
+use entail_text::{add_other, cert_for};
 use statement_paths::way_to;
 use std::alloc::Global;
 use text_parts::add_number;
 use typing_law::Entail;
+
+/// The certificate that a thread gives for an entailment. `None` comes where it gives none.
+pub fn cert_of<'p>(
+    alloc: Global,
+    p: &'p Program,
+    t: u32,
+    e: &Entail,
+) -> Result<Option<&'p Cert>, NoMemory>
+    requires thread { t < length p.now.threads }
+    ensures { IfOk result (λ found. option_map (λ c. view.cert c.now) found ≡ certificates.cert_of (numbered (view.program p.now) t).body e.now.place e.now.number) }
+{
+    match way_to(alloc, p.body_of(t), e.place)? {
+        Some(way) => Ok(cert_for(way.stmt.proofs.as_slice(), e.number)),
+        None => Ok(None),
+    }
+}
 
 /// Adds what the statement of an entailment of a thread gives for others: for which certificates are given, where none is given for this one,
 /// and which of these would show it. Nothing is added where the statement gives none.
@@ -26,7 +43,7 @@ pub fn add_given(
     requires thread { t < length p.now.threads }
     ensures { OnOk result (text.new ≡ text.old ++ spec.given_lines (view.program p.now) t (view_entail e.now)) }
 {
-    match way_to(alloc, body_of(p, t), e.place)? {
+    match way_to(alloc, p.body_of(t), e.place)? {
         Some(way) => add_of_proofs(alloc, way.stmt.proofs.as_slice(), e, text),
         None => Ok(()),
     }

@@ -8,7 +8,7 @@ ghost use Rattle.entail_refused.specs.Sites as spec;
 
 use cov_ast::{Program, StmtKind};
 use cov_expr::{List, NoMemory};
-use entail_questions::{End, Question, body_of, question};
+use entail_questions::{End, Question, question};
 use statement_paths::{
     Step, Way, add_to_body_end, add_to_first_end, add_to_head, add_to_second_end, way_to,
 };
@@ -35,19 +35,19 @@ pub fn site_of<'p>(
     requires thread { t < length p.now.threads }
     ensures { IfOk result (λ found. option_map spec.site found ≡ spec.site_of (view.program p.now) t place number) }
 {
-    let Some(way) = way_to(alloc, body_of(p, t), place)? else {
+    let Some(way) = way_to(alloc, p.body_of(t), place)? else {
         return Ok(None);
     };
     let Some(asked) = question(alloc, p, t, place, number)? else {
         return Ok(None);
     };
     let Way { steps, stmt } = way;
-    let site = site_behind(steps, asked.question, place, &stmt.kind)?;
+    let site = site_at(steps, asked.question, place, &stmt.kind)?;
     Ok(Some(site))
 }
 
 /// Where something is asked of a statement behind steps.
-fn site_behind<'p>(
+fn site_at<'p>(
     steps: List<Step<'p>>,
     question: Question,
     at: u32,

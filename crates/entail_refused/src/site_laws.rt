@@ -5,7 +5,7 @@ ghost use Rattle.cov_ast.specs.Plain.{Plain};
 ghost use Rattle.cov_ast.specs.Syntax as syntax;
 ghost use Rattle.cov_ast.specs.WellFormed.{IsWellFormed};
 ghost use Rattle.entail_questions.specs.declared.kinds.Question as questions;
-ghost use Rattle.hypothesis_origins.specs.Points.{point_behind};
+ghost use Rattle.hypothesis_origins.specs.Points.{point_after_steps};
 ghost use Rattle.statement_paths.specs.Paths as paths;
 ghost use Rattle.type_origins.specs.GoalTypes.{asked_point};
 ghost use Rattle.typing_law.specs.ThreadEntailments.{PlacedEntailment, entailment_among, thread_entailments};
@@ -16,7 +16,7 @@ ghost use Rattle.entail_refused.specs.Sites.{site_at};
 #[tactic(auto, using(crate::proofs::SitePoints::at_the_point))]
 pub fn sites_lead_to_the_point_asked()
     ensures { (p : Plain) → (t : ℕ) → (steps : List paths.Step) → (question : questions.Question) → (at : ℕ) → (s : syntax.Stm)
-        → point_behind p t (site_at steps question at s).steps ≡ asked_point p t question s (point_behind p t steps) }
+        → point_after_steps p t (site_at steps question at s).steps ≡ asked_point p t question s (point_after_steps p t steps) }
 {}
 
 /// A law: each entailment of a thread of a well formed program has a site. Its hypotheses are the predicates of the point to which the

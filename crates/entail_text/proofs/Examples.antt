@@ -5,7 +5,7 @@ use Rattle.cov_expr.specs.Term.{Term, const, var, neg, bin}
 use Rattle.cov_expr.specs.declared.expr.TheConstants.{HOLE}
 use Rattle.cov_expr.specs.declared.expr.Op.TheVariants.{Eq, Le, Either}
 use Rattle.cov_ast.specs.Syntax as s
-use Rattle.entail_text.specs.Given.{cert_of}
+use Rattle.entail_text.specs.Given.{cert_for}
 use Rattle.entail_text.specs.Nodes.{node, node_at}
 use Rattle.entail_text.specs.Dropped.{dropped_line}
 use Rattle.entail_text.specs.EntailmentLines.{entailment_text, place_of, indent}
@@ -72,29 +72,15 @@ no_third_child = refl
 
 -- Certificates that are given ------------------------------------------------------------------------------------
 
-abbrev no_state : s.State
-no_state = record { preds = []; types = [] }
-
 abbrev proved : ℕ → s.Cert → s.Proof
 proved n c = record { number = n; cert = c }
 
--- if head { } else { flight := 0 by { 1: calc, 2: ring }; } by { 2: range }, from the places 0 and 17 on
-abbrev body : s.Block
-body =
-    s.more 0 (s.branch (var 1) s.done (s.more 17 (s.assign 0 (const 0) None []) (proved 1 s.calc ∷ proved 2 s.ring ∷ []) s.done) no_state)
-    (proved 2 s.range ∷ []) s.done
+-- the first of two
+first_given : cert_for (proved 1 s.calc ∷ proved 2 s.ring ∷ proved 2 s.range ∷ []) 2 ≡ Some s.ring
+first_given = refl
 
-inside : cert_of body 17 2 ≡ Some s.ring
-inside = refl
-
-outside : cert_of body 0 2 ≡ Some s.range
-outside = refl
-
-not_given : cert_of body 0 1 ≡ None
+not_given : cert_for (proved 2 s.range ∷ []) 1 ≡ None
 not_given = refl
-
-no_statement : cert_of body 1 1 ≡ None
-no_statement = refl
 
 -- What is dropped, and what other certificates would show --------------------------------------------------------
 

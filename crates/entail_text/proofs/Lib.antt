@@ -1,4 +1,3 @@
 pub mod Examples
 pub mod FailingNodes
-pub mod NameLaws
 pub mod Pieces

@@ -1,7 +1,6 @@
 pub mod Given
 pub mod Nodes
 pub mod EntailmentLines
-pub mod VariableNames
 pub mod Inside
 pub mod Dropped
 pub mod OtherCertificates

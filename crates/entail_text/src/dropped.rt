@@ -5,7 +5,7 @@ ghost use Rattle.cov_expr.specs.Trees.{has_term, is_closed};
 ghost use Rattle.cov_expr.specs.View.{term};
 ghost use Rattle.entail_text.specs.Dropped as spec;
 
-use cov_expr::{Blob, Expr, List, NoMemory, closed, same};
+use cov_expr::{Blob, Expr, List, NoMemory, closed, has_same};
 use std::alloc::Global;
 use text_parts::add_number;
 
@@ -43,18 +43,6 @@ fn is_passed_over(listed: &[Expr], h: &Expr) -> bool
     ensures { result ≡ (is_closed (term h.now) || has_term (map term listed.now) (term h.now)) }
 {
     closed(h) || has_same(listed, h)
-}
-
-/// Whether an expression is one of some, tree for tree.
-pub fn has_same(all: &[Expr], e: &Expr) -> bool
-    ensures { result ≡ has_term (map term all.now) (term e.now) }
-{
-    for one in all {
-        if same(one, e) {
-            return true;
-        }
-    }
-    false
 }
 
 /// Adds the line of some numbers, if there are some.

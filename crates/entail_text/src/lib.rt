@@ -3,17 +3,15 @@
 //! - [`add_told`]: the goal of an entailment, its hypotheses by number, and its certificate, with the first node that fails.
 //! - [`add_zero`]: of a goal that is 0, how it may be shown at all.
 //! - [`failing_node_is_there`] has no body: its contract is a law, that the node of which the text tells is there and fails.
-//! - [`variable_names`]: the names with which it spells expressions of a program.
-//! - [`cert_of`]: the certificate that a thread gives for an entailment.
+//! - [`cert_for`]: the certificate that a statement gives for an entailment.
 //! - [`add_other`]: which certificate that is given for another entailment would show this one.
-//! - [`add_dropped`]: the hypotheses that the state which is to be met doesn't list. [`has_same`]: whether a list has an expression.
+//! - [`add_dropped`]: the hypotheses that the state which is to be met doesn't list.
 //!
 //! | `src/` | `specs/` | what it has |
 //! |---|---|---|
 //! | `entailment` | `EntailmentLines` | the text |
 //! | `node` | `Nodes` | the hypotheses and the goal of each node of a certificate |
-//! | `names` | `VariableNames` | the names of variables, by their ids |
-//! | `given` | `Given` | the certificate of a number at a place |
+//! | `given` | `Given` | the certificate of a number |
 //! | `other` | `OtherCertificates` | the certificates of other numbers |
 //! | `dropped` | `Dropped` | the hypotheses that a state drops |
 //! | `zero` | `ZeroGoals` | goals that are 0 |
@@ -23,15 +21,13 @@ mod dropped;
 mod entailment;
 mod given;
 mod laws;
-mod names;
 mod node;
 mod other;
 mod zero;
 
-pub use dropped::{add_dropped, has_same};
+pub use dropped::add_dropped;
 pub use entailment::add_told;
-pub use given::cert_of;
+pub use given::cert_for;
 pub use laws::failing_node_is_there;
-pub use names::variable_names;
 pub use other::add_other;
 pub use zero::add_zero;

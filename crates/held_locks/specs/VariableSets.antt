@@ -16,8 +16,8 @@ abbrev pub hidden : Plain → (t : ℕ) → (held : List Bool) → List Bool
 hidden p t held = table (length p.vars) (is_hidden p t held)
 
 -- the same behind steps from the start of the thread's text
-abbrev pub stable_behind : Plain → (t : ℕ) → List Step → List Bool
-stable_behind p t steps = stable p t (held_along steps (no_locks p))
+abbrev pub stable_after_steps : Plain → (t : ℕ) → List Step → List Bool
+stable_after_steps p t steps = stable p t (held_along steps (no_locks p))
 
-abbrev pub hidden_behind : Plain → (t : ℕ) → List Step → List Bool
-hidden_behind p t steps = hidden p t (held_along steps (no_locks p))
+abbrev pub hidden_after_steps : Plain → (t : ℕ) → List Step → List Bool
+hidden_after_steps p t steps = hidden p t (held_along steps (no_locks p))

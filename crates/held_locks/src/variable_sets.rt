@@ -42,7 +42,7 @@ pub fn hidden_set(alloc: Global, p: &Program, modes: &ModeState) -> Result<Numbe
 }
 
 /// The variables that no other thread writes while a thread is at the end of steps from the start of its text.
-pub fn stable_behind(
+pub fn stable_after_steps(
     alloc: Global,
     p: &Program,
     t: u32,
@@ -50,14 +50,14 @@ pub fn stable_behind(
 ) -> Result<NumberSet, NoMemory>
     requires formed { IsWellFormed (view.program p.now) }
     requires thread { t < length p.now.threads }
-    ensures { IfOk result (λ made. made ≡ spec.stable_behind (plain (view.program p.now)) t (map step steps.now)) }
+    ensures { IfOk result (λ made. made ≡ spec.stable_after_steps (plain (view.program p.now)) t (map step steps.now)) }
 {
     let modes = modes_along(alloc, p, t, steps)?;
     stable_set(alloc, p, &modes)
 }
 
 /// The variables that no other thread reads or writes while a thread is at the end of steps from the start of its text.
-pub fn hidden_behind(
+pub fn hidden_after_steps(
     alloc: Global,
     p: &Program,
     t: u32,
@@ -65,7 +65,7 @@ pub fn hidden_behind(
 ) -> Result<NumberSet, NoMemory>
     requires formed { IsWellFormed (view.program p.now) }
     requires thread { t < length p.now.threads }
-    ensures { IfOk result (λ made. made ≡ spec.hidden_behind (plain (view.program p.now)) t (map step steps.now)) }
+    ensures { IfOk result (λ made. made ≡ spec.hidden_after_steps (plain (view.program p.now)) t (map step steps.now)) }
 {
     let modes = modes_along(alloc, p, t, steps)?;
     hidden_set(alloc, p, &modes)

@@ -15,7 +15,7 @@ use Rattle.typing_state.specs.After.{start, with_term_if, keeps_value}
 use Rattle.typing_state.specs.Point.{Point, is_over_stable}
 use Rattle.typing_state.specs.Terms.{with_term, with_terms, with_option, distinct_terms}
 use Rattle.hypothesis_origins.specs.Origins.{Given, given, each, by_invariant, given_by, first_given, at_place, origin_at, origin}
-use Rattle.hypothesis_origins.specs.Points.{after_step, after_steps, point_behind}
+use Rattle.hypothesis_origins.specs.Points.{after_step, after_steps, point_after_steps}
 use Rattle.hypothesis_origins.specs.declared.origin.Origin.{Origin}
 use Rattle.hypothesis_origins.specs.declared.origin.HypothesisSource.{HypothesisSource}
 use Rattle.hypothesis_origins.specs.declared.origin.HypothesisSource.TheVariants as by
@@ -175,7 +175,7 @@ module _ (p : Plain) (t : ℕ) where
       from (inr m) = inr (later s ss h m)
 
   -- at the start there is no predicate
-  pub has_origin : (ss : List Step) (h : Term) → has_term (point_behind p t ss).preds h ≡ true → HasOrigin ss h
+  pub has_origin : (ss : List Step) (h : Term) → has_term (point_after_steps p t ss).preds h ≡ true → HasOrigin ss h
   has_origin ss h k = from (along ss (start p t) h k)
     where
       from : (false ≡ true) ⊎ HasOrigin ss h → HasOrigin ss h

@@ -37,23 +37,23 @@ by_invariant l None = []
 by_invariant l (Some e) = given (by.Invariant l) e ∷ []
 
 -- behind a loop its guard doesn't hold, and what the loop states does
-abbrev pub given_behind_loop : Term → State → List Given
-given_behind_loop e inv = given by.LoopLeft (neg e) ∷ each by.LoopState inv.preds
+abbrev pub given_after_loop : Term → State → List Given
+given_after_loop e inv = given by.LoopLeft (neg e) ∷ each by.LoopState inv.preds
 
 -- what a statement may give to the point behind it
-abbrev pub given_behind : Plain → Stm → List Given
-given_behind p skip = []
-given_behind p (assign x e q retypes) = given by.Assigned (bin Eq (var x) e) ∷ []
-given_behind p (lock l) = by_invariant l (lock_at p l).inv
-given_behind p (unlock l) = []
-given_behind p (branch e a b join) = each by.Join join.preds
-given_behind p (loop e inv b) = given_behind_loop e inv
-given_behind p (note j) = each by.Noted j.preds
-given_behind p (output e) = []
+abbrev pub given_after_statement : Plain → Stm → List Given
+given_after_statement p skip = []
+given_after_statement p (assign x e q retypes) = given by.Assigned (bin Eq (var x) e) ∷ []
+given_after_statement p (lock l) = by_invariant l (lock_at p l).inv
+given_after_statement p (unlock l) = []
+given_after_statement p (branch e a b join) = each by.Join join.preds
+given_after_statement p (loop e inv b) = given_after_loop e inv
+given_after_statement p (note j) = each by.Noted j.preds
+given_after_statement p (output e) = []
 
 -- what a step may give to the point at its end
 abbrev pub given_by : Plain → Step → List Given
-given_by p (passed at s) = given_behind p s
+given_by p (passed at s) = given_after_statement p s
 given_by p (yes at e) = given by.GuardHolds e ∷ []
 given_by p (no at e) = given by.GuardFails (neg e) ∷ []
 given_by p (head at inv) = each by.LoopState inv.preds

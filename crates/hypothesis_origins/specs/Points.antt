@@ -19,5 +19,5 @@ module _ (p : Plain) (t : ℕ) where
   after_steps (s ∷ ss) a = after_steps ss (after_step s a)
 
   -- the point behind steps from the start of the thread
-  abbrev pub point_behind : List Step → Point
-  point_behind ss = after_steps ss (start p t)
+  abbrev pub point_after_steps : List Step → Point
+  point_after_steps ss = after_steps ss (start p t)

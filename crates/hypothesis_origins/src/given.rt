@@ -69,7 +69,7 @@ pub fn add_given<'p>(
     ensures { OnOk result (map spec.given all.new ≡ map spec.given all.old ++ origins.given_by (plain (view.program p.now)) (paths.step step.now)) }
 {
     match step {
-        Step::Passed(stmt) => add_behind(p, &stmt.kind, all),
+        Step::Passed(stmt) => add_given_after_statement(p, &stmt.kind, all),
         Step::Yes(_, guard) => add_one(
             HypothesisSource::GuardHolds,
             GivenTerm::Written(guard),
@@ -85,12 +85,12 @@ pub fn add_given<'p>(
 }
 
 /// Adds what a statement may give to the point behind it.
-fn add_behind<'p>(
+fn add_given_after_statement<'p>(
     p: &'p Program,
     kind: &'p StmtKind,
     all: &mut List<Given<'p>>,
 ) -> Result<(), NoMemory>
-    ensures { OnOk result (map spec.given all.new ≡ map spec.given all.old ++ origins.given_behind (plain (view.program p.now)) (view.kind kind.now)) }
+    ensures { OnOk result (map spec.given all.new ≡ map spec.given all.old ++ origins.given_after_statement (plain (view.program p.now)) (view.kind kind.now)) }
 {
     match kind {
         StmtKind::Skip | StmtKind::Unlock(_) | StmtKind::Output(_) => Ok(()),
@@ -103,18 +103,18 @@ fn add_behind<'p>(
         }
         StmtKind::Lock(l) => add_invariant(*l, invariant_of(p, *l), all),
         StmtKind::If(_, _, _, join) => add_each(HypothesisSource::Join, join, all),
-        StmtKind::While(guard, inv, _) => add_behind_loop(guard, inv, all),
+        StmtKind::While(guard, inv, _) => add_given_after_loop(guard, inv, all),
         StmtKind::Note(note) => add_each(HypothesisSource::Noted, note, all),
     }
 }
 
 /// Adds what a loop may give to the point behind it.
-fn add_behind_loop<'p>(
+fn add_given_after_loop<'p>(
     guard: &'p Expr,
     inv: &'p State,
     all: &mut List<Given<'p>>,
 ) -> Result<(), NoMemory>
-    ensures { OnOk result (map spec.given all.new ≡ map spec.given all.old ++ origins.given_behind_loop (term guard.now) (view.state inv.now)) }
+    ensures { OnOk result (map spec.given all.new ≡ map spec.given all.old ++ origins.given_after_loop (term guard.now) (view.state inv.now)) }
 {
     add_one(HypothesisSource::LoopLeft, GivenTerm::Negation(guard), all)?;
     add_each(HypothesisSource::LoopState, inv, all)

@@ -7,7 +7,7 @@ use Rattle.cov_expr.specs.Trees.{has_term}
 use Rattle.cov_ast.specs.Plain.{Plain}
 use Rattle.cov_ast.specs.Syntax as s
 use Rattle.hypothesis_origins.specs.Origins.{given}
-use Rattle.hypothesis_origins.specs.Points.{point_behind}
+use Rattle.hypothesis_origins.specs.Points.{point_after_steps}
 use Rattle.hypothesis_origins.specs.declared.origin.HypothesisSource.TheVariants.{Assigned, Invariant, LoopLeft, Noted, GuardFails}
 use Rattle.statement_paths.specs.Paths.{Step, passed, no, head}
 use Rattle.left_out_predicates.specs.LeftOut.{LeftOut, left_out, left_out_at, state_at}
@@ -112,7 +112,7 @@ at_most_eight = refl
 -- Had the states listed it -----------------------------------------------------------------------------------------
 
 abbrev knows : List Step → Bool
-knows steps = has_term (point_behind program 0 steps).preds small
+knows steps = has_term (point_after_steps program 0 steps).preds small
 
 -- known in front of the note, forgotten behind it
 in_front_of_the_note : knows (taken ∷ []) ≡ true

@@ -14,7 +14,7 @@ use Rattle.cov_ast.specs.Tables.{has}
 use Rattle.hypothesis_origins.specs.Origins.{Given, given, given_by}
 use Rattle.statement_paths.specs.Paths.{Step, place_of}
 use Rattle.typing_state.specs.Terms.{each_variable}
-use Rattle.left_out_predicates.specs.LeftOut.{LeftOut, left_out, left_out_at, behind, state_of, gives_nothing, is_left_out, with_given, with_each, with_step}
+use Rattle.left_out_predicates.specs.LeftOut.{LeftOut, left_out, left_out_at, search_along, state_of_step, gives_nothing, is_left_out, with_given, with_each, with_step}
 use Rattle.left_out_predicates.specs.WouldBeKnown.{first_state}
 use Rattle.left_out_predicates.specs.declared.found.TheConstants.{MOST_FOUND}
 use Rattle.left_out_predicates.specs.declared.states.StateAt.{StateAt}
@@ -176,19 +176,19 @@ module _ (hypotheses : List Term) where
 
 module _ (p : Plain) (hypotheses : List Term) (marks : List Bool) where
   abbrev pub kept_behind : List Step → List Bool
-  kept_behind ss = (behind p hypotheses marks ss).kept
+  kept_behind ss = (search_along p hypotheses marks ss).kept
 
   abbrev pub found_behind : List Step → List LeftOut
-  found_behind ss = (behind p hypotheses marks ss).found
+  found_behind ss = (search_along p hypotheses marks ss).found
 
   -- the first state is the one that is named
-  pub same_state : (ss : List Step) → (behind p hypotheses marks ss).state ≡ first_state ss
+  pub same_state : (ss : List Step) → (search_along p hypotheses marks ss).state ≡ first_state ss
   same_state [] = refl
-  same_state (s ∷ ss) = ap (option_or (state_of s)) (same_state ss)
+  same_state (s ∷ ss) = ap (option_or (state_of_step s)) (same_state ss)
 
   -- what isn't found with a step more wasn't found before
   pub fresh_step : (s : Step) (ss : List Step) (e : Term) → IsFresh (found_behind (s ∷ ss)) e → IsFresh (found_behind ss) e
-  fresh_step s ss e = by_state (behind p hypotheses marks ss).state
+  fresh_step s ss e = by_state (search_along p hypotheses marks ss).state
     where
       by_state : (x : Option StateAt) → IsFresh (with_step p hypotheses (kept_behind ss) s x (found_behind ss)) e → IsFresh (found_behind ss) e
       by_state None fresh = fresh
@@ -222,9 +222,9 @@ module _ (p : Plain) (hypotheses : List Term) (marks : List Bool) where
 
   pub is_given : (ss : List Step) (o : LeftOut) → Contains (left_out p hypotheses marks ss) o → IsGiven ss o
   is_given [] o k = let inside = k.1 in absurd (omega arith)
-  is_given (s ∷ ss) o k = by_state (λ h. longer s ss o (is_given ss o h)) (behind p hypotheses marks ss).state refl k
+  is_given (s ∷ ss) o k = by_state (λ h. longer s ss o (is_given ss o h)) (search_along p hypotheses marks ss).state refl k
     where
-      by_state : (Contains (found_behind ss) o → IsGiven (s ∷ ss) o) → (x : Option StateAt) → (behind p hypotheses marks ss).state ≡ x
+      by_state : (Contains (found_behind ss) o → IsGiven (s ∷ ss) o) → (x : Option StateAt) → (search_along p hypotheses marks ss).state ≡ x
           → Contains (with_step p hypotheses (kept_behind ss) s x (found_behind ss)) o → IsGiven (s ∷ ss) o
       by_state before None is h = before h
       by_state before (Some state) is h = elim (in_each hypotheses (kept_behind ss) (place_of s) state (given_by p s) (found_behind ss) o h) [

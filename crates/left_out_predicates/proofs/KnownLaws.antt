@@ -9,13 +9,13 @@ use Rattle.cov_expr.specs.Trees.{has_term, is_closed, same}
 use Rattle.cov_ast.specs.Plain.{Plain}
 use Rattle.cov_ast.specs.Syntax.{skip, assign, lock, unlock, branch, loop, note, output}
 use Rattle.cov_ast.specs.Tables.{has}
-use Rattle.entail_questions.proofs.HeldAtPoints.{after_held}
+use Rattle.held_locks.proofs.HeldAtPoints.{after_held}
 use Rattle.cov_ast.specs.LocksAlong.{no_locks}
 use Rattle.held_locks.specs.LocksHeld.{held_after, held_along}
-use Rattle.held_locks.specs.VariableSets.{stable, stable_behind}
+use Rattle.held_locks.specs.VariableSets.{stable, stable_after_steps}
 use Rattle.hypothesis_origins.specs.Origins.{Given, given, each, given_by}
 use Rattle.hypothesis_origins.proofs.PointLaws.{appended}
-use Rattle.hypothesis_origins.specs.Points.{after_step, after_steps, point_behind}
+use Rattle.hypothesis_origins.specs.Points.{after_step, after_steps, point_after_steps}
 use Rattle.hypothesis_origins.specs.declared.origin.HypothesisSource.{HypothesisSource}
 use Rattle.hypothesis_origins.specs.declared.origin.HypothesisSource.TheVariants as by
 use Rattle.mode_state.specs.Sets.{is_stable}
@@ -23,8 +23,8 @@ use Rattle.statement_paths.specs.Paths.{Step, passed, yes, no, head}
 use Rattle.typing_state.specs.After.{start}
 use Rattle.typing_state.specs.Point.{Point, is_over_stable}
 use Rattle.typing_state.specs.Terms.{each_variable}
-use Rattle.left_out_predicates.specs.LeftOut.{LeftOut, left_out, behind, gives_nothing, state_of}
-use Rattle.left_out_predicates.specs.WouldBeKnown.{WouldBeKnown, first_listed, first_state, listed_in, listing, own_or, step_with}
+use Rattle.left_out_predicates.specs.LeftOut.{LeftOut, left_out, search_along, gives_nothing, state_of_step}
+use Rattle.left_out_predicates.specs.WouldBeKnown.{WouldBeKnown, first_listed, first_state, predicates_of_step, listing, own_or, step_with}
 use Rattle.left_out_predicates.specs.declared.states.StateAt.{StateAt}
 use Rattle.left_out_predicates.proofs.FoundLaws.{IsFresh, found_behind, found_in_step, fresh_step, is_given}
 use Rattle.left_out_predicates.proofs.StableLaws.{kept_before, kept_of, stable_in_front}
@@ -103,7 +103,7 @@ among source (f ∷ fs) e h = elim (or_cases (same f e) (has_term fs e) h) [
 ]
 
 -- what a step lists it gives
-listed_is_given : (p : Plain) (s : Step) (e : Term) → has_term (listed_in s) e ≡ true → IsGivenTerm p s e
+listed_is_given : (p : Plain) (s : Step) (e : Term) → has_term (predicates_of_step s) e ≡ true → IsGivenTerm p s e
 listed_is_given p (passed at skip) e h = absurd (true≢false (sym h))
 listed_is_given p (passed at (assign x v q retypes)) e h = absurd (true≢false (sym h))
 listed_is_given p (passed at (lock l)) e h = absurd (true≢false (sym h))
@@ -121,7 +121,7 @@ listed_is_given p (no at g) e h = absurd (true≢false (sym h))
 listed_is_given p (head at inv) e h = record { source = by.LoopState; there = among by.LoopState inv.preds e h; gives_some = refl }
 
 -- a step without a state is the same with a predicate more
-unstated : (e : Term) (s : Step) → state_of s ≡ None → step_with e s ≡ s
+unstated : (e : Term) (s : Step) → state_of_step s ≡ None → step_with e s ≡ s
 unstated e (passed at skip) h = refl
 unstated e (passed at (assign x v q retypes)) h = refl
 unstated e (passed at (lock l)) h = refl
@@ -142,7 +142,7 @@ none_first (Some state) y h = absurd (some_state h)
 no_listing : (e : Term) (ss : List Step) → first_state ss ≡ None → listing e ss ≡ ss
 no_listing e [] h = refl
 no_listing e (s ∷ ss) h =
-    let both = none_first (state_of s) (first_state ss) h in
+    let both = none_first (state_of_step s) (first_state ss) h in
     λ i. unstated e s both.0 i ∷ no_listing e ss both.1 i
 
 module _ (p : Plain) (t : ℕ) (hypotheses : List Term) where
@@ -171,7 +171,7 @@ module _ (p : Plain) (t : ℕ) (hypotheses : List Term) where
       = subst (λ held. IsFresh (found_behind p hypotheses (marks_at held ss) ss) e) (held_step p t s a) (fresh_step p hypotheses marks s ss e fresh) in
       by_state (λ h. listed_is_known ss (after_step p t s a) e not_closed unknown there fewer h) there
       (λ state g some. found_in_step p hypotheses marks s ss state (given g.source e) some g.there g.gives_some (record { not_closed = not_closed; over = later; unknown = unknown }) fresh)
-      (state_of s) listed
+      (state_of_step s) listed
     where
       given_here : IsKept p t hypotheses (after_step p t s a).held ss e → ((state : StateAt) → IsGivenTerm p s e → first_state ss ≡ Some state → ⊥)
           → IsGivenTerm p s e → (y : Option StateAt) → first_state ss ≡ y → Knows p t (after_steps p t ss (after_step p t s a)) e
@@ -180,27 +180,27 @@ module _ (p : Plain) (t : ℕ) (hypotheses : List Term) where
 
       by_state : (has_term (first_listed ss) e ≡ true → Knows p t (after_steps p t ss (after_step p t s a)) e) → IsKept p t hypotheses (after_step p t s a).held ss e
           → ((state : StateAt) → IsGivenTerm p s e → first_state ss ≡ Some state → ⊥)
-          → (x : Option StateAt) → has_term (own_or x (listed_in s) (first_listed ss)) e ≡ true → Knows p t (after_steps p t ss (after_step p t s a)) e
+          → (x : Option StateAt) → has_term (own_or x (predicates_of_step s) (first_listed ss)) e ≡ true → Knows p t (after_steps p t ss (after_step p t s a)) e
       by_state rest there found None h = rest h
       by_state rest there found (Some state) h = given_here there found (listed_is_given p s e h) (first_state ss) refl
 
 -- The law --------------------------------------------------------------------------------------------------------
 
 pub would_be_known : (p : Plain) (t : ℕ) (steps : List Step) (hypotheses : List Term) (o : LeftOut)
-    → Contains (left_out p hypotheses (stable_behind p t steps) steps) o → WouldBeKnown p t steps hypotheses o
+    → Contains (left_out p hypotheses (stable_after_steps p t steps) steps) o → WouldBeKnown p t steps hypotheses o
 would_be_known p t steps hypotheses o k =
-    let found = is_given p hypotheses (stable_behind p t steps) steps o k in
+    let found = is_given p hypotheses (stable_after_steps p t steps) steps o k in
     let front = found.front in
     let step = found.step in
     let back = found.back in
     let missing = found.new.missing in
-    let before = point_behind p t front in
+    let before = point_after_steps p t front in
     let next = after_step p t step before in
     let held : held_along steps (no_locks p) ≡ held_along back next.held
     = ap (λ ss. held_along ss (no_locks p)) found.parts ∙ held_joined p t front (step ∷ back) (no_locks p)
     ∙ ap (held_along (step ∷ back)) (held_steps p t front (start p t)) ∙ ap (held_along back) (held_step p t step before) in
     let over : IsKept p t hypotheses next.held back o.term
-    = subst (λ locks. each_variable (has (behind p hypotheses (stable p t locks) back).kept) o.term ≡ true) held missing.over in
+    = subst (λ locks. each_variable (has (search_along p hypotheses (stable p t locks) back).kept) o.term ≡ true) held missing.over in
     let fresh : IsFresh (found_behind p hypotheses (stable p t (held_along back next.held)) back) o.term
     = subst (λ locks. IsFresh (found_behind p hypotheses (stable p t locks) back) o.term) held found.new.fresh in
     let there : Knows p t next o.term
@@ -218,13 +218,13 @@ would_be_known p t steps hypotheses o k =
         | inl listed ↦
             let known : Knows p t (after_steps p t back next) o.term
             = listed_is_known p t hypotheses back next o.term missing.not_closed missing.unknown over fresh listed in
-            let end : point_behind p t steps ≡ after_steps p t back next
-            = ap (point_behind p t) found.parts ∙ appended p t front (step ∷ back) (start p t) in
+            let end : point_after_steps p t steps ≡ after_steps p t back next
+            = ap (point_after_steps p t) found.parts ∙ appended p t front (step ∷ back) (start p t) in
             absurd (true≢false (sym (among o.term (subst (λ a. Knows p t a o.term) (sym end) known)) ∙ missing.unknown))
         | inr other ↦ other
       ];
       stays = λ so_far rest same.
-          let at : point_behind p t ((front ++ step ∷ []) ++ listing o.term so_far) ≡ after_steps p t (listing o.term so_far) next
+          let at : point_after_steps p t ((front ++ step ∷ []) ++ listing o.term so_far) ≡ after_steps p t (listing o.term so_far) next
           = appended p t (front ++ step ∷ []) (listing o.term so_far) (start p t)
           ∙ ap (after_steps p t (listing o.term so_far)) (appended p t front (step ∷ []) (start p t)) in
           subst (λ a. Knows p t a o.term) (sym at)

@@ -17,7 +17,7 @@ use Rattle.held_locks.proofs.PlainLaws.{after_the_first}
 use Rattle.held_locks.specs.VariableSets.{stable}
 use Rattle.mode_state.specs.Sets.{is_stable, locks_of}
 use Rattle.statement_paths.specs.Paths.{Step, passed, yes, no, head}
-use Rattle.left_out_predicates.specs.LeftOut.{behind, unlocked_by, unlocked_in, untouched_by, without_all, without_listed}
+use Rattle.left_out_predicates.specs.LeftOut.{search_along, unlocked_by, unlocked_in, untouched_by, without_all, without_listed}
 
 -- Sets ---------------------------------------------------------------------------------------------------------
 
@@ -112,7 +112,7 @@ module _ (p : Plain) (t x : ℕ) where
 module _ (p : Plain) (t : ℕ) (hypotheses : List Term) where
   -- the variables that steps keep of those that are stable behind them
   abbrev pub kept_of : (held : List Bool) → List Step → (back : List Step) → List Bool
-  kept_of held steps back = (behind p hypotheses (stable p t (held_along steps held)) back).kept
+  kept_of held steps back = (search_along p hypotheses (stable p t (held_along steps held)) back).kept
 
   pub stable_in_front : (ss : List Step) (held : List Bool) (x : ℕ) → has (kept_of held ss ss) x ≡ true → is_stable p t held x ≡ true
   stable_in_front [] held x h = in_table (length p.vars) (is_stable p t held) x h

@@ -77,22 +77,22 @@ abbrev pub state_at : StateKind → (at : ℕ) → StateAt
 state_at kind at = record { kind = kind; at = at }
 
 -- the state of a statement that is passed, if it has one
-abbrev pub state_past : (at : ℕ) → Stm → Option StateAt
-state_past at skip = None
-state_past at (assign x e q retypes) = None
-state_past at (lock l) = None
-state_past at (unlock l) = None
-state_past at (branch e a b join) = Some (state_at Join at)
-state_past at (loop e inv b) = Some (state_at Inv at)
-state_past at (note j) = Some (state_at Note at)
-state_past at (output e) = None
+abbrev pub state_of_statement : (at : ℕ) → Stm → Option StateAt
+state_of_statement at skip = None
+state_of_statement at (assign x e q retypes) = None
+state_of_statement at (lock l) = None
+state_of_statement at (unlock l) = None
+state_of_statement at (branch e a b join) = Some (state_at Join at)
+state_of_statement at (loop e inv b) = Some (state_at Inv at)
+state_of_statement at (note j) = Some (state_at Note at)
+state_of_statement at (output e) = None
 
 -- the state of a step, if it has one
-abbrev pub state_of : Step → Option StateAt
-state_of (passed at s) = state_past at s
-state_of (yes at e) = None
-state_of (no at e) = None
-state_of (head at inv) = Some (state_at Inv at)
+abbrev pub state_of_step : Step → Option StateAt
+state_of_step (passed at s) = state_of_statement at s
+state_of_step (yes at e) = None
+state_of_step (no at e) = None
+state_of_step (head at inv) = Some (state_at Inv at)
 
 -- What is left out ---------------------------------------------------------------------------------------------
 
@@ -106,7 +106,7 @@ abbrev pub left_out_at : (at : ℕ) → StateAt → Given → LeftOut
 left_out_at at state g = record { term = g.term; origin = at_place at g.source; state = state }
 
 -- What is known of steps to a point.
-pub record Behind : Type 0 where
+pub record Search : Type 0 where
   -- the variables that are stable at the point and that none of the steps touches
   pub kept : List Bool
   -- the first state
@@ -115,8 +115,8 @@ pub record Behind : Type 0 where
   pub found : List LeftOut
 
 -- at the point itself, where these variables are stable
-abbrev pub at_point : (stable : List Bool) → Behind
-at_point stable = record { kept = stable; state = None; found = [] }
+abbrev pub search_at_point : (stable : List Bool) → Search
+search_at_point stable = record { kept = stable; state = None; found = [] }
 
 -- whether a variable is given a value over itself
 abbrev pub is_own_value : Term → (value : Term) → Bool
@@ -158,20 +158,20 @@ module _ (p : Plain) (hypotheses : List Term) where
   with_step kept s (Some state) found = with_each hypotheses kept (place_of s) state (given_by p s) found
 
   -- with one step more in front
-  abbrev pub in_front : Step → Behind → Behind
-  in_front s b = record {
+  abbrev pub search_with_step : Step → Search → Search
+  search_with_step s b = record {
     kept = untouched_by p s b.kept;
-    state = option_or (state_of s) b.state;
+    state = option_or (state_of_step s) b.state;
     found = with_step b.kept s b.state b.found;
   }
 
-  abbrev pub behind : (stable : List Bool) → List Step → Behind
-  behind stable [] = at_point stable
-  behind stable (s ∷ ss) = in_front s (behind stable ss)
+  abbrev pub search_along : (stable : List Bool) → List Step → Search
+  search_along stable [] = search_at_point stable
+  search_along stable (s ∷ ss) = search_with_step s (search_along stable ss)
 
   -- what was left out on the way to a point with these hypotheses, where these variables are stable
   abbrev pub left_out : (stable : List Bool) → List Step → List LeftOut
-  left_out stable ss = (behind stable ss).found
+  left_out stable ss = (search_along stable ss).found
 
 -- What the code has --------------------------------------------------------------------------------------------
 

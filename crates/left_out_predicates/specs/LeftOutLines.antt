@@ -4,8 +4,8 @@ use Rattle.cov_expr.specs.Term.{Term}
 use Rattle.cov_ast.specs.Plain.{Plain, plain}
 use Rattle.cov_ast.specs.Syntax.{Program}
 use Rattle.cov_print.specs.Spelling.{Names, whole}
-use Rattle.entail_text.specs.VariableNames.{variable_names}
-use Rattle.held_locks.specs.VariableSets.{stable_behind}
+use Rattle.text_parts.specs.VariableNames.{variable_names}
+use Rattle.held_locks.specs.VariableSets.{stable_after_steps}
 use Rattle.hypothesis_origins.specs.Remarks.{origin_text}
 use Rattle.hypothesis_origins.specs.declared.origin.Origin.{Origin}
 use Rattle.statement_paths.specs.Paths.{Step}
@@ -48,4 +48,4 @@ lines_of p names bytes (o ∷ os) = left_out_line p names bytes o ++ lines_of p 
 -- the lines of what was left out on the way to a point of a thread with these hypotheses
 abbrev pub left_out_lines : Program → (t : ℕ) → (bytes : List ℕ) → List Step → (hypotheses : List Term) → List ℕ
 left_out_lines p t bytes steps hypotheses =
-    lines_of (plain p) (variable_names p.vars) bytes (left_out (plain p) hypotheses (stable_behind (plain p) t steps) steps)
+    lines_of (plain p) (variable_names p.vars) bytes (left_out (plain p) hypotheses (stable_after_steps (plain p) t steps) steps)

@@ -10,9 +10,9 @@ use Rattle.cov_expr.specs.Trees.{has_term}
 use Rattle.cov_ast.specs.Plain.{Plain}
 use Rattle.cov_ast.specs.Syntax.{State, Stm, skip, assign, lock, unlock, branch, loop, note, output}
 use Rattle.hypothesis_origins.specs.Origins.{given, given_by}
-use Rattle.hypothesis_origins.specs.Points.{point_behind}
+use Rattle.hypothesis_origins.specs.Points.{point_after_steps}
 use Rattle.statement_paths.specs.Paths.{Step, passed, yes, no, head, place_of}
-use Rattle.left_out_predicates.specs.LeftOut.{LeftOut, state_of}
+use Rattle.left_out_predicates.specs.LeftOut.{LeftOut, state_of_step}
 use Rattle.left_out_predicates.specs.declared.states.StateAt.{StateAt}
 
 -- States that list a predicate more ------------------------------------------------------------------------------
@@ -45,24 +45,24 @@ listing e steps = map (step_with e) steps
 
 abbrev pub first_state : List Step → Option StateAt
 first_state [] = None
-first_state (s ∷ ss) = option_or (state_of s) (first_state ss)
+first_state (s ∷ ss) = option_or (state_of_step s) (first_state ss)
 
 -- the predicates that a statement lists in its state
-abbrev pub listed_by : Stm → List Term
-listed_by skip = []
-listed_by (assign x v q retypes) = []
-listed_by (lock l) = []
-listed_by (unlock l) = []
-listed_by (branch g a b join) = join.preds
-listed_by (loop g inv b) = inv.preds
-listed_by (note j) = j.preds
-listed_by (output v) = []
+abbrev pub predicates_of_statement : Stm → List Term
+predicates_of_statement skip = []
+predicates_of_statement (assign x v q retypes) = []
+predicates_of_statement (lock l) = []
+predicates_of_statement (unlock l) = []
+predicates_of_statement (branch g a b join) = join.preds
+predicates_of_statement (loop g inv b) = inv.preds
+predicates_of_statement (note j) = j.preds
+predicates_of_statement (output v) = []
 
-abbrev pub listed_in : Step → List Term
-listed_in (passed at s) = listed_by s
-listed_in (yes at g) = []
-listed_in (no at g) = []
-listed_in (head at inv) = inv.preds
+abbrev pub predicates_of_step : Step → List Term
+predicates_of_step (passed at s) = predicates_of_statement s
+predicates_of_step (yes at g) = []
+predicates_of_step (no at g) = []
+predicates_of_step (head at inv) = inv.preds
 
 -- what a first step lists where it has a state, and else what the others list
 abbrev pub own_or : Option StateAt → (own others : List Term) → List Term
@@ -72,14 +72,14 @@ own_or (Some state) own others = own
 -- the predicates that the first state lists
 abbrev pub first_listed : List Step → List Term
 first_listed [] = []
-first_listed (s ∷ ss) = own_or (state_of s) (listed_in s) (first_listed ss)
+first_listed (s ∷ ss) = own_or (state_of_step s) (predicates_of_step s) (first_listed ss)
 
 -- What would be known --------------------------------------------------------------------------------------------
 
 -- A predicate is known behind steps of a thread and behind each one that follows, where the states of these list it.
 abbrev pub StaysKnown : Plain → (t : ℕ) → (front back : List Step) → Term → Type 0
 StaysKnown p t front back e =
-    (so_far rest : List Step) → back ≡ so_far ++ rest → IsTrue (has_term (point_behind p t (front ++ listing e so_far)).preds e)
+    (so_far rest : List Step) → back ≡ so_far ++ rest → IsTrue (has_term (point_after_steps p t (front ++ listing e so_far)).preds e)
 
 -- each predicate of a list is in another one
 abbrev pub AreAmong : (es fs : List Term) → Type 0
@@ -97,5 +97,5 @@ pub record WouldBeKnown (p : Plain) (t : ℕ) (steps : List Step) (hypotheses : 
   pub placed : place_of step ≡ o.origin.at
   pub gives : Contains (given_by p step) (given o.origin.source o.term)
   pub first : first_state back ≡ Some o.state
-  pub unlisted : AreAmong (point_behind p t steps).preds hypotheses → has_term (first_listed back) o.term ≡ false
+  pub unlisted : AreAmong (point_after_steps p t steps).preds hypotheses → has_term (first_listed back) o.term ≡ false
   pub stays : StaysKnown p t (front ++ step ∷ []) back o.term

@@ -13,8 +13,7 @@ ghost use Rattle.left_out_predicates.specs.LeftOut as spec;
 
 use crate::states::StateAt;
 use cov_ast::{NumberSet, Program};
-use cov_expr::{Expr, List, NoMemory, Op, closed, mentions, same};
-use entail_text::has_same;
+use cov_expr::{Expr, List, NoMemory, Op, closed, has_same, mentions, same};
 use hypothesis_origins::{Given, HypothesisSource, Origin, add_given};
 use statement_paths::Step;
 use std::alloc::Global;

@@ -15,13 +15,12 @@ use crate::states::{StateAt, StateKind};
 use cov_ast::{NameTable, Program};
 use cov_expr::{Blob, Expr, NoMemory};
 use cov_print::add_expr;
-use entail_text::variable_names;
-use held_locks::stable_behind;
+use held_locks::stable_after_steps;
 use hypothesis_origins::{Origin, add_origin};
 use statement_paths::Step;
 use std::alloc::Global;
 use text_lines::position;
-use text_parts::add_number;
+use text_parts::{add_number, variable_names};
 
 /// Adds a line for each predicate that would be known behind steps of a thread, had a state on the way listed it: the predicate, what gives
 /// it, and the state. `hypotheses` are known there, and `bytes` are the text of the program.
@@ -40,7 +39,7 @@ pub fn add_left_out(
     requires thread { t < length p.now.threads }
     ensures { OnOk result (text.new ≡ text.old ++ spec.left_out_lines (view.program p.now) t bytes.now (map paths.step steps.now) (map term hypotheses.now)) }
 {
-    let stable = stable_behind(alloc, p, t, steps)?;
+    let stable = stable_after_steps(alloc, p, t, steps)?;
     let found = left_out(alloc, p, hypotheses, stable, steps)?;
     let names = variable_names(alloc, p)?;
     add_lines(p, &names, bytes, found.as_slice(), text)

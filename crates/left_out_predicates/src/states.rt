@@ -29,28 +29,28 @@ pub struct StateAt {
 
 /// The state of a step, and where it has none, that of the steps behind it.
 pub fn first_state(step: &Step<'_>, behind: Option<StateAt>) -> Option<StateAt>
-    ensures { result ≡ option_or (spec.state_of (paths.step step.now)) behind }
+    ensures { result ≡ option_or (spec.state_of_step (paths.step step.now)) behind }
 {
-    match state_of(step) {
+    match state_of_step(step) {
         Some(state) => Some(state),
         None => behind,
     }
 }
 
 /// The state of a step, if it has one.
-fn state_of(step: &Step<'_>) -> Option<StateAt>
-    ensures { result ≡ spec.state_of (paths.step step.now) }
+fn state_of_step(step: &Step<'_>) -> Option<StateAt>
+    ensures { result ≡ spec.state_of_step (paths.step step.now) }
 {
     match step {
-        Step::Passed(stmt) => state_past(stmt.at, &stmt.kind),
+        Step::Passed(stmt) => state_of_statement(stmt.at, &stmt.kind),
         Step::Yes(_, _) | Step::No(_, _) => None,
         Step::Head(at, _) => state_at(StateKind::Inv, *at),
     }
 }
 
 /// The state of a statement that is passed, if it has one.
-fn state_past(at: u32, kind: &StmtKind) -> Option<StateAt>
-    ensures { result ≡ spec.state_past at (view.kind kind.now) }
+fn state_of_statement(at: u32, kind: &StmtKind) -> Option<StateAt>
+    ensures { result ≡ spec.state_of_statement at (view.kind kind.now) }
 {
     match kind {
         StmtKind::If(_, _, _, _) => state_at(StateKind::Join, at),

@@ -2,7 +2,7 @@
 //!
 //! - [`resolve`]: the program of a text, in which each name is the id of its declaration (W1, W2).
 //! - [`check_policy`]: each control is itself declared low (W3).
-//! - [`class_of`], [`controls`]: the class of a variable, and whether it depends on another.
+//! - [`class_of`], [`controls`], [`is_control`]: the class of a variable, whether it depends on another, and whether some class depends on a variable.
 #![tactic(auto)]
 
 mod certs;
@@ -14,5 +14,5 @@ mod programs;
 mod resolution;
 mod uses;
 
-pub use policy::{check_policy, class_of, controls};
+pub use policy::{check_policy, class_of, controls, is_control};
 pub use resolution::resolve;

@@ -2,6 +2,7 @@
 
 ghost use Rattle.std.specs.Prelude.{◌≡◌, ◌<◌, map, length, IfOk};
 ghost use Rattle.std.specs.List.{flat_map};
+ghost use Rattle.cov_expr.specs.Trees as trees;
 ghost use Rattle.cov_expr.specs.Words.{HasVarsBelow};
 ghost use Rattle.cov_ast.specs.View as view;
 ghost use Rattle.cov_ast.specs.Plain.{plain, class_term};
@@ -86,8 +87,27 @@ pub fn controls(p: &Program, c: u32, x: u32) -> bool
     requires { x < length p.now.vars }
     ensures { result ≡ declared.controls (plain (view.program p.now)) c x }
 {
-    match class_of(p, x) {
+    depends(class_of(p, x), c)
+}
+
+/// Whether a variable is a control: whether the class of some variable mentions it. It takes time in proportion to the classes.
+pub fn is_control(p: &Program, x: u32) -> bool
+    ensures { result ≡ declared.is_control (plain (view.program p.now)) x }
+{
+    for var in p.vars.as_slice() {
+        if depends(&var.class, x) {
+            return true;
+        }
+    }
+    false
+}
+
+/// Whether a class mentions a variable.
+fn depends(class: &Class, x: u32) -> bool
+    ensures { result ≡ trees.mentions (class_term (view.class class.now)) x }
+{
+    match class {
         Class::Low | Class::High => false,
-        Class::When(e) => mentions(e, c),
+        Class::When(e) => mentions(e, x),
     }
 }

@@ -21,7 +21,7 @@ pub fn warnings(alloc: Global, program: &Program, bytes: &[u8]) -> Result<List<W
 {
     let first = of_program(alloc, program)?;
     let second = text_warnings(alloc, bytes)?;
-    merged(alloc, first.as_slice(), second.as_slice())
+    merged_by_place(alloc, first.as_slice(), second.as_slice())
 }
 
 /// What is warned of in a program, in the order of its text.
@@ -34,13 +34,17 @@ fn of_program(alloc: Global, program: &Program) -> Result<List<Warning>, NoMemor
 }
 
 /// The warnings of two lists, each in the order of the places, in that order.
-fn merged(alloc: Global, first: &[Warning], second: &[Warning]) -> Result<List<Warning>, NoMemory>
-    ensures { IfOk result (λ made. made ≡ spec.merged first.now second.now) }
+fn merged_by_place(
+    alloc: Global,
+    first: &[Warning],
+    second: &[Warning],
+) -> Result<List<Warning>, NoMemory>
+    ensures { IfOk result (λ made. made ≡ spec.merged_by_place first.now second.now) }
 {
     let mut made = List::new(alloc);
     let mut rest = second;
     for warning in first {
-        rest = add_before(warning.place, rest, &mut made)?;
+        rest = add_warnings_before(warning.place, rest, &mut made)?;
         made.push(*warning)?;
     }
     made.extend_from_slice(rest)?;
@@ -48,12 +52,12 @@ fn merged(alloc: Global, first: &[Warning], second: &[Warning]) -> Result<List<W
 }
 
 /// Adds the warnings in front of a place, and gives the rest.
-fn add_before<'a>(
+fn add_warnings_before<'a>(
     place: u32,
     warnings: &'a [Warning],
     made: &mut List<Warning>,
 ) -> Result<&'a [Warning], NoMemory>
-    ensures { MatchResult result (λ rest. (rest.now ≡ spec.from place warnings.now) × (made.new ≡ made.old ++ spec.before place warnings.now)) (λ e. Unit {0}) }
+    ensures { MatchResult result (λ rest. (rest.now ≡ spec.warnings_from place warnings.now) × (made.new ≡ made.old ++ spec.warnings_before place warnings.now)) (λ e. Unit {0}) }
 {
     for (i, warning) in warnings.iter().enumerate() {
         if place <= warning.place {

@@ -14,7 +14,7 @@ use Rattle.cov_ast.specs.Tables.{has}
 use Rattle.cov_ast.specs.WellFormed.{IsWellFormed}
 use Rattle.cov_ast.specs.declared.refusal.Detail.TheVariants.{One}
 use Rattle.cov_ast.specs.declared.refusal.Rule.TheVariants.{V1, V2}
-use Rattle.entail_text.specs.VariableNames.{variable_names}
+use Rattle.text_parts.specs.VariableNames.{variable_names}
 use Rattle.mode_compat.specs.Compatible.{numbered}
 use Rattle.mode_compat.specs.Compatible as compatible
 use Rattle.mode_state.specs.Sets.{may_read, may_write, locks_of}

@@ -11,7 +11,7 @@ use Rattle.cov_ast.specs.Declarations.{no_var}
 use Rattle.cov_ast.specs.NameTables.{find_name}
 use Rattle.cov_ast.specs.Syntax.{Var, Lock, Thread}
 use Rattle.cov_ast.specs.WellFormed.{are_distinct, names_of}
-use Rattle.entail_text.specs.VariableNames.{variable_names}
+use Rattle.text_parts.specs.VariableNames.{variable_names}
 
 -- the first of distinct names is none of the others, and these are distinct
 pub first_apart : (n : List ℕ) (ns : List (List ℕ)) → are_distinct bytes_eq (n ∷ ns) ≡ true → (list_any (bytes_eq n) ns ≡ false) × (are_distinct bytes_eq ns ≡ true)

@@ -7,7 +7,7 @@ use Rattle.std.proofs.lemmas.List.{length-map}
 use Rattle.cov_ast.specs.NameTables.{find_name}
 use Rattle.cov_ast.specs.Syntax.{Var, Lock, Thread, Program}
 use Rattle.cov_ast.specs.WellFormed.{are_distinct, IsWellFormed}
-use Rattle.entail_text.specs.VariableNames.{variable_names}
+use Rattle.text_parts.specs.VariableNames.{variable_names}
 use Rattle.mode_compat.specs.Compatible.{numbered, no_thread}
 use Rattle.refusal_names.proofs.FoundNames.{distinct_back, first_apart, names_apart}
 use Rattle.refusal_names.specs.MissingGuarantees.{thread_named, guarantee_line, missing, missing_of, missing_text}

@@ -9,7 +9,7 @@ use Rattle.cov_ast.specs.Tables.{has}
 use Rattle.cov_ast.specs.declared.refusal.Detail.{Detail}
 use Rattle.cov_ast.specs.declared.refusal.Detail.TheVariants.{One}
 use Rattle.cov_print.specs.Spelling.{Names, name}
-use Rattle.entail_text.specs.VariableNames.{variable_names}
+use Rattle.text_parts.specs.VariableNames.{variable_names}
 use Rattle.mode_compat.specs.Compatible.{numbered}
 use Rattle.text_lines.specs.Lines.{line}
 use Rattle.refusal_names.specs.NameLines.{held_text}

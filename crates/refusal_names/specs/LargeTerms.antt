@@ -59,19 +59,19 @@ large_equation at x e = if is_large (bin Eq (var x) e) then Some (at, codes "equ
 abbrev pub large_negation : (at : ℕ) → Term → Option (ℕ × List ℕ)
 large_negation at e = if is_large (neg e) then Some (at, codes "negation of the guard") else None
 
-abbrev pub made_behind : (at : ℕ) → Stm → Option (ℕ × List ℕ)
-made_behind at skip = None
-made_behind at (assign x e q retypes) = large_equation at x e
-made_behind at (lock l) = None
-made_behind at (unlock l) = None
-made_behind at (branch e a b join) = None
-made_behind at (loop e inv b) = large_negation at e
-made_behind at (note j) = None
-made_behind at (output e) = None
+abbrev pub made_after_statement : (at : ℕ) → Stm → Option (ℕ × List ℕ)
+made_after_statement at skip = None
+made_after_statement at (assign x e q retypes) = large_equation at x e
+made_after_statement at (lock l) = None
+made_after_statement at (unlock l) = None
+made_after_statement at (branch e a b join) = None
+made_after_statement at (loop e inv b) = large_negation at e
+made_after_statement at (note j) = None
+made_after_statement at (output e) = None
 
 -- what a step makes that is too large
 abbrev pub made_by : Step → Option (ℕ × List ℕ)
-made_by (passed at s) = made_behind at s
+made_by (passed at s) = made_after_statement at s
 made_by (yes at e) = None
 made_by (no at e) = large_negation at e
 made_by (head at inv) = None

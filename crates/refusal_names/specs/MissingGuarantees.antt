@@ -6,7 +6,7 @@ use Rattle.cov_ast.specs.Declarations.{have_assumed, have_guaranteed}
 use Rattle.cov_ast.specs.NameTables.{find_name}
 use Rattle.cov_ast.specs.Syntax.{Modes, Thread, Program}
 use Rattle.cov_print.specs.Spelling.{Names, name}
-use Rattle.entail_text.specs.VariableNames.{variable_names}
+use Rattle.text_parts.specs.VariableNames.{variable_names}
 use Rattle.text_lines.specs.Lines.{line}
 
 -- the first thread of a name

@@ -10,7 +10,7 @@ use Rattle.cov_ast.specs.Tables.{has}
 use Rattle.cov_print.specs.Spelling.{Names, name, whole, expr}
 use Rattle.held_locks.specs.LocksHeld.{held_at_end}
 use Rattle.refusal_names.specs.OutsideVariables.{all_outside, first_with_outside, first_unstable_class}
-use Rattle.refusal_names.specs.SpokenParts.{predicates, types, untyped}
+use Rattle.refusal_names.specs.SpokenParts.{stated_predicates, stated_types, untyped_value}
 
 -- V3: two reads of variables that aren't stable ----------------------------------------------------------------
 
@@ -39,7 +39,7 @@ predicate_line names (Some (e, x)) =
     codes "  the predicate `" ++ whole names e ++ codes "` has the variable " ++ name names x ++ codes ", which isn't stable here\n"
 
 abbrev pub predicates_line : Names → (stable : List Bool) → Stm → List ℕ
-predicates_line names stable s = predicate_line names (first_with_outside stable (predicates s))
+predicates_line names stable s = predicate_line names (first_with_outside stable (stated_predicates s))
 
 -- V4: a type that isn't over stable controls -------------------------------------------------------------------
 
@@ -72,7 +72,7 @@ value_class p stable controls (Some e) = first_unstable_class p stable controls 
 
 abbrev pub types_line : Plain → Names → (stable controls stable_controls : List Bool) → Stm → List ℕ
 types_line p names stable controls stable_controls s =
-    class_or_type_line names (value_class p stable controls (untyped s)) (type_line names controls (first_with_outside stable_controls (types s)))
+    class_or_type_line names (value_class p stable controls (untyped_value s)) (type_line names controls (first_with_outside stable_controls (stated_types s)))
 
 -- V8: which locks are held at two ends -------------------------------------------------------------------------
 

@@ -6,8 +6,8 @@ use Rattle.cov_ast.specs.declared.refusal.Rule.{Rule}
 use Rattle.cov_ast.specs.declared.refusal.Rule.TheVariants.{V1, V2, V3, V4, V8, V12, V15, V16, W9}
 use Rattle.cov_ast.specs.declared.refusal.Detail.{Detail}
 use Rattle.cov_ast.specs.declared.refusal.Detail.TheVariants.{Three}
-use Rattle.entail_questions.specs.Controls.{controls}
-use Rattle.entail_text.specs.VariableNames.{variable_names}
+use Rattle.typing_state.specs.KeptPoints.{controls_of}
+use Rattle.text_parts.specs.VariableNames.{variable_names}
 use Rattle.cov_ast.specs.LocksAlong.{no_locks}
 use Rattle.held_locks.specs.LocksHeld.{held_along}
 use Rattle.held_locks.specs.VariableSets.{hidden, stable}
@@ -16,7 +16,7 @@ use Rattle.refusal_names.specs.ForbiddenAccess.{shown_access}
 use Rattle.refusal_names.specs.LargeTerms.{large_line}
 use Rattle.refusal_names.specs.MissingGuarantees.{guarantee_line}
 use Rattle.refusal_names.specs.NameLines.{reads_line, types_line, ends_line, predicates_line, added_line}
-use Rattle.refusal_names.specs.SpokenParts.{evaluated}
+use Rattle.refusal_names.specs.SpokenParts.{evaluated_expression}
 use Rattle.refusal_names.specs.StableSets.{stable_controls, held_where_stated}
 use Rattle.statement_paths.specs.Paths.{Step, Way, way_to}
 
@@ -25,10 +25,10 @@ use Rattle.statement_paths.specs.Paths.{Step, Way, way_to}
 abbrev pub line_of : Program → (bytes : List ℕ) → (t : ℕ) → Rule → Detail → List Step → (held : List Bool) → Stm → List ℕ
 line_of p bytes t V1 detail steps held s = shown_access (variable_names p.vars) bytes (numbered p t) p.locks held false detail
 line_of p bytes t V2 detail steps held s = shown_access (variable_names p.vars) bytes (numbered p t) p.locks held true detail
-line_of p bytes t V3 detail steps held s = reads_line (variable_names p.vars) (stable (plain p) t held) (evaluated s)
+line_of p bytes t V3 detail steps held s = reads_line (variable_names p.vars) (stable (plain p) t held) (evaluated_expression s)
 line_of p bytes t V4 detail steps held s =
     let there = held_where_stated s held in
-    types_line (plain p) (variable_names p.vars) (stable (plain p) t there) (controls (plain p)) (stable_controls (plain p) t there) s
+    types_line (plain p) (variable_names p.vars) (stable (plain p) t there) (controls_of (plain p)) (stable_controls (plain p) t there) s
 line_of p bytes t V8 detail steps held s = ends_line p.locks held s
 line_of p bytes t V12 detail steps held s = predicates_line (variable_names p.vars) (stable (plain p) t (held_where_stated s held)) s
 line_of p bytes t V15 detail steps held s = added_line (plain p) (variable_names p.vars) s

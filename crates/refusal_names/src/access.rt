@@ -6,10 +6,10 @@ ghost use Rattle.refusal_names.specs.ForbiddenAccess as spec;
 ghost use Rattle.refusal_names.specs.NameLines.{held_text};
 
 use crate::ends::add_held;
-use crate::guarantees::{add_line_of, has_number};
+use crate::guarantees::add_line_of;
 use crate::reads::add_variable;
 use cov_ast::{Detail, LockDecl, NameTable, ThreadDecl};
-use cov_expr::{Blob, Name, NoMemory};
+use cov_expr::{Blob, Name, NoMemory, has_number};
 use mode_state::ModeState;
 use std::alloc::Global;
 

@@ -2,7 +2,6 @@
 
 ghost use Rattle.std.specs.Prelude.{◌≡◌, ◌++◌, OnOk, decimal, map, option_map};
 ghost use Rattle.std.specs.Str.{bytes_eq};
-ghost use Rattle.cov_expr.specs.Trees as tree;
 ghost use Rattle.cov_ast.specs.View as view;
 ghost use Rattle.cov_ast.specs.WellFormed.{IsWellFormed};
 ghost use Rattle.refusal_names.specs.MissingGuarantees as spec;
@@ -10,11 +9,10 @@ ghost use Rattle.text_lines.specs.Lines.{line};
 
 use crate::reads::add_variable;
 use cov_ast::{Modes, NameTable, Program, ThreadDecl};
-use cov_expr::{Blob, Name, NoMemory};
-use entail_text::variable_names;
+use cov_expr::{Blob, Name, NoMemory, has_number};
 use std::alloc::Global;
 use text_lines::position;
-use text_parts::add_number;
+use text_parts::{add_number, variable_names};
 
 /// Adds where the thread stands that doesn't guarantee what another assumes of a variable, and which guarantee it lacks, by their names.
 pub fn add_guarantee(
@@ -127,13 +125,6 @@ fn is_met(assumes_hide: bool, other: &Modes, x: u32) -> bool
     } else {
         has_number(other.guarantee_nowrite.as_slice(), x) || hides
     }
-}
-
-/// Whether a number stands in a list.
-pub fn has_number(numbers: &[u32], x: u32) -> bool
-    ensures { result ≡ tree.has_number numbers.now x }
-{
-    numbers.iter().any(|y| *y == x)
 }
 
 /// The guarantee that meets what is assumed of a variable.

@@ -107,15 +107,15 @@ fn made_by(next: &Step<'_>) -> Option<Made>
     ensures { option_map (λ m. (m.0, m.1.now)) result ≡ spec.made_by (step next.now) }
 {
     match next {
-        Step::Passed(stmt) => made_behind(stmt),
+        Step::Passed(stmt) => made_after_statement(stmt),
         Step::No(at, guard) => large_negation(*at, guard),
         Step::Yes(..) | Step::Head(..) => None,
     }
 }
 
 /// What a statement that is passed makes that is too large.
-fn made_behind(stmt: &Stmt) -> Option<Made>
-    ensures { option_map (λ m. (m.0, m.1.now)) result ≡ spec.made_behind stmt.now.at (view.kind stmt.now.kind) }
+fn made_after_statement(stmt: &Stmt) -> Option<Made>
+    ensures { option_map (λ m. (m.0, m.1.now)) result ≡ spec.made_after_statement stmt.now.at (view.kind stmt.now.kind) }
 {
     match &stmt.kind {
         StmtKind::Assign(x, value, _, _) => large_equation(stmt.at, *x, value),

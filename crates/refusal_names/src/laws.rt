@@ -9,7 +9,7 @@ ghost use Rattle.cov_ast.specs.Syntax.{Modes, Program, Stm};
 ghost use Rattle.cov_ast.specs.WellFormed.{IsWellFormed};
 ghost use Rattle.cov_ast.specs.declared.refusal.Detail.TheVariants.{One};
 ghost use Rattle.cov_ast.specs.declared.refusal.Rule.TheVariants.{V1, V2};
-ghost use Rattle.entail_text.specs.VariableNames.{variable_names};
+ghost use Rattle.text_parts.specs.VariableNames.{variable_names};
 ghost use Rattle.mode_compat.specs.Compatible.{numbered};
 ghost use Rattle.mode_state.specs.Sets.{may_read, may_write};
 ghost use Rattle.refusal_names.specs.ForbiddenAccess.{TellsWhy};

@@ -11,6 +11,7 @@ ghost use Rattle.refusal_names.specs.SpokenParts.{type_terms, with_written};
 
 use cov_ast::{Class, NumberSet, Program, Retype, first_outside};
 use cov_expr::{Expr, List, NoMemory};
+use mode_state::Mask;
 
 /// Adds the occurrences in an expression of variables outside of a set.
 pub fn add_outside(e: &Expr, set: &NumberSet, found: &mut List<u32>) -> Result<(), NoMemory>
@@ -85,7 +86,7 @@ pub fn first_written<'p>(
 pub fn first_unstable_class(
     p: &Program,
     stable: &NumberSet,
-    controls: &NumberSet,
+    controls: &Mask,
     variables: &[u32],
 ) -> Option<(u32, u32)>
     ensures { result ≡ spec.first_unstable_class (plain (view.program p.now)) stable.now controls.now variables.now }

@@ -30,7 +30,7 @@ pub fn add_predicates(
 
 /// The first predicate of a statement that has a variable outside of a set, with the first such variable.
 fn first_predicate<'p>(kind: &'p StmtKind, set: &NumberSet) -> Option<(&'p Expr, u32)>
-    ensures { option_map (λ f. (term f.0.now, f.1)) result ≡ first_with_outside set.now (parts.predicates (view.kind kind.now)) }
+    ensures { option_map (λ f. (term f.0.now, f.1)) result ≡ first_with_outside set.now (parts.stated_predicates (view.kind kind.now)) }
 {
     match kind {
         StmtKind::If(_, _, _, join) => first_expr(join.preds.as_slice(), set),

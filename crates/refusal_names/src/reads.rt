@@ -21,17 +21,17 @@ pub fn add_reads(
     kind: &StmtKind,
     text: &mut Blob,
 ) -> Result<(), NoMemory>
-    ensures { OnOk result (text.new ≡ text.old ++ spec.reads_line names.now stable.now (parts.evaluated (view.kind kind.now))) }
+    ensures { OnOk result (text.new ≡ text.old ++ spec.reads_line names.now stable.now (parts.evaluated_expression (view.kind kind.now))) }
 {
-    match evaluated(kind) {
+    match evaluated_expression(kind) {
         Some(e) => add_reads_of(alloc, names, stable, e, text),
         None => Ok(()),
     }
 }
 
 /// What a statement evaluates, if it does.
-fn evaluated(kind: &StmtKind) -> Option<&Expr>
-    ensures { option_map (λ e. term e.now) result ≡ parts.evaluated (view.kind kind.now) }
+fn evaluated_expression(kind: &StmtKind) -> Option<&Expr>
+    ensures { option_map (λ e. term e.now) result ≡ parts.evaluated_expression (view.kind kind.now) }
 {
     match kind {
         StmtKind::Assign(_, e, _, _) => Some(e),

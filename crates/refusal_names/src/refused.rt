@@ -4,8 +4,8 @@ ghost use Rattle.std.specs.Prelude.{◌≡◌, ◌<◌, ◌++◌, ℕ, List, Boo
 ghost use Rattle.cov_ast.specs.Plain.{plain};
 ghost use Rattle.cov_ast.specs.View as view;
 ghost use Rattle.cov_ast.specs.WellFormed.{IsWellFormed};
-ghost use Rattle.entail_questions.specs.Controls as classes;
-ghost use Rattle.entail_text.specs.VariableNames as spelled;
+ghost use Rattle.typing_state.specs.KeptPoints.{controls_of};
+ghost use Rattle.text_parts.specs.VariableNames as spelled;
 ghost use Rattle.cov_ast.specs.LocksAlong.{no_locks};
 ghost use Rattle.held_locks.specs.LocksHeld.{held_along};
 ghost use Rattle.held_locks.specs.VariableSets as variables;
@@ -16,7 +16,7 @@ ghost use Rattle.refusal_names.specs.ForbiddenAccess.{shown_access};
 ghost use Rattle.refusal_names.specs.LargeTerms.{large_line};
 ghost use Rattle.refusal_names.specs.NameLines as lines;
 ghost use Rattle.refusal_names.specs.RefusalNames as spec;
-ghost use Rattle.refusal_names.specs.SpokenParts.{evaluated};
+ghost use Rattle.refusal_names.specs.SpokenParts.{evaluated_expression};
 ghost use Rattle.refusal_names.specs.StableSets as sets;
 
 use crate::access::add_access;
@@ -30,12 +30,11 @@ use crate::sets::{known_at, pass_to_state};
 use crate::types::add_types;
 use cov_ast::{Detail, NameTable, Program, Refusal, Rule, StmtKind};
 use cov_expr::{Blob, NoMemory};
-use entail_questions::body_of;
-use entail_text::variable_names;
 use held_locks::{hidden_set, modes_along, stable_set};
 use mode_state::ModeState;
 use statement_paths::{Way, way_to};
 use std::alloc::Global;
+use text_parts::variable_names;
 
 /// Adds a line of what a refusal is about, by name. Nothing is added where it isn't one of W9, V1, V2, V3, V4, V8, V12, V15 and V16, and
 /// where no statement of the thread stands at the place. `bytes` are the text of the program.
@@ -107,7 +106,7 @@ fn add_in_thread(
     requires thread { t < length p.now.threads }
     ensures { OnOk result (text.new ≡ text.old ++ spec.line_of_way (view.program p.now) bytes.now t refusal.now.rule refusal.now.detail (way_to (numbered (view.program p.now) t).body refusal.now.place)) }
 {
-    let found = way_to(alloc, body_of(p, t), refusal.place)?;
+    let found = way_to(alloc, p.body_of(t), refusal.place)?;
     add_of_any(alloc, p, bytes, t, refusal, &found, text)
 }
 
@@ -226,7 +225,7 @@ fn add_unstable_reads(
 ) -> Result<(), NoMemory>
     requires { IsWellFormed (view.program p.now) }
     ensures { (t : ℕ) (held : List Bool) → modes.now ≡ modes_at (plain (view.program p.now)) t held
-        → OnOk result (text.new ≡ text.old ++ lines.reads_line names.now (variables.stable (plain (view.program p.now)) t held) (evaluated (view.kind kind.now))) }
+        → OnOk result (text.new ≡ text.old ++ lines.reads_line names.now (variables.stable (plain (view.program p.now)) t held) (evaluated_expression (view.kind kind.now))) }
 {
     let stable = stable_set(alloc, p, modes)?;
     add_reads(alloc, names, &stable, kind, text)
@@ -263,7 +262,7 @@ fn add_bad_type(
     requires { IsWellFormed (view.program p.now) }
     ensures { (t : ℕ) (held : List Bool) → modes.old ≡ modes_at (plain (view.program p.now)) t held
         → OnOk result (let q = plain (view.program p.now) in let there = sets.held_where_stated (view.kind kind.now) held in
-        text.new ≡ text.old ++ lines.types_line q names.now (variables.stable q t there) (classes.controls q) (sets.stable_controls q t there) (view.kind kind.now)) }
+        text.new ≡ text.old ++ lines.types_line q names.now (variables.stable q t there) (controls_of q) (sets.stable_controls q t there) (view.kind kind.now)) }
 {
     pass_to_state(kind, modes);
     let known = known_at(alloc, p, modes)?;

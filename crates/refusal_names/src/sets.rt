@@ -5,37 +5,37 @@ ghost use Rattle.cov_ast.specs.Declarations as declared;
 ghost use Rattle.cov_ast.specs.Plain.{Plain, plain};
 ghost use Rattle.cov_ast.specs.View as view;
 ghost use Rattle.cov_ast.specs.WellFormed.{IsWellFormed};
-ghost use Rattle.entail_questions.specs.Controls as classes;
+ghost use Rattle.typing_state.specs.KeptPoints.{controls_of};
 ghost use Rattle.held_locks.specs.VariableSets as variables;
 ghost use Rattle.mode_state.specs.Sets.{is_stable, modes_at};
 ghost use Rattle.refusal_names.specs.StableSets as spec;
 
 use cov_ast::{NumberSet, Program, StmtKind};
 use cov_expr::{List, NoMemory};
-use entail_questions::control_set;
 use held_locks::{pass_block, stable_set};
-use mode_state::ModeState;
+use mode_state::{Mask, ModeState};
 use std::alloc::Global;
+use typing_state::control_set;
 
 /// The variables that are asked for where types are judged.
 #[derive(Drop)]
 pub struct Known {
     pub stable: NumberSet,
-    pub controls: NumberSet,
+    pub controls: Mask,
     pub stable_controls: NumberSet,
 }
 
 /// What is known of the variables of a program while a thread holds some locks.
 pub fn known_at(alloc: Global, p: &Program, modes: &ModeState) -> Result<Known, NoMemory>
     requires { IsWellFormed (view.program p.now) }
-    ensures controls { IfOk result (λ made. made.controls ≡ classes.controls (plain (view.program p.now))) }
+    ensures controls { IfOk result (λ made. made.controls ≡ controls_of (plain (view.program p.now))) }
     ensures stable { IfOk result (λ made. (t : ℕ) (held : List Bool) → modes.now ≡ modes_at (plain (view.program p.now)) t held
         → made.stable ≡ variables.stable (plain (view.program p.now)) t held) }
     ensures stable_controls { IfOk result (λ made. (t : ℕ) (held : List Bool) → modes.now ≡ modes_at (plain (view.program p.now)) t held
         → made.stable_controls ≡ spec.stable_controls (plain (view.program p.now)) t held) }
 {
     let stable = stable_set(alloc, p, modes)?;
-    let controls = control_set(alloc, p)?;
+    let controls = control_set(p);
     let stable_controls = stable_control_set(alloc, p, modes, &controls)?;
     Ok(Known {
         stable,
@@ -49,10 +49,10 @@ fn stable_control_set(
     alloc: Global,
     p: &Program,
     modes: &ModeState,
-    controls: &NumberSet,
+    controls: &Mask,
 ) -> Result<NumberSet, NoMemory>
     requires formed { IsWellFormed (view.program p.now) }
-    requires controls { controls.now ≡ classes.controls (plain (view.program p.now)) }
+    requires controls { controls.now ≡ controls_of (plain (view.program p.now)) }
     ensures { IfOk result (λ made. (t : ℕ) (held : List Bool) → modes.now ≡ modes_at (plain (view.program p.now)) t held
         → made ≡ spec.stable_controls (plain (view.program p.now)) t held) }
 {
@@ -64,8 +64,8 @@ fn stable_control_set(
 }
 
 /// Whether a variable is stable and a control.
-fn is_stable_control(modes: &ModeState, controls: &NumberSet, x: u32) -> bool
-    ensures { (p : Plain) (t : ℕ) (held : List Bool) → modes.now ≡ modes_at p t held → controls.now ≡ classes.controls p → x < length p.vars
+fn is_stable_control(modes: &ModeState, controls: &Mask, x: u32) -> bool
+    ensures { (p : Plain) (t : ℕ) (held : List Bool) → modes.now ≡ modes_at p t held → controls.now ≡ controls_of p → x < length p.vars
         → result ≡ (is_stable p t held x && declared.is_control p x) }
 {
     modes.stable(x) && controls.has(x)

@@ -14,6 +14,7 @@ use crate::sets::Known;
 use cov_ast::{NameTable, NumberSet, Program, StmtKind};
 use cov_expr::{Blob, Expr, NoMemory, vars};
 use cov_print::add_expr;
+use mode_state::Mask;
 use std::alloc::Global;
 
 /// Adds the first type of a statement that isn't over stable controls, or for a value without a type of its own the class that isn't.
@@ -41,9 +42,9 @@ fn value_class(
     known: &Known,
     kind: &StmtKind,
 ) -> Result<Option<(u32, u32)>, NoMemory>
-    ensures { IfOk result (λ found. found ≡ spec.value_class (plain (view.program p.now)) known.now.stable known.now.controls (parts.untyped (view.kind kind.now))) }
+    ensures { IfOk result (λ found. found ≡ spec.value_class (plain (view.program p.now)) known.now.stable known.now.controls (parts.untyped_value (view.kind kind.now))) }
 {
-    match untyped(kind) {
+    match untyped_value(kind) {
         Some(e) => {
             let variables = vars(alloc, e)?;
             Ok(first_unstable_class(p, &known.stable, &known.controls, variables.as_slice()))
@@ -53,8 +54,8 @@ fn value_class(
 }
 
 /// The value of an assignment for which no type is written.
-fn untyped(kind: &StmtKind) -> Option<&Expr>
-    ensures { option_map (λ e. term e.now) result ≡ parts.untyped (view.kind kind.now) }
+fn untyped_value(kind: &StmtKind) -> Option<&Expr>
+    ensures { option_map (λ e. term e.now) result ≡ parts.untyped_value (view.kind kind.now) }
 {
     match kind {
         StmtKind::Assign(_, e, None, _) => Some(e),
@@ -80,7 +81,7 @@ fn add_first_type(
     kind: &StmtKind,
     text: &mut Blob,
 ) -> Result<(), NoMemory>
-    ensures { OnOk result (text.new ≡ text.old ++ spec.type_line names.now known.now.controls (first_with_outside known.now.stable_controls (parts.types (view.kind kind.now)))) }
+    ensures { OnOk result (text.new ≡ text.old ++ spec.type_line names.now known.now.controls (first_with_outside known.now.stable_controls (parts.stated_types (view.kind kind.now)))) }
 {
     match first_type(kind, &known.stable_controls) {
         Some((q, x)) => add_type(names, &known.controls, q, x, text),
@@ -90,7 +91,7 @@ fn add_first_type(
 
 /// The first type of a statement that has a variable outside of a set, with the first such variable.
 fn first_type<'p>(kind: &'p StmtKind, set: &NumberSet) -> Option<(&'p Expr, u32)>
-    ensures { option_map (λ f. (term f.0.now, f.1)) result ≡ first_with_outside set.now (parts.types (view.kind kind.now)) }
+    ensures { option_map (λ f. (term f.0.now, f.1)) result ≡ first_with_outside set.now (parts.stated_types (view.kind kind.now)) }
 {
     match kind {
         StmtKind::Assign(_, _, written, retypes) => {
@@ -106,7 +107,7 @@ fn first_type<'p>(kind: &'p StmtKind, set: &NumberSet) -> Option<(&'p Expr, u32)
 /// Adds the line of a type with a variable that may not be there.
 fn add_type(
     names: &NameTable,
-    controls: &NumberSet,
+    controls: &Mask,
     q: &Expr,
     x: u32,
     text: &mut Blob,

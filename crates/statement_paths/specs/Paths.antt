@@ -40,8 +40,8 @@ abbrev pub here : Stm → List Proof → Way
 here s proofs = record { steps = []; stm = s; proofs = proofs }
 
 -- a way with steps in front
-abbrev pub behind : List Step → Way → Way
-behind steps w = record { steps = steps ++ w.steps; stm = w.stm; proofs = w.proofs }
+abbrev pub with_steps_in_front : List Step → Way → Way
+with_steps_in_front steps w = record { steps = steps ++ w.steps; stm = w.stm; proofs = w.proofs }
 
 abbrev mutual
   -- The way to the first statement at a place, in the order of the text: a statement itself, then those in its blocks, then
@@ -49,7 +49,7 @@ abbrev mutual
   pub way_to : Block → (place : ℕ) → Option Way
   way_to done place = None
   way_to (more at s proofs rest) place =
-      option_or (if at == place then Some (here s proofs) else way_within at s place) (option_map (behind (passed at s ∷ [])) (way_to rest place))
+      option_or (if at == place then Some (here s proofs) else way_within at s place) (option_map (with_steps_in_front (passed at s ∷ [])) (way_to rest place))
 
   -- where it stands in the blocks of a statement
   pub way_within : (at : ℕ) → Stm → (place : ℕ) → Option Way
@@ -58,8 +58,8 @@ abbrev mutual
   way_within at (lock l) place = None
   way_within at (unlock l) place = None
   way_within at (branch e a b join) place =
-      option_or (option_map (behind (yes at e ∷ [])) (way_to a place)) (option_map (behind (no at e ∷ [])) (way_to b place))
-  way_within at (loop e inv b) place = option_map (behind (head at inv ∷ yes at e ∷ [])) (way_to b place)
+      option_or (option_map (with_steps_in_front (yes at e ∷ [])) (way_to a place)) (option_map (with_steps_in_front (no at e ∷ [])) (way_to b place))
+  way_within at (loop e inv b) place = option_map (with_steps_in_front (head at inv ∷ yes at e ∷ [])) (way_to b place)
   way_within at (note j) place = None
   way_within at (output e) place = None
 

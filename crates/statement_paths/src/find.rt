@@ -29,7 +29,7 @@ fn find_in<'p>(
     place: u32,
     steps: &mut List<Step<'p>>,
 ) -> Result<Option<&'p Stmt>, NoMemory>
-    ensures way { IfOk result (λ stmt. found steps.new (option_map (λ s. s.now) stmt) ≡ option_map (spec.behind (map spec.step steps.old)) (spec.way_to (view.block body.now) place)) }
+    ensures way { IfOk result (λ stmt. found steps.new (option_map (λ s. s.now) stmt) ≡ option_map (spec.with_steps_in_front (map spec.step steps.old)) (spec.way_to (view.block body.now) place)) }
     ensures kept { IfOk result (λ stmt. kept stmt steps.old steps.new) }
 {
     let count = steps.len();
@@ -50,7 +50,7 @@ fn find_from<'p>(
     place: u32,
     steps: &mut List<Step<'p>>,
 ) -> Result<Option<&'p Stmt>, NoMemory>
-    ensures way { IfOk result (λ found_stmt. found steps.new (option_map (λ s. s.now) found_stmt) ≡ option_map (spec.behind (map spec.step steps.old))
+    ensures way { IfOk result (λ found_stmt. found steps.new (option_map (λ s. s.now) found_stmt) ≡ option_map (spec.with_steps_in_front (map spec.step steps.old))
         (if stmt.now.at == place then Some (spec.here (view.kind stmt.now.kind) (map view.proof stmt.now.proofs)) else spec.way_within stmt.now.at (view.kind stmt.now.kind) place)) }
     ensures kept { IfOk result (λ found_stmt. kept found_stmt steps.old steps.new) }
 {
@@ -69,7 +69,7 @@ fn find_within<'p>(
     place: u32,
     steps: &mut List<Step<'p>>,
 ) -> Result<Option<&'p Stmt>, NoMemory>
-    ensures way { IfOk result (λ stmt. found steps.new (option_map (λ s. s.now) stmt) ≡ option_map (spec.behind (map spec.step steps.old)) (spec.way_within at (view.kind kind.now) place)) }
+    ensures way { IfOk result (λ stmt. found steps.new (option_map (λ s. s.now) stmt) ≡ option_map (spec.with_steps_in_front (map spec.step steps.old)) (spec.way_within at (view.kind kind.now) place)) }
     ensures kept { IfOk result (λ stmt. kept stmt steps.old steps.new) }
 {
     match kind {

@@ -1,7 +1,11 @@
 //! Parts of a text: names of a program's variables and locks, and numbers.
 //!
-//! Each function adds its part to a text and leaves what stands there. A number that no declaration has adds nothing.
+//! - [`add_variable_name`], [`add_lock_name`], [`add_number`]: each adds its part to a text and leaves what stands there. A number that no
+//!   declaration has adds nothing.
+//! - [`variable_names`]: the names of all variables, with which expressions of the program are spelled (`specs/VariableNames.antt`).
 #![tactic(auto)]
+
+mod names;
 
 ghost use Rattle.std.specs.Prelude.{◌≡◌, ◌++◌, OnOk, decimal};
 ghost use Rattle.cov_ast.specs.Declarations.{lock_at, name_of};
@@ -11,6 +15,7 @@ ghost use Rattle.cov_ast.specs.View as view;
 use cov_ast::Program;
 use cov_expr::{Blob, NoMemory};
 use itoa::Buffer;
+pub use names::variable_names;
 
 /// Adds the name of a variable.
 pub fn add_variable_name(p: &Program, x: u32, text: &mut Blob) -> Result<(), NoMemory>

@@ -6,7 +6,7 @@ use Rattle.cov_expr.specs.declared.expr.Op.TheVariants.{Eq, Add, Both}
 use Rattle.cov_ast.specs.Declarations.{no_modes}
 use Rattle.cov_ast.specs.Plain.{Plain, none}
 use Rattle.cov_ast.specs.Syntax as s
-use Rattle.entail_questions.specs.Controls.{controls}
+use Rattle.typing_state.specs.KeptPoints.{controls_of}
 use Rattle.entail_questions.specs.declared.kinds.End.TheVariants as e
 use Rattle.entail_questions.specs.declared.kinds.Question.TheVariants as q
 use Rattle.statement_paths.specs.Paths.{Step, passed, yes, head}
@@ -60,7 +60,7 @@ abbrev noted : Step
 noted = passed 4 (s.note (stated ((2, const 0) ∷ [])))
 
 abbrev story : (z : ℕ) → List Step → History
-story z steps = history (controls program) (locks_over program z) z steps
+story z steps = history (controls_of program) (locks_over program z) z steps
 
 abbrev from : (at : ℕ) → TypeSource → Option Later → History
 from at source later = record { origin = Some (record { source = source; at = at }); later = later }

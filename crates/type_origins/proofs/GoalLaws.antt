@@ -20,7 +20,7 @@ use Rattle.entail_questions.specs.declared.kinds.End.{End}
 use Rattle.entail_questions.specs.declared.kinds.End.TheVariants as ends
 use Rattle.entail_questions.specs.declared.kinds.Question.{Question}
 use Rattle.entail_questions.specs.declared.kinds.Question.TheVariants as q
-use Rattle.type_origins.specs.AskedVariables.{guard_of, printed_of, untyped_value_of, value_of, variables_of, vars_of, where_unwritten}
+use Rattle.type_origins.specs.AskedVariables.{guard_of, printed_of, untyped_value, assigned_value, variables_of, vars_of, where_unwritten}
 use Rattle.type_origins.specs.GoalTypes.{AgreeOnTypes, asked_point, at_end, goal_of, goals, goals_of, preds_of, stored_type, type_of_any}
 
 -- Parts of lists -------------------------------------------------------------------------------------------------
@@ -155,7 +155,7 @@ module _ (p : Plain) (t : ℕ) (a b : Point) (held : a.held ≡ b.held) where
   same_value None e agree = same_type e agree
   same_value (Some r) e agree = refl
 
-  same_stored : (s : Stm) → AgreeOnTypes (vars_of (untyped_value_of s)) a b → stored_type p t s a ≡ stored_type p t s b
+  same_stored : (s : Stm) → AgreeOnTypes (vars_of (untyped_value s)) a b → stored_type p t s a ≡ stored_type p t s b
   same_stored skip agree = refl
   same_stored (assign x e w retypes) agree = same_value w e agree
   same_stored (lock l) agree = refl
@@ -169,7 +169,7 @@ module _ (p : Plain) (t : ℕ) (a b : Point) (held : a.held ≡ b.held) where
   same_one z agree = All-head (λ y. type_at a y ≡ type_at b y) z [] agree
 
   pub same_goal : (question : Question) (s : Stm) → AgreeOnTypes (variables_of question s) a b → goal_of p t question s a ≡ goal_of p t question s b
-  same_goal q.Written s agree = same_any (value_of s) agree
+  same_goal q.Written s agree = same_any (assigned_value s) agree
   same_goal (q.Shown x) s agree = same_stored s agree
   same_goal (q.Controlled y) s agree = same_var y (same_one y agree)
   same_goal (q.Retyped z) s agree = same_one z agree

@@ -12,17 +12,17 @@ use Rattle.cov_ast.specs.Declarations.{class_of, is_control, lists, no_lock, und
 use Rattle.cov_ast.specs.Plain.{Plain}
 use Rattle.cov_ast.specs.Syntax.{State, skip, assign, lock, unlock, branch, loop, note, output}
 use Rattle.cov_ast.specs.Tables.{has}
-use Rattle.entail_questions.specs.Controls.{controls}
+use Rattle.typing_state.specs.KeptPoints.{controls_of}
 use Rattle.hypothesis_origins.proofs.PointLaws.{appended}
 use Rattle.hypothesis_origins.specs.Points as points
-use Rattle.hypothesis_origins.specs.Points.{point_behind}
+use Rattle.hypothesis_origins.specs.Points.{point_after_steps}
 use Rattle.statement_paths.specs.Paths.{Step, passed, yes, no, head, place_of}
 use Rattle.typing_law.specs.Blocks.{after_block, value_type}
 use Rattle.typing_state.specs.After.{start, start_type, with_guard, updated, updated_from, retyped, listed_or, locked_type, assigned_type, forgotten_type}
 use Rattle.typing_state.specs.Point.{Point, default_type, given_type, is_tracked}
 use Rattle.typing_state.specs.Terms.{listed}
 use Rattle.type_origins.specs.TypeOrigins.{history_after_step, history_after_steps, changed_by, is_listed, locks_over, no_history, set_by, set_by_assignment, set_by_state, set_by_types, change_at, changed_at, where_true, with_step}
-use Rattle.type_origins.specs.TypesFromOrigins.{IsFrom, IsTold, TellsOfType, said, said_in, type_behind}
+use Rattle.type_origins.specs.TypesFromOrigins.{IsFrom, IsTold, TellsOfType, type_by_source, type_by_source_in, type_after_steps}
 use Rattle.type_origins.specs.declared.origin.By.{By}
 use Rattle.type_origins.specs.declared.origin.By.TheVariants as by
 use Rattle.type_origins.specs.declared.origin.TypeChange.{TypeChange}
@@ -125,7 +125,7 @@ retyped_listed f types other qs z there h some =
 
 module _ (p : Plain) (t z : ℕ) (declared : (x : ℕ) → length p.vars ≤ x → is_control p x ≡ false) (no_control : is_control p z ≡ false) where
   abbrev cs : List Bool
-  cs = controls p
+  cs = controls_of p
 
   abbrev ls : List Bool
   ls = locks_over p z
@@ -182,12 +182,12 @@ module _ (p : Plain) (t z : ℕ) (declared : (x : ℕ) → length p.vars ≤ x �
   unset (head at inv) a h k = let c : ◌≡◌ {A = Option TypeSource} (Some (set_by_state z by.LoopState inv)) None = h in cc
 
   abbrev Gives : Step → Point → TypeSource → Type 0
-  Gives s a source = given_type (points.after_step p t s a) z ≡ said_in p t z s a source
+  Gives s a source = given_type (points.after_step p t s a) z ≡ type_by_source_in p t z s a source
 
   by_state : (by : By) (j : State) (held : List Bool) (stored : Option Term) (qs : List (Option Term)) (b : Bool) → is_listed j.types z ≡ b
       → is_some (get_or (retyped (λ x q. listed_or j.types x (default_type p t held x)) qs) z None) ≡ true
       → get_or (retyped (λ x q. listed_or j.types x (default_type p t held x)) qs) z None
-      ≡ said p t z stored j.types held (if b then source.Listed by else source.Unlisted by)
+      ≡ type_by_source p t z stored j.types held (if b then source.Listed by else source.Unlisted by)
   by_state by j held stored qs true there some =
       retyped_listed (λ x q. listed_or j.types x (default_type p t held x)) j.types (λ g. default_type p t held z) qs z there (λ g. refl) some
   by_state by j held stored qs false other some =
@@ -245,26 +245,26 @@ module _ (p : Plain) (t z : ℕ) (declared : (x : ℕ) → length p.vars ≤ x �
       (by_state by.LoopState inv a.held None a.types (is_listed inv.types z) refl some)
 
   -- a type at the start is the class
-  at_start : is_some (type_behind p t z []) ≡ true → type_behind p t z [] ≡ Some (class_of p z)
+  at_start : is_some (type_after_steps p t z []) ≡ true → type_after_steps p t z [] ≡ Some (class_of p z)
   at_start some = by_case (cases_lt z (length p.vars))
     where
       tracked : (b : Bool) → is_some (if b then Some (class_of p z) else None) ≡ true → (if b then Some (class_of p z) else None) ≡ Some (class_of p z)
       tracked true k = refl
       tracked false k = no_type k
 
-      by_case : (z < length p.vars) ⊎ (length p.vars ≤ z) → type_behind p t z [] ≡ Some (class_of p z)
+      by_case : (z < length p.vars) ⊎ (length p.vars ≤ z) → type_after_steps p t z [] ≡ Some (class_of p z)
       by_case (inl inside) =
-          let at : type_behind p t z [] ≡ start_type p t (start p t).held z
+          let at : type_after_steps p t z [] ≡ start_type p t (start p t).held z
           = get_or-map-range_with_len (start_type p t (start p t).held) 0 (length p.vars) z z None inside (omega arith) in
           at ∙ tracked (is_tracked p t (start p t).held z) (sym (ap is_some at) ∙ some)
       by_case (inr past) =
-          let none : type_behind p t z [] ≡ None
+          let none : type_after_steps p t z [] ≡ None
           = get_or_past (start p t).types z None (omega (arith, length-map-range_with_len (start_type p t (start p t).held) 0 (length p.vars), past)) in
           no_type (sym (ap is_some none) ∙ some)
 
   -- Several steps ----------------------------------------------------------------------------------------------
 
-  longer : (done : List Step) (s : Step) (o : Option TypeOrigin) → IsFrom p t z done o → type_behind p t z (done ++ s ∷ []) ≡ type_behind p t z done
+  longer : (done : List Step) (s : Step) (o : Option TypeOrigin) → IsFrom p t z done o → type_after_steps p t z (done ++ s ∷ []) ≡ type_after_steps p t z done
       → IsFrom p t z (done ++ s ∷ []) o
   longer done s None from same = same ∙ from
   longer done s (Some o) from same = record {
@@ -280,8 +280,8 @@ module _ (p : Plain) (t z : ℕ) (declared : (x : ℕ) → length p.vars ≤ x �
   one_step : (done : List Step) (s : Step) (h : History) → IsTold p t z done h → IsTold p t z (done ++ s ∷ []) (history_after_step cs ls z s h)
   one_step done s h told = by_source (set_by cs ls z s) refl
     where
-      same : set_by cs ls z s ≡ None → changed_by cs s ≡ None → type_behind p t z (done ++ s ∷ []) ≡ type_behind p t z done
-      same e k = ap (λ a. given_type a z) (appended p t done (s ∷ []) (start p t)) ∙ unset s (point_behind p t done) e k
+      same : set_by cs ls z s ≡ None → changed_by cs s ≡ None → type_after_steps p t z (done ++ s ∷ []) ≡ type_after_steps p t z done
+      same e k = ap (λ a. given_type a z) (appended p t done (s ∷ []) (start p t)) ∙ unset s (point_after_steps p t done) e k
 
       by_change : set_by cs ls z s ≡ None → (y : Option TypeChange) → changed_by cs s ≡ y → IsTold p t z (done ++ s ∷ []) (changed_at (place_of s) y h)
       by_change e None k = λ later some. longer done s h.origin (told later (sym (ap is_some (same e k)) ∙ some)) (same e k)
@@ -298,7 +298,7 @@ module _ (p : Plain) (t z : ℕ) (declared : (x : ℕ) → length p.vars ≤ x �
         sets = e;
         says =
             let last = ap (λ a. given_type a z) (appended p t done (s ∷ []) (start p t)) in
-            last ∙ gives s (point_behind p t done) x e (sym (ap is_some last) ∙ some);
+            last ∙ gives s (point_after_steps p t done) x e (sym (ap is_some last) ∙ some);
       }
 
   along : (done rest : List Step) (h : History) → IsTold p t z done h → IsTold p t z (done ++ rest) (history_after_steps cs ls z rest h)

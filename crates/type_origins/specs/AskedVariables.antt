@@ -7,9 +7,9 @@ use Rattle.entail_questions.specs.declared.kinds.Question.{Question}
 use Rattle.entail_questions.specs.declared.kinds.Question.TheVariants as q
 
 -- the value that an assignment stores
-abbrev pub value_of : Stm → Option Term
-value_of (assign x e q retypes) = Some e
-value_of s = None
+abbrev pub assigned_value : Stm → Option Term
+assigned_value (assign x e q retypes) = Some e
+assigned_value s = None
 
 -- a value, unless its type is written
 abbrev pub where_unwritten : Option Term → Term → Option Term
@@ -17,9 +17,9 @@ where_unwritten None e = Some e
 where_unwritten (Some q) e = None
 
 -- the value that an assignment stores, where its type is that of its variables
-abbrev pub untyped_value_of : Stm → Option Term
-untyped_value_of (assign x e q retypes) = where_unwritten q e
-untyped_value_of s = None
+abbrev pub untyped_value : Stm → Option Term
+untyped_value (assign x e q retypes) = where_unwritten q e
+untyped_value s = None
 
 -- the guard of a branch or of a loop
 abbrev pub guard_of : Stm → Option Term
@@ -39,8 +39,8 @@ vars_of (Some e) = vars e
 
 -- An invariant and a predicate are goals themselves, and no types make them up.
 abbrev pub variables_of : Question → Stm → List ℕ
-variables_of q.Written s = vars_of (value_of s)
-variables_of (q.Shown x) s = vars_of (untyped_value_of s)
+variables_of q.Written s = vars_of (assigned_value s)
+variables_of (q.Shown x) s = vars_of (untyped_value s)
 variables_of (q.Controlled y) s = y ∷ []
 variables_of (q.Retyped z) s = z ∷ []
 variables_of (q.Invariant l) s = []

@@ -14,7 +14,7 @@ use Rattle.typing_law.specs.Blocks.{after_block, value_type}
 use Rattle.typing_law.specs.Entailments.{Entailment}
 use Rattle.typing_state.specs.After.{meet, with_guard}
 use Rattle.typing_state.specs.Point.{Point, ty, ty_var, type_at}
-use Rattle.type_origins.specs.AskedVariables.{guard_of, printed_of, value_of}
+use Rattle.type_origins.specs.AskedVariables.{guard_of, printed_of, assigned_value}
 
 -- the predicates of the state of a statement, if it has one
 abbrev pub preds_of : Stm → List Term
@@ -81,7 +81,7 @@ module _ (p : Plain) (t : ℕ) where
 
   -- the goal of a question, at the point of which it asks
   abbrev pub goal_of : Question → Stm → Point → Term
-  goal_of q.Written s a = type_of_any (value_of s) a
+  goal_of q.Written s a = type_of_any (assigned_value s) a
   goal_of (q.Shown x) s a = stored_type s a
   goal_of (q.Controlled y) s a = ty_var p t a y
   goal_of (q.Retyped z) s a = type_at a z

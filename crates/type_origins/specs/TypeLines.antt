@@ -6,9 +6,9 @@ use Rattle.cov_ast.specs.Plain.{Plain}
 use Rattle.cov_ast.specs.Syntax.{Stm}
 use Rattle.cov_ast.specs.Tables.{has}
 use Rattle.cov_print.specs.Spelling.{Names, whole}
-use Rattle.entail_questions.specs.Controls.{controls}
+use Rattle.typing_state.specs.KeptPoints.{controls_of}
 use Rattle.entail_questions.specs.declared.kinds.Question.{Question}
-use Rattle.entail_text.specs.VariableNames.{variable_names}
+use Rattle.text_parts.specs.VariableNames.{variable_names}
 use Rattle.cov_ast.specs.LocksAlong.{no_locks}
 use Rattle.held_locks.specs.LocksHeld.{held_along}
 use Rattle.held_locks.specs.VariableSets.{hidden, stable}
@@ -31,11 +31,11 @@ use Rattle.type_origins.specs.declared.origin.TypeSource.TheVariants as source
 
 -- for a thread that holds these locks
 abbrev pub known_at : Plain → (t : ℕ) → (held : List Bool) → Known
-known_at p t held = record { controls = controls p; stable = stable p t held; hidden = hidden p t held }
+known_at p t held = record { controls = controls_of p; stable = stable p t held; hidden = hidden p t held }
 
 -- behind steps from the start of a thread
-abbrev pub known_behind : Plain → (t : ℕ) → List Step → Known
-known_behind p t steps = known_at p t (held_along steps (no_locks p))
+abbrev pub known_after_steps : Plain → (t : ℕ) → List Step → Known
+known_after_steps p t steps = known_at p t (held_along steps (no_locks p))
 
 -- The words on an origin ---------------------------------------------------------------------------------------
 
@@ -163,4 +163,4 @@ module _ (p : Plain) (names : Names) (bytes : List ℕ) (steps : List Step) (kno
 -- The lines on the variables whose types make up the goal of what is asked of a statement. The steps are those of a thread to the
 -- point of which is asked.
 abbrev pub type_lines : Plain → (t : ℕ) → (bytes : List ℕ) → List Step → Question → Stm → List ℕ
-type_lines p t bytes steps question s = lines_of p (variable_names p.vars) bytes steps (known_behind p t steps) (variables_of question s)
+type_lines p t bytes steps question s = lines_of p (variable_names p.vars) bytes steps (known_after_steps p t steps) (variables_of question s)

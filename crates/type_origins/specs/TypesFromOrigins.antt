@@ -4,8 +4,8 @@ use Rattle.cov_expr.specs.Term.{Term}
 use Rattle.cov_ast.specs.Declarations.{class_of}
 use Rattle.cov_ast.specs.Plain.{Plain}
 use Rattle.cov_ast.specs.Syntax.{Stm, skip, assign, lock, unlock, branch, loop, note, output}
-use Rattle.entail_questions.specs.Controls.{controls}
-use Rattle.hypothesis_origins.specs.Points.{after_step, point_behind}
+use Rattle.typing_state.specs.KeptPoints.{controls_of}
+use Rattle.hypothesis_origins.specs.Points.{after_step, point_after_steps}
 use Rattle.statement_paths.specs.Paths.{Step, passed, yes, no, head, place_of}
 use Rattle.typing_law.specs.Blocks.{value_type}
 use Rattle.typing_state.specs.Point.{Point, default_type, given_type}
@@ -48,21 +48,21 @@ module _ (p : Plain) (t : ℕ) where
   stored_in s a = None
 
 -- what a source says, where this is stored and listed, and these locks are held
-abbrev pub said : Plain → (t z : ℕ) → (stored : Option Term) → (types : List (ℕ × Term)) → (held : List Bool) → TypeSource → Option Term
-said p t z stored types held source.Stored = stored
-said p t z stored types held (source.Taken l) = Some (class_of p z)
-said p t z stored types held (source.Listed by) = listed types z
-said p t z stored types held (source.Unlisted by) = Some (default_type p t held z)
+abbrev pub type_by_source : Plain → (t z : ℕ) → (stored : Option Term) → (types : List (ℕ × Term)) → (held : List Bool) → TypeSource → Option Term
+type_by_source p t z stored types held source.Stored = stored
+type_by_source p t z stored types held (source.Taken l) = Some (class_of p z)
+type_by_source p t z stored types held (source.Listed by) = listed types z
+type_by_source p t z stored types held (source.Unlisted by) = Some (default_type p t held z)
 
 -- what a source says of a step from a point
-abbrev pub said_in : Plain → (t z : ℕ) → Step → Point → TypeSource → Option Term
-said_in p t z s a source = said p t z (stored_in p t s a) (types_in s) (after_step p t s a).held source
+abbrev pub type_by_source_in : Plain → (t z : ℕ) → Step → Point → TypeSource → Option Term
+type_by_source_in p t z s a source = type_by_source p t z (stored_in p t s a) (types_in s) (after_step p t s a).held source
 
 -- What a history says --------------------------------------------------------------------------------------------
 
 -- the type of a variable at the point of a thread behind steps, if it is tracked there
-abbrev pub type_behind : Plain → (t z : ℕ) → List Step → Option Term
-type_behind p t z steps = given_type (point_behind p t steps) z
+abbrev pub type_after_steps : Plain → (t z : ℕ) → List Step → Option Term
+type_after_steps p t z steps = given_type (point_after_steps p t steps) z
 
 -- One of the steps is at the place of an origin, and the type behind all of them is what the source of the origin says of it.
 pub record ComesFrom (p : Plain) (t z : ℕ) (steps : List Step) (o : TypeOrigin) : Type 0 where
@@ -71,18 +71,18 @@ pub record ComesFrom (p : Plain) (t z : ℕ) (steps : List Step) (o : TypeOrigin
   pub back : List Step
   pub parts : steps ≡ front ++ step ∷ back
   pub placed : place_of step ≡ o.at
-  pub sets : set_by (controls p) (locks_over p z) z step ≡ Some o.source
-  pub says : type_behind p t z steps ≡ said_in p t z step (point_behind p t front) o.source
+  pub sets : set_by (controls_of p) (locks_over p z) z step ≡ Some o.source
+  pub says : type_after_steps p t z steps ≡ type_by_source_in p t z step (point_after_steps p t front) o.source
 
 -- without an origin the type is the class
 abbrev pub IsFrom : Plain → (t z : ℕ) → List Step → Option TypeOrigin → Type 0
-IsFrom p t z steps None = type_behind p t z steps ≡ Some (class_of p z)
+IsFrom p t z steps None = type_after_steps p t z steps ≡ Some (class_of p z)
 IsFrom p t z steps (Some o) = ComesFrom p t z steps o
 
 -- where nothing may have forgotten the type since, and the variable is tracked
 abbrev pub IsTold : Plain → (t z : ℕ) → List Step → History → Type 0
-IsTold p t z steps h = h.later ≡ None → is_some (type_behind p t z steps) ≡ true → IsFrom p t z steps h.origin
+IsTold p t z steps h = h.later ≡ None → is_some (type_after_steps p t z steps) ≡ true → IsFrom p t z steps h.origin
 
 -- the history of the type of a variable tells of it behind these steps
 abbrev pub TellsOfType : Plain → (t z : ℕ) → List Step → Type 0
-TellsOfType p t z steps = IsTold p t z steps (history (controls p) (locks_over p z) z steps)
+TellsOfType p t z steps = IsTold p t z steps (history (controls_of p) (locks_over p z) z steps)

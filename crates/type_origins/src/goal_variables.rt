@@ -19,8 +19,8 @@ pub fn variables_of(
     ensures { IfOk result (λ made. made ≡ spec.variables_of question (view.kind kind.now)) }
 {
     match question {
-        Question::Written => vars_of(alloc, value_of(kind)),
-        Question::Shown(_) => vars_of(alloc, untyped_value_of(kind)),
+        Question::Written => vars_of(alloc, assigned_value(kind)),
+        Question::Shown(_) => vars_of(alloc, untyped_value(kind)),
         Question::Guard | Question::HeadGuard => vars_of(alloc, guard_of(kind)),
         Question::Printed => vars_of(alloc, printed_of(kind)),
         Question::Controlled(z) => one(alloc, z),
@@ -51,8 +51,8 @@ fn vars_of(alloc: Global, e: Option<&Expr>) -> Result<List<u32>, NoMemory>
 }
 
 /// The value that an assignment stores.
-fn value_of(kind: &StmtKind) -> Option<&Expr>
-    ensures { option_map (λ e. term e.now) result ≡ spec.value_of (view.kind kind.now) }
+fn assigned_value(kind: &StmtKind) -> Option<&Expr>
+    ensures { option_map (λ e. term e.now) result ≡ spec.assigned_value (view.kind kind.now) }
 {
     match kind {
         StmtKind::Assign(_, e, _, _) => Some(e),
@@ -67,8 +67,8 @@ fn value_of(kind: &StmtKind) -> Option<&Expr>
 }
 
 /// The value that an assignment stores, where its type is that of its variables.
-fn untyped_value_of(kind: &StmtKind) -> Option<&Expr>
-    ensures { option_map (λ e. term e.now) result ≡ spec.untyped_value_of (view.kind kind.now) }
+fn untyped_value(kind: &StmtKind) -> Option<&Expr>
+    ensures { option_map (λ e. term e.now) result ≡ spec.untyped_value (view.kind kind.now) }
 {
     match kind {
         StmtKind::Assign(_, e, None, _) => Some(e),

@@ -11,18 +11,17 @@ ghost use Rattle.type_origins.specs.TypeOrigins.{history, locks_over};
 
 use crate::class::{add_class, add_default, add_shared, add_start};
 use crate::goal_variables::variables_of;
-use crate::known::{Known, known_behind};
+use crate::known::{Known, known_after_steps};
 use crate::origin::{By, History, Later, TypeChange, TypeOrigin, TypeSource};
 use crate::steps::{history_of, locks_over};
 use crate::words::{change_end, change_word, list_word, listed_text, source_end};
 use cov_ast::{NameTable, Program, StmtKind};
 use cov_expr::{Blob, NoMemory};
 use entail_questions::Question;
-use entail_text::variable_names;
 use statement_paths::Step;
 use std::alloc::Global;
 use text_lines::position;
-use text_parts::{add_lock_name, add_number, add_variable_name};
+use text_parts::{add_lock_name, add_number, add_variable_name, variable_names};
 
 /// Adds a line for each variable whose type makes up the goal of what is asked of a statement: where that type comes from. `steps` are
 /// those from the start of the thread to the point of which is asked, and `bytes` are the text of the program.
@@ -43,7 +42,7 @@ pub fn add_type_lines(
     requires thread { t < length p.now.threads }
     ensures { OnOk result (text.new ≡ text.old ++ spec.type_lines (plain (view.program p.now)) t bytes.now (map paths.step steps.now) question (view.kind kind.now)) }
 {
-    let known = known_behind(alloc, p, t, steps)?;
+    let known = known_after_steps(alloc, p, t, steps)?;
     let variables = variables_of(alloc, question, kind)?;
     let names = variable_names(alloc, p)?;
     add_lines(

@@ -10,12 +10,13 @@ ghost use Rattle.type_origins.specs.TypeOrigins as spec;
 use crate::origin::{By, History, Later, TypeChange, TypeOrigin, TypeSource};
 use cov_ast::{NumberSet, Program, Retype, State, StmtKind};
 use cov_expr::{Expr, List, NoMemory};
+use mode_state::Mask;
 use statement_paths::Step;
 use std::alloc::Global;
 
 /// The history of the type of a variable behind steps from the start of a thread, where these are the controls and the locks that the
 /// variable is under. It takes no memory, and time in proportion to what the steps list.
-pub fn history_of(controls: &NumberSet, locks: &NumberSet, z: u32, steps: &[Step<'_>]) -> History
+pub fn history_of(controls: &Mask, locks: &NumberSet, z: u32, steps: &[Step<'_>]) -> History
     ensures { result ≡ spec.history controls.now locks.now z (map paths.step steps.now) }
 {
     let mut so_far = History {
@@ -30,7 +31,7 @@ pub fn history_of(controls: &NumberSet, locks: &NumberSet, z: u32, steps: &[Step
 
 /// The history with a step more.
 fn history_after_step(
-    controls: &NumberSet,
+    controls: &Mask,
     locks: &NumberSet,
     z: u32,
     step: &Step<'_>,
@@ -69,7 +70,7 @@ fn changed_at(at: u32, change: Option<TypeChange>, so_far: History) -> History
 }
 
 /// What in a step may forget the type.
-fn changed_by(controls: &NumberSet, step: &Step<'_>) -> Option<TypeChange>
+fn changed_by(controls: &Mask, step: &Step<'_>) -> Option<TypeChange>
     ensures { result ≡ spec.changed_by controls.now (paths.step step.now) }
 {
     match step {
@@ -79,7 +80,7 @@ fn changed_by(controls: &NumberSet, step: &Step<'_>) -> Option<TypeChange>
 }
 
 /// What may forget the type behind a statement.
-fn changed_past(controls: &NumberSet, kind: &StmtKind) -> Option<TypeChange>
+fn changed_past(controls: &Mask, kind: &StmtKind) -> Option<TypeChange>
     ensures { result ≡ spec.changed_past controls.now (view.kind kind.now) }
 {
     match kind {
@@ -96,7 +97,7 @@ fn changed_past(controls: &NumberSet, kind: &StmtKind) -> Option<TypeChange>
 }
 
 /// What in a step sets the type at its end.
-fn set_by(controls: &NumberSet, locks: &NumberSet, z: u32, step: &Step<'_>) -> Option<TypeSource>
+fn set_by(controls: &Mask, locks: &NumberSet, z: u32, step: &Step<'_>) -> Option<TypeSource>
     ensures { result ≡ spec.set_by controls.now locks.now z (paths.step step.now) }
 {
     match step {
@@ -107,7 +108,7 @@ fn set_by(controls: &NumberSet, locks: &NumberSet, z: u32, step: &Step<'_>) -> O
 }
 
 /// What in a statement sets the type behind it.
-fn set_past(controls: &NumberSet, locks: &NumberSet, z: u32, kind: &StmtKind) -> Option<TypeSource>
+fn set_past(controls: &Mask, locks: &NumberSet, z: u32, kind: &StmtKind) -> Option<TypeSource>
     ensures { result ≡ spec.set_past controls.now locks.now z (view.kind kind.now) }
 {
     match kind {
@@ -133,7 +134,7 @@ fn where_true(holds: bool, source: TypeSource) -> Option<TypeSource>
 }
 
 /// What in an assignment to a variable sets the type.
-fn set_by_assignment(controls: &NumberSet, z: u32, x: u32, retypes: &[Retype]) -> Option<TypeSource>
+fn set_by_assignment(controls: &Mask, z: u32, x: u32, retypes: &[Retype]) -> Option<TypeSource>
     ensures { result ≡ spec.set_by_assignment controls.now z x (map view.retype retypes.now) }
 {
     if controls.has(x) {

@@ -8,8 +8,7 @@ ghost use Rattle.cov_expr.specs.View.{term};
 ghost use Rattle.typing_state.specs.Keys.{key};
 
 use crate::key::{Key, key_of};
-use crate::preds::has_pred;
-use cov_expr::{Expr, NoMemory, same};
+use cov_expr::{Expr, NoMemory, has_same, same};
 use indexmap::IndexSet;
 use std::alloc::Global;
 
@@ -85,7 +84,7 @@ pub fn add_key(
             let key = key_of(alloc, e)?;
             Ok(set.insert(key)?)
         }
-        None => Ok(!has_pred(list, e)),
+        None => Ok(!has_same(list, e)),
     }
 }
 

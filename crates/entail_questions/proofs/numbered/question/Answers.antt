@@ -10,7 +10,7 @@ use Rattle.statement_paths.specs.Paths.{step, way, way_to}
 use Rattle.cov_ast.specs.LocksAlong.{no_locks}
 use Rattle.held_locks.specs.LocksHeld.{held_along}
 use Rattle.held_locks.specs.VariableSets.{hidden}
-use Rattle.entail_questions.specs.Questions.{asked_among, asked_behind, of_statement}
+use Rattle.entail_questions.specs.Questions.{asked_among, asked_of_way, of_statement}
 use Rattle.entail_questions.proofs.InRange.{statement_in_range}
 use Rattle.entail_questions.proofs.SameQuestions.{of_table}
 use Rattle.entail_questions.proofs.numbered.question.Goals as goal
@@ -22,7 +22,7 @@ questions-requires-clause-range c =
     let t = c.args.t in
     let inside : t < length q.threads = omega (arith, length-map p.threads view.thread, c.requires.thread) in
     let found : way_to (numbered q t).body c.args.place ≡ Some (way c.in-Some.way)
-    = ap (λ b. way_to b c.args.place) (sym c.body_of.ensures) ∙ sym c.in_ok-way.ensures ∙ ap (option_map way) c.in-Some.is in
+    = ap (λ b. way_to b c.args.place) (sym (c.body_of.ensures no_thread)) ∙ sym c.in_ok-way.ensures ∙ ap (option_map way) c.in-Some.is in
     statement_in_range (length q.vars) (length q.locks) (length p.vars) (length p.locks) (numbered q t).body c.args.place (way c.in-Some.way)
     (c.requires.formed.ids.of_threads t no_thread inside).body found (length-map p.vars view.var) (length-map p.locks view.lock)
 
@@ -35,7 +35,7 @@ returns c =
     let s = view.kind w.stmt.now.kind in
     let inside : t < length q.threads = omega (arith, length-map p.threads view.thread, c.requires.thread) in
     let found : way_to (numbered q t).body c.args.place ≡ Some (way w)
-    = ap (λ b. way_to b c.args.place) (sym c.body_of.ensures) ∙ sym c.in_ok-way.ensures ∙ ap (option_map way) c.in-Some.is in
+    = ap (λ b. way_to b c.args.place) (sym (c.body_of.ensures no_thread)) ∙ sym c.in_ok-way.ensures ∙ ap (option_map way) c.in-Some.is in
     let range : IsStmInRange (length q.vars) (length q.locks) s
     = statement_in_range (length q.vars) (length q.locks) (length q.vars) (length q.locks) (numbered q t).body c.args.place (way w)
     (c.requires.formed.ids.of_threads t no_thread inside).body found refl refl in
@@ -45,4 +45,4 @@ returns c =
     ∙ ap (λ h. of_statement (plain q) (has h) s)
     (c.in_ok-hidden.ensures ∙ ap (λ ss. hidden (plain q) t (held_along (map step ss) (no_locks (plain q)))) c.as_slice.ensures)
     ∙ of_table (plain q) (is_hidden (plain q) t (held_along (map step w.steps) (no_locks (plain q)))) (length q.locks) s range)
-    ∙ ap (λ o. asked_behind (plain q) t o c.args.number) (sym found)
+    ∙ ap (λ o. asked_of_way (plain q) t o c.args.number) (sym found)

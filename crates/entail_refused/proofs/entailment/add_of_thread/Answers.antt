@@ -7,7 +7,7 @@ use Rattle.cov_ast.specs.declared.refusal.Refusal.{Refusal}
 use Rattle.cov_ast.proofs.ObligationLaws.{none_refused}
 use Rattle.mode_compat.specs.Declared.{declaration_obligations}
 use Rattle.typing_law.specs.ThreadEntailments.{entailment_among, thread_entailments}
-use Rattle.entail_refused.specs.Asked.{told_of}
+use Rattle.entail_refused.specs.Asked.{lines_of_entailment}
 use Rattle.entail_refused.proofs.entailment.add_of_thread.Goals as goal
 
 some_refused : (es : List Obligation) (r : Refusal) → first_false es ≡ Some r → all_hold es ≡ false
@@ -24,13 +24,13 @@ add_entailment-requires-clause-declared c = none_refused (declaration_obligation
 pub returns-in-Ok : goal.returns-in-Ok
 returns-in-Ok c =
     let p = view.program c.args.p.now in
-    let told = told_of p c.args.bytes.now c.args.t (entailment_among (thread_entailments p c.args.t) c.args.place c.args.number) in
+    let told = lines_of_entailment p c.args.bytes.now c.args.t (entailment_among (thread_entailments p c.args.t) c.args.place c.args.number) in
     let hold : all_hold (declaration_obligations p) ≡ true = none_refused (declaration_obligations p) c.in-Ok.ensures in
     subst (λ b. OnOk c.add_entailment.result (c.add_entailment.new.text ≡ c.args.text.now ++ (if b then told else []))) (sym hold) c.add_entailment.ensures
 
 pub returns-in-Err-Refused : goal.returns-in-Err-Refused
 returns-in-Err-Refused c =
     let p = view.program c.args.p.now in
-    let told = told_of p c.args.bytes.now c.args.t (entailment_among (thread_entailments p c.args.t) c.args.place c.args.number) in
+    let told = lines_of_entailment p c.args.bytes.now c.args.t (entailment_among (thread_entailments p c.args.t) c.args.place c.args.number) in
     let fails = some_refused (declaration_obligations p) c.in-Err-Refused.field-0-0 (rw c.in-Err-Refused.field-0-is at c.in-Err-Refused.ensures) in
     sym (append-nil c.args.text.now) ∙ ap (λ b. c.args.text.now ++ (if b then told else [])) (sym fails)

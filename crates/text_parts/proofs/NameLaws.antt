@@ -11,8 +11,8 @@ use Rattle.cov_ast.specs.NameTables.{with_name}
 use Rattle.cov_ast.specs.View as view
 use Rattle.cov_ast.specs.WellFormed.{are_distinct}
 use Rattle.cov_ast.specs.declared.decl.VarDecl.{VarDecl}
-use Rattle.entail_text.specs.Inside.{AreNew}
-use Rattle.entail_text.specs.VariableNames.{variable_names}
+use Rattle.text_parts.specs.Inside.{AreNew}
+use Rattle.text_parts.specs.VariableNames.{variable_names}
 
 -- Distinct names -------------------------------------------------------------------------------------------------
 

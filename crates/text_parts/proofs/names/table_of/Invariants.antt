@@ -1,8 +1,8 @@
 use Rattle.std.proofs.Common.{◌≡◌, ◌++◌, drop, map}
 use Rattle.cov_ast.specs.View as view
-use Rattle.entail_text.specs.Inside.{AreNew}
-use Rattle.entail_text.specs.VariableNames.{variable_names}
-use Rattle.entail_text.proofs.names.table_of.Given as goal
+use Rattle.text_parts.specs.Inside.{AreNew}
+use Rattle.text_parts.specs.VariableNames.{variable_names}
+use Rattle.text_parts.proofs.names.table_of.Given as goal
 
 -- the names so far and those that are left are all of them, and those that are left are new
 abbrev pub invariant-loop-var : goal.invariant-loop-var

@@ -1,9 +1,9 @@
 use Rattle.std.proofs.Common.{length, map, drop, ap, arith}
 use Rattle.std.proofs.lemmas.List.{length-append, length-map}
 use Rattle.cov_ast.specs.View as view
-use Rattle.entail_text.specs.VariableNames.{variable_names}
-use Rattle.entail_text.proofs.NameLaws.{names_kept, new_kept}
-use Rattle.entail_text.proofs.names.table_of.Goals as goal
+use Rattle.text_parts.specs.VariableNames.{variable_names}
+use Rattle.text_parts.proofs.NameLaws.{names_kept, new_kept}
+use Rattle.text_parts.proofs.names.table_of.Goals as goal
 
 pub add-requires : goal.add-requires
 add-requires c =

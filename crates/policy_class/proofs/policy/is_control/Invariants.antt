@@ -3,7 +3,7 @@ use Rattle.std.specs.List.{list_any}
 use Rattle.cov_expr.specs.Trees.{mentions}
 use Rattle.cov_ast.specs.Plain.{class_term}
 use Rattle.cov_ast.specs.View as view
-use Rattle.entail_questions.proofs.assignments.is_control.Given as goal
+use Rattle.policy_class.proofs.policy.is_control.Given as goal
 
 -- no class so far mentions the variable
 abbrev pub invariant-loop-var : goal.invariant-loop-var

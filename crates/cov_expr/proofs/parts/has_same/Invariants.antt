@@ -1,7 +1,7 @@
 use Rattle.std.proofs.Common.{◌≡◌, drop, map}
 use Rattle.cov_expr.specs.Trees.{has_term}
 use Rattle.cov_expr.specs.View.{term}
-use Rattle.entail_text.proofs.dropped.has_same.Given as goal
+use Rattle.cov_expr.proofs.parts.has_same.Given as goal
 
 -- it is none of those so far
 abbrev pub invariant-loop-one : goal.invariant-loop-one

@@ -1,9 +1,9 @@
 use Rattle.std.proofs.Common.{◌++◌, map, arith}
 use Rattle.std.proofs.lemmas.List.{length-map}
 use Rattle.cov_ast.specs.View as view
-use Rattle.entail_text.specs.VariableNames.{variable_names}
-use Rattle.entail_text.proofs.NameLaws.{distinct_front, all_new}
-use Rattle.entail_text.proofs.names.variable_names.Goals as goal
+use Rattle.text_parts.specs.VariableNames.{variable_names}
+use Rattle.text_parts.proofs.NameLaws.{distinct_front, all_new}
+use Rattle.text_parts.proofs.names.variable_names.Goals as goal
 
 pub table_of-requires-clause-few : goal.table_of-requires-clause-few
 table_of-requires-clause-few c = rw c.as_slice.ensures (omega (arith, length-map c.args.p.now.vars view.var, c.requires.limits.variables))

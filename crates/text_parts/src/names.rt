@@ -3,8 +3,8 @@
 ghost use Rattle.std.specs.Prelude.{◌≡◌, ◌<◌, [], IfOk, length, map};
 ghost use Rattle.cov_ast.specs.View as view;
 ghost use Rattle.cov_ast.specs.WellFormed.{IsWellFormed};
-ghost use Rattle.entail_text.specs.Inside.{AreNew};
-ghost use Rattle.entail_text.specs.VariableNames as spec;
+ghost use Rattle.text_parts.specs.Inside.{AreNew};
+ghost use Rattle.text_parts.specs.VariableNames as spec;
 
 use cov_ast::{NameTable, Program, VarDecl};
 use cov_expr::NoMemory;

@@ -1,0 +1,2 @@
+pub mod VariableNames
+pub mod Inside
