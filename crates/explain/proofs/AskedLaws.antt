@@ -9,11 +9,11 @@ use Rattle.explain.specs.WarningSentences.{warning_lines}
 use Rattle.program_warnings.specs.HiddenText.{text_warnings}
 use Rattle.policy_class.specs.Resolved.{name_obligations, resolved}
 use Rattle.std.proofs.lemmas.Bool.{cases_Bool, cond-true, cond-false}
-use Rattle.top_call.specs.Programs.{SpellsProgram}
-use Rattle.top_call.specs.Replies.{Reply, refused, status_of}
-use Rattle.top_call.specs.Texts.{ChecksBytes}
-use Rattle.top_call.specs.declared.answers.Status.TheVariants as s
-use Rattle.top_call.proofs.CheckLaws.{none_false}
+use Rattle.call_inputs.specs.Programs.{SpellsProgram}
+use Rattle.call_reports.specs.Replies.{Reply, refused, status_of}
+use Rattle.call_judge.specs.Texts.{ChecksBytes}
+use Rattle.call_reports.specs.declared.answers.Status.TheVariants as s
+use Rattle.call_judge.proofs.CheckLaws.{none_false}
 
 -- bytes to which `check` replies that they are refused spell a program
 pub refused_bytes : (name bytes : List ℕ) (refusal : Refusal) (thread : Option (List ℕ)) → ChecksBytes name bytes (refused refusal thread) → (p : Parsed) × SpellsProgram bytes p

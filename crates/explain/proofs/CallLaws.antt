@@ -9,17 +9,17 @@ use Rattle.cov_io.specs.declared.shelf.Fetched.TheVariants.{Whole, TooLong}
 use Rattle.cov_io.specs.declared.shelf.ShelfFault.TheVariants.{Failed, NoMemory}
 use Rattle.explain.specs.Explanations.{explanation_at, where_is, sentence_of, place_of}
 use Rattle.text_lines.specs.Excerpts.{excerpt}
-use Rattle.top_call.specs.AnswerViews.{Stops}
-use Rattle.top_call.specs.Commands.{check}
-use Rattle.top_call.specs.Files.{Misses}
-use Rattle.top_call.specs.Outcome.{Does}
-use Rattle.top_call.specs.Reports.{report_of}
+use Rattle.call_reports.specs.AnswerViews.{Stops}
+use Rattle.call_inputs.specs.Files.{Misses}
+use Rattle.call_inputs.specs.Plans.{MayReply}
+use Rattle.call_judge.specs.Check.{check_plan}
+use Rattle.call_reports.specs.Reports.{report_of}
 use Rattle.explain.specs.FileCalls.{Tells, TellsAll, Answers, AsksEach, Ends, IsCalled, first_status}
-use Rattle.top_call.specs.Replies.{Reply, usage, read_fault, too_long, malformed, refused, accepted, spelled, ran, bad_starts, differ, status_of}
-use Rattle.top_call.specs.declared.answers.Status.{Status}
-use Rattle.top_call.specs.declared.answers.Status.TheVariants as s
-use Rattle.top_call.specs.declared.answers.Stop.{Stop}
-use Rattle.top_call.specs.declared.answers.Stop.TheVariants as stops
+use Rattle.call_reports.specs.Replies.{Reply, usage, read_fault, too_long, malformed, refused, accepted, spelled, ran, bad_starts, differ, status_of}
+use Rattle.call_reports.specs.declared.answers.Status.{Status}
+use Rattle.call_reports.specs.declared.answers.Status.TheVariants as s
+use Rattle.call_reports.specs.declared.answers.Stop.{Stop}
+use Rattle.call_reports.specs.declared.answers.Stop.TheVariants as stops
 
 first_of_two : (a b c : Status) → first_status a (first_status b c) ≡ first_status (first_status a b) c
 first_of_two s.Done b c = refl
@@ -230,7 +230,7 @@ has_report name bytes reply (Some place) = (
 
 -- what is told of a file is by a reply that `check` may give to it, and has its report
 pub told_checked : (before after : Shelved) (name : List ℕ) (reply : Reply) (text : List ℕ) → Tells before after name reply text
-    → Does before after (check name) reply × ((front : List ℕ) × (rest : List ℕ) × (text ≡ front ++ report_of reply ++ rest))
+    → MayReply before after (check_plan name) reply × ((front : List ℕ) × (rest : List ℕ) × (text ≡ front ++ report_of reply ++ rest))
 told_checked before after name reply text (counted, inl (bytes, gives, checks, (lines, warns, is))) =
     let h = has_report name bytes reply (place_of reply) in
     (inl (bytes, gives, checks), (h.0, h.1 ++ lines, is ∙ ap (λ t. t ++ lines) h.2 ∙ append_assoc (h.0 ++ report_of reply) h.1 lines))

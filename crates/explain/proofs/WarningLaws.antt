@@ -5,11 +5,11 @@ use Rattle.cov_ast.specs.Syntax.{Parsed}
 use Rattle.cov_ast.specs.declared.refusal.Refusal.{Refusal}
 use Rattle.policy_class.specs.Resolved.{name_obligations}
 use Rattle.explain.specs.Inside.{AreAccepted}
-use Rattle.top_call.specs.Check.{IsAcceptedText}
-use Rattle.top_call.specs.Replies.{accepted, status_of}
-use Rattle.top_call.specs.Texts.{ChecksBytes}
-use Rattle.top_call.specs.declared.answers.Status.TheVariants as s
-use Rattle.top_call.proofs.CheckLaws.{judged_accepted, names_hold, none_false}
+use Rattle.call_judge.specs.Check.{IsAcceptedText}
+use Rattle.call_reports.specs.Replies.{accepted, status_of}
+use Rattle.call_judge.specs.Texts.{ChecksBytes}
+use Rattle.call_reports.specs.declared.answers.Status.TheVariants as s
+use Rattle.call_judge.proofs.CheckLaws.{judged_accepted, names_hold, none_false}
 
 -- bytes to which `check` replies that they are accepted spell a program that is
 pub accepted_bytes : (name bytes : List ℕ) (threads statements entailments : ℕ) → ChecksBytes name bytes (accepted threads statements entailments) → AreAccepted bytes

@@ -4,9 +4,9 @@ use Rattle.explain.specs.FaultSentences.{fault_sentence}
 use Rattle.explain.specs.RuleSentences.{sentence}
 use Rattle.text_lines.specs.Excerpts.{excerpt}
 use Rattle.text_lines.specs.Lines.{line, column}
-use Rattle.top_call.specs.Replies.{Reply, malformed, refused}
-use Rattle.top_call.specs.Reports.{report_of}
-use Rattle.top_call.specs.declared.answers.Fault.TheVariants as f
+use Rattle.call_reports.specs.Replies.{Reply, malformed, refused}
+use Rattle.call_reports.specs.Reports.{report_of}
+use Rattle.call_reports.specs.declared.answers.Fault.TheVariants as f
 
 -- the place that a reply names
 abbrev pub place_of : Reply → Option ℕ

@@ -1,8 +1,8 @@
 -- The faults of a text in plain words.
 use Rattle.std.specs.Prelude.{ℕ, List, codes}
 use Rattle.explain.specs.TokenSentences.{token_sentence}
-use Rattle.top_call.specs.declared.answers.FaultKind.{FaultKind}
-use Rattle.top_call.specs.declared.answers.FaultKind.TheVariants as k
+use Rattle.call_reports.specs.declared.answers.FaultKind.{FaultKind}
+use Rattle.call_reports.specs.declared.answers.FaultKind.TheVariants as k
 
 -- the sentence of a fault, by the text from its place on
 abbrev pub fault_sentence : FaultKind → (rest : List ℕ) → List ℕ

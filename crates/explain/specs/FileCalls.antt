@@ -10,13 +10,13 @@ use Rattle.cov_io.specs.declared.shelf.ShelfFault.{ShelfFault}
 use Rattle.cov_io.specs.declared.shelf.ShelfFault.TheVariants.{Failed, NoMemory}
 use Rattle.cov_io.specs.declared.sink.Failed as sink
 use Rattle.explain.specs.Tellings.{IsTold}
-use Rattle.top_call.specs.Asks.{Calls}
-use Rattle.top_call.specs.Files.{Misses}
-use Rattle.top_call.specs.Replies.{Reply, status_of}
-use Rattle.top_call.specs.Reports.{report_of}
-use Rattle.top_call.specs.Texts.{ChecksBytes}
-use Rattle.top_call.specs.declared.answers.Status.{Status}
-use Rattle.top_call.specs.declared.answers.Status.TheVariants as s
+use Rattle.call_inputs.specs.Asks.{Calls}
+use Rattle.call_inputs.specs.Files.{Misses}
+use Rattle.call_reports.specs.Replies.{Reply, status_of}
+use Rattle.call_reports.specs.Reports.{report_of}
+use Rattle.call_judge.specs.Texts.{ChecksBytes}
+use Rattle.call_reports.specs.declared.answers.Status.{Status}
+use Rattle.call_reports.specs.declared.answers.Status.TheVariants as s
 
 -- The shelf is called once, for a file, to which `check` replies so, and what is told of it: its bytes are fetched, and the reply to
 -- them is explained, with warnings where they are accepted; or they aren't, and the report of `check` is all.

@@ -1,8 +1,8 @@
 -- Words of private contracts.
 use Rattle.std.specs.Prelude.{ℕ, List}
+use Rattle.call_inputs.specs.Programs.{SpellsProgram}
+use Rattle.call_judge.specs.Check.{IsAcceptedText}
 use Rattle.cov_ast.specs.Syntax.{Parsed}
-use Rattle.top_call.specs.Check.{IsAcceptedText}
-use Rattle.top_call.specs.Programs.{SpellsProgram}
 
 -- The bytes spell a program that is accepted.
 abbrev pub AreAccepted : (bytes : List ℕ) → Type 0

@@ -13,12 +13,12 @@ use Rattle.program_warnings.specs.Warnings.{warnings}
 use Rattle.refusal_names.specs.RefusalNames.{refusal_names}
 use Rattle.explain.specs.Explanations.{explanation}
 use Rattle.explain.specs.WarningSentences.{warning_lines}
-use Rattle.top_call.specs.Meaning.{meaning}
-use Rattle.top_call.specs.Programs.{SpellsProgram}
-use Rattle.top_call.specs.Replies.{Reply, accepted, malformed, refused}
-use Rattle.top_call.specs.declared.answers.Fault.{Fault}
-use Rattle.top_call.specs.declared.answers.Fault.TheVariants as f
-use Rattle.top_call.specs.declared.answers.FaultKind.TheVariants as k
+use Rattle.call_judge.specs.Meaning.{meaning}
+use Rattle.call_inputs.specs.Programs.{SpellsProgram}
+use Rattle.call_reports.specs.Replies.{Reply, accepted, malformed, refused}
+use Rattle.call_reports.specs.declared.answers.Fault.{Fault}
+use Rattle.call_reports.specs.declared.answers.Fault.TheVariants as f
+use Rattle.call_reports.specs.declared.answers.FaultKind.TheVariants as k
 
 -- what a refusal of a program is about: by name, and where a certificate isn't valid, what was asked; the bytes are those of its text
 abbrev pub refusal_lines : Program → (bytes : List ℕ) → Refusal → List ℕ

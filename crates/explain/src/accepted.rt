@@ -7,8 +7,8 @@ ghost use Rattle.cov_ast.specs.View as view;
 ghost use Rattle.cov_expr.specs.declared.limits.TheConstants.{MOST_BYTES};
 ghost use Rattle.explain.specs.Inside.{AreAccepted};
 ghost use Rattle.policy_class.specs.Resolved as spec;
-ghost use Rattle.top_call.specs.Check.{IsAcceptedText};
-ghost use Rattle.top_call.specs.Programs.{SpellsProgram};
+ghost use Rattle.call_judge.specs.Check.{IsAcceptedText};
+ghost use Rattle.call_inputs.specs.Programs.{SpellsProgram};
 
 use cov_ast::{CheckFault, Parsed, Program};
 use cov_expr::NoMemory;

@@ -3,13 +3,13 @@
 ghost use Rattle.std.specs.Prelude.{◌≡◌, ◌++◌, ◌≤◌, ℕ, List, IfErr, IfOk, map, string_bytes};
 ghost use Rattle.cov_io.specs.Shelves.{Passes};
 ghost use Rattle.explain.specs.FileCalls.{Answers, AsksEach, Ends};
-ghost use Rattle.top_call.specs.declared.answers.Status.TheVariants as s;
+ghost use Rattle.call_reports.specs.declared.answers.Status.TheVariants as s;
 
 use crate::files::tell_all;
+use call_reports::Status;
 use cov_expr::{Blob, List, NoMemory};
 use cov_io::{Shelf, Sink, write_whole};
 use std::alloc::Global;
-use top_call::Status;
 
 /// Explains what `check` says of files, and writes that. `names` are the words of the command line without the program's name;
 /// files are read from `shelf` by name, and the text goes to `sink`.

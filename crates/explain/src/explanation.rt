@@ -2,16 +2,16 @@
 
 ghost use Rattle.std.specs.Prelude.{◌≡◌, ◌++◌, OnOk, Some};
 ghost use Rattle.explain.specs.Explanations as spec;
-ghost use Rattle.top_call.specs.AnswerViews.{seen};
-ghost use Rattle.top_call.specs.Reports.{report_of};
+ghost use Rattle.call_reports.specs.AnswerViews.{seen};
+ghost use Rattle.call_reports.specs.Reports.{report_of};
 
 use crate::faults::add_fault_sentence;
 use crate::rules::add_sentence;
+use call_reports::{Answer, Fault, report};
 use cov_expr::{Blob, List, NoMemory};
 use std::alloc::Global;
 use text_lines::{add_excerpt, halves, position};
 use text_parts::add_number;
-use top_call::{Answer, Fault, report};
 
 /// Adds what is told of the bytes of a file that are answered so by `check`.
 pub fn add_explanation(

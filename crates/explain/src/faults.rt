@@ -4,8 +4,8 @@ ghost use Rattle.std.specs.Prelude.{◌≡◌, ◌++◌, OnOk};
 ghost use Rattle.explain.specs.FaultSentences as spec;
 
 use crate::words::add_token_sentence;
+use call_reports::FaultKind;
 use cov_expr::{Blob, NoMemory};
-use top_call::FaultKind;
 
 /// Adds the sentence of a fault of a text, by the text from its place on.
 pub fn add_fault_sentence(kind: FaultKind, rest: &[u8], text: &mut Blob) -> Result<(), NoMemory>

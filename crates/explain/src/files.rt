@@ -6,16 +6,18 @@ ghost use Rattle.cov_io.specs.Shelves.{Passes};
 ghost use Rattle.explain.specs.FileCalls as spec;
 ghost use Rattle.explain.specs.FileCalls.{AsksEach, IsCalled, Tells, TellsAll};
 ghost use Rattle.explain.specs.Tellings.{IsTold};
-ghost use Rattle.top_call.specs.AnswerViews.{seen};
-ghost use Rattle.top_call.specs.Replies.{Reply, status_of};
-ghost use Rattle.top_call.specs.Texts.{ChecksBytes};
+ghost use Rattle.call_reports.specs.AnswerViews.{seen};
+ghost use Rattle.call_reports.specs.Replies.{Reply, status_of};
+ghost use Rattle.call_judge.specs.Texts.{ChecksBytes};
 
 use crate::explanation::{add_explanation, add_report};
 use crate::more::add_more;
+use call_inputs::fetch;
+use call_judge::check::check_bytes;
+use call_reports::{Answer, Status, Stop, status_for};
 use cov_expr::{Blob, List, MOST_BYTES, NoMemory};
 use cov_io::Shelf;
 use std::alloc::Global;
-use top_call::{Answer, Status, Stop, check_bytes, fetch, status_for};
 
 /// Adds what is told of each file, and gives the first status that isn't Done.
 pub fn tell_all<S: Shelf>(

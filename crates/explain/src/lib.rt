@@ -1,6 +1,6 @@
 //! What `check` says of files, explained: a library that a program is made of.
 //!
-//! [`explain`] takes the names of files, the files (a shelf) and the output (a sink), and ends with a status of `top_call`. Of each
+//! [`explain`] takes the names of files, the files (a shelf) and the output (a sink), and ends with a status of `call_reports`. Of each
 //! file it tells what `check` reports; where that names a place, also the line and the column of the place, its line in
 //! the text with a caret, and what is wrong, in one sentence. Where no program goes on with a token, it tells what could stand there
 //! (`expected_tokens`), where a file is refused, what that is about (`refusal_names`, `entail_refused`) and what is warned of in its text, and

@@ -6,17 +6,17 @@ ghost use Rattle.cov_expr.specs.declared.limits.TheConstants.{MOST_BYTES};
 ghost use Rattle.explain.specs.Tellings.{Adds, asked_lines, stand_lines};
 ghost use Rattle.explain.specs.WarningSentences.{warning_lines};
 ghost use Rattle.program_warnings.specs.HiddenText.{text_warnings};
-ghost use Rattle.top_call.specs.AnswerViews.{seen};
-ghost use Rattle.top_call.specs.Programs.{SpellsProgram};
-ghost use Rattle.top_call.specs.Texts.{ChecksBytes};
+ghost use Rattle.call_reports.specs.AnswerViews.{seen};
+ghost use Rattle.call_inputs.specs.Programs.{SpellsProgram};
+ghost use Rattle.call_judge.specs.Texts.{ChecksBytes};
 
 use crate::refusals::add_asked;
 use crate::warnings::{add_text_warnings, add_warnings};
+use call_reports::{Answer, Fault, FaultKind};
 use cov_ast::Refusal;
 use cov_expr::{Blob, NoMemory};
 use expected_tokens::add_expected;
 use std::alloc::Global;
-use top_call::{Answer, Fault, FaultKind};
 
 /// Adds what is told of bytes that `check` answers so, beside the explanation: of malformed ones what could stand at the place of a token,
 /// of refused ones what was asked and what is warned of in the bytes, of accepted ones what is warned of. All are read from the bytes anew.

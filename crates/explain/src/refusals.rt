@@ -7,7 +7,7 @@ ghost use Rattle.cov_ast.specs.View as view;
 ghost use Rattle.cov_ast.specs.WellFormed.{IsWellFormed};
 ghost use Rattle.cov_expr.specs.declared.limits.TheConstants.{MOST_BYTES};
 ghost use Rattle.explain.specs.Tellings as spec;
-ghost use Rattle.top_call.specs.Programs.{SpellsProgram};
+ghost use Rattle.call_inputs.specs.Programs.{SpellsProgram};
 
 use cov_ast::{CheckFault, Parsed, Program, Refusal};
 use cov_expr::{Blob, NoMemory};

@@ -5,8 +5,8 @@ ghost use Rattle.cov_ast.specs.Syntax.{Parsed};
 ghost use Rattle.cov_expr.specs.declared.limits.TheConstants.{MOST_BYTES};
 ghost use Rattle.explain.specs.Inside.{AreAccepted};
 ghost use Rattle.explain.specs.WarningSentences as spec;
-ghost use Rattle.top_call.specs.Meaning.{meaning};
-ghost use Rattle.top_call.specs.Programs.{SpellsProgram};
+ghost use Rattle.call_judge.specs.Meaning.{meaning};
+ghost use Rattle.call_inputs.specs.Programs.{SpellsProgram};
 ghost use Rattle.program_warnings.specs.HiddenText as hidden;
 ghost use Rattle.program_warnings.specs.Warnings as found;
 

@@ -2,10 +2,10 @@
 //! whole program as a library, and whose status is the exit status.
 #![tactic(auto)]
 
+use call_inputs::command_line;
 use cov_io::{FileShelf, StdSink};
 use explain::explain;
 use std::process::ExitCode;
-use top_call::command_line;
 
 fn main(rt: HostRuntime) -> ExitCode {
     let words = match command_line(&rt) {

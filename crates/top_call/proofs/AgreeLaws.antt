@@ -1,5 +1,5 @@
 -- Two runs of an accepted program never differ, and no other command says so.
-use Rattle.std.proofs.Common.{◌≡◌, ℕ, List, Option, Some, None, IfSome, inl, inr, sym, ap, ◌∙◌, subst}
+use Rattle.std.proofs.Common.{◌≡◌, ℕ, List, Option, Some, None, IfSome, inl, inr, refl, sym, ap, ◌∙◌, subst}
 use Rattle.cov_ast.specs.Obligations.{first_false}
 use Rattle.cov_ast.specs.Syntax.{Parsed}
 use Rattle.cov_ast.specs.declared.refusal.Refusal.{Refusal}
@@ -7,23 +7,24 @@ use Rattle.cov_expr.specs.declared.limits.TheConstants.{MOST_BYTES}
 use Rattle.cov_io.specs.Shelves.{File, Shelved, held}
 use Rattle.flow_model.specs.Agreement.{AreFitStarts}
 use Rattle.policy_class.specs.Resolved.{resolved}
-use Rattle.top_call.specs.BigReplies.{first_start, second_start}
-use Rattle.top_call.specs.Check.{IsAcceptedText, obligations, verdict_by}
+use Rattle.call_code.specs.BigReplies.{first_start, second_start}
+use Rattle.call_judge.specs.Check.{IsAcceptedText, obligations, verdict_by}
 use Rattle.top_call.specs.Commands.{Command, check, compile, fmt, migrate, run, run_code, run_until, pair, pair_code, big, nothing}
-use Rattle.top_call.specs.Files.{Reads}
+use Rattle.call_inputs.specs.Files.{Reads}
 use Rattle.top_call.specs.AcceptedRuns.{RunsAccepted}
-use Rattle.top_call.specs.Meaning.{meaning}
-use Rattle.top_call.specs.Outcome.{Does, plan_of, memory, entries}
-use Rattle.top_call.specs.Pairs.{Pairs}
-use Rattle.top_call.specs.Plans.{Plan, replies, file, argument, RepliesTo, MayReply}
-use Rattle.top_call.specs.Programs.{SpellsProgram, IsShownFault}
-use Rattle.top_call.specs.Replies.{Reply, ran, status_of}
-use Rattle.top_call.specs.Runs.{IsDeclaredText, RunsTo, declared_obligations, report_on_run, unless_refused, UnlessRefused}
-use Rattle.top_call.specs.declared.answers.Fault.{Fault}
-use Rattle.top_call.specs.declared.answers.Status.TheVariants as s
-use Rattle.top_call.proofs.BigLaws.{sum_agrees}
-use Rattle.top_call.proofs.CodeLaws.{compile_agrees, pair_code_agrees, run_code_agrees}
-use Rattle.top_call.proofs.TextLaws.{program_reading, some_one}
+use Rattle.call_judge.specs.Meaning.{meaning}
+use Rattle.top_call.specs.Outcome.{Does, plan_of}
+use Rattle.call_inputs.specs.Steps.{memory, entries}
+use Rattle.call_run.specs.Pairs.{Pairs}
+use Rattle.call_inputs.specs.Plans.{Plan, replies, file, argument, RepliesTo, MayReply}
+use Rattle.call_inputs.specs.Programs.{SpellsProgram, IsShownFault}
+use Rattle.call_reports.specs.Replies.{Reply, ran, status_of}
+use Rattle.call_run.specs.Runs.{IsDeclaredText, RunsTo, declared_obligations, report_on_run, unless_refused, UnlessRefused}
+use Rattle.call_reports.specs.declared.answers.Fault.{Fault}
+use Rattle.call_reports.specs.declared.answers.Status.TheVariants as s
+use Rattle.call_code.proofs.BigLaws.{sum_agrees}
+use Rattle.call_code.proofs.CodeLaws.{compile_agrees, pair_code_agrees, run_code_agrees}
+use Rattle.call_inputs.proofs.TextLaws.{program_reading, some_one}
 
 -- Plans --------------------------------------------------------------------------------------------------------
 
@@ -89,7 +90,8 @@ never_differs before after files (run_code name start schedule) reply told accep
 never_differs before after files (run_until name start schedule word) reply told accepted h e =
     plan_agrees before after (plan_of (run_until name start schedule word)) reply
     (λ p m k x r is differ. until_agrees (RunsTo (resolved p) m k x) (λ r to. ap status_of to.is) (first_false (declared_obligations p)) r is differ) h e
-never_differs before after files (pair name first second schedule) reply told accepted h e =
+never_differs before after files (pair name first second schedule) reply told runs h e =
+    let accepted = runs name first second schedule refl in
     let next : Parsed → Plan = λ p. memory p first (λ l. memory p second (λ r. entries p schedule (λ k.
     replies (IsDeclaredText p × AreFitStarts (meaning p) l r) (Pairs p l r k)))) in
     let given = differ_given before after name MOST_BYTES (RepliesTo SpellsProgram IsShownFault name (λ p. MayReply before after (next p))) reply h e in

@@ -12,34 +12,34 @@ use Rattle.compiled_code.specs.GoodCode.{IsGoodCode}
 use Rattle.cov_text.specs.Text.{program_of}
 use Rattle.flow_model.specs.Secure.{IsSecure}
 use Rattle.policy_class.specs.Resolved.{resolved}
-use Rattle.top_call.specs.BigReplies.{first_start, second_start}
-use Rattle.top_call.specs.Check.{Judges, IsAcceptedText}
-use Rattle.top_call.specs.Codes.{Compiles, RepliesListing, code_of}
+use Rattle.call_code.specs.BigReplies.{first_start, second_start}
+use Rattle.call_judge.specs.Check.{Judges, IsAcceptedText}
+use Rattle.call_code.specs.Codes.{Compiles, RepliesListing, code_of}
 use Rattle.top_call.specs.Commands.{Command, check, compile, fmt, migrate, run, run_code, run_until, pair, pair_code, big, nothing}
-use Rattle.top_call.specs.Ends.{Ends}
+use Rattle.call_reports.specs.Ends.{Ends}
 use Rattle.top_call.specs.AcceptedRuns.{RunsAccepted}
 use Rattle.top_call.specs.Headline.{HoldsSecure, PutsCode}
-use Rattle.top_call.specs.Meaning.{AreNamesInOrder, meaning}
+use Rattle.call_judge.specs.Meaning.{AreNamesInOrder, meaning}
 use Rattle.top_call.specs.Outcome.{Does, Outcome, IsMet, IsSuccess, plan_of}
-use Rattle.top_call.specs.Plans.{MayReply, RepliesTo, replies}
-use Rattle.top_call.specs.Programs.{SpellsProgram, IsShownFault}
-use Rattle.top_call.specs.Replies.{Reply, usage, status_of}
-use Rattle.top_call.specs.Reports.{report_of}
-use Rattle.top_call.specs.declared.answers.Status.{Status}
-use Rattle.top_call.specs.declared.answers.Status.TheVariants as s
+use Rattle.call_inputs.specs.Plans.{MayReply, RepliesTo, replies}
+use Rattle.call_inputs.specs.Programs.{SpellsProgram, IsShownFault}
+use Rattle.call_reports.specs.Replies.{Reply, usage, status_of}
+use Rattle.call_reports.specs.Reports.{report_of}
+use Rattle.call_reports.specs.declared.answers.Status.{Status}
+use Rattle.call_reports.specs.declared.answers.Status.TheVariants as s
 use Rattle.top_call.proofs.AgreeLaws.{never_differs}
-use Rattle.top_call.proofs.BigLaws.{sum_sound}
-use Rattle.top_call.proofs.CheckLaws.{check_sound, judged_accepted, names_hold}
-use Rattle.top_call.proofs.CodeLaws.{compile_sound, done_is_listed, pair_code_sound, run_code_sound}
-use Rattle.top_call.proofs.EndLaws.{done_put, ends_onward, status_is}
-use Rattle.top_call.proofs.ExpressionLaws.{expression_reading}
-use Rattle.top_call.proofs.FileLaws.{Reliable, done_read}
-use Rattle.top_call.proofs.FormatLaws.{spelled_sound}
-use Rattle.top_call.proofs.InputLaws.{start_reading, schedule_reading}
-use Rattle.top_call.proofs.PairLaws.{pair_sound}
-use Rattle.top_call.proofs.PlanLaws.{IsSound, IsSoundReply, reply_exact, reply_fault, reply_success}
-use Rattle.top_call.proofs.RunLaws.{run_sound, until_sound}
-use Rattle.top_call.proofs.TextLaws.{program_reading}
+use Rattle.call_code.proofs.BigLaws.{sum_sound}
+use Rattle.call_judge.proofs.CheckLaws.{check_sound, judged_accepted, names_hold}
+use Rattle.call_code.proofs.CodeLaws.{compile_sound, done_is_listed, pair_code_sound, run_code_sound}
+use Rattle.call_reports.proofs.EndLaws.{done_put, ends_onward, status_is}
+use Rattle.call_inputs.proofs.ExpressionLaws.{expression_reading}
+use Rattle.call_inputs.proofs.FileLaws.{Reliable, done_read}
+use Rattle.call_text.proofs.FormatLaws.{spelled_sound}
+use Rattle.call_inputs.proofs.InputLaws.{start_reading, schedule_reading}
+use Rattle.call_run.proofs.PairLaws.{pair_sound}
+use Rattle.call_inputs.proofs.PlanLaws.{IsSound, IsSoundReply, reply_exact, reply_fault, reply_success}
+use Rattle.call_run.proofs.RunLaws.{run_sound, until_sound}
+use Rattle.call_inputs.proofs.TextLaws.{program_reading}
 
 -- The commands -------------------------------------------------------------------------------------------------
 
@@ -90,23 +90,14 @@ judged_text before after name bytes reply (inr (fault, is, same)) done =
 
 does_secure : (before after : Shelved) (command : Command) (reply : Reply) → Does before after command reply → status_of reply ≡ s.Done
     → (files : List File) → before.told ≡ Some files → HoldsSecure files command
-does_secure before after (check name) reply h done files told =
+does_secure before after command reply does done files told name is_check =
+    let h : Does before after (check name) reply = subst (λ c. Does before after c reply) is_check does in
     let read = done_read before after name MOST_BYTES
     (RepliesTo SpellsProgram IsShownFault name (λ p. MayReply before after (replies (IsAcceptedText p) (Judges p)))) reply h done in
     let at : held files name ≡ Some read.0 = subst (λ t. IfSome t (λ fs. held fs name ≡ Some read.0)) told read.1.1 in
     let text = judged_text before after name read.0 reply read.2 done in
     let is : text.0 ≡ program_of read.0 text.1.0 = text.1.2 in
     (read.0, at, text.1.0, text.1.1, subst AreNamesInOrder is text.2, subst (λ p. IsSecure (meaning p)) is text.3)
-does_secure before after (compile name) reply h done files told = tt
-does_secure before after (fmt name) reply h done files told = tt
-does_secure before after (migrate name) reply h done files told = tt
-does_secure before after (run name start schedule) reply h done files told = tt
-does_secure before after (run_code name start schedule) reply h done files told = tt
-does_secure before after (run_until name start schedule word) reply h done files told = tt
-does_secure before after (pair name first second schedule) reply h done files told = tt
-does_secure before after (pair_code name first second schedule) reply h done files told = tt
-does_secure before after (big rounds schedule) reply h done files told = tt
-does_secure before after nothing reply h done files told = let wrong : s.Usage ≡ s.Done = sym (ap status_of h) ∙ done in cc
 
 -- bytes of which the code is listed
 listed_text : (before after : Shelved) (name bytes : List ℕ) (reply : Reply)
@@ -121,7 +112,8 @@ listed_text before after name bytes reply (inr (fault, is, same)) done =
 
 does_code : (before after : Shelved) (command : Command) (reply : Reply) → Does before after command reply → status_of reply ≡ s.Done
     → (old new : Sunk) → Writes old new (report_of reply) (Ok tt) → (files : List File) → before.told ≡ Some files → PutsCode files command old new
-does_code before after (compile name) reply h done old new put files told =
+does_code before after command reply does done old new put files told name is_compile =
+    let h : Does before after (compile name) reply = subst (λ c. Does before after c reply) is_compile does in
     let read = done_read before after name MOST_BYTES
     (RepliesTo SpellsProgram IsShownFault name (λ p. MayReply before after (replies (IsAcceptedText p) (Compiles p)))) reply h done in
     let text = listed_text before after name read.0 reply read.2 done in
@@ -139,16 +131,6 @@ does_code before after (compile name) reply h done old new put files told =
       listing = record { listed = text.4.listed; spelling = refl };
       put = subst (λ r. Writes old new (report_of r) (Ok tt)) text.4.is put;
     }
-does_code before after (check name) reply h done old new put files told = tt
-does_code before after (fmt name) reply h done old new put files told = tt
-does_code before after (migrate name) reply h done old new put files told = tt
-does_code before after (run name start schedule) reply h done old new put files told = tt
-does_code before after (run_code name start schedule) reply h done old new put files told = tt
-does_code before after (run_until name start schedule word) reply h done old new put files told = tt
-does_code before after (pair name first second schedule) reply h done old new put files told = tt
-does_code before after (pair_code name first second schedule) reply h done old new put files told = tt
-does_code before after (big rounds schedule) reply h done old new put files told = tt
-does_code before after nothing reply h done old new put files told = let wrong : s.Usage ≡ s.Done = sym (ap status_of h) ∙ done in cc
 
 -- A call -------------------------------------------------------------------------------------------------------
 

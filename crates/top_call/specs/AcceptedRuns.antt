@@ -2,9 +2,9 @@
 use Rattle.std.specs.Prelude.{◌≡◌, ℕ, List, Some}
 use Rattle.cov_ast.specs.Syntax.{Parsed}
 use Rattle.cov_io.specs.Shelves.{File, held}
-use Rattle.top_call.specs.Check.{IsAcceptedText}
-use Rattle.top_call.specs.Commands.{Command, check, compile, fmt, migrate, run, run_code, run_until, pair, pair_code, big, nothing}
-use Rattle.top_call.specs.Programs.{SpellsProgram}
+use Rattle.call_judge.specs.Check.{IsAcceptedText}
+use Rattle.top_call.specs.Commands.{Command, pair}
+use Rattle.call_inputs.specs.Programs.{SpellsProgram}
 
 -- A file holds a program that is accepted.
 pub record HoldsAccepted (files : List File) (name : List ℕ) : Type 0 where
@@ -16,14 +16,4 @@ pub record HoldsAccepted (files : List File) (name : List ℕ) : Type 0 where
 
 -- The program that `pair` runs twice is accepted. Of `pair-code` and `big` nothing is asked: they run only what is accepted.
 abbrev pub RunsAccepted : List File → Command → Type 0
-RunsAccepted files (pair name first second schedule) = HoldsAccepted files name
-RunsAccepted files (check name) = Unit {0}
-RunsAccepted files (compile name) = Unit {0}
-RunsAccepted files (fmt name) = Unit {0}
-RunsAccepted files (migrate name) = Unit {0}
-RunsAccepted files (run name start schedule) = Unit {0}
-RunsAccepted files (run_code name start schedule) = Unit {0}
-RunsAccepted files (run_until name start schedule word) = Unit {0}
-RunsAccepted files (pair_code name first second schedule) = Unit {0}
-RunsAccepted files (big rounds schedule) = Unit {0}
-RunsAccepted files nothing = Unit {0}
+RunsAccepted files command = (name first second schedule : List ℕ) → command ≡ pair name first second schedule → HoldsAccepted files name

@@ -10,26 +10,17 @@ use Rattle.flow_model.specs.Secure.{IsSecure}
 use Rattle.policy_class.specs.Resolved.{resolved}
 use Rattle.risc_machine.specs.Faults.{AreGood}
 use Rattle.risc_machine.specs.declared.parts.Parts.{Parts}
-use Rattle.top_call.specs.Commands.{Command, check, compile, fmt, migrate, run, run_code, run_until, pair, pair_code, big, nothing}
-use Rattle.top_call.specs.Meaning.{AreNamesInOrder, meaning}
-use Rattle.top_call.specs.Programs.{SpellsTree}
+use Rattle.top_call.specs.Commands.{Command, check, compile}
+use Rattle.call_judge.specs.Meaning.{AreNamesInOrder, meaning}
+use Rattle.call_inputs.specs.Programs.{SpellsTree}
 
 -- A file that is checked holds a program that is secure: from any two fit starts, under every schedule, its two runs agree
 -- after each step, on the public output too.
 abbrev pub HoldsSecure : List File → Command → Type 0
-HoldsSecure files (check name) =
-    (bytes : List ℕ) × (held files name ≡ Some bytes) × (tree : trees.Program) × SpellsTree bytes tree
+HoldsSecure files command =
+    (name : List ℕ) → command ≡ check name
+    → (bytes : List ℕ) × (held files name ≡ Some bytes) × (tree : trees.Program) × SpellsTree bytes tree
     × AreNamesInOrder (program_of bytes tree) × IsSecure (meaning (program_of bytes tree))
-HoldsSecure files (compile name) = Unit {0}
-HoldsSecure files (fmt name) = Unit {0}
-HoldsSecure files (migrate name) = Unit {0}
-HoldsSecure files (run name start schedule) = Unit {0}
-HoldsSecure files (run_code name start schedule) = Unit {0}
-HoldsSecure files (run_until name start schedule word) = Unit {0}
-HoldsSecure files (pair name first second schedule) = Unit {0}
-HoldsSecure files (pair_code name first second schedule) = Unit {0}
-HoldsSecure files (big rounds schedule) = Unit {0}
-HoldsSecure files nothing = ⊥
 
 -- What is put is the listing of a code, to which no fault applies, and a file holds a program for which this code is good: each
 -- run of the code is a run of the program, from any two fit starts, under every schedule, two runs of the code agree after each
@@ -47,16 +38,6 @@ pub record PutsGoodCode (files : List File) (name : List ℕ) (before after : Su
   pub listing : IsListingOf code text
   pub put : Writes before after text (Ok tt)
 
--- What a command puts, if it puts code.
+-- What `compile` puts is the code of the file that it names.
 abbrev pub PutsCode : List File → Command → (before after : Sunk) → Type 0
-PutsCode files (compile name) before after = PutsGoodCode files name before after
-PutsCode files (check name) before after = Unit {0}
-PutsCode files (fmt name) before after = Unit {0}
-PutsCode files (migrate name) before after = Unit {0}
-PutsCode files (run name start schedule) before after = Unit {0}
-PutsCode files (run_code name start schedule) before after = Unit {0}
-PutsCode files (run_until name start schedule word) before after = Unit {0}
-PutsCode files (pair name first second schedule) before after = Unit {0}
-PutsCode files (pair_code name first second schedule) before after = Unit {0}
-PutsCode files (big rounds schedule) before after = Unit {0}
-PutsCode files nothing before after = ⊥
+PutsCode files command before after = (name : List ℕ) → command ≡ compile name → PutsGoodCode files name before after

@@ -3,16 +3,16 @@
 ghost use Rattle.std.specs.Prelude.{◌≡◌, ◌≢◌, ◌⊎◌, IfSome, IsTrue, map, string_bytes, ◌≤◌};
 ghost use Rattle.cov_io.specs.Shelves.{Passes};
 ghost use Rattle.cov_io.specs.Counters.{Rose};
-ghost use Rattle.top_call.specs.Asks.{Asks, files_of};
+ghost use Rattle.call_inputs.specs.Asks.{Asks};
+ghost use Rattle.top_call.specs.Outcome.{files_of};
 ghost use Rattle.top_call.specs.Commands.{command_of};
-ghost use Rattle.top_call.specs.Ends.{Ends};
+ghost use Rattle.call_reports.specs.Ends.{Ends};
 ghost use Rattle.top_call.specs.AcceptedRuns.{RunsAccepted};
 ghost use Rattle.top_call.specs.Headline.{HoldsSecure, PutsCode};
 ghost use Rattle.top_call.specs.Outcome.{Does, Outcome, IsMet, IsSuccess};
 
-use crate::answers::{Status, Stop};
 use crate::commands::answer;
-use crate::end::end;
+use call_reports::{Status, Stop, end};
 use cov_io::{Shelf, Sink};
 use std::alloc::Global;
 

@@ -6,6 +6,7 @@ ghost use Rattle.cov_ast.specs.WellFormed.{IsWellFormed};
 ghost use Rattle.mode_compat.specs.Declared.{declaration_obligations};
 
 use super::{demand, expression, program};
+use call_reports::Status;
 use cov_ast::{Cert, NameUse, Program, Stmt, StmtKind, plain};
 use cov_expr::{Expr, List, NoMemory, copy, same, subst, vars};
 use cov_parse::{ParsedExpr, Tokens, parse_expr, read_tokens};
@@ -13,7 +14,6 @@ use entail_cert::{CertFault, check_cert, check_cert_with};
 use entail_ring::{Poly, normal};
 use std::alloc::Global;
 use std::test::Fail;
-use top_call::Status;
 use typing_law::{Count, Entail};
 use typing_rules::{check_thread, entailment_at, entailments};
 use verify::{check_declared, check_program};

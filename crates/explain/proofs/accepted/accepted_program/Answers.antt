@@ -1,7 +1,7 @@
 use Rattle.std.proofs.Common.{sym, subst, ◌∙◌}
 use Rattle.std.proofs.lemmas.Result.{IfOk-weaker}
 use Rattle.cov_ast.specs.View as view
-use Rattle.top_call.specs.Check.{IsAcceptedText}
+use Rattle.call_judge.specs.Check.{IsAcceptedText}
 use Rattle.explain.proofs.accepted.accepted_program.Goals as goal
 
 pub named_program-requires-clause-accepted : goal.named_program-requires-clause-accepted

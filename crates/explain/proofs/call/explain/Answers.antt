@@ -2,7 +2,7 @@ use Rattle.std.proofs.Common.{◌≡◌, ◌++◌, ◌∙◌, map, string_bytes,
 use Rattle.cov_io.specs.Sinks.{Writes}
 use Rattle.explain.specs.FileCalls.{Answers}
 use Rattle.explain.proofs.CallLaws.{asked_all, asked_for, of_answer, ends_whole}
-use Rattle.top_call.specs.declared.answers.Status.TheVariants as s
+use Rattle.call_reports.specs.declared.answers.Status.TheVariants as s
 use Rattle.explain.proofs.call.explain.Goals as goal
 
 pub returns-in-Ok-write_whole-clause-outcome : goal.returns-in-Ok-write_whole-clause-outcome

@@ -1,6 +1,6 @@
 use Rattle.std.proofs.Common.{◌++◌, ◌∙◌, refl, ap, ap₂, append_assoc}
 use Rattle.explain.specs.Explanations.{explanation}
-use Rattle.top_call.specs.AnswerViews.{seen}
+use Rattle.call_reports.specs.AnswerViews.{seen}
 use Rattle.explain.proofs.files.tell_answer.Goals as goal
 
 pub returns : goal.returns

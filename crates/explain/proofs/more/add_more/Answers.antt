@@ -1,7 +1,7 @@
 use Rattle.std.proofs.Common.{ap, subst}
 use Rattle.std.proofs.lemmas.Result.{on_ok_weaker}
-use Rattle.top_call.specs.AnswerViews.{seen}
-use Rattle.top_call.specs.Texts.{ChecksBytes}
+use Rattle.call_reports.specs.AnswerViews.{seen}
+use Rattle.call_judge.specs.Texts.{ChecksBytes}
 use Rattle.explain.proofs.AskedLaws.{adds_asked, refused_bytes}
 use Rattle.explain.proofs.WarningLaws.{accepted_bytes}
 use Rattle.explain.proofs.more.add_more.Goals as goal

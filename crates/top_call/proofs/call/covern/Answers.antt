@@ -1,10 +1,10 @@
 use Rattle.std.proofs.Common.{◌≡◌, Err, refl, inl, inr, map, string_bytes, rules}
-use Rattle.top_call.specs.Asks.{files_of}
+use Rattle.top_call.specs.Outcome.{files_of}
 use Rattle.top_call.specs.Commands.{command_of}
-use Rattle.top_call.specs.AnswerViews.{seen}
-use Rattle.top_call.specs.Inside.{LacksMemory}
-use Rattle.top_call.specs.declared.answers.Status.TheVariants as s
-use Rattle.top_call.proofs.PlanLaws.{asks_onward}
+use Rattle.call_reports.specs.AnswerViews.{seen}
+use Rattle.call_inputs.specs.Carried.{LacksMemory}
+use Rattle.call_reports.specs.declared.answers.Status.TheVariants as s
+use Rattle.call_inputs.proofs.PlanLaws.{asks_onward}
 use Rattle.top_call.proofs.OutcomeLaws.{call_outcome, call_exact, call_secure, call_code, call_agree, call_fault, call_complete}
 use Rattle.top_call.proofs.call.covern.Goals as goal
 

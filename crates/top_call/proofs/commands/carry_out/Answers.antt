@@ -1,8 +1,9 @@
 use Rattle.std.proofs.Common.{sym, subst}
-use Rattle.top_call.specs.Asks.{Asks, files_of}
-use Rattle.top_call.specs.AnswerViews.{Gets}
-use Rattle.top_call.specs.Inside.{LacksMemory, command_seen}
-use Rattle.top_call.specs.Outcome.{Does}
+use Rattle.call_inputs.specs.Asks.{Asks}
+use Rattle.top_call.specs.Outcome.{files_of, Does}
+use Rattle.call_reports.specs.AnswerViews.{Gets}
+use Rattle.call_inputs.specs.Carried.{LacksMemory}
+use Rattle.top_call.specs.Inside.{command_seen}
 use Rattle.top_call.proofs.commands.carry_out.Goals as goal
 
 pub returns-in-Run-clause-does : goal.returns-in-Run-clause-does

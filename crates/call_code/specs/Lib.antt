@@ -1,0 +1,4 @@
+pub mod Codes
+pub mod Summaries
+pub mod BigReplies
+pub mod Inside

@@ -1,0 +1,10 @@
+pub mod Files
+pub mod Plans
+pub mod Asks
+pub mod Carried
+pub mod Programs
+pub mod Inputs
+pub mod Expressions
+pub mod Steps
+pub mod Taken
+pub mod Inside

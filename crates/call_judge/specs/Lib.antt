@@ -1,0 +1,4 @@
+pub mod Meaning
+pub mod Check
+pub mod Texts
+pub mod Inside

@@ -1,0 +1,33 @@
+-- What makes two memories unfit to start from, and what two runs differ in: their names, and the reply to such starts.
+use Rattle.std.specs.Prelude.{◌≡◌, ℕ, List, [], get_or, map, Option, Some, None, codes}
+use Rattle.cov_ast.specs.Syntax.{Program}
+use Rattle.flow_model.specs.declared.agreement.Differ.{Differ}
+use Rattle.flow_model.specs.declared.agreement.Differ.TheVariants as differs
+use Rattle.flow_model.specs.declared.start.BadStart.{BadStart}
+use Rattle.flow_model.specs.declared.start.BadStart.TheVariants as bad
+use Rattle.call_reports.specs.Replies.{Reply, bad_starts}
+use Rattle.call_reports.specs.RunReports.{name_at}
+
+-- the name of a variable, by its place
+abbrev pub var_name : Program → ℕ → List ℕ
+var_name p x = get_or (map (λ v. v.name) p.vars) x []
+
+abbrev pub lock_name : Program → ℕ → List ℕ
+lock_name p l = get_or (map (λ lock. lock.name) p.locks) l []
+
+-- the name of what makes two memories unfit to start from
+abbrev pub bad_name : Program → BadStart → List ℕ
+bad_name p (bad.Var x) = var_name p x
+bad_name p (bad.Lock l) = lock_name p l
+
+-- what two runs differ in; no declaration has the name `output`, which is a keyword
+abbrev pub differ_text : Program → Differ → List ℕ
+differ_text p (differs.Lock l) = lock_name p l
+differ_text p (differs.Var x) = var_name p x
+differ_text p differs.Output = codes "output"
+differ_text p (differs.Thread t) = name_at p.threads t
+
+-- The reply names what makes two memories unfit to start from, the first that does, or where nothing does, it is such a one.
+abbrev pub UnlessUnfit : Program → Option BadStart → (may_reply : Reply → Type 0) → Reply → Type 0
+UnlessUnfit p (Some found) may_reply reply = reply ≡ bad_starts (bad_name p found)
+UnlessUnfit p None may_reply reply = may_reply reply

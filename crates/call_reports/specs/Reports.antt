@@ -1,0 +1,103 @@
+-- The texts of reports.
+use Rattle.std.specs.Prelude.{ℕ, List, [], ◌∷◌, ◌++◌, Option, Some, None, codes, decimal}
+use Rattle.cov_ast.specs.declared.refusal.Rule.{Rule}
+use Rattle.cov_ast.specs.declared.refusal.Rule.TheVariants as r
+use Rattle.cov_ast.specs.declared.refusal.Detail.{Detail}
+use Rattle.cov_ast.specs.declared.refusal.Detail.TheVariants as d
+use Rattle.cov_ast.specs.declared.refusal.Refusal.{Refusal}
+use Rattle.call_reports.specs.Replies.{Reply, usage, read_fault, too_long, malformed, refused, accepted, spelled, ran, bad_starts, differ}
+use Rattle.call_reports.specs.declared.answers.Fault.{Fault}
+use Rattle.call_reports.specs.declared.answers.Fault.TheVariants as f
+use Rattle.call_reports.specs.declared.answers.FaultKind.{FaultKind}
+use Rattle.call_reports.specs.declared.answers.FaultKind.TheVariants as k
+
+-- Faults of files ----------------------------------------------------------------------------------------------
+
+-- a number, and what there are so many of
+abbrev pub counted : ℕ → List ℕ → List ℕ
+counted n what = decimal n ++ what
+
+-- what a fault of a text is called
+abbrev pub kind_text : FaultKind → List ℕ
+kind_text k.Byte = codes "byte"
+kind_text k.Number = codes "number"
+kind_text k.Name = codes "name"
+kind_text k.Token = codes "token"
+kind_text k.Limit = codes "limit"
+kind_text k.Depth = codes "depth"
+kind_text k.Unknown = codes "unknown"
+
+-- what a fault of a file is, and where
+abbrev pub fault_text : Fault → List ℕ
+fault_text (f.Text kind at) = kind_text kind ++ codes " at " ++ decimal at
+fault_text f.Json = codes "json"
+fault_text f.NotObject = codes "object"
+fault_text (f.Missing name) = codes "missing " ++ name
+fault_text f.UnknownKey = codes "unknown"
+fault_text (f.NotWord name) = codes "word " ++ name
+fault_text f.NotList = codes "list"
+fault_text f.TooMany = codes "many"
+fault_text (f.BadEntry i) = codes "entry " ++ decimal i
+
+-- Refusals -----------------------------------------------------------------------------------------------------
+
+abbrev pub rule_text : Rule → List ℕ
+rule_text r.W1 = codes "W1"
+rule_text r.W2 = codes "W2"
+rule_text r.W3 = codes "W3"
+rule_text r.W4 = codes "W4"
+rule_text r.W5 = codes "W5"
+rule_text r.W6 = codes "W6"
+rule_text r.W7 = codes "W7"
+rule_text r.W8 = codes "W8"
+rule_text r.W9 = codes "W9"
+rule_text r.V1 = codes "V1"
+rule_text r.V2 = codes "V2"
+rule_text r.V3 = codes "V3"
+rule_text r.V4 = codes "V4"
+rule_text r.V5 = codes "V5"
+rule_text r.V6 = codes "V6"
+rule_text r.V7 = codes "V7"
+rule_text r.V8 = codes "V8"
+rule_text r.V9 = codes "V9"
+rule_text r.V10 = codes "V10"
+rule_text r.V11 = codes "V11"
+rule_text r.V12 = codes "V12"
+rule_text r.V13 = codes "V13"
+rule_text r.V14 = codes "V14"
+rule_text r.V15 = codes "V15"
+rule_text r.V16 = codes "V16"
+
+-- the thread of a rule of statements
+abbrev pub thread_text : Option (List ℕ) → List ℕ
+thread_text None = []
+thread_text (Some name) = codes " in " ++ name
+
+-- the names that a rule shows, or the number of an entailment
+abbrev pub detail_text : Detail → List ℕ
+detail_text d.Nothing = []
+detail_text (d.One x) = codes ": " ++ x
+detail_text (d.Two x y) = codes ": " ++ x ++ codes " " ++ y
+detail_text (d.Three x y z) = codes ": " ++ x ++ codes " " ++ y ++ codes " " ++ z
+detail_text (d.Number n) = codes " entailment " ++ decimal n
+
+-- the broken rule, its thread, its place, and what it shows
+abbrev pub refusal_text : Refusal → (thread : Option (List ℕ)) → List ℕ
+refusal_text refusal thread =
+    codes "refused " ++ rule_text refusal.rule ++ thread_text thread ++ codes " at " ++ decimal refusal.place ++ detail_text refusal.detail ++ codes "\n"
+
+-- Reports ------------------------------------------------------------------------------------------------------
+
+-- the report of a reply: lines that end with a line feed
+abbrev pub report_of : Reply → List ℕ
+report_of usage = codes "usage: covern COMMAND WORDS\n"
+report_of (read_fault name) = codes "read fault: " ++ name ++ 10 ∷ []
+report_of (too_long name) = codes "too long: " ++ name ++ 10 ∷ []
+report_of (malformed name fault) = codes "malformed " ++ name ++ codes ": " ++ fault_text fault ++ codes "\n"
+report_of (refused refusal thread) = refusal_text refusal thread
+report_of (accepted threads statements entailments) =
+    codes "accepted: " ++ counted threads (codes " threads, ") ++ counted statements (codes " statements, ") ++ counted entailments (codes " entailments\n")
+report_of (spelled text) = text
+report_of (ran report) = report
+report_of (bad_starts name) = codes "bad starts: " ++ name ++ codes "\n"
+report_of (differ step what) = codes "differ at step " ++ decimal step ++ codes ": " ++ what ++ codes "\n"

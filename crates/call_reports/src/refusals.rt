@@ -1,0 +1,95 @@
+//! The line of a refusal, by its rule and what the rule shows.
+
+ghost use Rattle.std.specs.Prelude.{◌≡◌, ◌++◌, IfOk, OnOk};
+ghost use Rattle.call_reports.specs.Reports as spec;
+
+use crate::lines::{add_name, add_number};
+use cov_ast::{Detail, Refusal, Rule};
+use cov_expr::{Blob, List, Name, NoMemory};
+use std::alloc::Global;
+
+/// The line that says what is refused: the rule, the thread for a rule of statements, the place, and what the rule shows.
+pub fn refusal_line(
+    alloc: Global,
+    refusal: &Refusal,
+    thread: Option<Name>,
+) -> Result<Blob, NoMemory>
+    ensures { IfOk result (λ line. line ≡ spec.refusal_text refusal.now thread) }
+{
+    let mut line = List::new(alloc);
+    line.extend_from_slice(b"refused ")?;
+    line.extend_from_slice(rule_text(refusal.rule).as_bytes())?;
+    add_thread(thread, &mut line)?;
+    line.extend_from_slice(b" at ")?;
+    add_number(refusal.place, &mut line)?;
+    add_detail(&refusal.detail, &mut line)?;
+    line.extend_from_slice(b"\n")?;
+    Ok(line)
+}
+
+fn rule_text(rule: Rule) -> &'static str
+    ensures { result.now ≡ spec.rule_text rule }
+{
+    match rule {
+        Rule::W1 => "W1",
+        Rule::W2 => "W2",
+        Rule::W3 => "W3",
+        Rule::W4 => "W4",
+        Rule::W5 => "W5",
+        Rule::W6 => "W6",
+        Rule::W7 => "W7",
+        Rule::W8 => "W8",
+        Rule::W9 => "W9",
+        Rule::V1 => "V1",
+        Rule::V2 => "V2",
+        Rule::V3 => "V3",
+        Rule::V4 => "V4",
+        Rule::V5 => "V5",
+        Rule::V6 => "V6",
+        Rule::V7 => "V7",
+        Rule::V8 => "V8",
+        Rule::V9 => "V9",
+        Rule::V10 => "V10",
+        Rule::V11 => "V11",
+        Rule::V12 => "V12",
+        Rule::V13 => "V13",
+        Rule::V14 => "V14",
+        Rule::V15 => "V15",
+        Rule::V16 => "V16",
+    }
+}
+
+fn add_thread(thread: Option<Name>, line: &mut Blob) -> Result<(), NoMemory>
+    ensures { OnOk result (line.new ≡ line.old ++ spec.thread_text thread) }
+{
+    match thread {
+        Some(name) => {
+            line.extend_from_slice(b" in ")?;
+            line.extend_from_slice(name.text())
+        }
+        None => Ok(()),
+    }
+}
+
+/// Adds the names that a rule shows, or the number of an entailment.
+fn add_detail(detail: &Detail, line: &mut Blob) -> Result<(), NoMemory>
+    ensures { OnOk result (line.new ≡ line.old ++ spec.detail_text detail.now) }
+{
+    match detail {
+        Detail::Nothing => Ok(()),
+        Detail::One(x) => add_name(b": ", x, line),
+        Detail::Two(x, y) => {
+            add_name(b": ", x, line)?;
+            add_name(b" ", y, line)
+        }
+        Detail::Three(x, y, z) => {
+            add_name(b": ", x, line)?;
+            add_name(b" ", y, line)?;
+            add_name(b" ", z, line)
+        }
+        Detail::Number(n) => {
+            line.extend_from_slice(b" entailment ")?;
+            add_number(*n, line)
+        }
+    }
+}

@@ -1,0 +1,103 @@
+//! `run`: one run of a program whose declarations are in order, from a start under a schedule.
+
+ghost use Rattle.std.specs.Prelude.{◌≡◌, ◌≤◌, IfOk, MatchResult, length};
+ghost use Rattle.cov_expr.specs.declared.limits.TheConstants.{MOST_ENTRIES};
+ghost use Rattle.cov_ast.specs.Obligations.{Decides};
+ghost use Rattle.cov_ast.specs.Plain.{plain};
+ghost use Rattle.cov_ast.specs.Ready.{IsReady};
+ghost use Rattle.cov_ast.specs.View as view;
+ghost use Rattle.cov_ast.specs.WellFormed.{IsWellFormed};
+ghost use Rattle.cov_expr.specs.Words.{IsMemory, IsSchedule};
+ghost use Rattle.flow_model.specs.Source.{after, stayed};
+ghost use Rattle.policy_class.specs.Resolved.{resolved, without_value};
+ghost use Rattle.call_reports.specs.AnswerViews.{Gets, Stops};
+ghost use Rattle.call_inputs.specs.Carried.{CarriesOut};
+ghost use Rattle.call_run.specs.Inside.{IsDeclared, IsRefusal};
+ghost use Rattle.call_run.specs.Runs.{run_plan};
+ghost use Rattle.call_reports.specs.RunReports as reports;
+ghost use Rattle.call_run.specs.Runs.{Runs, declared_obligations};
+
+use call_inputs::{read_inputs, read_program};
+use call_reports::{Answer, Stop, run_report};
+use cov_ast::{CheckFault, Parsed, Program};
+use cov_expr::{Blob, List, NoMemory};
+use cov_io::Shelf;
+use policy_class::resolve;
+use schedule_replay::run as replay;
+use source_machine::Source;
+use std::alloc::Global;
+use verify::check_declared;
+
+/// Runs the program of a file from a start under a schedule.
+pub fn run<'w, S: Shelf>(
+    alloc: Global,
+    program: &'w str,
+    start: &'w str,
+    schedule: &'w str,
+    shelf: &mut S,
+) -> Result<Answer<'w>, Stop<'w>>
+    ensures { CarriesOut (S.shelved shelf.old) (S.shelved shelf.new) (run_plan program.now start.now schedule.now) result }
+{
+    let parsed = read_program(alloc, program, shelf)?;
+    let inputs = read_inputs(alloc, start, schedule, &parsed, shelf)?;
+    run_text(alloc, parsed, inputs.memory, inputs.entries.as_slice())
+}
+
+/// Runs what a text spells.
+fn run_text<'w>(
+    alloc: Global,
+    parsed: Parsed,
+    memory: List<u32>,
+    schedule: &[u32],
+) -> Result<Answer<'w>, Stop<'w>>
+    requires ready { IsReady (view.parsed parsed) }
+    requires memory { IsMemory (length parsed.vars) memory }
+    requires threads { IsSchedule (length parsed.threads) schedule.now }
+    requires entries { length schedule.now ≤ MOST_ENTRIES }
+    ensures { Gets (Runs (view.parsed parsed) memory schedule.now) result }
+{
+    let program = declared(alloc, parsed)?;
+    Ok(Answer::Ran(ran(alloc, &program, memory, schedule)?))
+}
+
+/// The program that a text stands for, if its declarations are in order.
+pub fn declared<'w>(alloc: Global, parsed: Parsed) -> Result<Program, Stop<'w>>
+    requires { IsReady (view.parsed parsed) }
+    ensures { MatchResult result (λ program. IsDeclared (view.parsed parsed) (view.program program)) (Stops (IsRefusal (view.parsed parsed))) }
+{
+    match declared_program(alloc, parsed) {
+        Ok(program) => Ok(program),
+        Err(CheckFault::Refused(refusal)) => Err(Stop::Answer(Answer::Refused(refusal, None))),
+        Err(CheckFault::NoMemory) => Err(Stop::NoMemory),
+    }
+}
+
+fn declared_program(alloc: Global, parsed: Parsed) -> Result<Program, CheckFault>
+    requires { IsReady (view.parsed parsed) }
+    ensures declared { Decides (declared_obligations (view.parsed parsed)) (without_value result) }
+    ensures program { IfOk result (λ program. view.program program ≡ resolved (view.parsed parsed)) }
+    ensures formed { IfOk result (λ program. IsWellFormed (view.program program)) }
+{
+    let program = resolve(alloc, parsed)?;
+    check_declared(alloc, &program)?;
+    Ok(program)
+}
+
+/// The report on a run.
+fn ran(
+    alloc: Global,
+    program: &Program,
+    memory: List<u32>,
+    schedule: &[u32],
+) -> Result<Blob, NoMemory>
+    requires formed { IsWellFormed (view.program program.now) }
+    requires memory { length memory ≡ length program.now.vars }
+    requires threads { IsSchedule (length program.now.threads) schedule.now }
+    requires entries { length schedule.now ≤ MOST_ENTRIES }
+    ensures { let p = plain (view.program program.now) in IfOk result (λ text.
+        text ≡ reports.run_report (view.program program.now) (length schedule.now) (stayed p memory schedule.now) (after p memory schedule.now)) }
+{
+    let mut source = Source::start(alloc, program, memory, schedule.len())?;
+    let stayed = replay(&mut source, schedule);
+    run_report(alloc, program, &source, schedule.len() as u32, stayed)
+}
