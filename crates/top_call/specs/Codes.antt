@@ -10,9 +10,9 @@ use Rattle.cov_ast.specs.declared.refusal.Refusal.{Refusal}
 use Rattle.flow_model.specs.FirstDifference.{first_bad_start}
 use Rattle.policy_class.specs.Resolved.{resolved}
 use Rattle.risc_machine.specs.Faults.{AreGood}
-use Rattle.risc_machine.specs.Machine.{CodeState, code_after, code_begin}
+use Rattle.risc_machine.specs.Machine.{CodeState, code_after, code_begin, code_stayed_from}
 use Rattle.risc_machine.specs.declared.parts.Parts.{Parts}
-use Rattle.schedule_replay.specs.CodeReplays.{CodeAgreesThroughout, code_stayed_from}
+use Rattle.schedule_replay.specs.CodeReplays.{CodeAgreesThroughout}
 use Rattle.top_call.specs.Check.{IsAcceptedText, obligations, thread_name}
 use Rattle.top_call.specs.CodeReports.{code_pair_report, code_report}
 use Rattle.top_call.specs.Pairs.{UnlessUnfit}

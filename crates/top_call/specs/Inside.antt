@@ -21,7 +21,7 @@ use Rattle.policy_class.specs.Resolved.{name_obligations, resolved}
 use Rattle.risc_machine.specs.declared.parts.Parts.{Parts}
 use Rattle.schedule_replay.specs.Replays.{StopsAt, after_steps}
 use Rattle.schedule_replay.specs.declared.replays.Until.{Until}
-use Rattle.source_machine.specs.SourceMachine.{Machine, run_of}
+use Rattle.source_machine.specs.SourceMachine.{RunningProgram, run_of}
 use Rattle.verify.specs.Accepted.{IsAccepted, program_obligations}
 use Rattle.verify.specs.Verdicts.{counts}
 use Rattle.top_call.specs.AnswerViews.{Gets, Stops, seen}
@@ -209,7 +209,7 @@ ResolvesTo declared x (Err stop) =
     Stops (λ reply. (at : ℕ) × (first_unknown declared x.names x.uses ≡ Some at) × (reply ≡ malformed (codes "expression") (f.Text k.Unknown at))) stop
 
 -- A machine was run until an expression held, or under the whole schedule.
-pub record IsStopped (e : Term) (before now : Machine) (schedule : List ℕ) (stop : Until) : Type 0 where
+pub record IsStopped (e : Term) (before now : RunningProgram) (schedule : List ℕ) (stop : Until) : Type 0 where
   pub program : now.program ≡ before.program
   pub run : run_of now ≡ after_steps (run_of before) schedule stop.steps
   pub stops : StopsAt e (run_of before) schedule stop
