@@ -7,7 +7,7 @@ use Rattle.std.proofs.lemmas.List.Elements.{All-replicate}
 use Rattle.compiled_code.specs.Compiled.{compiled}
 use Rattle.compiled_code.specs.GoodCode.{IsGoodCode}
 use Rattle.compiled_code.specs.Matches.{AreRegisters, HasNamesOf}
-use Rattle.compiled_code.specs.SecureCode.{CodesAgree, IsSecureCode}
+use Rattle.compiled_code.specs.SecureCode.{IsSecureCode}
 use Rattle.cov_ast.specs.Obligations.{first_false}
 use Rattle.cov_ast.specs.Plain.{Plain, plain, plain_thread}
 use Rattle.cov_ast.specs.Syntax.{Parsed, Program, Var, Lock, Thread}
@@ -25,7 +25,7 @@ use Rattle.policy_class.specs.Resolved.{name_obligations, resolved}
 use Rattle.risc_machine.specs.Machine.{CodeState}
 use Rattle.risc_machine.specs.declared.parts.Parts.{Parts}
 use Rattle.risc_machine.specs.declared.parts.ThreadCode.{ThreadCode}
-use Rattle.schedule_replay.specs.CodeReplays.{CodeAgreesThroughout, CodeStatesAgree, DeclaresAsMany, IsFirstCodeStepApart}
+use Rattle.schedule_replay.specs.CodeReplays.{CodeAgreesThroughout, DeclaresAsMany, IsFirstCodeStepApart}
 use Rattle.schedule_replay.specs.declared.replays.Found.{Found}
 use Rattle.verify.specs.Accepted.{IsAccepted, program_obligations}
 use Rattle.call_judge.specs.Check.{IsAcceptedText, obligations, thread_name, verdict_by, name_in}
@@ -123,13 +123,6 @@ cleared_registers n = record {
 
 -- Two runs -----------------------------------------------------------------------------------------------------
 
-states_agree : (p : Plain) (s1 s2 : CodeState) → CodesAgree p s1 s2 → CodeStatesAgree p s1 s2
-states_agree p s1 s2 h = record {
-  memories = h.memories;
-  outputs = h.outputs;
-  positions = λ t inside. ap (λ (ps : List ℕ). get_or ps t 0) h.positions;
-}
-
 -- two runs of secure code from fit starts are never apart
 secure_codes_not_apart : (p : d.Program) (c : Parts) (left right schedule : List ℕ) (f : Found) → DeclaresAsMany c p → IsSecureCode (plain (view.program p)) c
     → IsMemory (length p.vars) left → IsMemory (length p.vars) right → AreFitStarts (plain (view.program p)) left right → IsSchedule (length p.threads) schedule
@@ -140,9 +133,8 @@ secure_codes_not_apart p c left right schedule f declared secure l r fit threads
     let all : length q.threads ≡ length p.threads = length-map (map view.thread p.threads) plain_thread ∙ length-map p.threads view.thread in
     let rows : AreRegisters (length q.threads) (cleared (length c.threads)) =
     subst (λ n. AreRegisters n (cleared (length c.threads))) (declared.threads ∙ sym all) (cleared_registers (length c.threads)) in
-    h.apart (states_agree q _ _
-    (secure left right (subst (λ n. IsMemory n left) (sym vars) l) (subst (λ n. IsMemory n right) (sym vars) r) fit (cleared (length c.threads)) (cleared (length c.threads)) rows rows
-    (take f.step schedule) (schedule_front (length q.threads) f.step schedule (subst (λ n. IsSchedule n schedule) (sym all) threads))))
+    h.apart (secure left right (subst (λ n. IsMemory n left) (sym vars) l) (subst (λ n. IsMemory n right) (sym vars) r) fit (cleared (length c.threads)) (cleared (length c.threads)) rows rows
+    (take f.step schedule) (schedule_front (length q.threads) f.step schedule (subst (λ n. IsSchedule n schedule) (sym all) threads)))
 
 -- so two machines of it that run side by side are never found apart
 pub codes_not_apart : (p : d.Program) (c e : Parts) (s1 s2 : CodeState) (left right schedule : List ℕ) (o : Option Found) → e ≡ c → s1 ≡ code_start c left

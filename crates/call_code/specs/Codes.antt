@@ -18,9 +18,9 @@ use Rattle.flow_model.specs.Agreement.{AreFitStarts}
 use Rattle.flow_model.specs.FirstDifference.{first_bad_start}
 use Rattle.policy_class.specs.Resolved.{resolved}
 use Rattle.risc_machine.specs.Faults.{AreGood}
-use Rattle.risc_machine.specs.Machine.{CodeState, code_after, code_begin}
+use Rattle.risc_machine.specs.Machine.{CodeState, code_after, code_begin, code_stayed_from}
 use Rattle.risc_machine.specs.declared.parts.Parts.{Parts}
-use Rattle.schedule_replay.specs.CodeReplays.{CodeAgreesThroughout, code_stayed_from}
+use Rattle.schedule_replay.specs.CodeReplays.{CodeAgreesThroughout}
 
 -- the code of the program that a text stands for
 abbrev pub code_of : Parsed → Parts

@@ -16,7 +16,7 @@ use Rattle.cov_ast.specs.Plain.{Plain, plain, plain_thread}
 use Rattle.cov_ast.specs.Syntax.{Parsed, Program}
 use Rattle.cov_expr.specs.Words.{IsMemory, IsSchedule}
 use Rattle.flow_model.proofs.Decided.{none_is_fit}
-use Rattle.flow_model.specs.Agreement.{AreFitStarts}
+use Rattle.flow_model.specs.Agreement.{AreFitStarts, IsAlikeAt, IsFirstApart}
 use Rattle.flow_model.specs.FirstDifference.{first_bad_start}
 use Rattle.flow_model.specs.Secure.{IsSecure}
 use Rattle.flow_model.specs.Source.{Run, begin}
@@ -26,7 +26,6 @@ use Rattle.flow_model.specs.declared.start.BadStart.{BadStart}
 use Rattle.policy_class.specs.Resolved.{name_obligations, resolved}
 use Rattle.schedule_replay.specs.Replays.{after_steps, AgreeThroughout, DiffersIn, IsFirstStepApart}
 use Rattle.schedule_replay.specs.declared.replays.Found.{Found}
-use Rattle.source_machine.specs.SourceMachine.{IsFirstApart}
 use Rattle.verify.specs.Accepted.{IsAccepted}
 use Rattle.call_run.specs.Inside.{IsDeclared, IsRefusal, PairsFit, PairsProgram}
 use Rattle.call_run.specs.Pairs.{Pairs, RunApart, RunTogether, RunsBoth, RunsFit}
@@ -37,10 +36,10 @@ use Rattle.call_run.proofs.RunLaws.{same_number, refused_one, refused_no_fault, 
 
 -- two states differ in one thing
 module _ (p : Plain) (r q : Run) where
-  apart_one : (n t u : ℕ) → IsFirstApart r q n t → IsFirstApart r q n u → t < u → ⊥
+  apart_one : (n t u : ℕ) → IsFirstApart IsAlikeAt r q n t → IsFirstApart IsAlikeAt r q n u → t < u → ⊥
   apart_one n t u h k l = h.apart (k.before t l)
 
-  threads_one : (n t u : ℕ) → IsFirstApart r q n t → IsFirstApart r q n u → t ≡ u
+  threads_one : (n t u : ℕ) → IsFirstApart IsAlikeAt r q n t → IsFirstApart IsAlikeAt r q n u → t ≡ u
   threads_one n t u h k = same_number t u (apart_one n t u h k) (apart_one n u t k h)
 
   differs_one : (d e : Differ) → DiffersIn p r q d → DiffersIn p r q e → d ≡ e

@@ -12,7 +12,7 @@ use Rattle.cov_expr.specs.Term.{Term}
 use Rattle.policy_class.specs.Resolved.{resolved}
 use Rattle.schedule_replay.specs.Replays.{StopsAt, after_steps}
 use Rattle.schedule_replay.specs.declared.replays.Until.{Until}
-use Rattle.source_machine.specs.SourceMachine.{Machine, run_of}
+use Rattle.source_machine.specs.SourceMachine.{RunningProgram, run_of}
 use Rattle.verify.specs.Accepted.{IsAccepted}
 use Rattle.call_run.specs.Pairs.{RunsBoth, RunsFit}
 use Rattle.call_run.specs.Runs.{IsDeclaredText, RunsUntil, declared_obligations}
@@ -42,7 +42,7 @@ abbrev pub until_plan : Parsed → (memory schedule word : List ℕ) → Plan
 until_plan p memory schedule word = expression p word (λ e. replies (IsDeclaredText p) (RunsUntil p memory schedule e))
 
 -- A machine was run until an expression held, or under the whole schedule.
-pub record IsStopped (e : Term) (before now : Machine) (schedule : List ℕ) (stop : Until) : Type 0 where
+pub record IsStopped (e : Term) (before now : RunningProgram) (schedule : List ℕ) (stop : Until) : Type 0 where
   pub program : now.program ≡ before.program
   pub run : run_of now ≡ after_steps (run_of before) schedule stop.steps
   pub stops : StopsAt e (run_of before) schedule stop
