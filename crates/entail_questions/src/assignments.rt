@@ -1,5 +1,6 @@
 //! What is asked of an assignment.
 
+ghost use Rattle.cov_expr.specs.declared.limits.TheConstants.{MOST_VARIABLES};
 ghost use Rattle.std.specs.Prelude.{◌≡◌, ◌<◌, ◌≤◌, [], ◌∷◌, ◌++◌, if◌then◌else◌, OnOk, filter, length, map, option_map};
 ghost use Rattle.std.specs.List.{range_with_len};
 ghost use Rattle.cov_expr.specs.View.{term};
@@ -22,7 +23,7 @@ pub fn add_assignment(
     retypes: &[Retype],
     made: &mut List<Question>,
 ) -> Result<(), NoMemory>
-    requires { length p.now.vars ≤ 256 }
+    requires { length p.now.vars ≤ MOST_VARIABLES }
     ensures { OnOk result (made.new ≡ made.old ++ spec.of_assignment (plain (view.program p.now)) (has hidden.now) x (option_map term written.now) (map view.retype retypes.now)) }
 {
     add_written(written, made)?;
@@ -63,7 +64,7 @@ fn add_controlled(
     x: u32,
     made: &mut List<Question>,
 ) -> Result<(), NoMemory>
-    requires { length p.now.vars ≤ 256 }
+    requires { length p.now.vars ≤ MOST_VARIABLES }
     ensures { OnOk result (made.new ≡ made.old ++ spec.of_controlled (plain (view.program p.now)) (has hidden.now) x) }
 {
     if is_control(p, x) {
@@ -79,7 +80,7 @@ fn add_each_controlled(
     x: u32,
     made: &mut List<Question>,
 ) -> Result<(), NoMemory>
-    requires { length p.now.vars ≤ 256 }
+    requires { length p.now.vars ≤ MOST_VARIABLES }
     ensures { OnOk result (made.new ≡ made.old ++ map Question.Controlled (filter (spec.is_shown_by (plain (view.program p.now)) (has hidden.now) x) (range_with_len 0 (length p.now.vars)))) }
 {
     for y in 0..p.vars.len() as u32 {

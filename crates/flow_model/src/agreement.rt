@@ -13,7 +13,7 @@ ghost use Rattle.flow_model.specs.Inside.{is_marked_apart};
 use crate::machine::Holder;
 use crate::marks::{mark_assumed, mark_controls, mark_held};
 use cov_ast::{Class, Program};
-use cov_expr::eval;
+use cov_expr::{MOST_VARIABLES, eval};
 
 /// What two states don't agree on.
 #[derive(Clone, Copy, Debug, PartialEq, Eq)]
@@ -79,9 +79,9 @@ fn var_apart(p: &Program, m1: &[u32], h1: &[Holder], m2: &[u32]) -> Option<u32>
     requires second_memory { length m2.now ≡ length p.now.vars }
     ensures { result ≡ spec.first_var (plain (view.program p.now)) (spec.is_apart (plain (view.program p.now)) m1.now (holders_of h1.now) m2.now) }
 {
-    let mut controls = [false; 256];
+    let mut controls = [false; MOST_VARIABLES];
     mark_controls(&mut controls, p);
-    let mut hidden = [false; 256];
+    let mut hidden = [false; MOST_VARIABLES];
     mark_held(&mut hidden, p, h1);
     mark_assumed(&mut hidden, p);
     marked_apart(p, m1, m2, &controls, &hidden)

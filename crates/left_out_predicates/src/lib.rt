@@ -2,6 +2,7 @@
 //!
 //! - [`add_left_out`]: a line for each, with what gives it and which state left it out.
 //! - [`left_out_would_be_known`]: by the rules for statements, each would be known, did the states list it.
+//! - [`few_are_found`]: how many are shown.
 //!
 //! | `src/` | `specs/` | what it has |
 //! |---|---|---|
@@ -17,5 +18,5 @@ mod search;
 mod states;
 mod touched;
 
-pub use laws::left_out_would_be_known;
+pub use laws::{few_are_found, left_out_would_be_known};
 pub use lines::add_left_out;

@@ -1,5 +1,6 @@
 //! The line of V1 and of V2: which guarantee forbids an access, or which lock that isn't held.
 
+ghost use Rattle.cov_expr.specs.declared.limits.TheConstants.{MOST_LOCKS};
 ghost use Rattle.std.specs.Prelude.{◌≡◌, ◌++◌, ◌≤◌, OnOk, length, map, option_map};
 ghost use Rattle.cov_ast.specs.View as view;
 ghost use Rattle.refusal_names.specs.ForbiddenAccess as spec;
@@ -25,7 +26,7 @@ pub fn add_access(
     detail: Detail,
     text: &mut Blob,
 ) -> Result<(), NoMemory>
-    requires { length locks.now ≤ 64 }
+    requires { length locks.now ≤ MOST_LOCKS }
     ensures { OnOk result (text.new ≡ text.old
         ++ spec.shown_access names.now bytes.now (view.thread t.now) (map view.lock locks.now) (modes.now).held writes detail) }
 {
@@ -50,7 +51,7 @@ fn add_cause(
     x: u32,
     text: &mut Blob,
 ) -> Result<(), NoMemory>
-    requires { length locks.now ≤ 64 }
+    requires { length locks.now ≤ MOST_LOCKS }
     ensures { OnOk result (text.new ≡ text.old
         ++ spec.access_line names.now bytes.now (view.thread t.now) (map view.lock locks.now) (modes.now).held writes x) }
 {
@@ -103,7 +104,7 @@ fn first_forbidding<'p>(
     writes: bool,
     x: u32,
 ) -> Option<(&'p LockDecl, &'static [u8])>
-    requires { length locks.now ≤ 64 }
+    requires { length locks.now ≤ MOST_LOCKS }
     ensures { option_map (λ f. (view.lock f.0.now, f.1.now)) result ≡ spec.first_forbidding (modes.now).held writes x 0 (map view.lock locks.now) }
 {
     for (number, lock) in locks.iter().enumerate() {
@@ -142,7 +143,7 @@ fn add_of_lock(
     x: u32,
     text: &mut Blob,
 ) -> Result<(), NoMemory>
-    requires { length locks.now ≤ 64 }
+    requires { length locks.now ≤ MOST_LOCKS }
     ensures { OnOk result (text.new ≡ text.old
         ++ spec.lock_or_nothing names.now bytes.now (option_map (λ f. (view.lock f.0.now, f.1.now)) found.entry) x (held_text (map view.lock locks.now) (modes.now).held)) }
 {

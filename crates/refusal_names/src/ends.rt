@@ -1,5 +1,6 @@
 //! The line of V8: which locks are held at two ends.
 
+ghost use Rattle.cov_expr.specs.declared.limits.TheConstants.{MOST_LOCKS};
 ghost use Rattle.std.specs.Prelude.{◌≡◌, ◌++◌, ◌≤◌, IfOk, OnOk, codes, length, map};
 ghost use Rattle.cov_ast.specs.View as view;
 ghost use Rattle.refusal_names.specs.NameLines as spec;
@@ -19,7 +20,7 @@ pub fn add_ends(
     kind: &StmtKind,
     text: &mut Blob,
 ) -> Result<(), NoMemory>
-    requires { length locks.now ≤ 64 }
+    requires { length locks.now ≤ MOST_LOCKS }
     ensures { OnOk result (text.new ≡ text.old ++ spec.ends_line (map view.lock locks.now) (modes.old).held (view.kind kind.now)) }
 {
     match kind {
@@ -47,7 +48,7 @@ fn add_branch_ends(
     second: &ModeState,
     text: &mut Blob,
 ) -> Result<(), NoMemory>
-    requires { length locks.now ≤ 64 }
+    requires { length locks.now ≤ MOST_LOCKS }
     ensures { OnOk result (text.new ≡ text.old ++ spec.branch_ends (map view.lock locks.now) (first.now).held (second.now).held) }
 {
     let front = b"  held at the end of the first block: ";
@@ -63,7 +64,7 @@ fn add_loop_ends(
     end: &ModeState,
     text: &mut Blob,
 ) -> Result<(), NoMemory>
-    requires { length locks.now ≤ 64 }
+    requires { length locks.now ≤ MOST_LOCKS }
     ensures { OnOk result (text.new ≡ text.old ++ spec.loop_ends (map view.lock locks.now) (start.now).held (end.now).held) }
 {
     let front = b"  held at the start of the block: ";
@@ -81,7 +82,7 @@ fn add_two_ends(
     second: &ModeState,
     text: &mut Blob,
 ) -> Result<(), NoMemory>
-    requires { length locks.now ≤ 64 }
+    requires { length locks.now ≤ MOST_LOCKS }
     ensures { OnOk result (text.new ≡ text.old ++ spec.two_ends front.now between.now (map view.lock locks.now) (first.now).held (second.now).held) }
 {
     text.extend_from_slice(front)?;
@@ -98,7 +99,7 @@ pub fn add_held(
     modes: &ModeState,
     text: &mut Blob,
 ) -> Result<(), NoMemory>
-    requires { length locks.now ≤ 64 }
+    requires { length locks.now ≤ MOST_LOCKS }
     ensures { OnOk result (text.new ≡ text.old ++ spec.held_text (map view.lock locks.now) (modes.now).held) }
 {
     let names = held_names(alloc, locks, modes)?;
@@ -107,7 +108,7 @@ pub fn add_held(
 
 /// The names of the locks that are held, in the order of their declarations.
 fn held_names(alloc: Global, locks: &[LockDecl], modes: &ModeState) -> Result<List<Name>, NoMemory>
-    requires { length locks.now ≤ 64 }
+    requires { length locks.now ≤ MOST_LOCKS }
     ensures { IfOk result (λ made. made ≡ spec.held_names 0 (modes.now).held (map view.lock locks.now)) }
 {
     let mut names = List::new(alloc);

@@ -1,5 +1,6 @@
 //! The line of V16: what has too many nodes.
 
+ghost use Rattle.cov_expr.specs.declared.limits.TheConstants.{MOST_VARIABLES};
 ghost use Rattle.std.specs.Prelude.{◌≡◌, ◌≤◌, [], ◌++◌, OnOk, Some, length, map, option_map};
 ghost use Rattle.cov_expr.specs.View.{term};
 ghost use Rattle.cov_ast.specs.Plain.{class_term};
@@ -27,7 +28,7 @@ pub fn add_large(
     kind: &StmtKind,
     text: &mut Blob,
 ) -> Result<(), NoMemory>
-    requires { length vars.now ≤ 256 }
+    requires { length vars.now ≤ MOST_VARIABLES }
     ensures { OnOk result (text.new ≡ text.old
         ++ spec.large_line (map view.var vars.now) names.now bytes.now hidden.now (map step steps.now) (view.kind kind.now)) }
 {
@@ -49,7 +50,7 @@ pub fn add_large(
 
 /// The first variable that isn't hidden and whose class is too large with a value in the place of another variable.
 fn large_class(vars: &[VarDecl], hidden: &NumberSet, x: u32, value: &Expr) -> Option<u32>
-    requires { length vars.now ≤ 256 }
+    requires { length vars.now ≤ MOST_VARIABLES }
     ensures { result ≡ spec.large_class hidden.now x (term value.now) 0 (map view.var vars.now) }
 {
     for (y, var) in vars.iter().enumerate() {

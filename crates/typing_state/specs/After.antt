@@ -1,11 +1,12 @@
 -- The point at the start of a thread, and the point after a statement, each also where what the rules ask fails.
-use Rattle.std.specs.Prelude.{ℕ, suc, ◌==◌, ◌&&◌, List, [], ◌∷◌, Bool, true, false, not, map, filter, length, replicate, set, if◌then◌else◌, Option, Some, None, option_map, unwrap_or}
+use Rattle.std.specs.Prelude.{ℕ, suc, ◌==◌, ◌&&◌, List, [], ◌∷◌, Bool, true, false, not, map, filter, set, if◌then◌else◌, Option, Some, None, option_map, unwrap_or}
 use Rattle.cov_expr.specs.declared.expr.Op.TheVariants.{Eq}
 use Rattle.cov_expr.specs.Term.{Term, var, bin}
 use Rattle.cov_expr.specs.Trees.{mentions}
 use Rattle.cov_ast.specs.Syntax.{State}
 use Rattle.cov_ast.specs.Plain.{Plain}
 use Rattle.cov_ast.specs.Declarations.{class_of, is_control, lock_at, under}
+use Rattle.cov_ast.specs.LocksAlong.{no_locks}
 use Rattle.mode_state.specs.Sets.{is_stable}
 use Rattle.typing_state.specs.Terms.{with_term, with_option, distinct_terms, listed}
 use Rattle.typing_state.specs.Point.{Point, vars_of, is_tracked, default_type, is_over_stable}
@@ -50,7 +51,7 @@ module _ (p : Plain) (t : ℕ) where
 
   abbrev pub start : Point
   start =
-      let held = replicate (length p.locks) false in
+      let held = no_locks p in
       record { held = held; types = map (start_type held) (vars_of p); preds = [] }
 
   -- with a new value of a control x, a type that mentions it is forgotten
