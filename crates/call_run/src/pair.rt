@@ -1,7 +1,7 @@
 //! `pair`: two runs of a program from two starts under one schedule, side by side.
 
 ghost use Rattle.std.specs.Prelude.{◌≡◌, ◌≤◌, IfOk, length};
-ghost use Rattle.cov_expr.specs.declared.limits.TheConstants.{MOST_ENTRIES};
+ghost use Rattle.cov_expr.specs.declared.limits.TheConstants.{MOST_ENTRIES, MOST_THREADS};
 ghost use Rattle.cov_ast.specs.Plain.{plain};
 ghost use Rattle.cov_ast.specs.Ready.{IsReady};
 ghost use Rattle.cov_ast.specs.View as view;
@@ -9,6 +9,10 @@ ghost use Rattle.cov_ast.specs.WellFormed.{IsWellFormed};
 ghost use Rattle.cov_expr.specs.Words.{IsMemory, IsSchedule};
 ghost use Rattle.flow_model.specs.Agreement.{AreFitStarts};
 ghost use Rattle.call_reports.specs.AnswerViews.{Gets, seen};
+ghost use Rattle.call_reports.specs.Differences as names;
+ghost use Rattle.call_reports.specs.Replies as replies;
+ghost use Rattle.call_reports.specs.RunReports as reports;
+ghost use Rattle.source_machine.specs.SourceMachine.{run_of};
 ghost use Rattle.call_inputs.specs.Carried.{CarriesOut};
 ghost use Rattle.call_run.specs.Inside.{PairsFit, PairsProgram};
 ghost use Rattle.call_run.specs.Pairs.{pair_plan};
@@ -21,7 +25,7 @@ use cov_ast::{Parsed, Program};
 use cov_expr::{List, NoMemory};
 use cov_io::Shelf;
 use flow_model::starts;
-use schedule_replay::pair as replay_pair;
+use schedule_replay::{Found, pair as replay_pair};
 use source_machine::Source;
 use std::alloc::Global;
 use verify::accepted_is_secure;
@@ -110,13 +114,32 @@ fn run_both<'w>(
     let mut first = Source::start(alloc, program, left, schedule.len())?;
     let mut second = Source::start(alloc, program, right, schedule.len())?;
     match replay_pair(program, &mut first, &mut second, schedule) {
-        Some(found) => {
-            let what = differ_text(alloc, program, &found.differ)?;
-            Ok(Answer::Differ(found.step, what))
-        }
-        None => {
-            let report = pair_report(alloc, program, &first, &second, schedule.len() as u32)?;
-            Ok(Answer::Ran(report))
-        }
+        Some(found) => told_apart(alloc, program, &found),
+        None => told_together(alloc, program, &first, &second, schedule.len() as u32),
     }
+}
+
+/// What is answered to two runs that differ.
+fn told_apart<'w>(alloc: Global, program: &Program, found: &Found) -> Result<Answer<'w>, NoMemory>
+    ensures { IfOk result (λ answer. seen answer ≡ replies.differ found.now.step (names.differ_text (view.program program.now) found.now.differ)) }
+{
+    let what = differ_text(alloc, program, &found.differ)?;
+    Ok(Answer::Differ(found.step, what))
+}
+
+/// What is answered to two runs that agree after each of so many steps.
+fn told_together<'w, 'p>(
+    alloc: Global,
+    program: &'p Program,
+    first: &Source<'p>,
+    second: &Source<'p>,
+    steps: u32,
+) -> Result<Answer<'w>, NoMemory>
+    requires first { (first.now).program ≡ program.now }
+    requires second { (second.now).program ≡ program.now }
+    requires few { length program.now.threads ≤ MOST_THREADS }
+    ensures { IfOk result (λ answer. seen answer ≡ replies.ran (reports.pair_report (view.program program.now) steps (run_of first.now) (run_of second.now))) }
+{
+    let report = pair_report(alloc, program, first, second, steps)?;
+    Ok(Answer::Ran(report))
 }
