@@ -21,6 +21,6 @@ mod inputs;
 mod words;
 
 pub use expressions::read_expression;
-pub use files::{fetch, read_program, read_text, text_fault, unread};
-pub use inputs::{PairInputs, RunInputs, read_entries, read_inputs, read_memory, read_pair_inputs};
+pub use files::{fetch, read_program, read_text};
+pub use inputs::{PairInputs, RunInputs, read_entries, read_inputs, read_pair_inputs};
 pub use words::command_line;

@@ -1,4 +1,4 @@
--- `check`: what is replied to the bytes of a program.
+-- `check`: what is replied to what a text spells.
 use Rattle.std.specs.Prelude.{◌≡◌, ℕ, List, [], ◌++◌, length, map, slice_get, if◌then◌else◌, Option, Some, None, IsTrue}
 use Rattle.call_inputs.specs.Plans.{Plan, replies}
 use Rattle.call_inputs.specs.Steps as step
@@ -17,15 +17,14 @@ use Rattle.call_judge.specs.Meaning.{meaning}
 abbrev pub obligations : Parsed → List Obligation
 obligations p = name_obligations p ++ (if all_hold (name_obligations p) then program_obligations (resolved p) else [])
 
--- the name of a thread by its number
-abbrev pub thread_name : Parsed → Option ℕ → Option (List ℕ)
-thread_name p None = None
-thread_name p (Some t) = slice_get (map (λ thread. thread.name) p.threads) t
-
 -- the name of a thread of a program by its number
 abbrev pub name_in : List Thread → Option ℕ → Option (List ℕ)
 name_in threads None = None
 name_in threads (Some t) = slice_get (map (λ thread. thread.name) threads) t
+
+-- the name of a thread of a text
+abbrev pub thread_name : Parsed → Option ℕ → Option (List ℕ)
+thread_name p thread = name_in p.threads thread
 
 -- What a text spells is accepted: every obligation holds.
 abbrev pub IsAcceptedText : Parsed → Type 0

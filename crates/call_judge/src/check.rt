@@ -5,20 +5,17 @@ ghost use Rattle.cov_ast.specs.Ready.{IsReady};
 ghost use Rattle.cov_ast.specs.View as view;
 ghost use Rattle.cov_ast.specs.WellFormed.{IsWellFormed};
 ghost use Rattle.cov_expr.specs.declared.limits.TheConstants.{MOST_BYTES};
-ghost use Rattle.call_judge.specs.Check.{Judges};
+ghost use Rattle.call_judge.specs.Check.{Judges, check_plan, name_in};
 ghost use Rattle.call_reports.specs.AnswerViews.{Gets};
 ghost use Rattle.call_inputs.specs.Carried.{CarriesOut};
 ghost use Rattle.call_judge.specs.Inside.{JudgesProgram};
-ghost use Rattle.call_judge.specs.Check.{name_in};
-ghost use Rattle.call_judge.specs.Check.{check_plan};
 ghost use Rattle.call_judge.specs.Texts.{ChecksBytes};
 
-use call_inputs::{read_program, text_fault, unread};
+use call_inputs::{read_program, read_text};
 use call_reports::{Answer, Stop, Totals};
 use cov_ast::{CheckFault, Parsed, Program, ThreadDecl};
 use cov_expr::Name;
 use cov_io::Shelf;
-use cov_parse::parse;
 use policy_class::resolve;
 use std::alloc::Global;
 use verify::check_program;
@@ -40,10 +37,8 @@ pub fn check_bytes<'w>(alloc: Global, name: &'w str, bytes: &[u8]) -> Result<Ans
     requires { length bytes.now ≤ MOST_BYTES }
     ensures { Gets (ChecksBytes name.now bytes.now) result }
 {
-    match parse(alloc, bytes) {
-        Ok(parsed) => judge(alloc, parsed),
-        Err(fault) => Err(unread(name, text_fault(fault))),
-    }
+    let parsed = read_text(alloc, name, bytes)?;
+    judge(alloc, parsed)
 }
 
 /// Judges what a text spells. A name that is refused is that of no thread.

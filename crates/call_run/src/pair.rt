@@ -15,8 +15,7 @@ ghost use Rattle.call_reports.specs.RunReports as reports;
 ghost use Rattle.source_machine.specs.SourceMachine.{run_of};
 ghost use Rattle.call_inputs.specs.Carried.{CarriesOut};
 ghost use Rattle.call_run.specs.Inside.{PairsFit, PairsProgram};
-ghost use Rattle.call_run.specs.Pairs.{pair_plan};
-ghost use Rattle.call_run.specs.Pairs.{Pairs};
+ghost use Rattle.call_run.specs.Pairs.{Pairs, pair_plan};
 
 use crate::run::declared;
 use call_inputs::{read_pair_inputs, read_program};

@@ -13,9 +13,8 @@ ghost use Rattle.policy_class.specs.Resolved.{resolved, without_value};
 ghost use Rattle.call_reports.specs.AnswerViews.{Gets, Stops};
 ghost use Rattle.call_inputs.specs.Carried.{CarriesOut};
 ghost use Rattle.call_run.specs.Inside.{IsDeclared, IsRefusal};
-ghost use Rattle.call_run.specs.Runs.{run_plan};
 ghost use Rattle.call_reports.specs.RunReports as reports;
-ghost use Rattle.call_run.specs.Runs.{Runs, declared_obligations};
+ghost use Rattle.call_run.specs.Runs.{Runs, declared_obligations, run_plan};
 
 use call_inputs::{read_inputs, read_program};
 use call_reports::{Answer, Stop, run_report};
@@ -61,7 +60,7 @@ fn run_text<'w>(
 }
 
 /// The program that a text stands for, if its declarations are in order.
-pub fn declared<'w>(alloc: Global, parsed: Parsed) -> Result<Program, Stop<'w>>
+pub(crate) fn declared<'w>(alloc: Global, parsed: Parsed) -> Result<Program, Stop<'w>>
     requires { IsReady (view.parsed parsed) }
     ensures { MatchResult result (λ program. IsDeclared (view.parsed parsed) (view.program program)) (Stops (IsRefusal (view.parsed parsed))) }
 {

@@ -26,7 +26,7 @@ pub fn format<'w, S: Shelf>(
 }
 
 /// Spells a program.
-pub fn spell<'w>(alloc: Global, parsed: &Parsed) -> Result<Answer<'w>, Stop<'w>>
+pub(crate) fn spell<'w>(alloc: Global, parsed: &Parsed) -> Result<Answer<'w>, Stop<'w>>
     ensures { Gets (Formats (view.parsed parsed.now)) result }
 {
     Ok(Answer::Spelled(print(alloc, parsed)?))

@@ -8,6 +8,7 @@
 //! | `src/` | `specs/` | what it has |
 //! |---|---|---|
 //! | `statements`, `assignments`, `states` | `Questions` | what the entailments of a statement ask, in their order |
+//! | `kinds`, `numbered` | `Questions` | the kinds of questions; what is asked by a place and a number |
 //! | `lines` | `QuestionLines` | the sentences |
 //! | `laws` | `OwnEntailments` | the entailments of a statement by the rules of types |
 #![tactic(auto)]

@@ -4,7 +4,7 @@
 //! - [`ring_equal_values`] and the functions beside it have no body: their contracts are laws.
 //!
 //! `specs/Polys.antt` has the arithmetic of polynomials, `specs/Ring.antt` says what the normal form of an expression is, and
-//! `specs/Listed.antt` when two lists of terms are the same polynomial. `specs/Inside.antt` has words of private contracts.
+//! `specs/SamePolynomial.antt` when two lists of terms are the same polynomial. `specs/Inside.antt` has words of private contracts.
 #![tactic(auto)]
 
 mod atoms;

@@ -15,6 +15,7 @@
 //! | `other` | `OtherCertificates` | the certificates of other numbers |
 //! | `dropped` | `Dropped` | the hypotheses that a state drops |
 //! | `zero` | `ZeroGoals` | goals that are 0 |
+//! | `laws` | `Nodes` | the node of which is told is there, and fails |
 #![tactic(auto)]
 
 mod dropped;

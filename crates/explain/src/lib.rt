@@ -11,7 +11,7 @@
 //! |---|---|---|
 //! | `call`, `files` | `FileCalls` | the words of a command line; what is told of each file, and the status |
 //! | `explanation` | `Explanations` | what is told of the bytes of a file |
-//! | `more`, `refusals` | `Tellings` | what is told beside it: what could stand at the place of a token, or of a file that is refused, what that is about, or |
+//! | `more`, `refusals` | `Tellings` | what is told beside it: what could stand at the place of a token, and what a refusal is about |
 //! | `accepted`, `warnings`, `sentences` | `WarningSentences` | what is warned of in a file that is accepted |
 //! | `rules` | `RuleSentences` | the sentence of each rule |
 //! | `faults`, `words` | `FaultSentences`, `TokenSentences` | the sentence of each fault of a text; reserved words |

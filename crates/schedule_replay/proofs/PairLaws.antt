@@ -9,7 +9,7 @@ use Rattle.flow_model.specs.Runs.{AgreeBefore}
 use Rattle.flow_model.specs.Source.{Run, stayed_from}
 use Rattle.flow_model.specs.declared.agreement.Differ.{Differ}
 use Rattle.schedule_replay.specs.Inside.{HasSameFront}
-use Rattle.schedule_replay.specs.Machines.{ComeApart, DifferIn, DoAgree, GrowsByOne, Law}
+use Rattle.schedule_replay.specs.Machines.{ComeApart, DifferIn, DoAgree, GrowsByOne, Semantics}
 use Rattle.schedule_replay.specs.Replays.{after_steps, StopsAt}
 
 -- Outputs ------------------------------------------------------------------------------------------------------
@@ -45,34 +45,34 @@ rest_same n xs ys e = ap (rest_of n) e
 
 -- Steps --------------------------------------------------------------------------------------------------------
 
-module _ {Code State : Type 0} (law : Law Code State) (p : Plain) (c : Code) (r s : State) (schedule : List ℕ) (i : ℕ) (now other : State) where
+module _ {Code State : Type 0} (semantics : Semantics Code State) (p : Plain) (c : Code) (r s : State) (schedule : List ℕ) (i : ℕ) (now other : State) where
   abbrev left : ℕ → State
-  left k = runs.after_steps (law.step c) r schedule k
+  left k = runs.after_steps (semantics.step c) r schedule k
 
   abbrev right : ℕ → State
-  right k = runs.after_steps (law.step c) s schedule k
+  right k = runs.after_steps (semantics.step c) s schedule k
 
   abbrev pub Before : ℕ → Type 0
-  Before n = AgreeBefore (law.step c) (DoAgree law p) r s schedule n
+  Before n = AgreeBefore (semantics.step c) (DoAgree semantics p) r s schedule n
 
-  pub agree_more : Before (i + 1) → now ≡ left (i + 1) → other ≡ right (i + 1) → DoAgree law p now other → Before (i + 1 + 1)
+  pub agree_more : Before (i + 1) → now ≡ left (i + 1) → other ≡ right (i + 1) → DoAgree semantics p now other → Before (i + 1 + 1)
   agree_more before a b x =
-      below_more (λ k. 0 < k → DoAgree law p (left k) (right k)) (i + 1) before
-      (λ z. subst (λ y. DoAgree law p (left (i + 1)) y) b (subst (λ y. DoAgree law p y other) a x))
+      below_more (λ k. 0 < k → DoAgree semantics p (left k) (right k)) (i + 1) before
+      (λ z. subst (λ y. DoAgree semantics p (left (i + 1)) y) b (subst (λ y. DoAgree semantics p y other) a x))
 
   -- behind the first step, the states at which the next begins agree
-  pub agree_now : 0 < i → Before (i + 1) → now ≡ left i → other ≡ right i → DoAgree law p now other
-  agree_now some before a b = subst (λ x. DoAgree law p x other) (sym a) (subst (λ y. DoAgree law p (left i) y) (sym b) (before i (omega arith) some))
+  pub agree_now : 0 < i → Before (i + 1) → now ≡ left i → other ≡ right i → DoAgree semantics p now other
+  agree_now some before a b = subst (λ x. DoAgree semantics p x other) (sym a) (subst (λ y. DoAgree semantics p (left i) y) (sym b) (before i (omega arith) some))
 
   pub first_apart : (d : Differ) → i < length schedule → Before (i + 1) → now ≡ left (i + 1) → other ≡ right (i + 1)
-      → DifferIn law p now other d × ¬ DoAgree law p now other
-      → ComeApart law p c r s schedule (record { step = i + 1; differ = d })
+      → DifferIn semantics p now other d × ¬ DoAgree semantics p now other
+      → ComeApart semantics p c r s schedule (record { step = i + 1; differ = d })
   first_apart d l before a b x = record {
     some = omega arith;
     within = omega arith;
     before = before;
-    apart = λ y. x.1 (subst (λ z. DoAgree law p now z) (sym b) (subst (λ z. DoAgree law p z (right (i + 1))) (sym a) y));
-    differ = subst (λ z. DifferIn law p (left (i + 1)) z d) b (subst (λ z. DifferIn law p z other d) a x.0);
+    apart = λ y. x.1 (subst (λ z. DoAgree semantics p now z) (sym b) (subst (λ z. DoAgree semantics p z (right (i + 1))) (sym a) y));
+    differ = subst (λ z. DifferIn semantics p (left (i + 1)) z d) b (subst (λ z. DifferIn semantics p z other d) a x.0);
   }
 
 -- Until an expression holds ------------------------------------------------------------------------------------

@@ -13,7 +13,7 @@ use Rattle.risc_machine.specs.declared.parts.Line.{Line}
 use Rattle.risc_machine.specs.declared.parts.Parts.{Parts}
 use Rattle.std.specs.List.{slice_get}
 use Rattle.schedule_replay.specs.Inside.{is_quiet_instr, is_quiet_line}
-use Rattle.schedule_replay.specs.Machines.{GrowsByOne, IsQuiet, code_law}
+use Rattle.schedule_replay.specs.Machines.{GrowsByOne, IsQuiet, code_semantics}
 use Rattle.schedule_replay.proofs.StepLaws.{same_outputs}
 use Rattle.schedule_replay.proofs.QuietLaws.{same_or_not}
 
@@ -88,7 +88,7 @@ module _ (p : Plain) (c : Parts) (s1 s2 : CodeState) (t : ℕ) (h : CodeStatesAg
   }
 
 -- So the next step of a thread is quiet where its line is.
-pub code_is_quiet : (c : Parts) (s : CodeState) (t : ℕ) → is_quiet_line (line_of c s t) ≡ true → IsQuiet code_law c s t
+pub code_is_quiet : (c : Parts) (s : CodeState) (t : ℕ) → is_quiet_line (line_of c s t) ≡ true → IsQuiet code_semantics c s t
 code_is_quiet c s t quiet p other agree same = quiet_code_agree p c s other t agree quiet same
 
 -- Outputs ------------------------------------------------------------------------------------------------------

@@ -9,7 +9,7 @@ use Rattle.flow_model.specs.Source.{Item, run, put, test, emit, Holders, Outputs
 use Rattle.flow_model.specs.declared.machine.Stepped.TheVariants as stepped
 use Rattle.source_machine.specs.SourceMachine.{change_of}
 use Rattle.schedule_replay.specs.Inside.{is_quiet, stores}
-use Rattle.schedule_replay.specs.Machines.{GrowsByOne, IsQuiet, source_law}
+use Rattle.schedule_replay.specs.Machines.{GrowsByOne, IsQuiet, source_semantics}
 use Rattle.schedule_replay.proofs.StepLaws.{same_outputs}
 
 pub same_or_not : (u t : ℕ) → (u ≡ t) ⊎ (u ≢ t)
@@ -105,7 +105,7 @@ module _ (p : Plain) (r s : Run) (t : ℕ) (h : StatesAgree p r s) (quiet : is_q
   }
 
 -- So the next step of a thread is quiet where it changes nothing but what remains of the thread.
-pub source_is_quiet : (p : Program) (r : Run) (t : ℕ) → is_quiet (change_of (items_of r t)) ≡ true → IsQuiet source_law p r t
+pub source_is_quiet : (p : Program) (r : Run) (t : ℕ) → is_quiet (change_of (items_of r t)) ≡ true → IsQuiet source_semantics p r t
 source_is_quiet program r t quiet p other agree alike = quiet_agree p r other t agree quiet alike
 
 -- Steps that don't store ---------------------------------------------------------------------------------------

@@ -9,12 +9,12 @@ use Rattle.flow_model.specs.declared.agreement.Differ.{Differ}
 use Rattle.risc_machine.specs.CodeAgreement.{CodeStatesAgree, HasSamePosition, shared_of_code}
 use Rattle.risc_machine.specs.Machine.{CodeState, code_step}
 use Rattle.risc_machine.specs.declared.parts.Parts.{Parts}
-use Rattle.schedule_replay.specs.Machines.{AreDeclaredBy, code_law}
+use Rattle.schedule_replay.specs.Machines.{AreDeclaredBy, code_semantics}
 use Rattle.schedule_replay.specs.declared.replays.Found.{Found}
 
 -- The code has as many variables, locks and threads as the program.
 abbrev pub DeclaresAsMany : Parts → Program → Type 0
-DeclaresAsMany c p = AreDeclaredBy (code_law.declared c) p
+DeclaresAsMany c p = AreDeclaredBy (code_semantics.declared c) p
 
 -- Two runs of code agree after each step of the schedule. The start isn't looked at.
 abbrev pub CodeAgreesThroughout : Plain → Parts → (s1 s2 : CodeState) → List ℕ → Type 0

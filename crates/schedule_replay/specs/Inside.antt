@@ -10,7 +10,7 @@ use Rattle.serde_json.specs.declared.value.Value.{Value}
 use Rattle.source_machine.specs.declared.change.Change.{Change}
 use Rattle.source_machine.specs.declared.change.Change.TheVariants as change
 use Rattle.schedule_replay.specs.Json.{value_of}
-use Rattle.schedule_replay.specs.Machines.{DoAgree, Law, Seen}
+use Rattle.schedule_replay.specs.Machines.{DoAgree, Semantics, Seen}
 use Rattle.schedule_replay.specs.declared.values.Unread.{Unread}
 use Rattle.schedule_replay.specs.declared.values.Unread.TheVariants as unread
 
@@ -52,21 +52,21 @@ pub record HasSameFront (n : ℕ) (xs ys : List ℕ) : Type 0 where
   pub right : n ≤ length ys
   pub same : take n xs ≡ take n ys
 
-module _ {Code State : Type 0} (law : Law Code State) where
+module _ {Code State : Type 0} (semantics : Semantics Code State) where
   -- Two states agree where those before them did.
   abbrev pub KeepsAgreement : (s1 s2 now other : State) → Type 0
-  KeepsAgreement s1 s2 now other = (p : Plain) → DoAgree law p s1 s2 → DoAgree law p now other
+  KeepsAgreement s1 s2 now other = (p : Plain) → DoAgree semantics p s1 s2 → DoAgree semantics p now other
 
   -- Two runs agree after each step before one of this number, counted from 1.
   abbrev pub AgreedSoFar : Plain → Code → (s1 s2 : State) → List ℕ → ℕ → Type 0
-  AgreedSoFar p c s1 s2 schedule n = AgreeBefore (law.step c) (DoAgree law p) s1 s2 schedule n
+  AgreedSoFar p c s1 s2 schedule n = AgreeBefore (semantics.step c) (DoAgree semantics p) s1 s2 schedule n
 
   -- A machine that runs such code after so many steps of a schedule, with room for an output of each.
   pub record HasRun (c : Code) (before now : Seen Code State) (schedule : List ℕ) (k : ℕ) : Type 0 where
     pub code : now.code ≡ c
     pub room : now.room ≡ before.room
-    pub state : now.state ≡ after_steps (law.step c) before.state schedule k
-    pub outputs : length (law.shared now.state).outputs ≤ length (law.shared before.state).outputs + k
+    pub state : now.state ≡ after_steps (semantics.step c) before.state schedule k
+    pub outputs : length (semantics.shared now.state).outputs ≤ length (semantics.shared before.state).outputs + k
 
 -- What was read is the value of the bytes, or they have none; else memory ran out.
 abbrev pub IsRead : List ℕ → Result Value Unread → Type 0

@@ -1,4 +1,4 @@
--- What a machine gives to be replayed: the law by which it runs, and what contracts see of it.
+-- What a machine gives to be replayed: the semantics by which it runs, and what contracts see of it.
 --
 -- The source machine and the RISC machine stand at the end, a few lines each.
 use Rattle.std.specs.Prelude.{◌≡◌, ℕ, ◌≤◌, List, ◌++◌, length, take, Option, Some, None}
@@ -24,8 +24,9 @@ pub record Declared : Type 0 where
   pub threads : ℕ
 
 -- By what a machine runs, of such code and with such states: what the code declares, what a step of a thread makes of a
--- state and what it says, what the threads share in a state, and when a thread stands alike in two.
-pub record Law (Code State : Type 0) : Type 1 where
+-- state and what it says, what the threads share in a state, and when a thread stands alike in two. Of a number past those of
+-- the declared threads it always does.
+pub record Semantics (Code State : Type 0) : Type 1 where
   pub declared : Code → Declared
   pub step : Code → State → ℕ → State
   pub says : Code → State → ℕ → Stepped
@@ -49,60 +50,60 @@ abbrev pub part_run : List ℕ → Option Found → List ℕ
 part_run schedule None = schedule
 part_run schedule (Some f) = take f.step schedule
 
-module _ {Code State : Type 0} (law : Law Code State) where
+module _ {Code State : Type 0} (semantics : Semantics Code State) where
   abbrev pub declared_by : Seen Code State → Declared
-  declared_by m = law.declared m.code
+  declared_by m = semantics.declared m.code
 
   abbrev pub shared_in : Seen Code State → Shared
-  shared_in m = law.shared m.state
+  shared_in m = semantics.shared m.state
 
   -- the state after a schedule, and how many of its steps stay
   abbrev pub state_after : Code → State → List ℕ → State
-  state_after c s schedule = runs.run_from (law.step c) s schedule
+  state_after c s schedule = runs.run_from (semantics.step c) s schedule
 
   abbrev pub stayed_of : Code → State → List ℕ → ℕ
-  stayed_of c s schedule = runs.stayed_from (law.step c) (law.says c) s schedule
+  stayed_of c s schedule = runs.stayed_from (semantics.step c) (semantics.says c) s schedule
 
   -- Two states agree.
   abbrev pub DoAgree : Plain → (s1 s2 : State) → Type 0
-  DoAgree p s1 s2 = Agree law.shared law.IsAlike p s1 s2
+  DoAgree p s1 s2 = Agree semantics.shared semantics.IsAlike p s1 s2
 
   -- A thread stands alike in them.
   abbrev pub IsAlikeIn : (s1 s2 : State) → (t : ℕ) → Type 0
-  IsAlikeIn s1 s2 t = law.IsAlike s1 s2 t
+  IsAlikeIn s1 s2 t = semantics.IsAlike s1 s2 t
 
   -- Of so many threads it is the first that doesn't.
   abbrev pub IsFirstApartIn : (s1 s2 : State) → (count t : ℕ) → Type 0
-  IsFirstApartIn s1 s2 count t = IsFirstApart law.IsAlike s1 s2 count t
+  IsFirstApartIn s1 s2 count t = IsFirstApart semantics.IsAlike s1 s2 count t
 
   -- On what they differ.
   abbrev pub DifferIn : Plain → (s1 s2 : State) → Differ → Type 0
-  DifferIn p s1 s2 d = first.DiffersIn law.shared law.IsAlike p s1 s2 d
+  DifferIn p s1 s2 d = first.DiffersIn semantics.shared semantics.IsAlike p s1 s2 d
 
   -- From two states the runs of a schedule agree throughout; or this is what is found.
   abbrev pub StayTogether : Plain → Code → (s1 s2 : State) → List ℕ → Type 0
-  StayTogether p c s1 s2 schedule = runs.AgreeThroughout (law.step c) (DoAgree p) s1 s2 schedule
+  StayTogether p c s1 s2 schedule = runs.AgreeThroughout (semantics.step c) (DoAgree p) s1 s2 schedule
 
   abbrev pub ComeApart : Plain → Code → (s1 s2 : State) → List ℕ → Found → Type 0
-  ComeApart p c s1 s2 schedule f = runs.IsFirstStepApart (law.step c) (DoAgree p) (DifferIn p) s1 s2 schedule f.step f.differ
+  ComeApart p c s1 s2 schedule f = runs.IsFirstStepApart (semantics.step c) (DoAgree p) (DifferIn p) s1 s2 schedule f.step f.differ
 
   -- The next step of a thread is quiet: two states that agree, of which this is the first, agree after it if the thread stands
   -- alike in both then.
   abbrev pub IsQuiet : Code → State → (t : ℕ) → Type 0
   IsQuiet c s t =
-      (p : Plain) (other : State) → DoAgree p s other → law.IsAlike (law.step c s t) (law.step c other t) t
-      → DoAgree p (law.step c s t) (law.step c other t)
+      (p : Plain) (other : State) → DoAgree p s other → semantics.IsAlike (semantics.step c s t) (semantics.step c other t) t
+      → DoAgree p (semantics.step c s t) (semantics.step c other t)
 
   -- what the next step of a thread says
   abbrev pub answer_of : Seen Code State → (t : ℕ) → Stepped
-  answer_of m t = law.says m.code m.state t
+  answer_of m t = semantics.says m.code m.state t
 
   -- A machine after a step of a thread. At most one word was put out.
   pub record HasStepped (before now : Seen Code State) (t : ℕ) : Type 0 where
     pub code : now.code ≡ before.code
     pub room : now.room ≡ before.room
-    pub state : now.state ≡ law.step before.code before.state t
-    pub grows : GrowsByOne (law.shared before.state).outputs (law.shared now.state).outputs
+    pub state : now.state ≡ semantics.step before.code before.state t
+    pub grows : GrowsByOne (semantics.shared before.state).outputs (semantics.shared now.state).outputs
 
 -- The code declares as many variables, locks and threads as a program.
 pub record AreDeclaredBy (d : Declared) (p : Program) : Type 0 where
@@ -113,8 +114,8 @@ pub record AreDeclaredBy (d : Declared) (p : Program) : Type 0 where
 -- The machines ---------------------------------------------------------------------------------------------------
 
 -- the source machine
-abbrev pub source_law : Law Program source.Run
-source_law = record {
+abbrev pub source_semantics : Semantics Program source.Run
+source_semantics = record {
   declared = λ p. record { vars = length p.vars; locks = length p.locks; threads = length p.threads };
   step = λ p r t. source.step r t;
   says = λ p r t. source.says r t;
@@ -126,8 +127,8 @@ abbrev pub seen_source : RunningProgram → Seen Program source.Run
 seen_source m = record { code = m.program; state = run_of m; room = m.room }
 
 -- the RISC machine
-abbrev pub code_law : Law Parts CodeState
-code_law = record {
+abbrev pub code_semantics : Semantics Parts CodeState
+code_semantics = record {
   declared = λ c. record { vars = length c.vars; locks = length c.locks; threads = length c.threads };
   step = code_step;
   says = code_says;

@@ -1,4 +1,4 @@
--- What replays of programs leave and answer: what is said of every machine, at the source machine.
+-- What replays of programs leave and answer: what is said of every machine, at the source machine, and when a run until an expression stops.
 use Rattle.std.specs.Prelude.{◌≡◌, ◌↔◌, ℕ, ◌<◌, ◌≤◌, List, length, take, IsTrue}
 use Rattle.cov_expr.specs.Entailment.{Holds}
 use Rattle.cov_expr.specs.Term.{Term}

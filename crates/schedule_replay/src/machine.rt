@@ -4,7 +4,7 @@ ghost use Rattle.std.specs.Prelude.{◌≡◌, ◌↔◌, ◌<◌, ℕ, false, l
 ghost use Rattle.flow_model.specs.FirstDifference.{holders_of};
 ghost use Rattle.flow_model.specs.Runs.{has_moved};
 ghost use Rattle.schedule_replay.specs.Inside as inside;
-ghost use Rattle.schedule_replay.specs.Machines.{HasStepped, IsAlikeIn, IsFirstApartIn, IsQuiet, Law, Seen, answer_of, declared_by, shared_in};
+ghost use Rattle.schedule_replay.specs.Machines.{HasStepped, IsAlikeIn, IsFirstApartIn, IsQuiet, Semantics, Seen, answer_of, declared_by, shared_in};
 
 use flow_model::{Holder, Stepped};
 use risc_machine::{Instr, Line, Risc};
@@ -19,61 +19,61 @@ pub trait Machine {
     ghost State: { Type 0 };
 
     /// By what it runs.
-    ghost law: { Law Code State };
+    ghost semantics: { Semantics Code State };
 
     /// What contracts see of it.
     ghost seen: { Self → Seen Code State };
 
     /// One step of a thread, and whether it stayed where it is, or was finished.
     fn step(&mut self, t: u32) -> Stepped
-        requires thread { t < (declared_by law (seen self.old)).threads }
-        requires room { length (shared_in law (seen self.old)).outputs < (seen self.old).room }
-        ensures stepped { HasStepped law (seen self.old) (seen self.new) t }
-        ensures says { result ≡ answer_of law (seen self.old) t }
+        requires thread { t < (declared_by semantics (seen self.old)).threads }
+        requires room { length (shared_in semantics (seen self.old)).outputs < (seen self.old).room }
+        ensures stepped { HasStepped semantics (seen self.old) (seen self.new) t }
+        ensures says { result ≡ answer_of semantics (seen self.old) t }
         ensures still { has_moved result ≡ false → (seen self.new).state ≡ (seen self.old).state };
 
-    /// Whether the next step of a thread surely changes nothing that is compared but where the thread stands.
+    /// Whether the next step of a thread is surely quiet: two machines that agree do so after it, if the thread stands alike in both then.
     fn is_quiet(&self, t: u32) -> bool
-        requires { t < (declared_by law (seen self.now)).threads }
-        ensures { IsTrue result → IsQuiet law (seen self.now).code (seen self.now).state t };
+        requires { t < (declared_by semantics (seen self.now)).threads }
+        ensures { IsTrue result → IsQuiet semantics (seen self.now).code (seen self.now).state t };
 
     /// Whether a thread stands alike in another machine that runs the same.
     fn is_alike(&self, other: &Self, t: u32) -> bool
         requires code { (seen self.now).code ≡ (seen other.now).code }
-        requires thread { t < (declared_by law (seen self.now)).threads }
-        ensures { IsTrue result ↔ IsAlikeIn law (seen self.now).state (seen other.now).state t };
+        requires thread { t < (declared_by semantics (seen self.now)).threads }
+        ensures { IsTrue result ↔ IsAlikeIn semantics (seen self.now).state (seen other.now).state t };
 
     /// The first thread that doesn't stand alike in another machine that runs the same.
     fn first_apart(&self, other: &Self) -> Option<u32>
         requires { (seen self.now).code ≡ (seen other.now).code }
-        ensures { MatchOption result ((t : ℕ) → IsAlikeIn law (seen self.now).state (seen other.now).state t)
-            (λ t. IsFirstApartIn law (seen self.now).state (seen other.now).state (declared_by law (seen self.now)).threads t) };
+        ensures { MatchOption result ((t : ℕ) → IsAlikeIn semantics (seen self.now).state (seen other.now).state t)
+            (λ t. IsFirstApartIn semantics (seen self.now).state (seen other.now).state (declared_by semantics (seen self.now)).threads t) };
 
     /// The memory.
     fn memory(&self) -> &[u32]
-        ensures memory { result.now ≡ (shared_in law (seen self.now)).memory }
-        ensures length { length result.now ≡ (declared_by law (seen self.now)).vars };
+        ensures memory { result.now ≡ (shared_in semantics (seen self.now)).memory }
+        ensures length { length result.now ≡ (declared_by semantics (seen self.now)).vars };
 
     /// Who holds each lock.
     fn holders(&self) -> &[Holder]
-        ensures holders { holders_of result.now ≡ (shared_in law (seen self.now)).holders }
-        ensures length { length result.now ≡ (declared_by law (seen self.now)).locks };
+        ensures holders { holders_of result.now ≡ (shared_in semantics (seen self.now)).holders }
+        ensures length { length result.now ≡ (declared_by semantics (seen self.now)).locks };
 
     /// The words that were put out, the first in front.
     fn said(&self) -> &[u32]
-        ensures { result.now ≡ (shared_in law (seen self.now)).outputs };
+        ensures { result.now ≡ (shared_in semantics (seen self.now)).outputs };
 }
 
 impl<'p> Machine for Source<'p> {
     ghost use Rattle.cov_ast.specs.declared.decl.Program.{Program};
     ghost use Rattle.flow_model.specs.Source.{Run};
-    ghost use Rattle.schedule_replay.specs.Machines.{seen_source, source_law};
+    ghost use Rattle.schedule_replay.specs.Machines.{seen_source, source_semantics};
 
     ghost Code = { Program };
 
     ghost State = { Run };
 
-    ghost law = { source_law };
+    ghost semantics = { source_semantics };
 
     ghost seen = { seen_source };
 
@@ -109,13 +109,13 @@ impl<'p> Machine for Source<'p> {
 impl<'c> Machine for Risc<'c> {
     ghost use Rattle.risc_machine.specs.Machine.{CodeState};
     ghost use Rattle.risc_machine.specs.declared.parts.Parts.{Parts};
-    ghost use Rattle.schedule_replay.specs.Machines.{code_law, seen_code};
+    ghost use Rattle.schedule_replay.specs.Machines.{code_semantics, seen_code};
 
     ghost Code = { Parts };
 
     ghost State = { CodeState };
 
-    ghost law = { code_law };
+    ghost semantics = { code_semantics };
 
     ghost seen = { seen_code };
 

@@ -120,13 +120,13 @@ pub fn pair<'p>(
 
 /// Runs a whole schedule on a machine, and answers how many of its steps stayed. It takes no memory.
 pub fn run_on<M: Machine>(m: &mut M, schedule: &[u32]) -> u32
-    requires threads { IsSchedule (declared_by M.law (M.seen m.old)).threads schedule.now }
+    requires threads { IsSchedule (declared_by M.semantics (M.seen m.old)).threads schedule.now }
     requires entries { length schedule.now ≤ MOST_ENTRIES }
-    requires room { length (shared_in M.law (M.seen m.old)).outputs + length schedule.now ≤ (M.seen m.old).room }
+    requires room { length (shared_in M.semantics (M.seen m.old)).outputs + length schedule.now ≤ (M.seen m.old).room }
     ensures code { (M.seen m.new).code ≡ (M.seen m.old).code }
     ensures room { (M.seen m.new).room ≡ (M.seen m.old).room }
-    ensures state { (M.seen m.new).state ≡ state_after M.law (M.seen m.old).code (M.seen m.old).state schedule.now }
-    ensures stayed { result ≡ stayed_of M.law (M.seen m.old).code (M.seen m.old).state schedule.now }
+    ensures state { (M.seen m.new).state ≡ state_after M.semantics (M.seen m.old).code (M.seen m.old).state schedule.now }
+    ensures stayed { result ≡ stayed_of M.semantics (M.seen m.old).code (M.seen m.old).state schedule.now }
 {
     let mut stayed = 0;
     for t in schedule {
@@ -142,40 +142,40 @@ pub fn run_on<M: Machine>(m: &mut M, schedule: &[u32]) -> u32
 pub fn pair_on<M: Machine>(p: &Program, a: &mut M, b: &mut M, schedule: &[u32]) -> Option<Found>
     requires formed { IsWellFormed (view.program p.now) }
     requires equal { (M.seen b.old).code ≡ (M.seen a.old).code }
-    requires declared { AreDeclaredBy (declared_by M.law (M.seen a.old)) p.now }
+    requires declared { AreDeclaredBy (declared_by M.semantics (M.seen a.old)) p.now }
     requires threads { IsSchedule (length p.now.threads) schedule.now }
     requires entries { length schedule.now ≤ MOST_ENTRIES }
-    requires first_room { length (shared_in M.law (M.seen a.old)).outputs + length schedule.now ≤ (M.seen a.old).room }
-    requires second_room { length (shared_in M.law (M.seen b.old)).outputs + length schedule.now ≤ (M.seen b.old).room }
-    ensures found { MatchOption result (StayTogether M.law (plain (view.program p.now)) (M.seen a.old).code (M.seen a.old).state (M.seen b.old).state schedule.now)
-        (λ found. ComeApart M.law (plain (view.program p.now)) (M.seen a.old).code (M.seen a.old).state (M.seen b.old).state schedule.now found) }
+    requires first_room { length (shared_in M.semantics (M.seen a.old)).outputs + length schedule.now ≤ (M.seen a.old).room }
+    requires second_room { length (shared_in M.semantics (M.seen b.old)).outputs + length schedule.now ≤ (M.seen b.old).room }
+    ensures found { MatchOption result (StayTogether M.semantics (plain (view.program p.now)) (M.seen a.old).code (M.seen a.old).state (M.seen b.old).state schedule.now)
+        (λ found. ComeApart M.semantics (plain (view.program p.now)) (M.seen a.old).code (M.seen a.old).state (M.seen b.old).state schedule.now found) }
     ensures first_code { (M.seen a.new).code ≡ (M.seen a.old).code }
     ensures second_code { (M.seen b.new).code ≡ (M.seen a.old).code }
     ensures first_room { (M.seen a.new).room ≡ (M.seen a.old).room }
     ensures second_room { (M.seen b.new).room ≡ (M.seen b.old).room }
-    ensures first_state { (M.seen a.new).state ≡ state_after M.law (M.seen a.old).code (M.seen a.old).state (part_run schedule.now result) }
-    ensures second_state { (M.seen b.new).state ≡ state_after M.law (M.seen a.old).code (M.seen b.old).state (part_run schedule.now result) }
+    ensures first_state { (M.seen a.new).state ≡ state_after M.semantics (M.seen a.old).code (M.seen a.old).state (part_run schedule.now result) }
+    ensures second_state { (M.seen b.new).state ≡ state_after M.semantics (M.seen a.old).code (M.seen b.old).state (part_run schedule.now result) }
 {
-    let mut seen = 0;
+    let mut compared = 0;
     for (i, t) in schedule.iter().enumerate() {
         let kept = step_both(a, b, *t);
-        if let Some(differ) = difference_unless(i > 0 && kept, p, a, b, seen) {
+        if let Some(differ) = difference_unless(i > 0 && kept, p, a, b, compared) {
             return Some(Found {
                 step: i as u32 + 1,
                 differ,
             });
         }
-        seen = a.said().len();
+        compared = a.said().len();
     }
     None
 }
 
 /// One step of a thread, and 1 where it stayed, else 0.
 fn advance<M: Machine>(m: &mut M, t: u32) -> u32
-    requires thread { t < (declared_by M.law (M.seen m.old)).threads }
-    requires room { length (shared_in M.law (M.seen m.old)).outputs < (M.seen m.old).room }
-    ensures stepped { HasStepped M.law (M.seen m.old) (M.seen m.new) t }
-    ensures stayed { result ≡ runs.count_of (answer_of M.law (M.seen m.old) t) }
+    requires thread { t < (declared_by M.semantics (M.seen m.old)).threads }
+    requires room { length (shared_in M.semantics (M.seen m.old)).outputs < (M.seen m.old).room }
+    ensures stepped { HasStepped M.semantics (M.seen m.old) (M.seen m.new) t }
+    ensures stayed { result ≡ runs.count_of (answer_of M.semantics (M.seen m.old) t) }
     ensures small { result ≤ 1 }
 {
     count(m.step(t))
@@ -185,12 +185,12 @@ fn advance<M: Machine>(m: &mut M, t: u32) -> u32
 /// neither went on, or where the step was quiet and the thread stands alike.
 fn step_both<M: Machine>(a: &mut M, b: &mut M, t: u32) -> bool
     requires equal { (M.seen b.old).code ≡ (M.seen a.old).code }
-    requires thread { t < (declared_by M.law (M.seen a.old)).threads }
-    requires first_room { length (shared_in M.law (M.seen a.old)).outputs < (M.seen a.old).room }
-    requires second_room { length (shared_in M.law (M.seen b.old)).outputs < (M.seen b.old).room }
-    ensures first { HasStepped M.law (M.seen a.old) (M.seen a.new) t }
-    ensures second { HasStepped M.law (M.seen b.old) (M.seen b.new) t }
-    ensures kept { IsTrue result → KeepsAgreement M.law (M.seen a.old).state (M.seen b.old).state (M.seen a.new).state (M.seen b.new).state }
+    requires thread { t < (declared_by M.semantics (M.seen a.old)).threads }
+    requires first_room { length (shared_in M.semantics (M.seen a.old)).outputs < (M.seen a.old).room }
+    requires second_room { length (shared_in M.semantics (M.seen b.old)).outputs < (M.seen b.old).room }
+    ensures first { HasStepped M.semantics (M.seen a.old) (M.seen a.new) t }
+    ensures second { HasStepped M.semantics (M.seen b.old) (M.seen b.new) t }
+    ensures kept { IsTrue result → KeepsAgreement M.semantics (M.seen a.old).state (M.seen b.old).state (M.seen a.new).state (M.seen b.new).state }
 {
     let quiet = a.is_quiet(t);
     let first = a.step(t);
@@ -208,36 +208,36 @@ fn difference_unless<M: Machine>(
     p: &Program,
     a: &M,
     b: &M,
-    seen: usize,
+    compared: usize,
 ) -> Option<Differ>
     requires formed { IsWellFormed (view.program p.now) }
     requires equal { (M.seen a.now).code ≡ (M.seen b.now).code }
-    requires declared { AreDeclaredBy (declared_by M.law (M.seen a.now)) p.now }
-    requires seen { HasSameFront seen (shared_in M.law (M.seen a.now)).outputs (shared_in M.law (M.seen b.now)).outputs }
-    requires known { IsTrue known → DoAgree M.law (plain (view.program p.now)) (M.seen a.now).state (M.seen b.now).state }
-    ensures { MatchOption result (DoAgree M.law (plain (view.program p.now)) (M.seen a.now).state (M.seen b.now).state)
-        (λ d. DifferIn M.law (plain (view.program p.now)) (M.seen a.now).state (M.seen b.now).state d × ¬ DoAgree M.law (plain (view.program p.now)) (M.seen a.now).state (M.seen b.now).state) }
+    requires declared { AreDeclaredBy (declared_by M.semantics (M.seen a.now)) p.now }
+    requires compared { HasSameFront compared (shared_in M.semantics (M.seen a.now)).outputs (shared_in M.semantics (M.seen b.now)).outputs }
+    requires known { IsTrue known → DoAgree M.semantics (plain (view.program p.now)) (M.seen a.now).state (M.seen b.now).state }
+    ensures { MatchOption result (DoAgree M.semantics (plain (view.program p.now)) (M.seen a.now).state (M.seen b.now).state)
+        (λ d. DifferIn M.semantics (plain (view.program p.now)) (M.seen a.now).state (M.seen b.now).state d × ¬ DoAgree M.semantics (plain (view.program p.now)) (M.seen a.now).state (M.seen b.now).state) }
 {
     if known {
         None
     } else {
-        difference(p, a, b, seen)
+        difference(p, a, b, compared)
     }
 }
 
-/// What two machines that run the same don't agree on, if anything. So many outputs were seen to be the same already.
-fn difference<M: Machine>(p: &Program, a: &M, b: &M, seen: usize) -> Option<Differ>
+/// What two machines that run the same don't agree on, if anything. So many outputs were compared to be the same already.
+fn difference<M: Machine>(p: &Program, a: &M, b: &M, compared: usize) -> Option<Differ>
     requires formed { IsWellFormed (view.program p.now) }
     requires equal { (M.seen a.now).code ≡ (M.seen b.now).code }
-    requires declared { AreDeclaredBy (declared_by M.law (M.seen a.now)) p.now }
-    requires seen { HasSameFront seen (shared_in M.law (M.seen a.now)).outputs (shared_in M.law (M.seen b.now)).outputs }
-    ensures { MatchOption result (DoAgree M.law (plain (view.program p.now)) (M.seen a.now).state (M.seen b.now).state)
-        (λ d. DifferIn M.law (plain (view.program p.now)) (M.seen a.now).state (M.seen b.now).state d × ¬ DoAgree M.law (plain (view.program p.now)) (M.seen a.now).state (M.seen b.now).state) }
+    requires declared { AreDeclaredBy (declared_by M.semantics (M.seen a.now)) p.now }
+    requires compared { HasSameFront compared (shared_in M.semantics (M.seen a.now)).outputs (shared_in M.semantics (M.seen b.now)).outputs }
+    ensures { MatchOption result (DoAgree M.semantics (plain (view.program p.now)) (M.seen a.now).state (M.seen b.now).state)
+        (λ d. DifferIn M.semantics (plain (view.program p.now)) (M.seen a.now).state (M.seen b.now).state d × ¬ DoAgree M.semantics (plain (view.program p.now)) (M.seen a.now).state (M.seen b.now).state) }
 {
     if let Some(differ) = agree(p, a.memory(), a.holders(), b.memory(), b.holders()) {
         return Some(differ);
     }
-    if !same_words(a.said(), b.said(), seen) {
+    if !same_words(a.said(), b.said(), compared) {
         return Some(Differ::Output);
     }
     a.first_apart(b).map(Differ::Thread)
@@ -284,11 +284,11 @@ fn hits(stored: bool, s: &Source<'_>, w: &Watch) -> bool
 }
 
 /// Whether two lists are the same that begin with so many words of which that is known.
-fn same_words(left: &[u32], right: &[u32], seen: usize) -> bool
-    requires { HasSameFront seen left.now right.now }
+fn same_words(left: &[u32], right: &[u32], compared: usize) -> bool
+    requires { HasSameFront compared left.now right.now }
     ensures { IsTrue result ↔ (left.now ≡ right.now) }
 {
-    same_slice(&left[seen..], &right[seen..])
+    same_slice(&left[compared..], &right[compared..])
 }
 
 fn same_slice(left: &[u32], right: &[u32]) -> bool

@@ -1,6 +1,5 @@
 -- Words of private contracts: what the words ask for, as the code has it. To believe what `covern` promises, nothing here need be read.
 use Rattle.std.specs.Prelude.{◌≤◌, length}
-use Rattle.call_inputs.specs.Steps.{expression}
 use Rattle.cov_expr.specs.declared.limits.TheConstants.{MOST_EXPRESSION_BYTES, MOST_ROUNDS}
 use Rattle.top_call.specs.Commands.{Command, check, compile, fmt, migrate, run, run_code, run_until, pair, pair_code, big, nothing}
 use Rattle.top_call.specs.declared.commands.Asked.{Asked}

@@ -13,7 +13,7 @@
 //! What a command does stands in the crates below: `call_judge`, `call_text`, `call_run` and `call_code`, over what it takes (`call_inputs`) and
 //! what it answers (`call_reports`). There a command is a module with its step, and its plan and replies; here it is a row in each of `Command`,
 //! `command_of`, `plan_of` and `IsSuccess`, and of `Asked` and `carry_out` in `commands`. Definitions by
-//! command have no row for the rest, so that none is forgotten. `specs/Inside` has the words of private contracts, which no promise of `covern` cites.
+//! command have no row for the rest, so that none is forgotten; `HoldsSecure`, `PutsCode` and `RunsAccepted` speak of one command each, and what is promised of another is a clause of its own. `specs/Inside` has the words of private contracts, which no promise of `covern` cites.
 #![tactic(auto)]
 
 mod call;

@@ -1,10 +1,10 @@
-//! How many statements were checked, and how many entailments.
+//! How many statements and entailments a thread has.
 
-/// How much of a thread, or of a program, was checked.
+/// How much there is of a thread, or of a program.
 #[derive(Clone, Copy, Debug, PartialEq, Eq)]
 pub struct Count {
     /// Statements, those in others and notes included.
     pub statements: u64,
-    /// Entailments, each of which has a certificate.
+    /// Entailments, for each of which a valid certificate is asked.
     pub entailments: u64,
 }

@@ -21,11 +21,11 @@ difference_unless-requires-clause-equal g c =
 
 pub difference_unless-requires-clause-declared : goal.difference_unless-requires-clause-declared
 difference_unless-requires-clause-declared g c =
-    subst (λ q. AreDeclaredBy (g.M.Machine.law.declared q) c.args.p.now) (sym (c.step_both-kept.ensures.first.code ∙ c.loop-i.invariant.first.code)) c.requires.declared
+    subst (λ q. AreDeclaredBy (g.M.Machine.semantics.declared q) c.args.p.now) (sym (c.step_both-kept.ensures.first.code ∙ c.loop-i.invariant.first.code)) c.requires.declared
 
-pub difference_unless-requires-clause-seen : goal.difference_unless-requires-clause-seen
-difference_unless-requires-clause-seen g c =
-    front_grown c.loop-i.seen _ _ _ _ c.loop-i.invariant.seen c.step_both-kept.ensures.first.grows c.step_both-kept.ensures.second.grows
+pub difference_unless-requires-clause-compared : goal.difference_unless-requires-clause-compared
+difference_unless-requires-clause-compared g c =
+    front_grown c.loop-i.compared _ _ _ _ c.loop-i.invariant.compared c.step_both-kept.ensures.first.grows c.step_both-kept.ensures.second.grows
 
 pub difference_unless-requires-clause-known : goal.difference_unless-requires-clause-known
 difference_unless-requires-clause-known g c =
@@ -33,7 +33,7 @@ difference_unless-requires-clause-known g c =
     elim c.if-i-gt0.branch [
       | then-i-gt0 w ↦ λ known.
           c.step_both-kept.ensures.kept (sym w.difference_unless-is ∙ known) (plain (view.program c.args.p.now))
-          (agree_now machine.law (plain (view.program c.args.p.now)) (machine.seen c.args.a.now).code (machine.seen c.args.a.now).state (machine.seen c.args.b.now).state
+          (agree_now machine.semantics (plain (view.program c.args.p.now)) (machine.seen c.args.a.now).code (machine.seen c.args.a.now).state (machine.seen c.args.b.now).state
           c.args.schedule.now c.loop-i.i (machine.seen c.loop-i.a).state (machine.seen c.loop-i.b).state
           (omega (w.if-i-gt0.true, arith)) c.loop-i.invariant.before c.loop-i.invariant.first.state c.loop-i.invariant.second.state)
       | else-i-gt0 w ↦ λ known. absurd (true≢false (sym known ∙ w.difference_unless-is ∙ le-ltb 0 c.loop-i.i (omega (w.if-i-gt0.false, arith))))
@@ -44,7 +44,7 @@ returns-in-Some-clause-found g c =
     let machine = g.M.Machine in
     let first = has_run_more _ _ _ _ _ _ c.loop-i.invariant.first (machine.seen c.step_both-kept.new.a) (omega arith) c.step_both-kept.ensures.first in
     let second = has_run_more _ _ _ _ _ _ c.loop-i.invariant.second (machine.seen c.step_both-kept.new.b) (omega arith) c.step_both-kept.ensures.second in
-    first_apart machine.law (plain (view.program c.args.p.now)) (machine.seen c.args.a.now).code (machine.seen c.args.a.now).state (machine.seen c.args.b.now).state
+    first_apart machine.semantics (plain (view.program c.args.p.now)) (machine.seen c.args.a.now).code (machine.seen c.args.a.now).state (machine.seen c.args.b.now).state
     c.args.schedule.now c.loop-i.i (machine.seen c.step_both-kept.new.a).state (machine.seen c.step_both-kept.new.b).state
     c.in-Some.differ (omega arith) c.loop-i.invariant.before first.state second.state c.in-Some.ensures
 
@@ -74,13 +74,13 @@ loop-i-preserved g c =
     let first = has_run_more _ _ _ _ _ _ c.loop-i.invariant.first (machine.seen c.step_both-kept.new.a) (omega arith) c.step_both-kept.ensures.first in
     let second = has_run_more _ _ _ _ _ _ c.loop-i.invariant.second (machine.seen c.step_both-kept.new.b) (omega arith) c.step_both-kept.ensures.second in
     let agree = c.in_default.ensures in
-    let left = shared_in machine.law (machine.seen c.step_both-kept.new.a) in
-    let right = shared_in machine.law (machine.seen c.step_both-kept.new.b) in
+    let left = shared_in machine.semantics (machine.seen c.step_both-kept.new.a) in
+    let right = shared_in machine.semantics (machine.seen c.step_both-kept.new.b) in
     record {
       first = first;
       second = second;
-      seen = subst (λ xs. HasSameFront (length xs) left.outputs right.outputs) (sym c.said-seen.ensures) (front_all left.outputs right.outputs agree.outputs);
-      before = agree_more machine.law (plain (view.program c.args.p.now)) (machine.seen c.args.a.now).code (machine.seen c.args.a.now).state (machine.seen c.args.b.now).state
+      compared = subst (λ xs. HasSameFront (length xs) left.outputs right.outputs) (sym c.said-compared.ensures) (front_all left.outputs right.outputs agree.outputs);
+      before = agree_more machine.semantics (plain (view.program c.args.p.now)) (machine.seen c.args.a.now).code (machine.seen c.args.a.now).state (machine.seen c.args.b.now).state
           c.args.schedule.now c.loop-i.i (machine.seen c.step_both-kept.new.a).state (machine.seen c.step_both-kept.new.b).state
           c.loop-i.invariant.before first.state second.state agree;
     }

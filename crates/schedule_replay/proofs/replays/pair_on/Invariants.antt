@@ -10,8 +10,8 @@ invariant-loop-i g l =
     let machine = g.M.Machine in
     let code = (machine.seen l.fn.a).code in
     record {
-      first : HasRun machine.law code (machine.seen l.fn.a) (machine.seen l.a) l.schedule l.i;
-      second : HasRun machine.law code (machine.seen l.fn.b) (machine.seen l.b) l.schedule l.i;
-      seen : HasSameFront l.seen (shared_in machine.law (machine.seen l.a)).outputs (shared_in machine.law (machine.seen l.b)).outputs;
-      before : AgreedSoFar machine.law (plain (view.program l.p)) code (machine.seen l.fn.a).state (machine.seen l.fn.b).state l.schedule (l.i + 1);
+      first : HasRun machine.semantics code (machine.seen l.fn.a) (machine.seen l.a) l.schedule l.i;
+      second : HasRun machine.semantics code (machine.seen l.fn.b) (machine.seen l.b) l.schedule l.i;
+      compared : HasSameFront l.compared (shared_in machine.semantics (machine.seen l.a)).outputs (shared_in machine.semantics (machine.seen l.b)).outputs;
+      before : AgreedSoFar machine.semantics (plain (view.program l.p)) code (machine.seen l.fn.a).state (machine.seen l.fn.b).state l.schedule (l.i + 1);
     }

@@ -7,7 +7,7 @@ abbrev pub invariant-loop-t : goal.invariant-loop-t
 invariant-loop-t g l =
     let machine = g.M.Machine in
     record {
-      run : HasRun machine.law (machine.seen l.fn.m).code (machine.seen l.fn.m) (machine.seen l.m) l.schedule l.t-index;
-      stayed : l.stayed ≡ stayed_of machine.law (machine.seen l.fn.m).code (machine.seen l.fn.m).state (take l.t-index l.schedule);
+      run : HasRun machine.semantics (machine.seen l.fn.m).code (machine.seen l.fn.m) (machine.seen l.m) l.schedule l.t-index;
+      stayed : l.stayed ≡ stayed_of machine.semantics (machine.seen l.fn.m).code (machine.seen l.fn.m).state (take l.t-index l.schedule);
       few : l.stayed ≤ l.t-index;
     }
