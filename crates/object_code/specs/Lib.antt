@@ -1,0 +1,3 @@
+pub mod Object
+pub mod ObjectAnswers
+pub mod Inside

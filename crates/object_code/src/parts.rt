@@ -1,0 +1,130 @@
+//! Parts of an object: what is declared, threads and their lines, read from the front.
+
+ghost use Rattle.object_code.specs.Inside.Given.{Gives};
+ghost use Rattle.object_code.specs.Inside.ObjectReading as spec;
+
+use crate::field::{WORDS, byte_within, name_at, number_at, past};
+use crate::line::line_at;
+use crate::opcode::Declared;
+use crate::stop::Stop;
+use cov_expr::{List, Name};
+use risc_machine::{Line, Parts, ThreadCode};
+use std::alloc::Global;
+
+/// The parts at the front.
+#[tactic(auto, unfolding(crate::specs::Inside::ObjectReading::parts_at, crate::specs::Inside::ObjectReading::front_at))]
+pub fn parts_at(alloc: Global, bytes: &[u8]) -> Result<(Parts, &[u8]), Stop>
+    ensures { Gives (λ x. (x.0, x.1.now)) result (spec.parts_at bytes.now) }
+{
+    let (version, rest) = version_at(bytes)?;
+    let (vars, rest) = names_at(alloc, rest)?;
+    let (locks, rest) = names_at(alloc, rest)?;
+    let declared = Declared {
+        version,
+        vars: vars.len() as u32,
+        locks: locks.len() as u32,
+    };
+    let (threads, rest) = threads_at(alloc, declared, rest)?;
+    let parts = Parts {
+        version,
+        vars,
+        locks,
+        threads,
+    };
+    Ok((parts, rest))
+}
+
+#[tactic(auto, unfolding(crate::specs::Inside::ObjectReading::version_at, crate::specs::Inside::ObjectReading::magic_at))]
+fn version_at(bytes: &[u8]) -> Result<(u8, &[u8]), Stop>
+    ensures { Gives (λ x. (x.0, x.1.now)) result (spec.version_at bytes.now) }
+{
+    let (_, rest) = byte_within(b'C', b'C', bytes)?;
+    let (_, rest) = byte_within(b'O', b'O', rest)?;
+    let (_, rest) = byte_within(b'V', b'V', rest)?;
+    let (_, rest) = byte_within(b'O', b'O', rest)?;
+    let (version, rest) = byte_within(1, 2, rest)?;
+    Ok((version, rest))
+}
+
+/// How many names there are, and each of them.
+#[tactic(auto, unfolding(crate::specs::Inside::ObjectReading::names_at))]
+fn names_at(alloc: Global, bytes: &[u8]) -> Result<(List<Name>, &[u8]), Stop>
+    ensures { Gives (λ x. (x.0, x.1.now)) result (spec.names_at bytes.now) }
+{
+    let (count, rest) = number_at(WORDS, bytes)?;
+    let (names, rest) = many_names_at(alloc, count, rest)?;
+    Ok((names, rest))
+}
+
+fn many_names_at(alloc: Global, count: u32, bytes: &[u8]) -> Result<(List<Name>, &[u8]), Stop>
+    ensures { Gives (λ x. (x.0, x.1.now)) result (spec.many_at spec.name_at count bytes.now) }
+{
+    let mut names = List::new(alloc);
+    let mut rest = bytes;
+    for _ in 0..count {
+        let (name, taken) = name_at(rest)?;
+        names.push(name)?;
+        rest = past(rest, taken);
+    }
+    Ok((names, rest))
+}
+
+/// How many threads there are, and each of them.
+#[tactic(auto, unfolding(crate::specs::Inside::ObjectReading::threads_at))]
+fn threads_at(
+    alloc: Global,
+    declared: Declared,
+    bytes: &[u8],
+) -> Result<(List<ThreadCode>, &[u8]), Stop>
+    ensures { Gives (λ x. (x.0, x.1.now)) result (spec.threads_at declared bytes.now) }
+{
+    let (count, rest) = number_at(WORDS, bytes)?;
+    let (threads, rest) = many_threads_at(alloc, declared, count, rest)?;
+    Ok((threads, rest))
+}
+
+fn many_threads_at(
+    alloc: Global,
+    declared: Declared,
+    count: u32,
+    bytes: &[u8],
+) -> Result<(List<ThreadCode>, &[u8]), Stop>
+    ensures { Gives (λ x. (x.0, x.1.now)) result (spec.many_at (spec.thread_at declared) count bytes.now) }
+{
+    let mut threads = List::new(alloc);
+    let mut rest = bytes;
+    for _ in 0..count {
+        let (thread, after) = thread_at(alloc, declared, rest)?;
+        threads.push(thread)?;
+        rest = after;
+    }
+    Ok((threads, rest))
+}
+
+#[tactic(auto, unfolding(crate::specs::Inside::ObjectReading::thread_at, crate::specs::Inside::ObjectReading::thread_head_at))]
+fn thread_at(alloc: Global, declared: Declared, bytes: &[u8]) -> Result<(ThreadCode, &[u8]), Stop>
+    ensures { Gives (λ x. (x.0, x.1.now)) result (spec.thread_at declared bytes.now) }
+{
+    let (name, taken) = name_at(bytes)?;
+    let (count, rest) = number_at(WORDS, past(bytes, taken))?;
+    let (lines, rest) = lines_at(alloc, declared, count, rest)?;
+    Ok((ThreadCode { name, lines }, rest))
+}
+
+fn lines_at(
+    alloc: Global,
+    declared: Declared,
+    count: u32,
+    bytes: &[u8],
+) -> Result<(List<Line>, &[u8]), Stop>
+    ensures { Gives (λ x. (x.0, x.1.now)) result (spec.many_at (spec.line_at declared) count bytes.now) }
+{
+    let mut lines = List::new(alloc);
+    let mut rest = bytes;
+    for _ in 0..count {
+        let (line, after) = line_at(declared, rest)?;
+        lines.push(line)?;
+        rest = after;
+    }
+    Ok((lines, rest))
+}
