@@ -1,1 +1,2 @@
 pub mod Memories
+mod TrialWordExamples
