@@ -1,35 +1,38 @@
--- Laws of `big`: four runs of an accepted program and of its code from fit starts never differ, and there is one reply.
+-- Laws of `big`: its starts are those of the text, and two runs of an accepted program from fit starts never differ.
 use Rattle.std.specs.Prelude.{MatchOption, codes}
 use Rattle.std.specs.Str.{bytes_eq}
-use Rattle.std.proofs.Common.{◌≡◌, ◌<◌, ◌^◌, ℕ, List, [], ◌∷◌, Bool, true, false, is_some, cond, Option, Some, None, refl, sym, ap, ◌∙◌, subst, length, map, arith}
+use Rattle.std.proofs.Common.{◌≡◌, ◌<◌, ◌^◌, ℕ, List, [], ◌∷◌, Bool, true, false, is_some, cond, Option, Some, None, Result, refl, sym, ap, ◌∙◌, subst, length, map, arith}
 use Rattle.std.proofs.lemmas.List.{length-map}
 use Rattle.cov_ast.specs.Plain.{plain, plain_thread}
 use Rattle.cov_ast.specs.Syntax.{Parsed, Program, Var}
 use Rattle.cov_ast.specs.View as view
 use Rattle.cov_ast.specs.declared.decl.Program as d
 use Rattle.cov_ast.specs.declared.decl.VarDecl.{VarDecl}
-use Rattle.cov_ast.specs.declared.parsed.Parsed as read
 use Rattle.cov_expr.specs.Words.{AreWords, IsMemory, IsSchedule, IsWord}
-use Rattle.flow_model.proofs.Decided.{none_is_fit}
 use Rattle.flow_model.specs.Agreement.{AreFitStarts}
 use Rattle.flow_model.specs.FirstDifference.{first_bad_start}
 use Rattle.flow_model.specs.Secure.{IsSecure}
 use Rattle.flow_model.specs.Source.{Run, begin}
-use Rattle.flow_model.specs.declared.start.BadStart.{BadStart}
-use Rattle.policy_class.specs.Resolved.{lock_id, resolved, resolved_thread, resolved_variable, var_id}
+use Rattle.policy_class.specs.Resolved.{lock_id, resolved, resolved_variable, var_id}
 use Rattle.risc_machine.specs.declared.parts.Parts.{Parts}
 use Rattle.schedule_replay.specs.Replays.{AgreeThroughout, IsFirstStepApart}
 use Rattle.schedule_replay.specs.declared.replays.Found.{Found}
-use Rattle.call_code.specs.BigReplies.{AllRunTogether, RunsAll, SumsUp, start_with}
-use Rattle.call_judge.specs.Check.{IsAcceptedText}
+use Rattle.call_code.specs.BigReplies.{AllRunTogether, SumsUp, start_with, starts_with_secrets}
 use Rattle.call_code.specs.Codes.{code_of}
-use Rattle.call_judge.specs.Meaning.{meaning}
-use Rattle.call_reports.specs.Differences.{UnlessUnfit}
-use Rattle.call_reports.specs.Replies.{Reply, status_of}
-use Rattle.call_reports.specs.declared.answers.Status.TheVariants as s
-use Rattle.call_code.proofs.CodeLaws.{by_code_agrees, by_code_sound}
-use Rattle.call_judge.proofs.ApartLaws.{no_bad_start, secure_not_apart}
+use Rattle.call_code.specs.Inside.{IsOfText}
+use Rattle.call_code.specs.declared.codes.Coded.{Coded}
 use Rattle.call_inputs.proofs.PlanLaws.{IsSoundReply}
+use Rattle.call_inputs.specs.Inputs.{PairInput}
+use Rattle.call_inputs.specs.Rejections.{UnlessRejected}
+use Rattle.call_judge.proofs.ApartLaws.{secure_not_apart}
+use Rattle.call_judge.specs.Check.{rejection}
+use Rattle.call_judge.specs.Starts.{unfit_by, unfit_starts}
+use Rattle.call_reports.specs.AnswerViews.{Gets}
+use Rattle.call_reports.specs.Replies.{Reply, status_of}
+use Rattle.call_reports.specs.declared.answers.Answer.{Answer}
+use Rattle.call_reports.specs.declared.answers.Status.TheVariants as s
+use Rattle.call_reports.specs.declared.answers.Stop.{Stop}
+use Rattle.call_code.proofs.CodeLaws.{by_code}
 
 -- Starts -------------------------------------------------------------------------------------------------------
 
@@ -48,17 +51,23 @@ start_is_memory word small vars = record {
   words = start_words word small (map view.var vars);
 }
 
--- a program has as many variables and threads as the text that it stands for
-module _ (parsed : read.Parsed) (program : d.Program) (is : view.program program ≡ resolved (view.parsed parsed)) where
-  pub as_many_variables : length program.vars ≡ length parsed.vars
-  as_many_variables =
-      sym (length-map program.vars view.var) ∙ ap (λ (q : Program). length q.vars) is
-      ∙ length-map (map view.var parsed.vars) (resolved_variable (var_id (view.parsed parsed)) (lock_id (view.parsed parsed))) ∙ length-map parsed.vars view.var
+-- a program has the starts of the text that it stands for
+same_starts : (word : ℕ) (p : Parsed) (vars : List Var) → start_with word (map (resolved_variable (var_id p) (lock_id p)) vars) ≡ start_with word vars
+same_starts word p [] = refl
+same_starts word p (v ∷ vs) = ap (λ ws. cond (bytes_eq v.name (codes "k")) word 0 ∷ ws) (same_starts word p vs)
 
-  pub as_many_threads : length program.threads ≡ length parsed.threads
-  as_many_threads =
-      sym (length-map program.threads view.thread) ∙ ap (λ (q : Program). length q.threads) is
-      ∙ length-map (map view.thread parsed.threads) (resolved_thread (var_id (view.parsed parsed)) (lock_id (view.parsed parsed))) ∙ length-map parsed.threads view.thread
+-- what the runs of a program from these starts, and of a code, are answered
+abbrev pub SumsUpProgram : (rounds : ℕ) (schedule : List ℕ) → Program → Parts → (left right : List ℕ) → Reply → Type 0
+SumsUpProgram rounds schedule q c left right =
+    UnlessRejected (unfit_by q (first_bad_start (plain q) left right)) (AllRunTogether rounds q c left right schedule)
+
+pub big_by_code : (rounds : ℕ) (schedule : List ℕ) (p : Parsed) (coded : Coded) → IsOfText p coded → (r : Result Answer Stop)
+    → Gets (SumsUpProgram rounds schedule (view.program coded.program) coded.code (start_with 1 (view.program coded.program).vars) (start_with 2 (view.program coded.program).vars)) r
+    → Gets (UnlessRejected (rejection p) (UnlessRejected (unfit_starts p (start_with 1 p.vars) (start_with 2 p.vars)) (SumsUp rounds (starts_with_secrets p schedule)))) r
+big_by_code rounds schedule p coded of r h =
+    subst (λ m. Gets (UnlessRejected (rejection p) (SumsUpProgram rounds schedule (resolved p) (code_of p) (start_with 1 p.vars) m)) r) (same_starts 2 p p.vars)
+    (subst (λ m. Gets (UnlessRejected (rejection p) (SumsUpProgram rounds schedule (resolved p) (code_of p) m (start_with 2 (resolved p).vars))) r) (same_starts 1 p p.vars)
+    (by_code p coded of (λ q c. SumsUpProgram rounds schedule q c (start_with 1 q.vars) (start_with 2 q.vars)) r h))
 
 -- Four runs ----------------------------------------------------------------------------------------------------
 
@@ -79,38 +88,5 @@ runs_not_apart p r q left right schedule (Some f) first second secure l k fit th
 
 -- Replies ------------------------------------------------------------------------------------------------------
 
-module _ (rounds : ℕ) (p : Program) (c : Parts) (left right schedule : List ℕ) where
-  all_one : (o : Option BadStart) (reply other : Reply) → UnlessUnfit p o (AllRunTogether rounds p c left right schedule) reply
-      → UnlessUnfit p o (AllRunTogether rounds p c left right schedule) other → reply ≡ other
-  all_one (Some found) reply other h k = h ∙ sym k
-  all_one None reply other h k = h.is ∙ sym k.is
-
-  all_no_fault : (o : Option BadStart) (reply : Reply) → UnlessUnfit p o (AllRunTogether rounds p c left right schedule) reply
-      → status_of reply ≡ s.ReadFault → ⊥
-  all_no_fault (Some found) reply h e = let wrong : s.BadStarts ≡ s.ReadFault = sym (ap status_of h) ∙ e in cc
-  all_no_fault None reply h e = let wrong : s.Done ≡ s.ReadFault = sym (ap status_of h.is) ∙ e in cc
-
-  all_done : (o : Option BadStart) (reply : Reply) → o ≡ None → UnlessUnfit p o (AllRunTogether rounds p c left right schedule) reply
-      → status_of reply ≡ s.Done
-  all_done (Some found) reply e h = let wrong : Some found ≡ None = e in cc
-  all_done None reply e h = ap status_of h.is
-
-  all_agree : (o : Option BadStart) (reply : Reply) → UnlessUnfit p o (AllRunTogether rounds p c left right schedule) reply
-      → status_of reply ≡ s.Differ → ⊥
-  all_agree (Some found) reply h e = let wrong : s.BadStarts ≡ s.Differ = sym (ap status_of h) ∙ e in cc
-  all_agree None reply h e = let wrong : s.Done ≡ s.Differ = sym (ap status_of h.is) ∙ e in cc
-
-module _ (rounds : ℕ) (p : Parsed) (left right schedule : List ℕ) where
-  pub sum_sound : IsSoundReply (λ status. status ≡ s.Done) (IsAcceptedText p × AreFitStarts (meaning p) left right) (SumsUp rounds p left right schedule)
-  sum_sound =
-      by_code_sound p (IsAcceptedText p × AreFitStarts (meaning p) left right) (RunsAll rounds (resolved p) (code_of p) left right schedule) (record {
-        one = all_one rounds (resolved p) (code_of p) left right schedule (first_bad_start (meaning p) left right);
-        no_fault = all_no_fault rounds (resolved p) (code_of p) left right schedule (first_bad_start (meaning p) left right);
-        done = λ reply asked h. all_done rounds (resolved p) (code_of p) left right schedule (first_bad_start (meaning p) left right) reply
-            (no_bad_start (first_bad_start (meaning p) left right) ((none_is_fit (meaning p) left right _ refl).1 asked.1)) h;
-      }) (λ asked. asked.0)
-
-  pub sum_agrees : (reply : Reply) → SumsUp rounds p left right schedule reply → status_of reply ≡ s.Differ → ⊥
-  sum_agrees =
-      by_code_agrees p (RunsAll rounds (resolved p) (code_of p) left right schedule)
-      (all_agree rounds (resolved p) (code_of p) left right schedule (first_bad_start (meaning p) left right))
+pub sum_sound : (rounds : ℕ) (i : PairInput) → IsSoundReply (λ status. status ≡ s.Done) (SumsUp rounds i)
+sum_sound rounds i = record { one = λ reply other h k. h.is ∙ sym k.is; success = λ reply h. ap status_of h.is }

@@ -1,21 +1,17 @@
 -- `compile`, `run-code` and `pair-code`: what is replied to a program by its code.
-use Rattle.std.specs.Prelude.{◌≡◌, ℕ, List, length, replicate, Option, Some, None}
-use Rattle.call_inputs.specs.Plans.{Plan, replies}
+use Rattle.std.specs.Prelude.{◌≡◌, ℕ, List, length, replicate}
+use Rattle.call_inputs.specs.Inputs.{PairInput, RunInput}
+use Rattle.call_inputs.specs.Plans.{Plan, does}
+use Rattle.call_inputs.specs.Readings.{Reading, gives, then_read, tries}
 use Rattle.call_inputs.specs.Steps as step
-use Rattle.call_judge.specs.Check.{IsAcceptedText, obligations, thread_name}
-use Rattle.call_judge.specs.Meaning.{meaning}
+use Rattle.call_judge.specs.Check.{accepted_program, rejection}
+use Rattle.call_judge.specs.Starts.{unfit_starts}
 use Rattle.call_reports.specs.CodeReports.{code_pair_report, code_report}
-use Rattle.call_reports.specs.Differences.{UnlessUnfit}
-use Rattle.call_reports.specs.Replies.{Reply, ran, refused, spelled}
+use Rattle.call_reports.specs.Replies.{Reply, ran, spelled}
 use Rattle.code_text.specs.Listing.{IsListed, listing}
 use Rattle.compiled_code.specs.Compiled.{compiled}
-use Rattle.compiled_code.specs.GoodCode.{IsGoodCode}
-use Rattle.cov_ast.specs.Obligations.{first_false}
 use Rattle.cov_ast.specs.Plain.{plain}
 use Rattle.cov_ast.specs.Syntax.{Parsed, Program}
-use Rattle.cov_ast.specs.declared.refusal.Refusal.{Refusal}
-use Rattle.flow_model.specs.Agreement.{AreFitStarts}
-use Rattle.flow_model.specs.FirstDifference.{first_bad_start}
 use Rattle.policy_class.specs.Resolved.{resolved}
 use Rattle.risc_machine.specs.Faults.{AreGood}
 use Rattle.risc_machine.specs.Machine.{CodeState, code_after, code_begin, code_stayed_from}
@@ -26,16 +22,6 @@ use Rattle.schedule_replay.specs.CodeReplays.{CodeAgreesThroughout}
 abbrev pub code_of : Parsed → Parts
 code_of p = compiled (resolved p)
 
--- The reply is the refusal of the first obligation that doesn't hold, or where all do, it is such a one.
-abbrev pub UnlessRejected : Parsed → Option Refusal → (may_reply : Reply → Type 0) → Reply → Type 0
-UnlessRejected p (Some refusal) may_reply reply = reply ≡ refused refusal (thread_name p refusal.thread)
-UnlessRejected p None may_reply reply = may_reply reply
-
--- The reply by the code of what a text spells, which is refused as it is by a check. The code of what is accepted is good.
-pub record RepliesByCode (p : Parsed) (may_reply : Reply → Type 0) (reply : Reply) : Type 0 where
-  pub verdict : UnlessRejected p (first_false (obligations p)) may_reply reply
-  pub good : IsAcceptedText p → IsGoodCode (resolved p) (code_of p)
-
 -- The listing -------------------------------------------------------------------------------------------------
 
 -- The reply is the listing of parts that are code, so that it can be read back.
@@ -44,8 +30,9 @@ pub record RepliesListing (c : Parts) (reply : Reply) : Type 0 where
   pub listed : IsListed c
   pub is : reply ≡ spelled (listing c)
 
+-- the reply to a text that is accepted
 abbrev pub Compiles : Parsed → Reply → Type 0
-Compiles p reply = RepliesByCode p (RepliesListing (code_of p)) reply
+Compiles p reply = RepliesListing (code_of p) reply
 
 -- Runs --------------------------------------------------------------------------------------------------------
 
@@ -66,8 +53,9 @@ abbrev pub report_on_code : Program → Parts → (memory schedule : List ℕ) �
 report_on_code p c memory schedule =
     code_report p c (length schedule) (code_stayed_from c (code_start c memory) schedule) (code_end c memory schedule)
 
-abbrev pub RunsCode : Parsed → (memory schedule : List ℕ) → Reply → Type 0
-RunsCode p memory schedule reply = RepliesByCode p (λ r. r ≡ ran (report_on_code (resolved p) (code_of p) memory schedule)) reply
+-- the reply to a run of the code of a program that is accepted
+abbrev pub RunsCode : RunInput → Reply → Type 0
+RunsCode i reply = reply ≡ ran (report_on_code (resolved i.program) (code_of i.program) i.memory i.schedule)
 
 -- Two runs ----------------------------------------------------------------------------------------------------
 
@@ -76,27 +64,28 @@ pub record CodeRunsTogether (p : Program) (c : Parts) (left right schedule : Lis
   pub agree : CodeAgreesThroughout (plain p) c (code_start c left) (code_start c right) schedule
   pub is : reply ≡ ran (code_pair_report p c (length schedule) (code_end c left schedule) (code_end c right schedule))
 
--- the reply to two runs of the code of a program
-abbrev pub RunsBothCodes : Program → Parts → (left right schedule : List ℕ) → Reply → Type 0
-RunsBothCodes p c left right schedule reply = UnlessUnfit p (first_bad_start (plain p) left right) (CodeRunsTogether p c left right schedule) reply
-
--- They never differ.
-abbrev pub PairsCode : Parsed → (left right schedule : List ℕ) → Reply → Type 0
-PairsCode p left right schedule reply = RepliesByCode p (RunsBothCodes (resolved p) (code_of p) left right schedule) reply
+-- the reply to two runs of the code of a program that is accepted, from fit starts: they never differ
+abbrev pub PairsCode : PairInput → Reply → Type 0
+PairsCode i reply = CodeRunsTogether (resolved i.program) (code_of i.program) i.left i.right i.schedule reply
 
 -- Plans -------------------------------------------------------------------------------------------------------
 
+-- what a run takes, if its program is accepted
+abbrev pub accepted_run : RunInput → Reading RunInput
+accepted_run i = tries (rejection i.program) (gives i)
+
+-- what two runs take, if their program is accepted, and their starts are fit
+abbrev pub accepted_pair : PairInput → Reading PairInput
+accepted_pair i = tries (rejection i.program) (tries (unfit_starts i.program i.left i.right) (gives i))
+
 -- what `compile` does
 abbrev pub compile_plan : (name : List ℕ) → Plan
-compile_plan name = step.program name (λ p. replies (IsAcceptedText p) (Compiles p))
+compile_plan name = does (accepted_program name) Compiles
 
 -- what `run-code` does
 abbrev pub run_code_plan : (name start schedule : List ℕ) → Plan
-run_code_plan name start schedule =
-    step.program name (λ p. step.memory p start (λ m. step.entries p schedule (λ k. replies (IsAcceptedText p) (RunsCode p m k))))
+run_code_plan name start schedule = does (then_read (step.run_input name start schedule) accepted_run) RunsCode
 
 -- what `pair-code` does
 abbrev pub pair_code_plan : (name first second schedule : List ℕ) → Plan
-pair_code_plan name first second schedule =
-    step.program name (λ p. step.memory p first (λ l. step.memory p second (λ r. step.entries p schedule (λ k.
-    replies (IsAcceptedText p × AreFitStarts (meaning p) l r) (PairsCode p l r k)))))
+pair_code_plan name first second schedule = does (then_read (step.pair_input name first second schedule) accepted_pair) PairsCode

@@ -1,42 +1,52 @@
 -- Words of private contracts: what steps of the code give. To believe what `covern` promises, nothing here need be read.
-use Rattle.std.specs.Prelude.{◌≡◌, Some, None, Result, Ok, Err}
-use Rattle.call_judge.specs.Check.{name_in}
-use Rattle.call_reports.specs.AnswerViews.{Stops, seen}
-use Rattle.call_reports.specs.Replies.{Reply, refused}
-use Rattle.call_reports.specs.declared.answers.Answer.{Answer}
-use Rattle.call_reports.specs.declared.answers.Stop.{Stop}
+use Rattle.std.specs.Prelude.{◌≡◌, ◌≤◌, ℕ, List, length, Option, Some, None}
+use Rattle.call_inputs.specs.Rejections.{Rejection, rejected}
+use Rattle.call_judge.specs.Check.{rejection}
+use Rattle.call_reports.specs.Replies.{Reply, accepted}
+use Rattle.call_reports.specs.declared.answers.Totals.{Totals}
 use Rattle.compiled_code.specs.Compiled.{compiled}
 use Rattle.compiled_code.specs.GoodCode.{IsGoodCode}
-use Rattle.cov_ast.specs.Obligations.{first_false}
-use Rattle.cov_ast.specs.Syntax.{Parsed, Program}
+use Rattle.cov_ast.specs.Plain.{plain}
+use Rattle.cov_ast.specs.Syntax.{Parsed}
+use Rattle.cov_ast.specs.View as view
 use Rattle.cov_ast.specs.WellFormed.{IsWellFormed}
-use Rattle.cov_ast.specs.declared.refusal.Refusal.{Refusal}
-use Rattle.policy_class.specs.Resolved.{name_obligations, resolved}
+use Rattle.cov_ast.specs.declared.decl.Program.{Program}
+use Rattle.cov_expr.specs.Words.{IsMemory, IsSchedule}
+use Rattle.cov_expr.specs.declared.limits.TheConstants.{MOST_ENTRIES}
+use Rattle.flow_model.specs.Secure.{IsSecure}
+use Rattle.policy_class.specs.Resolved.{resolved}
 use Rattle.risc_machine.specs.declared.parts.Parts.{Parts}
-use Rattle.verify.specs.Accepted.{IsAccepted, program_obligations}
+use Rattle.schedule_replay.specs.CodeReplays.{DeclaresAsMany}
+use Rattle.verify.specs.Accepted.{IsAccepted}
+use Rattle.call_code.specs.Summaries.{accepted_reply}
+use Rattle.call_code.specs.declared.codes.Coded.{Coded}
 
--- The program that a text stands for, whose names are in order.
-pub record IsNamed (p : Parsed) (program : Program) : Type 0 where
-  pub is : program ≡ resolved p
-  pub formed : IsWellFormed program
-  pub held : first_false (name_obligations p) ≡ None
+-- The reply is that of a rejection, which there is.
+abbrev pub Rejects : Option Rejection → Reply → Type 0
+Rejects o reply = (q : Rejection) × (o ≡ Some q) × (reply ≡ rejected q)
 
--- the refusal of the first obligation of names that doesn't hold
-abbrev pub IsNameRefusal : Parsed → Reply → Type 0
-IsNameRefusal p reply = (refusal : Refusal) × (first_false (name_obligations p) ≡ Some refusal) × (reply ≡ refused refusal None)
+-- The code of a program that is accepted, and how much was checked of it.
+pub record IsCodeOf (p : Program) (c : Parts) (totals : Totals) : Type 0 where
+  pub is : c ≡ compiled (view.program p)
+  pub declared : DeclaresAsMany c p
+  pub holds : IsAccepted (view.program p)
+  pub secure : IsSecure (plain (view.program p))
+  pub good : IsGoodCode (view.program p) c
+  pub counted : accepted totals.threads totals.statements totals.entailments ≡ accepted_reply (view.program p)
 
--- the refusal of the first obligation of a program that doesn't hold
-abbrev pub IsRejection : Program → Reply → Type 0
-IsRejection program reply =
-    (refusal : Refusal) × (first_false (program_obligations program) ≡ Some refusal) × (reply ≡ refused refusal (name_in program.threads refusal.thread))
+-- A program that is accepted, with its code.
+pub record IsAcceptedCode (coded : Coded) : Type 0 where
+  pub formed : IsWellFormed (view.program coded.program)
+  pub code : IsCodeOf coded.program coded.code coded.totals
 
--- The code of a program that is accepted, which is good.
-pub record IsCodeOf (program : Program) (c : Parts) : Type 0 where
-  pub is : c ≡ compiled program
-  pub accepted : IsAccepted program
-  pub good : IsGoodCode program c
+-- It is the program that a text stands for, which isn't rejected.
+pub record IsOfText (p : Parsed) (coded : Coded) : Type 0 where
+  pub is : view.program coded.program ≡ resolved p
+  pub accepted : rejection p ≡ None
+  pub good : IsAcceptedCode coded
 
--- What is answered to a program whose names are in order: it is rejected, or accepted, and then such a reply is given by its code.
-abbrev pub AnswersByCode : Program → (may_reply : Program → Parts → Reply → Type 0) → Result Answer Stop → Type 0
-AnswersByCode program may_reply (Ok answer) = (c : Parts) × IsCodeOf program c × may_reply program c (seen answer)
-AnswersByCode program may_reply (Err stop) = Stops (IsRejection program) stop
+-- A memory and a schedule are of a program.
+pub record IsRunOf (p : Program) (memory schedule : List ℕ) : Type 0 where
+  pub fits : IsMemory (length p.vars) memory
+  pub threads : IsSchedule (length p.threads) schedule
+  pub few : length schedule ≤ MOST_ENTRIES

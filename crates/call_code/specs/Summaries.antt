@@ -4,14 +4,17 @@ use Rattle.cov_ast.specs.Syntax.{Program}
 use Rattle.flow_model.specs.Source.{Run}
 use Rattle.risc_machine.specs.Machine.{CodeState}
 use Rattle.verify.specs.Verdicts.{counts}
-use Rattle.call_reports.specs.Replies.{accepted}
+use Rattle.call_reports.specs.Replies.{Reply, accepted}
 use Rattle.call_reports.specs.Reports.{report_of}
 use Rattle.call_reports.specs.RunReports.{lines_from, number_line, pair_line}
 
+-- what a check replies to a program that it accepts
+abbrev pub accepted_reply : Program → Reply
+accepted_reply p = accepted (length p.threads) (counts p).statements (counts p).entailments
+
 -- the number of rounds, and the line of a check that accepts the program
-abbrev pub head : (rounds : ℕ) → Program → List ℕ
-head rounds p =
-    number_line (codes "big ") rounds ++ report_of (accepted (length p.threads) (counts p).statements (counts p).entailments)
+abbrev pub head : (rounds : ℕ) → (line : Reply) → List ℕ
+head rounds line = number_line (codes "big ") rounds ++ report_of line
 
 -- the line that two runs agree after each of so many steps
 abbrev pub agreement : (which : List ℕ) → (steps : ℕ) → List ℕ

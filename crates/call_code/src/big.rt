@@ -1,45 +1,43 @@
 //! `big`: a made program of so many rounds, run four times under a schedule, twice as a program and twice as code.
 
 ghost use Rattle.std.specs.Prelude.{◌≡◌, ◌++◌, ◌≤◌, IfOk, MatchResult, OnOk, codes, length, map};
-ghost use Rattle.compiled_code.specs.SecureCode.{IsSecureCode};
+ghost use Rattle.call_code.specs.BigReplies as spec;
+ghost use Rattle.call_code.specs.Codes.{code_start};
+ghost use Rattle.call_code.specs.Inside.{IsAcceptedCode, IsRunOf};
+ghost use Rattle.call_inputs.specs.Plans.{CarriesOut};
+ghost use Rattle.call_inputs.specs.Programs.{IsShownFault, SpellsProgram};
+ghost use Rattle.call_inputs.specs.Rejections.{UnlessRejected};
+ghost use Rattle.call_judge.specs.Check.{rejection};
+ghost use Rattle.call_judge.specs.Starts.{unfit_by, unfit_starts};
+ghost use Rattle.call_reports.specs.AnswerViews.{Gets, Stops};
+ghost use Rattle.call_reports.specs.Replies as replies;
+ghost use Rattle.call_reports.specs.declared.answers.Fault.{Fault};
 ghost use Rattle.cov_ast.specs.Plain.{plain};
 ghost use Rattle.cov_ast.specs.Ready.{IsReady};
 ghost use Rattle.cov_ast.specs.View as view;
 ghost use Rattle.cov_ast.specs.WellFormed.{IsWellFormed};
-ghost use Rattle.cov_expr.specs.Words.{IsMemory, IsSchedule};
-ghost use Rattle.cov_gen.specs.Big as gen;
+ghost use Rattle.cov_expr.specs.Words.{IsSchedule};
 ghost use Rattle.cov_expr.specs.declared.limits.TheConstants.{MOST_ENTRIES, MOST_ROUNDS};
+ghost use Rattle.cov_gen.specs.Big as gen;
 ghost use Rattle.flow_model.specs.Agreement.{AreFitStarts};
-ghost use Rattle.flow_model.specs.Secure.{IsSecure};
+ghost use Rattle.flow_model.specs.FirstDifference.{first_bad_start};
 ghost use Rattle.flow_model.specs.Source.{begin, stayed};
-ghost use Rattle.schedule_replay.specs.CodeReplays.{CodeAgreesThroughout, DeclaresAsMany};
+ghost use Rattle.schedule_replay.specs.CodeReplays.{CodeAgreesThroughout};
 ghost use Rattle.schedule_replay.specs.Replays.{AgreeThroughout};
 ghost use Rattle.source_machine.specs.SourceMachine.{run_of};
-ghost use Rattle.call_code.specs.BigReplies as spec;
-ghost use Rattle.call_code.specs.Codes.{code_start};
-ghost use Rattle.call_reports.specs.AnswerViews.{Gets, Stops, seen};
-ghost use Rattle.call_code.specs.Inside.{AnswersByCode};
-ghost use Rattle.call_inputs.specs.Carried.{CarriesOut};
-ghost use Rattle.call_code.specs.BigReplies.{big_plan};
-ghost use Rattle.call_inputs.specs.Programs.{IsShownFault, SpellsProgram};
-ghost use Rattle.call_reports.specs.Replies as replies;
-ghost use Rattle.call_reports.specs.declared.answers.Fault.{Fault};
 
-use crate::codes::{named, start, verdict_on};
+use crate::codes::{Coded, check_starts, coded_text, start};
 use crate::summaries::{add_code_part, add_head, add_source_part};
 use call_inputs::{read_entries, read_text};
-use call_reports::{Answer, Stop, bad_name};
+use call_reports::{Answer, Stop};
 use cov_ast::{Parsed, Program, VarDecl};
 use cov_expr::{Blob, List, NoMemory};
 use cov_gen::{SECRET, big as big_text};
 use cov_io::Shelf;
-use flow_model::starts;
-use risc_compile::compile;
 use risc_machine::{Code, Risc};
 use schedule_replay::{pair, pair_code, run};
 use source_machine::Source;
 use std::alloc::Global;
-use verify::Verdict;
 
 /// Two memories to start from.
 #[derive(Drop)]
@@ -56,7 +54,7 @@ pub fn big<'w, S: Shelf>(
     shelf: &mut S,
 ) -> Result<Answer<'w>, Stop<'w>>
     requires { (1 ≤ rounds) × (rounds ≤ MOST_ROUNDS) }
-    ensures { CarriesOut (S.shelved shelf.old) (S.shelved shelf.new) (big_plan rounds schedule.now) result }
+    ensures { CarriesOut (S.shelved shelf.old) (S.shelved shelf.new) (spec.big_plan rounds schedule.now) result }
 {
     let parsed = read_made(alloc, rounds)?;
     let entries = read_entries(alloc, schedule, &parsed, shelf)?;
@@ -84,11 +82,28 @@ fn sum_up_text<'w>(
     requires ready { IsReady (view.parsed parsed) }
     requires threads { IsSchedule (length parsed.threads) schedule.now }
     requires entries { length schedule.now ≤ MOST_ENTRIES }
-    ensures { let p = view.parsed parsed in Gets (spec.SumsUp rounds p (spec.first_start p) (spec.second_start p) schedule.now) result }
+    ensures { let p = view.parsed parsed in let i = spec.starts_with_secrets p schedule.now in
+        Gets (UnlessRejected (rejection p) (UnlessRejected (unfit_starts p i.left i.right) (spec.SumsUp rounds i))) result }
 {
-    let memories = both_starts(alloc, parsed.vars.as_slice())?;
-    let program = named(alloc, parsed)?;
-    sum_up_named(alloc, rounds, &program, &memories, schedule)
+    let coded = coded_text(alloc, parsed)?;
+    sum_up(alloc, rounds, &coded, schedule)
+}
+
+/// Sums up the runs of an accepted program, and of its code, from the two starts that differ in its secret.
+fn sum_up<'w>(
+    alloc: Global,
+    rounds: u32,
+    coded: &Coded,
+    schedule: &[u32],
+) -> Result<Answer<'w>, Stop<'w>>
+    requires coded { IsAcceptedCode coded.now }
+    requires threads { IsSchedule (length coded.now.program.threads) schedule.now }
+    requires entries { length schedule.now ≤ MOST_ENTRIES }
+    ensures { let p = view.program coded.now.program in let l = spec.start_with 1 p.vars in let r = spec.start_with 2 p.vars in
+        Gets (UnlessRejected (unfit_by p (first_bad_start (plain p) l r)) (spec.AllRunTogether rounds p coded.now.code l r schedule.now)) result }
+{
+    let memories = both_starts(alloc, coded.program.vars.as_slice())?;
+    sum_up_from(alloc, rounds, coded, &memories, schedule)
 }
 
 /// The two starts, which differ in the secret alone.
@@ -99,27 +114,6 @@ fn both_starts(alloc: Global, vars: &[VarDecl]) -> Result<Memories, NoMemory>
     let left = start_with(alloc, vars, 1)?;
     let right = start_with(alloc, vars, 2)?;
     Ok(Memories { left, right })
-}
-
-/// Sums up the runs of a program whose names are in order, and of its code.
-fn sum_up_named<'w>(
-    alloc: Global,
-    rounds: u32,
-    program: &Program,
-    memories: &Memories,
-    schedule: &[u32],
-) -> Result<Answer<'w>, Stop<'w>>
-    requires formed { IsWellFormed (view.program program.now) }
-    requires left { IsMemory (length program.now.vars) memories.now.left }
-    requires right { IsMemory (length program.now.vars) memories.now.right }
-    requires threads { IsSchedule (length program.now.threads) schedule.now }
-    requires entries { length schedule.now ≤ MOST_ENTRIES }
-    ensures { AnswersByCode (view.program program.now) (λ p c. spec.RunsAll rounds p c memories.now.left memories.now.right schedule.now) result }
-{
-    let verdict = verdict_on(alloc, program)?;
-    let code = compile(alloc, &verdict)?;
-    let answer = sum_up(alloc, rounds, &verdict, &code, memories, schedule)?;
-    Ok(answer)
 }
 
 /// The start in which the secret has a word, and every other variable is 0.
@@ -133,85 +127,70 @@ fn start_with(alloc: Global, vars: &[VarDecl], word: u32) -> Result<List<u32>, N
     Ok(memory)
 }
 
-/// What is answered to the runs of an accepted program and of its code, if the starts are fit.
-fn sum_up<'w>(
+/// Sums up the runs of an accepted program, and of its code, from two starts, if they are fit.
+fn sum_up_from<'w>(
     alloc: Global,
     rounds: u32,
-    verdict: &Verdict<'_>,
-    code: &Code,
+    coded: &Coded,
     memories: &Memories,
     schedule: &[u32],
-) -> Result<Answer<'w>, NoMemory>
-    requires formed { IsWellFormed (view.program verdict.now.program.now) }
-    requires secure { IsSecure (plain (view.program verdict.now.program.now)) }
-    requires code { IsSecureCode (plain (view.program verdict.now.program.now)) code.now }
-    requires declared { DeclaresAsMany code.now verdict.now.program.now }
-    requires left { IsMemory (length verdict.now.program.now.vars) memories.now.left }
-    requires right { IsMemory (length verdict.now.program.now.vars) memories.now.right }
-    requires threads { IsSchedule (length verdict.now.program.now.threads) schedule.now }
-    requires entries { length schedule.now ≤ MOST_ENTRIES }
-    ensures { IfOk result (λ answer.
-        spec.RunsAll rounds (view.program verdict.now.program.now) code.now memories.now.left memories.now.right schedule.now (seen answer)) }
+) -> Result<Answer<'w>, Stop<'w>>
+    requires coded { IsAcceptedCode coded.now }
+    requires left { IsRunOf coded.now.program memories.now.left schedule.now }
+    requires right { IsRunOf coded.now.program memories.now.right schedule.now }
+    ensures { let p = view.program coded.now.program in let l = memories.now.left in let r = memories.now.right in
+        Gets (UnlessRejected (unfit_by p (first_bad_start (plain p) l r)) (spec.AllRunTogether rounds p coded.now.code l r schedule.now)) result }
 {
-    let program = verdict.program();
-    match starts(program, memories.left.as_slice(), memories.right.as_slice()) {
-        Some(found) => Ok(Answer::BadStarts(bad_name(alloc, program, &found)?)),
-        None => {
-            let report = run_all(alloc, rounds, verdict, code, memories, schedule)?;
-            Ok(Answer::Ran(report))
-        }
-    }
+    check_starts(
+        alloc,
+        &coded.program,
+        memories.left.as_slice(),
+        memories.right.as_slice(),
+    )?;
+    let report = run_all(alloc, rounds, coded, memories, schedule)?;
+    Ok(Answer::Ran(report))
 }
 
 /// The report on all four runs from fit starts, which agree.
 fn run_all(
     alloc: Global,
     rounds: u32,
-    verdict: &Verdict<'_>,
-    code: &Code,
+    coded: &Coded,
     memories: &Memories,
     schedule: &[u32],
 ) -> Result<Blob, NoMemory>
-    requires formed { IsWellFormed (view.program verdict.now.program.now) }
-    requires secure { IsSecure (plain (view.program verdict.now.program.now)) }
-    requires code { IsSecureCode (plain (view.program verdict.now.program.now)) code.now }
-    requires declared { DeclaresAsMany code.now verdict.now.program.now }
-    requires left { IsMemory (length verdict.now.program.now.vars) memories.now.left }
-    requires right { IsMemory (length verdict.now.program.now.vars) memories.now.right }
-    requires fit { AreFitStarts (plain (view.program verdict.now.program.now)) memories.now.left memories.now.right }
-    requires threads { IsSchedule (length verdict.now.program.now.threads) schedule.now }
-    requires entries { length schedule.now ≤ MOST_ENTRIES }
-    ensures { IfOk result (λ text. spec.AllRunTogether rounds (view.program verdict.now.program.now) code.now memories.now.left memories.now.right
+    requires coded { IsAcceptedCode coded.now }
+    requires left { IsRunOf coded.now.program memories.now.left schedule.now }
+    requires right { IsRunOf coded.now.program memories.now.right schedule.now }
+    requires fit { AreFitStarts (plain (view.program coded.now.program)) memories.now.left memories.now.right }
+    ensures { IfOk result (λ text. spec.AllRunTogether rounds (view.program coded.now.program) coded.now.code memories.now.left memories.now.right
         schedule.now (replies.ran text)) }
 {
-    let program = verdict.program();
     let mut text = List::new(alloc);
-    add_head(alloc, rounds, verdict, &mut text)?;
-    add_source_runs(alloc, program, memories, schedule, &mut text)?;
-    add_code_runs(alloc, program, code, memories, schedule, &mut text)?;
+    add_head(alloc, rounds, &coded.totals, &mut text)?;
+    add_source_runs(alloc, coded, memories, schedule, &mut text)?;
+    add_code_runs(alloc, coded, memories, schedule, &mut text)?;
     Ok(text)
 }
 
 /// Adds what is told of two runs of a secure program from fit starts, which agree.
 fn add_source_runs(
     alloc: Global,
-    program: &Program,
+    coded: &Coded,
     memories: &Memories,
     schedule: &[u32],
     text: &mut Blob,
 ) -> Result<(), NoMemory>
-    requires formed { IsWellFormed (view.program program.now) }
-    requires secure { IsSecure (plain (view.program program.now)) }
-    requires left { IsMemory (length program.now.vars) memories.now.left }
-    requires right { IsMemory (length program.now.vars) memories.now.right }
-    requires fit { AreFitStarts (plain (view.program program.now)) memories.now.left memories.now.right }
-    requires threads { IsSchedule (length program.now.threads) schedule.now }
-    requires entries { length schedule.now ≤ MOST_ENTRIES }
-    ensures agree { OnOk result (let p = plain (view.program program.now) in
+    requires coded { IsAcceptedCode coded.now }
+    requires left { IsRunOf coded.now.program memories.now.left schedule.now }
+    requires right { IsRunOf coded.now.program memories.now.right schedule.now }
+    requires fit { AreFitStarts (plain (view.program coded.now.program)) memories.now.left memories.now.right }
+    ensures agree { OnOk result (let p = plain (view.program coded.now.program) in
         AgreeThroughout p (begin p memories.now.left) (begin p memories.now.right) schedule.now) }
     ensures text { OnOk result (text.new ≡ text.old
-        ++ spec.source_summary (view.program program.now) memories.now.left memories.now.right schedule.now) }
+        ++ spec.source_summary (view.program coded.now.program) memories.now.left memories.now.right schedule.now) }
 {
+    let program = &coded.program;
     let stayed = stayed_from(alloc, program, &memories.left, schedule)?;
     let mut left = source_at(alloc, program, &memories.left, schedule.len())?;
     let mut right = source_at(alloc, program, &memories.right, schedule.len())?;
@@ -228,9 +207,7 @@ fn stayed_from(
     schedule: &[u32],
 ) -> Result<u32, NoMemory>
     requires formed { IsWellFormed (view.program program.now) }
-    requires memory { length memory.now ≡ length program.now.vars }
-    requires threads { IsSchedule (length program.now.threads) schedule.now }
-    requires entries { length schedule.now ≤ MOST_ENTRIES }
+    requires run { IsRunOf program.now memory.now schedule.now }
     ensures { IfOk result (λ steps. steps ≡ stayed (plain (view.program program.now)) memory.now schedule.now) }
 {
     let mut source = source_at(alloc, program, memory, schedule.len())?;
@@ -256,30 +233,25 @@ fn source_at<'p>(
 /// Adds what is told of two runs of secure code from fit starts, which agree.
 fn add_code_runs(
     alloc: Global,
-    program: &Program,
-    code: &Code,
+    coded: &Coded,
     memories: &Memories,
     schedule: &[u32],
     text: &mut Blob,
 ) -> Result<(), NoMemory>
-    requires formed { IsWellFormed (view.program program.now) }
-    requires declared { DeclaresAsMany code.now program.now }
-    requires secure { IsSecureCode (plain (view.program program.now)) code.now }
-    requires left { IsMemory (length program.now.vars) memories.now.left }
-    requires right { IsMemory (length program.now.vars) memories.now.right }
-    requires fit { AreFitStarts (plain (view.program program.now)) memories.now.left memories.now.right }
-    requires threads { IsSchedule (length program.now.threads) schedule.now }
-    requires entries { length schedule.now ≤ MOST_ENTRIES }
-    ensures agree { OnOk result (CodeAgreesThroughout (plain (view.program program.now)) code.now
-        (code_start code.now memories.now.left) (code_start code.now memories.now.right) schedule.now) }
+    requires coded { IsAcceptedCode coded.now }
+    requires left { IsRunOf coded.now.program memories.now.left schedule.now }
+    requires right { IsRunOf coded.now.program memories.now.right schedule.now }
+    requires fit { AreFitStarts (plain (view.program coded.now.program)) memories.now.left memories.now.right }
+    ensures agree { OnOk result (CodeAgreesThroughout (plain (view.program coded.now.program)) coded.now.code
+        (code_start coded.now.code memories.now.left) (code_start coded.now.code memories.now.right) schedule.now) }
     ensures text { OnOk result (text.new ≡ text.old
-        ++ spec.code_summary (view.program program.now) code.now memories.now.left memories.now.right schedule.now) }
+        ++ spec.code_summary (view.program coded.now.program) coded.now.code memories.now.left memories.now.right schedule.now) }
 {
-    let mut left = code_at(alloc, code, &memories.left, schedule.len())?;
-    let mut right = code_at(alloc, code, &memories.right, schedule.len())?;
-    let apart = pair_code(program, &mut left, &mut right, schedule);
+    let mut left = code_at(alloc, &coded.code, &memories.left, schedule.len())?;
+    let mut right = code_at(alloc, &coded.code, &memories.right, schedule.len())?;
+    let apart = pair_code(&coded.program, &mut left, &mut right, schedule);
     prove!(apart.is_none());
-    add_code_part(program, &left, &right, schedule.len() as u32, text)
+    add_code_part(&coded.program, &left, &right, schedule.len() as u32, text)
 }
 
 /// Code at its start from a copy of a memory.

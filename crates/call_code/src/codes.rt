@@ -1,65 +1,93 @@
-//! What the commands by code share: the verdict on a program, the code of an accepted one, and its machine.
+//! What the commands by code share: an accepted program with its code, the test of two starts, and the machine of a code.
 
-ghost use Rattle.std.specs.Prelude.{◌≡◌, IfOk, MatchResult, length, replicate};
+ghost use Rattle.std.specs.Prelude.{◌≡◌, IfOk, MatchResult, None, length, replicate};
 ghost use Rattle.cov_ast.specs.Plain.{plain};
 ghost use Rattle.cov_ast.specs.Ready.{IsReady};
 ghost use Rattle.cov_ast.specs.View as view;
 ghost use Rattle.cov_ast.specs.WellFormed.{IsWellFormed};
-ghost use Rattle.flow_model.specs.Secure.{IsSecure};
-ghost use Rattle.schedule_replay.specs.CodeReplays.{DeclaresAsMany};
+ghost use Rattle.flow_model.specs.Agreement.{AreFitStarts};
+ghost use Rattle.flow_model.specs.FirstDifference.{first_bad_start};
 ghost use Rattle.call_code.specs.Codes as spec;
+ghost use Rattle.call_code.specs.Inside.{IsCodeOf, IsOfText, Rejects};
+ghost use Rattle.call_code.specs.Summaries.{accepted_reply};
+ghost use Rattle.call_judge.specs.Inside.{IsProgramRejected, IsRejected};
+ghost use Rattle.call_judge.specs.Starts.{unfit_by};
 ghost use Rattle.call_reports.specs.AnswerViews.{Stops};
-ghost use Rattle.call_code.specs.Inside.{IsCodeOf, IsNameRefusal, IsNamed, IsRejection};
-ghost use Rattle.verify.specs.Accepted.{IsAccepted};
+ghost use Rattle.call_reports.specs.Replies.{accepted};
 
-use call_judge::check::thread_name;
-use call_reports::{Answer, Stop};
-use cov_ast::{CheckFault, Parsed, Program};
+use call_judge::check::{named, verdict_on};
+use call_reports::{Answer, Stop, Totals, bad_name};
+use cov_ast::{Parsed, Program};
 use cov_expr::{List, NoMemory};
-use policy_class::resolve;
+use flow_model::starts;
 use risc_compile::compile;
 use risc_machine::{Code, Risc};
 use std::alloc::Global;
-use verify::{Verdict, check_program};
+use verify::Verdict;
 
-/// The program that a text stands for, if its names are in order.
-pub fn named<'w>(alloc: Global, parsed: Parsed) -> Result<Program, Stop<'w>>
-    requires { IsReady (view.parsed parsed) }
-    ensures { MatchResult result (λ program. IsNamed (view.parsed parsed) (view.program program)) (Stops (IsNameRefusal (view.parsed parsed))) }
-{
-    match resolve(alloc, parsed) {
-        Ok(program) => Ok(program),
-        Err(CheckFault::Refused(refusal)) => Err(Stop::Answer(Answer::Refused(refusal, None))),
-        Err(CheckFault::NoMemory) => Err(Stop::NoMemory),
-    }
+/// An accepted program with its code, and how much was checked of it.
+#[derive(Drop)]
+pub struct Coded {
+    pub program: Program,
+    pub code: Code,
+    pub totals: Totals,
 }
 
-/// The code of a program, if it is accepted.
-pub fn code_of<'w>(alloc: Global, program: &Program) -> Result<Code, Stop<'w>>
+/// The program that a text stands for, with its code, if it is accepted.
+pub fn coded_text<'w>(alloc: Global, parsed: Parsed) -> Result<Coded, Stop<'w>>
+    requires { IsReady (view.parsed parsed) }
+    ensures coded { MatchResult result (IsOfText (view.parsed parsed)) (Stops (IsRejected (view.parsed parsed))) }
+    ensures variables { IfOk result (λ coded. length coded.program.vars ≡ length parsed.vars) }
+    ensures threads { IfOk result (λ coded. length coded.program.threads ≡ length parsed.threads) }
+{
+    let program = named(alloc, parsed)?;
+    let made = code_of(alloc, &program)?;
+    Ok(Coded {
+        program,
+        code: made.0,
+        totals: made.1,
+    })
+}
+
+/// The code of a program, if it is accepted, and how much was checked of it.
+fn code_of<'w>(alloc: Global, program: &Program) -> Result<(Code, Totals), Stop<'w>>
     requires { IsWellFormed (view.program program.now) }
-    ensures code { MatchResult result (λ code. IsCodeOf (view.program program.now) code) (Stops (IsRejection (view.program program.now))) }
-    ensures declared { IfOk result (λ code. DeclaresAsMany code program.now) }
+    ensures { MatchResult result (λ made. IsCodeOf program.now made.0 made.1) (Stops (IsProgramRejected (view.program program.now))) }
 {
     let verdict = verdict_on(alloc, program)?;
     let code = compile(alloc, &verdict)?;
-    Ok(code)
+    Ok((code, totals(&verdict)))
 }
 
-/// The verdict on a program, if it is accepted.
-pub fn verdict_on<'p, 'w>(alloc: Global, program: &'p Program) -> Result<Verdict<'p>, Stop<'w>>
-    requires { IsWellFormed (view.program program.now) }
-    ensures verdict { MatchResult result
-        (λ verdict. (verdict.program.now ≡ program.now) × IsAccepted (view.program program.now))
-        (Stops (IsRejection (view.program program.now))) }
-    ensures secure { IfOk result (λ _. IsSecure (plain (view.program program.now))) }
+/// How much an accepted program has.
+fn totals(verdict: &Verdict<'_>) -> Totals
+    ensures { accepted result.threads result.statements result.entailments ≡ accepted_reply (view.program verdict.now.program.now) }
 {
-    match check_program(alloc, program) {
-        Ok(verdict) => Ok(verdict),
-        Err(CheckFault::Refused(refusal)) => {
-            let thread = thread_name(program.threads.as_slice(), refusal.thread);
-            Err(Stop::Answer(Answer::Refused(refusal, thread)))
-        }
-        Err(CheckFault::NoMemory) => Err(Stop::NoMemory),
+    let count = verdict.count();
+    Totals {
+        threads: u64::from(verdict.threads()),
+        statements: count.statements,
+        entailments: count.entailments,
+    }
+}
+
+/// That two memories are fit starts of a program, or the answer that says why they aren't.
+pub fn check_starts<'w>(
+    alloc: Global,
+    program: &Program,
+    left: &[u32],
+    right: &[u32],
+) -> Result<(), Stop<'w>>
+    requires formed { IsWellFormed (view.program program.now) }
+    requires left { length left.now ≡ length program.now.vars }
+    requires right { length right.now ≡ length program.now.vars }
+    ensures rejection { let unfit = unfit_by (view.program program.now) (first_bad_start (plain (view.program program.now)) left.now right.now) in
+        MatchResult result (λ _. unfit ≡ None) (Stops (Rejects unfit)) }
+    ensures fit { IfOk result (λ _. AreFitStarts (plain (view.program program.now)) left.now right.now) }
+{
+    match starts(program, left, right) {
+        None => Ok(()),
+        Some(found) => Err(Stop::Answer(Answer::BadStarts(bad_name(alloc, program, &found)?))),
     }
 }
 

@@ -1,20 +1,20 @@
 //! `compile`: the listing of the code of an accepted program.
 
+ghost use Rattle.call_code.specs.Codes.{Compiles, RepliesListing, compile_plan};
+ghost use Rattle.call_code.specs.Inside.{IsAcceptedCode};
+ghost use Rattle.call_inputs.specs.Plans.{CarriesOut};
+ghost use Rattle.call_inputs.specs.Rejections.{UnlessRejected};
+ghost use Rattle.call_judge.specs.Check.{rejection};
+ghost use Rattle.call_reports.specs.AnswerViews.{Gets};
 ghost use Rattle.cov_ast.specs.Ready.{IsReady};
 ghost use Rattle.cov_ast.specs.View as view;
-ghost use Rattle.cov_ast.specs.WellFormed.{IsWellFormed};
-ghost use Rattle.call_code.specs.Codes.{Compiles, RepliesListing};
-ghost use Rattle.call_reports.specs.AnswerViews.{Gets};
-ghost use Rattle.call_code.specs.Inside.{AnswersByCode};
-ghost use Rattle.call_inputs.specs.Carried.{CarriesOut};
-ghost use Rattle.call_code.specs.Codes.{compile_plan};
 
-use crate::codes::{code_of, named};
+use crate::codes::{Coded, coded_text};
 use call_inputs::read_program;
 use call_reports::{Answer, Stop};
 use code_text::list;
 use compiled_code::compiled_is_code;
-use cov_ast::{Parsed, Program};
+use cov_ast::Parsed;
 use cov_io::Shelf;
 use std::alloc::Global;
 
@@ -33,18 +33,17 @@ pub fn compile<'w, S: Shelf>(
 /// Lists the code of what a text spells.
 fn compile_text<'w>(alloc: Global, parsed: Parsed) -> Result<Answer<'w>, Stop<'w>>
     requires { IsReady (view.parsed parsed) }
-    ensures { Gets (Compiles (view.parsed parsed)) result }
+    ensures { let p = view.parsed parsed in Gets (UnlessRejected (rejection p) (Compiles p)) result }
 {
-    let program = named(alloc, parsed)?;
-    list_named(alloc, &program)
+    let coded = coded_text(alloc, parsed)?;
+    listed(alloc, &coded)
 }
 
-/// Lists the code of a program whose names are in order.
-fn list_named<'w>(alloc: Global, program: &Program) -> Result<Answer<'w>, Stop<'w>>
-    requires { IsWellFormed (view.program program.now) }
-    ensures { AnswersByCode (view.program program.now) (λ _ c. RepliesListing c) result }
+/// Lists code.
+fn listed<'w>(alloc: Global, coded: &Coded) -> Result<Answer<'w>, Stop<'w>>
+    requires { IsAcceptedCode coded.now }
+    ensures { Gets (RepliesListing coded.now.code) result }
 {
     compiled_is_code();
-    let code = code_of(alloc, program)?;
-    Ok(Answer::Spelled(list(alloc, &code)?))
+    Ok(Answer::Spelled(list(alloc, &coded.code)?))
 }

@@ -5,6 +5,7 @@ ghost use Rattle.cov_ast.specs.View as view;
 ghost use Rattle.schedule_replay.specs.CodeReplays.{DeclaresAsMany};
 ghost use Rattle.source_machine.specs.SourceMachine.{run_of};
 ghost use Rattle.call_code.specs.Summaries as spec;
+ghost use Rattle.call_reports.specs.Replies.{accepted};
 
 use call_reports::{Totals, accepted_line, add_number, add_numbered, add_pairs};
 use cov_ast::Program;
@@ -12,25 +13,18 @@ use cov_expr::{Blob, NoMemory};
 use risc_machine::Risc;
 use source_machine::Source;
 use std::alloc::Global;
-use verify::Verdict;
 
-/// Adds the number of rounds, and the line of a check that accepts the program.
+/// Adds the number of rounds, and the line of a check that accepts a program of which there is so much.
 pub fn add_head(
     alloc: Global,
     rounds: u32,
-    verdict: &Verdict<'_>,
+    totals: &Totals,
     text: &mut Blob,
 ) -> Result<(), NoMemory>
-    ensures { OnOk result (text.new ≡ text.old ++ spec.head rounds (view.program verdict.now.program.now)) }
+    ensures { OnOk result (text.new ≡ text.old ++ spec.head rounds (accepted totals.now.threads totals.now.statements totals.now.entailments)) }
 {
-    let count = verdict.count();
-    let counts = Totals {
-        threads: u64::from(verdict.threads()),
-        statements: count.statements,
-        entailments: count.entailments,
-    };
     add_numbered(b"big ", rounds, text)?;
-    text.extend_from_slice(accepted_line(alloc, &counts)?.as_bytes())
+    text.extend_from_slice(accepted_line(alloc, totals)?.as_bytes())
 }
 
 /// Adds what is told of two runs of a program of so many steps, of which the first stayed so often, and of their machines after them.

@@ -29,7 +29,7 @@ use Rattle.call_reports.specs.declared.answers.Fault.TheVariants as shows
 use Rattle.call_reports.specs.declared.answers.FaultKind.TheVariants as kinds
 use Rattle.call_reports.specs.declared.answers.Stop.{Stop}
 use Rattle.call_reports.proofs.AnswerLaws.{stops_onward}
-use Rattle.call_inputs.proofs.PlanLaws.{IsReading}
+use Rattle.call_inputs.proofs.ReadingLaws.{IsReading}
 use Rattle.call_inputs.proofs.TextLaws.{one_tree, one_shown, tree_or_shown, some_one, not_some}
 
 -- Readings -----------------------------------------------------------------------------------------------------

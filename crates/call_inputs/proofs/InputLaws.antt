@@ -1,5 +1,5 @@
 -- Laws of starts and schedules: how they are read, and what they are made of.
-use Rattle.std.proofs.Common.{◌≡◌, ℕ, suc, ◌^◌, ◌<◌, ◌≤◌, nat_lt, List, [], ◌∷◌, Bool, true, false, ◌&&◌, ◌||◌, cond, length, map, Option, Some, None, Result, Ok, Err, refl, sym, ap, ◌∙◌, subst, inl, arith}
+use Rattle.std.proofs.Common.{◌≡◌, ℕ, suc, ◌^◌, ◌<◌, ◌≤◌, nat_lt, List, [], ◌∷◌, Bool, true, false, ◌&&◌, ◌||◌, cond, length, map, Option, Some, None, Result, Ok, Err, refl, sym, ap, ◌∙◌, subst, arith}
 use Rattle.std.specs.Prelude.{option_and_then, is_some}
 use Rattle.std.specs.Str.{bytes_eq}
 use Rattle.std.proofs.lemmas.Bool.Decides.{nat_tests}
@@ -8,8 +8,6 @@ use Rattle.cov_ast.specs.Syntax.{Parsed}
 use Rattle.cov_ast.specs.View as view
 use Rattle.cov_ast.specs.declared.decl.VarDecl.{VarDecl}
 use Rattle.cov_expr.specs.Words.{IsMemory, IsSchedule}
-use Rattle.cov_io.specs.Shelves.{Shelved, Gives}
-use Rattle.cov_io.specs.declared.shelf.Fetched.TheVariants.{Whole}
 use Rattle.serde_json.specs.Data.{Data, Members, no_members, member, Items, no_items, item}
 use Rattle.serde_json.specs.Events.{items_len}
 use Rattle.serde_json.specs.Find.{as_array, as_object, as_number, as_u64, get_member}
@@ -22,12 +20,11 @@ use Rattle.schedule_replay.specs.declared.fault.StartFault.{StartFault}
 use Rattle.schedule_replay.specs.declared.fault.StartFault.TheVariants as starts
 use Rattle.call_inputs.specs.Inputs.{declaration_of, start_shown, schedule_shown, IsStart, IsStartFault, IsScheduleText, IsScheduleFault}
 use Rattle.call_reports.specs.AnswerViews.{Stops}
-use Rattle.call_inputs.specs.Taken.{IsUnread}
 use Rattle.call_reports.specs.Replies.{malformed}
 use Rattle.call_reports.specs.declared.answers.Fault.{Fault}
 use Rattle.call_reports.specs.declared.answers.Stop.{Stop}
 use Rattle.call_reports.specs.declared.answers.Stop.TheVariants as stops
-use Rattle.call_inputs.proofs.PlanLaws.{IsReading}
+use Rattle.call_inputs.proofs.ReadingLaws.{IsReading}
 
 -- Files that a function reads ----------------------------------------------------------------------------------
 
@@ -53,11 +50,11 @@ module _ {A E : Type 0} (given : List ℕ → Result A E) (shown : E → Option 
   pub given_reading : IsReading IsGiven IsGivenFault
   given_reading = record { one_value = given_one; one_fault = given_fault; not_both = given_or_fault }
 
-  pub given_unread : (before after : Shelved) (name : List ℕ) (most : ℕ) (bytes : List ℕ) (found : E) (stop : Stop)
-      → Gives before after name most (Ok (Whole bytes)) → ((fault : Fault) → shown found ≡ Some fault → given bytes ≡ Err found)
-      → Stops (λ reply. (fault : Fault) × (shown found ≡ Some fault) × (reply ≡ malformed name fault)) stop → Stops (IsUnread IsGivenFault before after name most) stop
-  given_unread before after name most bytes found (stops.Answer answer) gives said (fault, e, is) = inl (bytes, gives, (fault, (found, said fault e, e), is))
-  given_unread before after name most bytes found stops.NoMemory gives said unread = tt
+  pub given_unread : (name : List ℕ) (bytes : List ℕ) (found : E) (stop : Stop) → ((fault : Fault) → shown found ≡ Some fault → given bytes ≡ Err found)
+      → Stops (λ reply. (fault : Fault) × (shown found ≡ Some fault) × (reply ≡ malformed name fault)) stop
+      → Stops (λ reply. (fault : Fault) × IsGivenFault bytes fault × (reply ≡ malformed name fault)) stop
+  given_unread name bytes found (stops.Answer answer) said (fault, e, is) = (fault, (found, said fault e, e), is)
+  given_unread name bytes found stops.NoMemory said unread = tt
 
 -- Starts -------------------------------------------------------------------------------------------------------
 

@@ -22,7 +22,7 @@ use Rattle.call_reports.specs.Replies.{malformed}
 use Rattle.call_reports.specs.declared.answers.Fault.{Fault}
 use Rattle.call_reports.specs.declared.answers.Stop.{Stop}
 use Rattle.call_reports.specs.declared.answers.Stop.TheVariants as stops
-use Rattle.call_inputs.proofs.PlanLaws.{IsReading}
+use Rattle.call_inputs.proofs.ReadingLaws.{IsReading}
 
 pub some_one : {X : Type 0} (o : Option X) (x y : X) → o ≡ Some x → o ≡ Some y → x ≡ y
 some_one o x y h k = let e : Some x ≡ Some y = sym h ∙ k in cc

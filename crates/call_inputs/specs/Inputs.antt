@@ -52,3 +52,18 @@ IsScheduleText p bytes schedule = schedule_of (length p.threads) (value_of bytes
 -- The first fault of the bytes, which are no schedule, is shown so.
 abbrev pub IsScheduleFault : Parsed → (bytes : List ℕ) → Fault → Type 0
 IsScheduleFault p bytes fault = (found : ScheduleFault) × (schedule_of (length p.threads) (value_of bytes) ≡ Err found) × (schedule_shown found ≡ Some fault)
+
+-- Both together ------------------------------------------------------------------------------------------------
+
+-- what a run takes: a program, a start and a schedule of it
+pub record RunInput : Type 0 where
+  pub program : Parsed
+  pub memory : List ℕ
+  pub schedule : List ℕ
+
+-- what two runs take: a program, two starts and a schedule of it
+pub record PairInput : Type 0 where
+  pub program : Parsed
+  pub left : List ℕ
+  pub right : List ℕ
+  pub schedule : List ℕ

@@ -1,10 +1,9 @@
-pub mod Files
+pub mod Readings
+pub mod Rejections
 pub mod Plans
-pub mod Asks
-pub mod Carried
 pub mod Programs
 pub mod Inputs
+pub mod InputViews
 pub mod Expressions
 pub mod Steps
-pub mod Taken
 pub mod Inside

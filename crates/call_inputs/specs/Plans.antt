@@ -1,51 +1,58 @@
--- Plans: what a command does with its files, one behind the other, and what it replies then.
-use Rattle.std.specs.Prelude.{◌≡◌, ◌≤◌, ◌⊎◌, ℕ, List, length, Some}
-use Rattle.cov_io.specs.Shelves.{File, Shelved, held}
-use Rattle.call_inputs.specs.Files.{Reads, GivenBy}
-use Rattle.call_reports.specs.Replies.{Reply, malformed}
-use Rattle.call_reports.specs.declared.answers.Fault.{Fault}
+-- Plans: what a command reads, and what it may reply to what it read.
+use Rattle.std.specs.Prelude.{◌≡◌, List, Result, Ok, Err}
+use Rattle.call_inputs.specs.Readings.{End, Over, Reading, Reads, Takes, lacks, stops, took}
+use Rattle.call_reports.specs.AnswerViews.{Gets}
+use Rattle.call_reports.specs.Ends.{Ends}
+use Rattle.call_reports.specs.Replies.{Reply}
+use Rattle.call_reports.specs.declared.answers.Answer.{Answer}
+use Rattle.call_reports.specs.declared.answers.Status.{Status}
+use Rattle.call_reports.specs.declared.answers.Status.TheVariants as s
+use Rattle.call_reports.specs.declared.answers.Stop.{Stop}
+use Rattle.call_reports.specs.declared.answers.Stop.TheVariants as stop
+use Rattle.cov_io.specs.Shelves.{File, Shelved}
+use Rattle.cov_io.specs.Sinks.{Sunk}
 
--- What a command does: it fetches a file of at most so many bytes, and what these are read as decides what is next; or it reads
--- a text that it needn't fetch, as a word of the command line itself, which has a title in reports; or it has read all, something
--- is asked of what was read, and it may reply so.
+-- A command reads, and replies to what it took.
 pub data Plan : Type 1 where
-  replies : (IsAsked : Type 0) (may_reply : Reply → Type 0) → Plan
-  file : {A : Type 0} (name : List ℕ) (most : ℕ) (IsRead : List ℕ → A → Type 0) (IsFault : List ℕ → Fault → Type 0) (next : A → Plan) → Plan
-  argument : {A : Type 0} (title bytes : List ℕ) (IsRead : List ℕ → A → Type 0) (IsFault : List ℕ → Fault → Type 0) (next : A → Plan) → Plan
+  does : {A : Type 0} (reading : Reading A) (may_reply : A → Reply → Type 0) → Plan
 
-module _ {A : Type 0} (IsRead : List ℕ → A → Type 0) where
-  module _ (IsFault : List ℕ → Fault → Type 0) (name : List ℕ) (next : A → Reply → Type 0) where
-    -- The reply to the bytes of a file or of a text: what follows from what they are read as; or they are malformed, with their
-    -- fault.
-    abbrev pub RepliesTo : (bytes : List ℕ) → Reply → Type 0
-    RepliesTo bytes reply = ((x : A) × IsRead bytes x × next x reply) ⊎ ((fault : Fault) × IsFault bytes fault × (reply ≡ malformed name fault))
-
-  -- The bytes are read as something that is fit.
-  abbrev pub IsReadAs : (bytes : List ℕ) → (IsFit : A → Type 0) → Type 0
-  IsReadAs bytes IsFit = (x : A) × IsRead bytes x × IsFit x
-
-  -- The file is there, within its limit, and is read as something that is fit.
-  abbrev pub HoldsFile : List File → (name : List ℕ) (most : ℕ) → (IsFit : A → Type 0) → Type 0
-  HoldsFile files name most IsFit =
-      (bytes : List ℕ) × (held files name ≡ Some bytes) × (length bytes ≤ most) × IsReadAs bytes IsFit
-
--- What a plan may reply, by the shelf before and after the call. It is a relation, so that it speaks of shelves that tell
--- nothing and of faults in mid-call too.
-abbrev pub MayReply : (before after : Shelved) → Plan → Reply → Type 0
-MayReply before after (replies IsAsked may_reply) reply = may_reply reply
-MayReply before after (file name most IsRead IsFault next) reply =
-    Reads before after name most (RepliesTo IsRead IsFault name (λ x. MayReply before after (next x))) reply
-MayReply before after (argument title bytes IsRead IsFault next) reply = RepliesTo IsRead IsFault title (λ x. MayReply before after (next x)) bytes reply
+-- what is replied at the end of a reading: what may be replied to what was taken, or the reply with which it stops
+abbrev pub RepliesAt : {A : Type 0} → (may_reply : A → Reply → Type 0) → End A → Reply → Type 0
+RepliesAt may_reply (took x) reply = may_reply x reply
+RepliesAt may_reply (stops other) reply = reply ≡ other
+RepliesAt may_reply lacks reply = ⊥
 
 -- the reply of a plan where all files are told, and no call fails but for a name that isn't told
 abbrev pub RepliesOver : List File → Plan → Reply → Type 0
-RepliesOver files (replies IsAsked may_reply) reply = may_reply reply
-RepliesOver files (file name most IsRead IsFault next) reply =
-    GivenBy (held files name) name most (RepliesTo IsRead IsFault name (λ x. RepliesOver files (next x))) reply
-RepliesOver files (argument title bytes IsRead IsFault next) reply = RepliesTo IsRead IsFault title (λ x. RepliesOver files (next x)) bytes reply
+RepliesOver files (does reading may_reply) reply = Over files (λ end. RepliesAt may_reply end reply) reading
 
 -- All that a plan asks holds of the files and of the words.
-abbrev pub IsPlanMet : List File → Plan → Type 0
-IsPlanMet files (replies IsAsked may_reply) = IsAsked
-IsPlanMet files (file name most IsRead IsFault next) = HoldsFile IsRead files name most (λ x. IsPlanMet files (next x))
-IsPlanMet files (argument title bytes IsRead IsFault next) = IsReadAs IsRead bytes (λ x. IsPlanMet files (next x))
+abbrev pub IsMet : List File → Plan → Type 0
+IsMet files (does reading may_reply) = Takes files (λ x. Unit {0}) reading
+
+-- A step ends for want of memory.
+abbrev pub LacksMemory : Result Answer Stop → Type 0
+LacksMemory (Ok answer) = ⊥
+LacksMemory (Err (stop.Answer answer)) = ⊥
+LacksMemory (Err stop.NoMemory) = Unit {0}
+
+-- what a step of the code gives at the end of a reading; memory may run out behind it too
+abbrev pub GetsAt : {A : Type 0} → (may_reply : A → Reply → Type 0) → End A → Result Answer Stop → Type 0
+GetsAt may_reply (took x) result = Gets (may_reply x) result
+GetsAt may_reply (stops other) result = Gets (λ reply. reply ≡ other) result
+GetsAt may_reply lacks result = LacksMemory result
+
+-- A step of the code carries out a plan: it calls the shelf for the files of the plan, and gives what the plan may reply.
+abbrev pub CarriesOut : (before after : Shelved) → Plan → Result Answer Stop → Type 0
+CarriesOut before after (does reading may_reply) result = Reads (λ shelf end. (shelf ≡ after) × GetsAt may_reply end result) before reading
+
+-- how a call ends at the end of a reading: with the report of what is replied; where memory ran out, nothing is put
+abbrev pub EndsAt : {A : Type 0} → (may_reply : A → Reply → Type 0) → (old new : Sunk) → Status → End A → Type 0
+EndsAt may_reply old new status (took x) = Ends (may_reply x) old new status
+EndsAt may_reply old new status (stops other) = Ends (λ reply. reply ≡ other) old new status
+EndsAt may_reply old new status lacks = (status ≡ s.NoMemory) × (new ≡ old)
+
+-- A call performs a plan: it calls the shelf for the files of the plan, and ends with what the plan may reply.
+abbrev pub Performs : (before after : Shelved) (old new : Sunk) → Plan → Status → Type 0
+Performs before after old new (does reading may_reply) status =
+    Reads (λ shelf end. (shelf ≡ after) × EndsAt may_reply old new status end) before reading

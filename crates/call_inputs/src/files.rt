@@ -1,17 +1,14 @@
 //! How a file is fetched, and a program read from its bytes.
 
-ghost use Rattle.std.specs.Prelude.{◌≡◌, ◌≤◌, IfOk, MatchResult, Ok, Some, length};
+ghost use Rattle.std.specs.Prelude.{◌≡◌, ◌≤◌, IfOk, MatchResult, Some, length};
+ghost use Rattle.call_inputs.specs.Programs.{IsShownFault, SpellsProgram, shown};
+ghost use Rattle.call_inputs.specs.Readings.{HasRead, ended};
+ghost use Rattle.call_inputs.specs.Steps as step;
+ghost use Rattle.call_reports.specs.AnswerViews.{Stops};
+ghost use Rattle.call_reports.specs.Replies.{malformed};
 ghost use Rattle.cov_ast.specs.Ready.{IsReady};
 ghost use Rattle.cov_ast.specs.View as view;
 ghost use Rattle.cov_expr.specs.declared.limits.TheConstants.{MOST_BYTES};
-ghost use Rattle.cov_io.specs.Counters.{raised};
-ghost use Rattle.cov_io.specs.Shelves.{Gives, Passes};
-ghost use Rattle.cov_io.specs.declared.shelf.Fetched.TheVariants as fetched;
-ghost use Rattle.call_inputs.specs.Files.{Misses};
-ghost use Rattle.call_reports.specs.AnswerViews.{Stops};
-ghost use Rattle.call_inputs.specs.Taken.{Fails, Takes};
-ghost use Rattle.call_inputs.specs.Programs.{IsShownFault, SpellsProgram, shown};
-ghost use Rattle.call_reports.specs.Replies.{malformed};
 
 use call_reports::{Answer, Fault, FaultKind, Stop};
 use cov_ast::Parsed;
@@ -27,9 +24,7 @@ pub fn read_program<'w, S: Shelf>(
     name: &'w str,
     shelf: &mut S,
 ) -> Result<Parsed, Stop<'w>>
-    ensures read { MatchResult result
-        (λ p. Takes SpellsProgram (S.shelved shelf.old) (S.shelved shelf.new) name.now MOST_BYTES (view.parsed p))
-        (λ stop. Fails IsShownFault (S.shelved shelf.old) (S.shelved shelf.new) name.now MOST_BYTES stop) }
+    ensures read { HasRead (S.shelved shelf.old) (S.shelved shelf.new) (step.program name.now) (ended view.parsed result) }
     ensures ready { IfOk result (λ p. IsReady (view.parsed p)) }
 {
     let bytes = fetch(alloc, name, MOST_BYTES, shelf)?;
@@ -56,11 +51,8 @@ pub fn fetch<'w, S: Shelf>(
     most: usize,
     shelf: &mut S,
 ) -> Result<Blob, Stop<'w>>
-    ensures answer { MatchResult result
-        (λ bytes. Gives (S.shelved shelf.old) (S.shelved shelf.new) name.now most (Ok (fetched.Whole bytes)))
-        (λ stop. Stops (Misses (S.shelved shelf.old) (S.shelved shelf.new) name.now most) stop) }
-    ensures counted { (S.shelved shelf.new).calls ≡ raised (S.shelved shelf.old).calls 1 }
-    ensures passes { Passes (S.shelved shelf.old) (S.shelved shelf.new) }
+    ensures read { HasRead (S.shelved shelf.old) (S.shelved shelf.new) (step.bytes name.now most) (ended (λ bytes. bytes) result) }
+    ensures within { IfOk result (λ bytes. length bytes ≤ most) }
 {
     match shelf.fetch(alloc, name, most) {
         Ok(Fetched::Whole(bytes)) => Ok(bytes),

@@ -1,27 +1,25 @@
 -- Laws of `check`: the obligations of what a text spells, and what is replied to it.
-use Rattle.std.proofs.Common.{◌≡◌, ℕ, List, [], ◌∷◌, ◌++◌, Bool, true, false, ◌&&◌, Option, Some, None, Result, IsTrue, refl, sym, ap, ◌∙◌, cond, subst, length, map, slice_get}
+use Rattle.std.proofs.Common.{◌≡◌, ℕ, List, [], ◌∷◌, ◌++◌, Bool, true, false, ◌&&◌, Option, Some, None, Result, Ok, Err, IsTrue, refl, sym, ap, ◌∙◌, cond, subst, length, map, slice_get}
+use Rattle.std.specs.Prelude.{MatchResult}
 use Rattle.std.proofs.lemmas.List.{length-map}
-use Rattle.cov_ast.specs.Plain.{plain}
 use Rattle.cov_ast.specs.Syntax.{Parsed, Program, Thread}
 use Rattle.cov_ast.specs.declared.parsed.NameUse.{NameUse}
 use Rattle.cov_ast.specs.Obligations.{Obligation, all_hold, first_false}
 use Rattle.cov_ast.specs.declared.refusal.CheckFault.TheVariants.{Refused}
 use Rattle.cov_ast.specs.declared.refusal.Refusal.{Refusal}
 use Rattle.cov_ast.proofs.ObligationLaws.{append_refused, append_held, both_hold, none_refused}
-use Rattle.flow_model.specs.Secure.{IsSecure}
 use Rattle.policy_class.specs.Resolved.{Named, declared_names, lock_id, name_obligations, resolved, resolved_thread, use_obligation, var_id, w1_from}
 use Rattle.verify.specs.Accepted.{program_obligations, IsAccepted}
 use Rattle.verify.specs.Verdicts.{counts}
-use Rattle.call_judge.specs.Check.{obligations, thread_name, verdict_by, Judges, IsAcceptedText, name_in}
-use Rattle.call_reports.specs.AnswerViews.{Gets}
-use Rattle.call_judge.specs.Inside.{JudgesProgram, program_verdict}
+use Rattle.call_inputs.specs.Rejections.{UnlessRejected, by_rule}
+use Rattle.call_judge.specs.Check.{obligations, thread_name, name_in, rejection, rejection_by, verdict, Judges, IsAcceptedText}
+use Rattle.call_judge.specs.Inside.{IsProgramRejected, IsRejected, program_verdict}
 use Rattle.call_judge.specs.Meaning.{AreNamesInOrder}
-use Rattle.call_reports.specs.Replies.{Reply, refused, accepted, status_of}
+use Rattle.call_reports.specs.AnswerViews.{Gets, Stops, seen}
+use Rattle.call_reports.specs.Replies.{Reply, refused, accepted}
 use Rattle.call_reports.specs.declared.answers.Answer.{Answer}
-use Rattle.call_reports.specs.declared.answers.Status.TheVariants as s
 use Rattle.call_reports.specs.declared.answers.Stop.{Stop}
-use Rattle.call_reports.proofs.AnswerLaws.{gets_onward}
-use Rattle.call_inputs.proofs.PlanLaws.{IsSoundReply}
+use Rattle.call_reports.proofs.AnswerLaws.{stops_onward}
 
 -- Obligations --------------------------------------------------------------------------------------------------
 
@@ -78,36 +76,28 @@ none_false (e ∷ es) h = go (none_false es) e.holds h
     go rest true h = rest h
     go rest false h = cc
 
-not_first : (es : List Obligation) (refusal : Refusal) → IsTrue (all_hold es) → first_false es ≡ Some refusal → ⊥
-not_first es refusal h first = let wrong : None ≡ Some refusal = sym (none_false es h) ∙ first in cc
+-- what is counted is the reply
+pub program_counted : (program : Program) (threads statements entailments : ℕ) → threads ≡ length program.threads → statements ≡ (counts program).statements
+    → entailments ≡ (counts program).entailments → accepted threads statements entailments ≡ program_verdict program
+program_counted program threads statements entailments t st en =
+    ap (λ n. accepted n statements entailments) t ∙ ap (λ n. accepted (length program.threads) n entailments) st
+    ∙ ap (λ n. accepted (length program.threads) (counts program).statements n) en
 
--- the verdict of a program of which all obligations hold
-pub program_accepted : (program : Program) (threads statements entailments : ℕ) → IsAccepted program → IsSecure (plain program) → threads ≡ length program.threads
-    → statements ≡ (counts program).statements → entailments ≡ (counts program).entailments → JudgesProgram program (accepted threads statements entailments)
-program_accepted program threads statements entailments holds secure t st en = record {
-  verdict =
-      ap (λ n. accepted n statements entailments) t ∙ ap (λ n. accepted (length program.threads) n entailments) st
-      ∙ ap (λ n. accepted (length program.threads) (counts program).statements n) en
-      ∙ ap (program_verdict program) (sym (none_false (program_obligations program) holds));
-  secure = λ _. secure;
-}
+-- what refuses the names of a text rejects it, and no thread is named
+pub names_rejected : (p : Parsed) (refusal : Refusal) → first_false (name_obligations p) ≡ Some refusal → IsRejected p (refused refusal None)
+names_rejected p refusal h =
+    let first : first_false (obligations p) ≡ Some refusal = append_refused (name_obligations p) _ (Refused refusal) h in (
+      by_rule refusal None,
+      ap (rejection_by p) first ∙ ap (λ t. Some (by_rule refusal t)) (first_without_name refusal h),
+      refl,
+    )
+  where
+    first_without_name : (refusal : Refusal) → first_false (name_obligations p) ≡ Some refusal → thread_name p refusal.thread ≡ None
+    first_without_name refusal h = ap (thread_name p) (first_without (name_obligations p) refusal (names_without p) h)
 
-pub program_refused : (program : Program) (refusal : Refusal) (thread : Option (List ℕ)) → first_false (program_obligations program) ≡ Some refusal
-    → thread ≡ name_in program.threads refusal.thread → JudgesProgram program (refused refusal thread)
-program_refused program refusal thread first named = record {
-  verdict = ap (λ t. refused refusal t) named ∙ ap (program_verdict program) (sym first);
-  secure = λ holds. absurd (not_first (program_obligations program) refusal holds first);
-}
-
--- what refuses the names of a text refuses the text, and no thread is named
-pub names_refused : (p : Parsed) (refusal : Refusal) → first_false (name_obligations p) ≡ Some refusal → Judges p (refused refusal None)
-names_refused p refusal h =
-    let first : first_false (obligations p) ≡ Some refusal = append_refused (name_obligations p) _ (Refused refusal) h in record {
-      verdict =
-          ap (λ t. refused refusal (thread_name p t)) (sym (first_without (name_obligations p) refusal (names_without p) h))
-          ∙ ap (verdict_by p) (sym first);
-      secure = λ holds. absurd (not_first (obligations p) refusal holds first);
-    }
+-- what is rejected is what is judged so
+pub rejected_judged : (p : Parsed) (reply : Reply) → IsRejected p reply → Judges p reply
+rejected_judged p reply (q, e, is) = subst (λ o. UnlessRejected o (λ r. r ≡ verdict p) reply) (sym e) is
 
 module _ (p : Parsed) (program : Program) (is : program ≡ resolved p) (named : first_false (name_obligations p) ≡ None) where
   -- where the names are in order, the obligations are those of names and those of the program
@@ -122,42 +112,33 @@ module _ (p : Parsed) (program : Program) (is : program ≡ resolved p) (named :
   pub accepted_program : IsAcceptedText p → IsAccepted program
   accepted_program h = (both_hold (name_obligations p) (program_obligations program) (subst (λ es. IsTrue (all_hold es)) (sym whole) h)).1
 
-  same_verdict : (o : Option Refusal) → program_verdict (resolved p) o ≡ verdict_by p o
-  same_verdict (Some refusal) = ap (refused refusal) (same_name p refusal.thread)
-  same_verdict None =
-      ap (λ n. accepted n (counts (resolved p)).statements (counts (resolved p)).entailments)
-      (length-map p.threads (resolved_thread (var_id p) (lock_id p)))
+  -- what rejects the program rejects the text
+  pub program_rejected : (reply : Reply) → IsProgramRejected program reply → IsRejected p reply
+  program_rejected reply (refusal, first, same) = (
+    by_rule refusal (thread_name p refusal.thread),
+    ap (rejection_by p) (sym same_first ∙ first),
+    same ∙ ap (refused refusal) (ap (λ q. name_in q.threads refusal.thread) is ∙ same_name p refusal.thread),
+  )
 
-  -- what is replied to the program is replied to the text
-  pub program_judged : (r : Result Answer Stop) → Gets (JudgesProgram program) r → Gets (Judges p) r
-  program_judged r h = gets_onward (JudgesProgram program) (Judges p) r each h
-    where
-      each : (reply : Reply) → JudgesProgram program reply → Judges p reply
-      each reply judged = record {
-        verdict =
-            judged.verdict ∙ ap (program_verdict program) same_first ∙ ap (λ q. program_verdict q (first_false (obligations p))) is
-            ∙ same_verdict (first_false (obligations p));
-        secure = λ h. subst (λ q. IsSecure (plain q)) is (judged.secure (accepted_program h));
-      }
+  -- what is accepted isn't rejected
+  pub none_rejects : IsAccepted program → rejection p ≡ None
+  none_rejects holds = ap (rejection_by p) (sym same_first ∙ none_false (program_obligations program) holds)
 
--- Replies ------------------------------------------------------------------------------------------------------
+  -- what is said of the program is said of the text
+  pub program_judged : (r : Result Answer Stop)
+      → MatchResult r (λ answer. IsAccepted program × (seen answer ≡ program_verdict program))
+      (Stops (IsProgramRejected program)) → Gets (Judges p) r
+  program_judged (Ok answer) h =
+      subst (λ o. UnlessRejected o (λ r. r ≡ verdict p) (seen answer)) (sym (none_rejects h.0))
+      (h.1 ∙ ap program_verdict is
+      ∙ ap (λ n. accepted n (counts (resolved p)).statements (counts (resolved p)).entailments) (length-map p.threads (resolved_thread (var_id p) (lock_id p))))
+  program_judged (Err stop) h =
+      stops_onward (IsProgramRejected program) (Judges p) stop (λ reply rejects. rejected_judged p reply (program_rejected reply rejects)) h
 
-by_no_fault : (p : Parsed) (o : Option Refusal) → status_of (verdict_by p o) ≡ s.ReadFault → ⊥
-by_no_fault p (Some refusal) e = cc
-by_no_fault p None e = cc
-
-by_done : (p : Parsed) (o : Option Refusal) → status_of (verdict_by p o) ≡ s.Done → o ≡ None
-by_done p (Some refusal) e = cc
-by_done p None e = refl
-
--- A text of which the reply is that all is done is accepted, and its names are in order.
-pub judged_accepted : (p : Parsed) (reply : Reply) → Judges p reply → status_of reply ≡ s.Done → IsAcceptedText p
-judged_accepted p reply h e =
-    none_refused (obligations p) (by_done p (first_false (obligations p)) (sym (ap status_of h.verdict) ∙ e))
-
-pub check_sound : (p : Parsed) → IsSoundReply (λ status. status ≡ s.Done) (IsAcceptedText p) (Judges p)
-check_sound p = record {
-  one = λ reply other h k. h.verdict ∙ sym k.verdict;
-  no_fault = λ reply h e. by_no_fault p (first_false (obligations p)) (sym (ap status_of h.verdict) ∙ e);
-  success = λ reply met h. ap status_of h.verdict ∙ ap (λ o. status_of (verdict_by p o)) (none_false (obligations p) met);
-}
+-- A text that isn't rejected is accepted.
+pub not_rejected : (p : Parsed) → rejection p ≡ None → IsAcceptedText p
+not_rejected p h = none_refused (obligations p) (by (first_false (obligations p)) h)
+  where
+    by : (o : Option Refusal) → rejection_by p o ≡ None → o ≡ None
+    by None e = refl
+    by (Some refusal) e = cc

@@ -1,16 +1,16 @@
--- `check`: what is replied to what a text spells.
+-- `check`: what is asked of what a text spells, and what is replied.
 use Rattle.std.specs.Prelude.{◌≡◌, ℕ, List, [], ◌++◌, length, map, slice_get, if◌then◌else◌, Option, Some, None, IsTrue}
-use Rattle.call_inputs.specs.Plans.{Plan, replies}
+use Rattle.call_inputs.specs.Plans.{Plan, does}
+use Rattle.call_inputs.specs.Readings.{Reading, gives, then_read, tries}
+use Rattle.call_inputs.specs.Rejections.{Rejection, UnlessRejected, by_rule}
 use Rattle.call_inputs.specs.Steps as step
-use Rattle.call_reports.specs.Replies.{Reply, refused, accepted}
+use Rattle.call_reports.specs.Replies.{Reply, accepted}
 use Rattle.cov_ast.specs.Obligations.{Obligation, all_hold, first_false}
 use Rattle.cov_ast.specs.Syntax.{Parsed, Thread}
 use Rattle.cov_ast.specs.declared.refusal.Refusal.{Refusal}
-use Rattle.flow_model.specs.Secure.{IsSecure}
 use Rattle.policy_class.specs.Resolved.{name_obligations, resolved}
 use Rattle.verify.specs.Accepted.{program_obligations}
 use Rattle.verify.specs.Verdicts.{counts}
-use Rattle.call_judge.specs.Meaning.{meaning}
 
 -- the obligations of what a text spells: those of its names (W1, W2), and, where these hold, those of the program that it
 -- stands for (W3 to W9, V1 to V16)
@@ -30,17 +30,27 @@ thread_name p thread = name_in p.threads thread
 abbrev pub IsAcceptedText : Parsed → Type 0
 IsAcceptedText p = IsTrue (all_hold (obligations p))
 
--- the reply by the first obligation that doesn't hold: it is refused, with the name of the thread in which it is, if it is in
--- one; where all hold, the text is accepted, with the numbers of its threads, its statements and its entailments
-abbrev pub verdict_by : Parsed → Option Refusal → Reply
-verdict_by p (Some refusal) = refused refusal (thread_name p refusal.thread)
-verdict_by p None = accepted (length p.threads) (counts (resolved p)).statements (counts (resolved p)).entailments
+-- the rejection for an obligation that doesn't hold, with the name of the thread in which it is, if it is in one
+abbrev pub rejection_by : Parsed → Option Refusal → Option Rejection
+rejection_by p None = None
+rejection_by p (Some refusal) = Some (by_rule refusal (thread_name p refusal.thread))
 
--- The reply to a check of what a text spells. What is accepted is secure.
-pub record Judges (p : Parsed) (reply : Reply) : Type 0 where
-  pub verdict : reply ≡ verdict_by p (first_false (obligations p))
-  pub secure : IsAcceptedText p → IsSecure (meaning p)
+-- why what a text spells isn't accepted: its first obligation that doesn't hold
+abbrev pub rejection : Parsed → Option Rejection
+rejection p = rejection_by p (first_false (obligations p))
+
+-- the reply to a check of what is accepted: the numbers of its threads, its statements and its entailments
+abbrev pub verdict : Parsed → Reply
+verdict p = accepted (length p.threads) (counts (resolved p)).statements (counts (resolved p)).entailments
+
+-- the reply to a check of what a text spells
+abbrev pub Judges : Parsed → Reply → Type 0
+Judges p reply = UnlessRejected (rejection p) (λ r. r ≡ verdict p) reply
+
+-- a file that spells a program that is accepted
+abbrev pub accepted_program : (name : List ℕ) → Reading Parsed
+accepted_program name = then_read (step.program name) (λ p. tries (rejection p) (gives p))
 
 -- what `check` does
 abbrev pub check_plan : (name : List ℕ) → Plan
-check_plan name = step.program name (λ p. replies (IsAcceptedText p) (Judges p))
+check_plan name = does (accepted_program name) (λ p reply. reply ≡ verdict p)

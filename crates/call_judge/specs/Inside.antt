@@ -1,21 +1,37 @@
--- Words of private contracts: the reply to a program whose names are in order. To believe what `covern` promises, nothing here need be read.
-use Rattle.std.specs.Prelude.{◌≡◌, length, Option, Some, None}
-use Rattle.call_reports.specs.Replies.{Reply, refused, accepted}
+-- Words of contracts of the steps that commands share: what they give. To believe what `covern` promises, nothing here need be read.
+use Rattle.std.specs.Prelude.{◌≡◌, ℕ, List, [], length, Some, None}
+use Rattle.call_inputs.specs.Programs.{IsShownFault}
+use Rattle.call_inputs.specs.Rejections.{Rejection, rejected}
+use Rattle.call_judge.specs.Check.{name_in, rejection}
+use Rattle.call_reports.specs.Replies.{Reply, accepted, malformed, refused}
+use Rattle.call_reports.specs.declared.answers.Fault.{Fault}
 use Rattle.cov_ast.specs.Obligations.{first_false}
-use Rattle.cov_ast.specs.Plain.{plain}
-use Rattle.cov_ast.specs.Syntax.{Program}
+use Rattle.cov_ast.specs.Syntax.{Parsed, Program}
+use Rattle.cov_ast.specs.WellFormed.{IsWellFormed}
 use Rattle.cov_ast.specs.declared.refusal.Refusal.{Refusal}
-use Rattle.flow_model.specs.Secure.{IsSecure}
-use Rattle.verify.specs.Accepted.{IsAccepted, program_obligations}
+use Rattle.policy_class.specs.Resolved.{name_obligations, resolved}
+use Rattle.verify.specs.Accepted.{program_obligations}
 use Rattle.verify.specs.Verdicts.{counts}
-use Rattle.call_judge.specs.Check.{name_in}
 
--- the reply by the first obligation of a program that doesn't hold
-abbrev pub program_verdict : Program → Option Refusal → Reply
-program_verdict program (Some refusal) = refused refusal (name_in program.threads refusal.thread)
-program_verdict program None = accepted (length program.threads) (counts program).statements (counts program).entailments
+-- The program that a text stands for, whose names are in order.
+pub record IsNamed (p : Parsed) (program : Program) : Type 0 where
+  pub is : program ≡ resolved p
+  pub formed : IsWellFormed program
+  pub held : first_false (name_obligations p) ≡ None
 
--- The reply to a check of a program whose names are in order. What is accepted is secure.
-pub record JudgesProgram (program : Program) (reply : Reply) : Type 0 where
-  pub verdict : reply ≡ program_verdict program (first_false (program_obligations program))
-  pub secure : IsAccepted program → IsSecure (plain program)
+-- the reply to a text that isn't accepted
+abbrev pub IsRejected : Parsed → Reply → Type 0
+IsRejected p reply = (q : Rejection) × (rejection p ≡ Some q) × (reply ≡ rejected q)
+
+-- the reply to a program of which an obligation doesn't hold, the first such
+abbrev pub IsProgramRejected : Program → Reply → Type 0
+IsProgramRejected program reply =
+    (refusal : Refusal) × (first_false (program_obligations program) ≡ Some refusal) × (reply ≡ refused refusal (name_in program.threads refusal.thread))
+
+-- the reply to bytes without a name that spell no program: their fault
+abbrev pub IsFaultReply : (bytes : List ℕ) → Reply → Type 0
+IsFaultReply bytes reply = (fault : Fault) × IsShownFault bytes fault × (reply ≡ malformed [] fault)
+
+-- the reply to a check of a program that is accepted
+abbrev pub program_verdict : Program → Reply
+program_verdict program = accepted (length program.threads) (counts program).statements (counts program).entailments

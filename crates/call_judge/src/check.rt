@@ -1,24 +1,25 @@
-//! `check`: the verdict on what a file spells.
+//! `check`: the verdict on what a file spells, and the steps to it that other commands share.
 
-ghost use Rattle.std.specs.Prelude.{◌≡◌, ◌≤◌, length, map};
+ghost use Rattle.std.specs.Prelude.{◌≡◌, IfOk, MatchResult, map};
+ghost use Rattle.call_inputs.specs.Plans.{CarriesOut};
+ghost use Rattle.call_judge.specs.Check.{Judges, check_plan, name_in};
+ghost use Rattle.call_judge.specs.Inside.{IsNamed, IsProgramRejected, IsRejected, program_verdict};
+ghost use Rattle.call_reports.specs.AnswerViews.{Gets, Stops, seen};
+ghost use Rattle.cov_ast.specs.Plain.{plain};
 ghost use Rattle.cov_ast.specs.Ready.{IsReady};
 ghost use Rattle.cov_ast.specs.View as view;
 ghost use Rattle.cov_ast.specs.WellFormed.{IsWellFormed};
-ghost use Rattle.cov_expr.specs.declared.limits.TheConstants.{MOST_BYTES};
-ghost use Rattle.call_judge.specs.Check.{Judges, check_plan, name_in};
-ghost use Rattle.call_reports.specs.AnswerViews.{Gets};
-ghost use Rattle.call_inputs.specs.Carried.{CarriesOut};
-ghost use Rattle.call_judge.specs.Inside.{JudgesProgram};
-ghost use Rattle.call_judge.specs.Texts.{ChecksBytes};
+ghost use Rattle.flow_model.specs.Secure.{IsSecure};
+ghost use Rattle.verify.specs.Accepted.{IsAccepted};
 
-use call_inputs::{read_program, read_text};
+use call_inputs::read_program;
 use call_reports::{Answer, Stop, Totals};
 use cov_ast::{CheckFault, Parsed, Program, ThreadDecl};
 use cov_expr::Name;
 use cov_io::Shelf;
 use policy_class::resolve;
 use std::alloc::Global;
-use verify::check_program;
+use verify::{Verdict, check_program};
 
 /// Checks the program of a file.
 pub fn check<'w, S: Shelf>(
@@ -32,44 +33,56 @@ pub fn check<'w, S: Shelf>(
     judge(alloc, parsed)
 }
 
-/// Checks the bytes of a file that was fetched under a name.
-pub fn check_bytes<'w>(alloc: Global, name: &'w str, bytes: &[u8]) -> Result<Answer<'w>, Stop<'w>>
-    requires { length bytes.now ≤ MOST_BYTES }
-    ensures { Gets (ChecksBytes name.now bytes.now) result }
-{
-    let parsed = read_text(alloc, name, bytes)?;
-    judge(alloc, parsed)
-}
-
-/// Judges what a text spells. A name that is refused is that of no thread.
+/// Judges what a text spells.
 fn judge<'w>(alloc: Global, parsed: Parsed) -> Result<Answer<'w>, Stop<'w>>
     requires { IsReady (view.parsed parsed) }
     ensures { Gets (Judges (view.parsed parsed)) result }
 {
-    match resolve(alloc, parsed) {
-        Ok(program) => judge_program(alloc, &program),
-        Err(CheckFault::Refused(refusal)) => Ok(Answer::Refused(refusal, None)),
-        Err(CheckFault::NoMemory) => Err(Stop::NoMemory),
-    }
+    let program = named(alloc, parsed)?;
+    judge_program(alloc, &program)
 }
 
 /// Judges a program whose names are in order.
 fn judge_program<'w>(alloc: Global, program: &Program) -> Result<Answer<'w>, Stop<'w>>
     requires { IsWellFormed (view.program program.now) }
-    ensures { Gets (JudgesProgram (view.program program.now)) result }
+    ensures { MatchResult result
+        (λ answer. IsAccepted (view.program program.now) × (seen answer ≡ program_verdict (view.program program.now)))
+        (Stops (IsProgramRejected (view.program program.now))) }
+{
+    let verdict = verdict_on(alloc, program)?;
+    let count = verdict.count();
+    Ok(Answer::Accepted(Totals {
+        threads: program.threads.len() as u64,
+        statements: count.statements,
+        entailments: count.entailments,
+    }))
+}
+
+/// The program that a text stands for, if its names are in order. A name that is refused is that of no thread.
+pub fn named<'w>(alloc: Global, parsed: Parsed) -> Result<Program, Stop<'w>>
+    requires { IsReady (view.parsed parsed) }
+    ensures { MatchResult result (λ program. IsNamed (view.parsed parsed) (view.program program)) (Stops (IsRejected (view.parsed parsed))) }
+{
+    match resolve(alloc, parsed) {
+        Ok(program) => Ok(program),
+        Err(CheckFault::Refused(refusal)) => Err(Stop::Answer(Answer::Refused(refusal, None))),
+        Err(CheckFault::NoMemory) => Err(Stop::NoMemory),
+    }
+}
+
+/// The verdict on a program, if it is accepted.
+pub fn verdict_on<'p, 'w>(alloc: Global, program: &'p Program) -> Result<Verdict<'p>, Stop<'w>>
+    requires { IsWellFormed (view.program program.now) }
+    ensures verdict { MatchResult result
+        (λ verdict. (verdict.program.now ≡ program.now) × IsAccepted (view.program program.now))
+        (Stops (IsProgramRejected (view.program program.now))) }
+    ensures secure { IfOk result (λ _. IsSecure (plain (view.program program.now))) }
 {
     match check_program(alloc, program) {
-        Ok(verdict) => {
-            let count = verdict.count();
-            Ok(Answer::Accepted(Totals {
-                threads: program.threads.len() as u64,
-                statements: count.statements,
-                entailments: count.entailments,
-            }))
-        }
+        Ok(verdict) => Ok(verdict),
         Err(CheckFault::Refused(refusal)) => {
             let thread = thread_name(program.threads.as_slice(), refusal.thread);
-            Ok(Answer::Refused(refusal, thread))
+            Err(Stop::Answer(Answer::Refused(refusal, thread)))
         }
         Err(CheckFault::NoMemory) => Err(Stop::NoMemory),
     }

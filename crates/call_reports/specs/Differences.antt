@@ -1,11 +1,10 @@
--- What makes two memories unfit to start from, and what two runs differ in: their names, and the reply to such starts.
-use Rattle.std.specs.Prelude.{◌≡◌, ℕ, List, [], get_or, map, Option, Some, None, codes}
+-- What makes two memories unfit to start from, and what two runs differ in: their names.
+use Rattle.std.specs.Prelude.{ℕ, List, [], get_or, map, codes}
 use Rattle.cov_ast.specs.Syntax.{Program}
 use Rattle.flow_model.specs.declared.agreement.Differ.{Differ}
 use Rattle.flow_model.specs.declared.agreement.Differ.TheVariants as differs
 use Rattle.flow_model.specs.declared.start.BadStart.{BadStart}
 use Rattle.flow_model.specs.declared.start.BadStart.TheVariants as bad
-use Rattle.call_reports.specs.Replies.{Reply, bad_starts}
 use Rattle.call_reports.specs.RunReports.{name_at}
 
 -- the name of a variable, by its place
@@ -26,8 +25,3 @@ differ_text p (differs.Lock l) = lock_name p l
 differ_text p (differs.Var x) = var_name p x
 differ_text p differs.Output = codes "output"
 differ_text p (differs.Thread t) = name_at p.threads t
-
--- The reply names what makes two memories unfit to start from, the first that does, or where nothing does, it is such a one.
-abbrev pub UnlessUnfit : Program → Option BadStart → (may_reply : Reply → Type 0) → Reply → Type 0
-UnlessUnfit p (Some found) may_reply reply = reply ≡ bad_starts (bad_name p found)
-UnlessUnfit p None may_reply reply = may_reply reply

@@ -1,17 +1,6 @@
 -- Laws of two runs side by side: there is one reply, and that to an accepted program is never that they differ.
 use Rattle.std.proofs.Common.{◌≡◌, ◌⊎◌, ℕ, ◌<◌, List, length, Option, Some, None, refl, sym, ap, ap₂, ◌∙◌, subst, inl, inr}
 use Rattle.std.proofs.lemmas.List.{length-map}
-use Rattle.call_inputs.proofs.PlanLaws.{IsSoundReply}
-use Rattle.call_judge.proofs.ApartLaws.{no_bad_start, secure_not_apart}
-use Rattle.call_judge.proofs.CheckLaws.{accepted_program, names_hold, none_false}
-use Rattle.call_judge.specs.Meaning.{meaning}
-use Rattle.call_reports.proofs.AnswerLaws.{stops_onward}
-use Rattle.call_reports.specs.AnswerViews.{Stops}
-use Rattle.call_reports.specs.Differences.{UnlessUnfit, bad_name, differ_text}
-use Rattle.call_reports.specs.Replies.{Reply, bad_starts, differ, status_of}
-use Rattle.call_reports.specs.declared.answers.Status.TheVariants as s
-use Rattle.call_reports.specs.declared.answers.Stop.{Stop}
-use Rattle.cov_ast.specs.Obligations.{first_false}
 use Rattle.cov_ast.specs.Plain.{Plain, plain, plain_thread}
 use Rattle.cov_ast.specs.Syntax.{Parsed, Program}
 use Rattle.cov_expr.specs.Words.{IsMemory, IsSchedule}
@@ -23,14 +12,20 @@ use Rattle.flow_model.specs.Source.{Run, begin}
 use Rattle.flow_model.specs.declared.agreement.Differ.{Differ}
 use Rattle.flow_model.specs.declared.agreement.Differ.TheVariants as differs
 use Rattle.flow_model.specs.declared.start.BadStart.{BadStart}
-use Rattle.policy_class.specs.Resolved.{name_obligations, resolved}
+use Rattle.policy_class.specs.Resolved.{lock_id, resolved, resolved_thread, resolved_variable, var_id}
 use Rattle.schedule_replay.specs.Replays.{after_steps, AgreeThroughout, DiffersIn, IsFirstStepApart}
 use Rattle.schedule_replay.specs.declared.replays.Found.{Found}
-use Rattle.verify.specs.Accepted.{IsAccepted}
-use Rattle.call_run.specs.Inside.{IsDeclared, IsRefusal, PairsFit, PairsProgram}
-use Rattle.call_run.specs.Pairs.{Pairs, RunApart, RunTogether, RunsBoth, RunsFit}
-use Rattle.call_run.specs.Runs.{IsDeclaredText, UnlessRefused, declared_obligations}
-use Rattle.call_run.proofs.RunLaws.{same_number, refused_one, refused_no_fault, if_none}
+use Rattle.call_inputs.specs.Inputs.{PairInput}
+use Rattle.call_inputs.specs.Rejections.{UnlessRejected}
+use Rattle.call_inputs.proofs.PlanLaws.{IsSoundReply}
+use Rattle.call_judge.proofs.ApartLaws.{secure_not_apart}
+use Rattle.call_judge.specs.Meaning.{meaning}
+use Rattle.call_judge.specs.Starts.{unfit_by, unfit_starts}
+use Rattle.call_reports.specs.Differences.{differ_text}
+use Rattle.call_reports.specs.Replies.{Reply, differ, status_of}
+use Rattle.call_reports.specs.declared.answers.Status.TheVariants as s
+use Rattle.call_run.specs.Pairs.{Pairs, RunApart, RunTogether, RunsFit}
+use Rattle.call_run.proofs.RunLaws.{same_number}
 
 -- One reply ----------------------------------------------------------------------------------------------------
 
@@ -89,80 +84,49 @@ module _ (p : Program) (left right schedule : List ℕ) where
       h.is ∙ ap (λ f. differ f.step (differ_text p f.differ))
       (found_one (plain p) (begin (plain p) left) (begin (plain p) right) schedule h.found k.found h.first k.first) ∙ sym k.is
 
-  both_one : (o : Option BadStart) (reply other : Reply) → UnlessUnfit p o (RunsFit p left right schedule) reply → UnlessUnfit p o (RunsFit p left right schedule) other
-      → reply ≡ other
-  both_one (Some found) reply other h k = h ∙ sym k
-  both_one None reply other h k = fit_one reply other h k
-
-  fit_no_fault : (reply : Reply) → RunsFit p left right schedule reply → status_of reply ≡ s.ReadFault → ⊥
-  fit_no_fault reply (inl h) e = let wrong : s.Done ≡ s.ReadFault = sym (ap status_of h.is) ∙ e in cc
-  fit_no_fault reply (inr h) e = let wrong : s.Differ ≡ s.ReadFault = sym (ap status_of h.is) ∙ e in cc
-
-  both_no_fault : (o : Option BadStart) (reply : Reply) → UnlessUnfit p o (RunsFit p left right schedule) reply → status_of reply ≡ s.ReadFault → ⊥
-  both_no_fault (Some found) reply h e = let wrong : s.BadStarts ≡ s.ReadFault = sym (ap status_of h) ∙ e in cc
-  both_no_fault None reply h e = fit_no_fault reply h e
-
   fit_success : (reply : Reply) → RunsFit p left right schedule reply → (status_of reply ≡ s.Done) ⊎ (status_of reply ≡ s.Differ)
   fit_success reply (inl h) = inl (ap status_of h.is)
   fit_success reply (inr h) = inr (ap status_of h.is)
 
-  both_success : (o : Option BadStart) (reply : Reply) → o ≡ None → UnlessUnfit p o (RunsFit p left right schedule) reply
-      → (status_of reply ≡ s.Done) ⊎ (status_of reply ≡ s.Differ)
-  both_success (Some found) reply e h = let wrong : Some found ≡ None = e in cc
-  both_success None reply e h = fit_success reply h
+pub pair_sound : (i : PairInput) → IsSoundReply (λ status. (status ≡ s.Done) ⊎ (status ≡ s.Differ)) (Pairs i)
+pair_sound i = record {
+  one = fit_one (resolved i.program) i.left i.right i.schedule;
+  success = fit_success (resolved i.program) i.left i.right i.schedule;
+}
+
+-- Starts -------------------------------------------------------------------------------------------------------
+
+-- nothing rejects starts of which nothing says that they aren't fit
+none_unfit : (p : Program) (o : Option BadStart) → unfit_by p o ≡ None → o ≡ None
+none_unfit p None h = refl
+none_unfit p (Some found) h = cc
+
+-- starts that nothing rejects are fit
+pub are_fit : (p : Parsed) (left right : List ℕ) → unfit_starts p left right ≡ None → AreFitStarts (meaning p) left right
+are_fit p left right h =
+    let none : first_bad_start (meaning p) left right ≡ None = none_unfit (resolved p) (first_bad_start (meaning p) left right) h in
+    (none_is_fit (meaning p) left right None (sym none)).0 refl
+
+-- what is replied to two runs of a program is replied to those of the text that it is of
+pub program_pairs : (p : Parsed) (program : Program) (left right schedule : List ℕ) (reply : Reply) → program ≡ resolved p
+    → UnlessRejected (unfit_by program (first_bad_start (plain program) left right)) (RunsFit program left right schedule) reply
+    → UnlessRejected (unfit_starts p left right) (RunsFit (resolved p) left right schedule) reply
+program_pairs p program left right schedule reply is h =
+    subst (λ q. UnlessRejected (unfit_by q (first_bad_start (plain q) left right)) (RunsFit q left right schedule) reply) is h
 
 -- Accepted programs --------------------------------------------------------------------------------------------
 
-module _ (p : Program) (left right schedule : List ℕ) (reply : Reply) where
-  pub together_pairs : RunTogether p left right schedule reply → PairsFit p left right schedule reply
-  together_pairs h = record { verdict = inl h; agree = λ accepted e. let wrong : s.Done ≡ s.Differ = sym (ap status_of h.is) ∙ e in cc }
+-- Two runs of a secure program from fit starts never differ: of what a reading took, no reply says that they do.
+module _ (p : Parsed) (left right schedule : List ℕ) (secure : IsSecure (meaning p)) (l : IsMemory (length p.vars) left) (r : IsMemory (length p.vars) right)
+    (threads : IsSchedule (length p.threads) schedule) (fit : unfit_starts p left right ≡ None) where
+  never_apart : (found : Found) → IsFirstStepApart (meaning p) (begin (meaning p) left) (begin (meaning p) right) schedule found → ⊥
+  never_apart found first =
+      let vars : length (meaning p).vars ≡ length p.vars = length-map p.vars (resolved_variable (var_id p) (lock_id p)) in
+      let counted : length (meaning p).threads ≡ length p.threads =
+      length-map (resolved p).threads plain_thread ∙ length-map p.threads (resolved_thread (var_id p) (lock_id p)) in
+      secure_not_apart (meaning p) left right schedule found secure (subst (λ n. IsMemory n left) (sym vars) l) (subst (λ n. IsMemory n right) (sym vars) r)
+      (are_fit p left right fit) (subst (λ n. IsSchedule n schedule) (sym counted) threads) first
 
-  pub apart_pairs : (IsAccepted p → IsSecure (plain p)) → IsMemory (length p.vars) left → IsMemory (length p.vars) right → AreFitStarts (plain p) left right
-      → IsSchedule (length p.threads) schedule → RunApart p left right schedule reply → PairsFit p left right schedule reply
-  apart_pairs secure l r fit threads h = record {
-    verdict = inr h;
-    agree = λ accepted e. secure_not_apart (plain p) left right schedule h.found (secure accepted) l r fit
-        (subst (λ n. IsSchedule n schedule) (sym (length-map p.threads plain_thread)) threads) h.first;
-  }
-
-  pub fit_pairs : first_bad_start (plain p) left right ≡ None → PairsFit p left right schedule reply → PairsProgram p left right schedule reply
-  fit_pairs none h = record {
-    verdict = subst (λ o. UnlessUnfit p o (RunsFit p left right schedule) reply) (sym none) h.verdict;
-    agree = h.agree;
-  }
-
-pub unfit_pairs : (p : Program) (left right schedule : List ℕ) (found : BadStart) → first_bad_start (plain p) left right ≡ Some found
-    → PairsProgram p left right schedule (bad_starts (bad_name p found))
-unfit_pairs p left right schedule found is = record {
-  verdict = subst (λ o. UnlessUnfit p o (RunsFit p left right schedule) (bad_starts (bad_name p found))) (sym is) refl;
-  agree = λ accepted e. let wrong : s.BadStarts ≡ s.Differ = e in cc;
-}
-
--- Texts --------------------------------------------------------------------------------------------------------
-
-module _ (p : Parsed) (left right schedule : List ℕ) where
-  pub declared_pairs : (program : Program) (reply : Reply) → IsDeclared p program → PairsProgram program left right schedule reply → Pairs p left right schedule reply
-  declared_pairs program reply declared h = record {
-    verdict = subst (λ o. UnlessRefused o (RunsBoth (resolved p) left right schedule) reply) (sym declared.held)
-        (subst (λ q. RunsBoth q left right schedule reply) declared.is h.verdict);
-    agree = λ accepted. h.agree (accepted_program p program declared.is (none_false (name_obligations p) (names_hold p accepted)) accepted);
-  }
-
-  pub refusal_pairs : (stop : Stop) → Stops (IsRefusal p) stop → Stops (Pairs p left right schedule) stop
-  refusal_pairs stop h =
-      stops_onward (IsRefusal p) (Pairs p left right schedule) stop (λ reply refusal. record {
-        verdict = subst (λ o. UnlessRefused o (RunsBoth (resolved p) left right schedule) reply) (sym refusal.1) refusal.2;
-        agree = λ accepted e. let wrong : s.Refused ≡ s.Differ = sym (ap status_of refusal.2) ∙ e in cc;
-      }) h
-
-  pub pair_sound : IsSoundReply (λ status. (status ≡ s.Done) ⊎ (status ≡ s.Differ)) (IsDeclaredText p × AreFitStarts (meaning p) left right)
-      (Pairs p left right schedule)
-  pair_sound = record {
-    one = λ reply other h k. refused_one (RunsBoth (resolved p) left right schedule) (both_one (resolved p) left right schedule (first_bad_start (meaning p) left right))
-        (first_false (declared_obligations p)) reply other h.verdict k.verdict;
-    no_fault = λ reply h e. refused_no_fault (RunsBoth (resolved p) left right schedule)
-        (both_no_fault (resolved p) left right schedule (first_bad_start (meaning p) left right)) (first_false (declared_obligations p)) reply h.verdict e;
-    success = λ reply met h. both_success (resolved p) left right schedule (first_bad_start (meaning p) left right) reply
-        (no_bad_start (first_bad_start (meaning p) left right) ((none_is_fit (meaning p) left right _ refl).1 met.1))
-        (if_none (RunsBoth (resolved p) left right schedule) (first_false (declared_obligations p)) reply (none_false (declared_obligations p) met.0) h.verdict);
-  }
+  pub pairs_never_differ : (reply : Reply) → RunsFit (resolved p) left right schedule reply → status_of reply ≡ s.Differ → ⊥
+  pairs_never_differ reply (inl h) e = let wrong : s.Done ≡ s.Differ = sym (ap status_of h.is) ∙ e in cc
+  pairs_never_differ reply (inr h) e = never_apart h.found h.first

@@ -1,23 +1,20 @@
 -- `pair`: what is replied to a program, two starts and a schedule.
-use Rattle.std.specs.Prelude.{◌≡◌, ◌≢◌, ◌⊎◌, ℕ, List, length}
-use Rattle.call_inputs.specs.Plans.{Plan, replies}
+use Rattle.std.specs.Prelude.{◌≡◌, ◌⊎◌, ℕ, List, length}
+use Rattle.call_inputs.specs.Inputs.{PairInput}
+use Rattle.call_inputs.specs.Plans.{Plan, does}
+use Rattle.call_inputs.specs.Readings.{Reading, gives, then_read, tries}
 use Rattle.call_inputs.specs.Steps as step
-use Rattle.call_judge.specs.Check.{IsAcceptedText}
-use Rattle.call_judge.specs.Meaning.{meaning}
-use Rattle.call_reports.specs.Differences.{UnlessUnfit, differ_text}
-use Rattle.call_reports.specs.Replies.{Reply, differ, ran, status_of}
+use Rattle.call_judge.specs.Starts.{unfit_starts}
+use Rattle.call_reports.specs.Differences.{differ_text}
+use Rattle.call_reports.specs.Replies.{Reply, differ, ran}
 use Rattle.call_reports.specs.RunReports.{pair_report}
-use Rattle.call_reports.specs.declared.answers.Status.TheVariants as s
-use Rattle.cov_ast.specs.Obligations.{first_false}
 use Rattle.cov_ast.specs.Plain.{plain}
-use Rattle.cov_ast.specs.Syntax.{Program, Parsed}
-use Rattle.flow_model.specs.Agreement.{AreFitStarts}
-use Rattle.flow_model.specs.FirstDifference.{first_bad_start}
+use Rattle.cov_ast.specs.Syntax.{Program}
 use Rattle.flow_model.specs.Source.{after, begin}
 use Rattle.policy_class.specs.Resolved.{resolved}
 use Rattle.schedule_replay.specs.Replays.{AgreeThroughout, IsFirstStepApart}
 use Rattle.schedule_replay.specs.declared.replays.Found.{Found}
-use Rattle.call_run.specs.Runs.{UnlessRefused, declared_obligations, IsDeclaredText}
+use Rattle.call_run.specs.Runs.{declared_rejection}
 
 -- The runs from two memories agree after each step of a schedule.
 pub record RunTogether (p : Program) (left right schedule : List ℕ) (reply : Reply) : Type 0 where
@@ -34,17 +31,16 @@ pub record RunApart (p : Program) (left right schedule : List ℕ) (reply : Repl
 abbrev pub RunsFit : Program → (left right schedule : List ℕ) → Reply → Type 0
 RunsFit p left right schedule reply = RunTogether p left right schedule reply ⊎ RunApart p left right schedule reply
 
--- the reply to two runs of a program
-abbrev pub RunsBoth : Program → (left right schedule : List ℕ) → Reply → Type 0
-RunsBoth p left right schedule reply = UnlessUnfit p (first_bad_start (plain p) left right) (RunsFit p left right schedule) reply
+-- the reply to two runs
+abbrev pub Pairs : PairInput → Reply → Type 0
+Pairs i reply = RunsFit (resolved i.program) i.left i.right i.schedule reply
 
--- The reply to two runs of what a text spells. Those of what is accepted never differ.
-pub record Pairs (p : Parsed) (left right schedule : List ℕ) (reply : Reply) : Type 0 where
-  pub verdict : UnlessRefused (first_false (declared_obligations p)) (RunsBoth (resolved p) left right schedule) reply
-  pub agree : IsAcceptedText p → status_of reply ≢ s.Differ
+-- what `pair` reads: a program whose declarations are in order, two starts of it that are fit, and a schedule
+abbrev pub pair_reading : (name first second schedule : List ℕ) → Reading PairInput
+pair_reading name first second schedule =
+    then_read (step.pair_input name first second schedule) (λ i.
+    tries (declared_rejection i.program) (tries (unfit_starts i.program i.left i.right) (gives i)))
 
 -- what `pair` does
 abbrev pub pair_plan : (name first second schedule : List ℕ) → Plan
-pair_plan name first second schedule =
-    step.program name (λ p. step.memory p first (λ l. step.memory p second (λ r. step.entries p schedule (λ k.
-    replies (IsDeclaredText p × AreFitStarts (meaning p) l r) (Pairs p l r k)))))
+pair_plan name first second schedule = does (pair_reading name first second schedule) Pairs

@@ -1,22 +1,21 @@
 //! `run`: one run of a program whose declarations are in order, from a start under a schedule.
 
 ghost use Rattle.std.specs.Prelude.{◌≡◌, ◌≤◌, IfOk, MatchResult, length};
-ghost use Rattle.cov_expr.specs.declared.limits.TheConstants.{MOST_ENTRIES};
+ghost use Rattle.call_inputs.specs.InputViews.{IsRunInput, run_input};
+ghost use Rattle.call_inputs.specs.Plans.{CarriesOut};
+ghost use Rattle.call_inputs.specs.Rejections.{UnlessRejected};
+ghost use Rattle.call_reports.specs.AnswerViews.{Gets, Stops};
+ghost use Rattle.call_run.specs.Inside.{IsDeclared, IsRefusal};
+ghost use Rattle.call_run.specs.Runs.{Runs, declared_obligations, declared_rejection, report_on_run, run_plan};
 ghost use Rattle.cov_ast.specs.Obligations.{Decides};
-ghost use Rattle.cov_ast.specs.Plain.{plain};
 ghost use Rattle.cov_ast.specs.Ready.{IsReady};
 ghost use Rattle.cov_ast.specs.View as view;
 ghost use Rattle.cov_ast.specs.WellFormed.{IsWellFormed};
-ghost use Rattle.cov_expr.specs.Words.{IsMemory, IsSchedule};
-ghost use Rattle.flow_model.specs.Source.{after, stayed};
+ghost use Rattle.cov_expr.specs.Words.{IsSchedule};
+ghost use Rattle.cov_expr.specs.declared.limits.TheConstants.{MOST_ENTRIES};
 ghost use Rattle.policy_class.specs.Resolved.{resolved, without_value};
-ghost use Rattle.call_reports.specs.AnswerViews.{Gets, Stops};
-ghost use Rattle.call_inputs.specs.Carried.{CarriesOut};
-ghost use Rattle.call_run.specs.Inside.{IsDeclared, IsRefusal};
-ghost use Rattle.call_reports.specs.RunReports as reports;
-ghost use Rattle.call_run.specs.Runs.{Runs, declared_obligations, run_plan};
 
-use call_inputs::{read_inputs, read_program};
+use call_inputs::{RunInput, read_run};
 use call_reports::{Answer, Stop, run_report};
 use cov_ast::{CheckFault, Parsed, Program};
 use cov_expr::{Blob, List, NoMemory};
@@ -37,26 +36,22 @@ pub fn run<'w, S: Shelf>(
 ) -> Result<Answer<'w>, Stop<'w>>
     ensures { CarriesOut (S.shelved shelf.old) (S.shelved shelf.new) (run_plan program.now start.now schedule.now) result }
 {
-    let parsed = read_program(alloc, program, shelf)?;
-    let inputs = read_inputs(alloc, start, schedule, &parsed, shelf)?;
-    run_text(alloc, parsed, inputs.memory, inputs.entries.as_slice())
+    let input = read_run(alloc, program, start, schedule, shelf)?;
+    run_on(alloc, input)
 }
 
-/// Runs what a text spells.
-fn run_text<'w>(
-    alloc: Global,
-    parsed: Parsed,
-    memory: List<u32>,
-    schedule: &[u32],
-) -> Result<Answer<'w>, Stop<'w>>
-    requires ready { IsReady (view.parsed parsed) }
-    requires memory { IsMemory (length parsed.vars) memory }
-    requires threads { IsSchedule (length parsed.threads) schedule.now }
-    requires entries { length schedule.now ≤ MOST_ENTRIES }
-    ensures { Gets (Runs (view.parsed parsed) memory schedule.now) result }
+/// Runs what was read.
+fn run_on<'w>(alloc: Global, input: RunInput) -> Result<Answer<'w>, Stop<'w>>
+    requires { IsRunInput input }
+    ensures { Gets (UnlessRejected (declared_rejection (view.parsed input.parsed)) (Runs (run_input input))) result }
 {
+    let RunInput {
+        parsed,
+        memory,
+        entries,
+    } = input;
     let program = declared(alloc, parsed)?;
-    Ok(Answer::Ran(ran(alloc, &program, memory, schedule)?))
+    Ok(Answer::Ran(ran(alloc, &program, memory, entries.as_slice())?))
 }
 
 /// The program that a text stands for, if its declarations are in order.
@@ -93,8 +88,7 @@ fn ran(
     requires memory { length memory ≡ length program.now.vars }
     requires threads { IsSchedule (length program.now.threads) schedule.now }
     requires entries { length schedule.now ≤ MOST_ENTRIES }
-    ensures { let p = plain (view.program program.now) in IfOk result (λ text.
-        text ≡ reports.run_report (view.program program.now) (length schedule.now) (stayed p memory schedule.now) (after p memory schedule.now)) }
+    ensures { IfOk result (λ text. text ≡ report_on_run (view.program program.now) memory schedule.now) }
 {
     let mut source = Source::start(alloc, program, memory, schedule.len())?;
     let stayed = replay(&mut source, schedule);

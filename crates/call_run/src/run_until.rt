@@ -1,26 +1,26 @@
 //! `run-until`: one run of a program up to the first step after which an expression holds.
 
 ghost use Rattle.std.specs.Prelude.{◌≡◌, ◌↔◌, ◌+◌, ◌≤◌, IfOk, IsTrue, length};
-ghost use Rattle.cov_expr.specs.declared.limits.TheConstants.{MOST_ENTRIES, MOST_EXPRESSION_BYTES};
-ghost use Rattle.cov_ast.specs.Ready.{IsReady};
+ghost use Rattle.call_inputs.specs.InputViews.{IsRunInput, run_input};
+ghost use Rattle.call_inputs.specs.Plans.{CarriesOut};
+ghost use Rattle.call_inputs.specs.Rejections.{UnlessRejected};
+ghost use Rattle.call_reports.specs.AnswerViews.{Gets};
+ghost use Rattle.call_reports.specs.Replies as replies;
+ghost use Rattle.call_run.specs.Inside.{IsStopped, until_plan};
+ghost use Rattle.call_run.specs.Runs.{RunsTo, RunsUntil, declared_rejection, run_until_plan};
 ghost use Rattle.cov_ast.specs.View as view;
 ghost use Rattle.cov_ast.specs.WellFormed.{IsWellFormed};
 ghost use Rattle.cov_expr.specs.Entailment.{Holds};
 ghost use Rattle.cov_expr.specs.View.{term};
 ghost use Rattle.cov_expr.specs.Words.{HasVarsBelow, IsMemory, IsSchedule};
+ghost use Rattle.cov_expr.specs.declared.limits.TheConstants.{MOST_ENTRIES, MOST_EXPRESSION_BYTES};
 ghost use Rattle.cov_io.specs.Shelves.{Shelved};
 ghost use Rattle.source_machine.specs.SourceMachine.{run_of};
-ghost use Rattle.call_reports.specs.AnswerViews.{Gets};
-ghost use Rattle.call_inputs.specs.Carried.{CarriesOut};
-ghost use Rattle.call_run.specs.Inside.{IsStopped, until_plan};
-ghost use Rattle.call_run.specs.Runs.{run_until_plan};
-ghost use Rattle.call_run.specs.Runs.{RunsTo, RunsUntil};
-ghost use Rattle.call_reports.specs.Replies as replies;
 
 use crate::run::declared;
-use call_inputs::{read_expression, read_inputs, read_program};
+use call_inputs::{RunInput, read_expression, read_run};
 use call_reports::{Answer, Stop, stop_report};
-use cov_ast::{Parsed, Program};
+use cov_ast::Program;
 use cov_expr::{Blob, Expr, List, NoMemory, copy, eval};
 use cov_io::Shelf;
 use schedule_replay::{Until, run_until as replay_until};
@@ -41,53 +41,34 @@ pub fn run_until<'w, S: Shelf>(
     ensures { CarriesOut (S.shelved shelf.old) (S.shelved shelf.new)
         (run_until_plan program.now start.now schedule.now expression.now) result }
 {
-    let parsed = read_program(alloc, program, shelf)?;
-    let inputs = read_inputs(alloc, start, schedule, &parsed, shelf)?;
-    run_spelled(
-        alloc,
-        parsed,
-        inputs.memory,
-        inputs.entries.as_slice(),
-        expression,
-    )
+    let input = read_run(alloc, program, start, schedule, shelf)?;
+    run_spelled(alloc, input, expression)
 }
 
-/// Reads the expression, and runs what a text spells. All files are read before, whatever the shelf is.
-fn run_spelled<'w>(
-    alloc: Global,
-    parsed: Parsed,
-    memory: List<u32>,
-    schedule: &[u32],
-    word: &str,
-) -> Result<Answer<'w>, Stop<'w>>
-    requires ready { IsReady (view.parsed parsed) }
-    requires memory { IsMemory (length parsed.vars) memory }
-    requires threads { IsSchedule (length parsed.threads) schedule.now }
-    requires entries { length schedule.now ≤ MOST_ENTRIES }
+/// Reads the expression, and runs what was read. All files are read before, whatever the shelf is.
+fn run_spelled<'w>(alloc: Global, input: RunInput, word: &str) -> Result<Answer<'w>, Stop<'w>>
+    requires fits { IsRunInput input }
     requires short { length word.now ≤ MOST_EXPRESSION_BYTES }
-    ensures { (shelf : Shelved) → CarriesOut shelf shelf (until_plan (view.parsed parsed) memory schedule.now word.now) result }
+    ensures { (shelf : Shelved) → CarriesOut shelf shelf (until_plan (run_input input) word.now) result }
 {
-    let expr = read_expression(alloc, word, &parsed)?;
-    run_text(alloc, parsed, memory, schedule, expr)
+    let expr = read_expression(alloc, word, &input.parsed)?;
+    run_on(alloc, input, expr)
 }
 
-/// Runs what a text spells.
-fn run_text<'w>(
-    alloc: Global,
-    parsed: Parsed,
-    memory: List<u32>,
-    schedule: &[u32],
-    expr: Expr,
-) -> Result<Answer<'w>, Stop<'w>>
-    requires ready { IsReady (view.parsed parsed) }
-    requires memory { IsMemory (length parsed.vars) memory }
-    requires threads { IsSchedule (length parsed.threads) schedule.now }
-    requires entries { length schedule.now ≤ MOST_ENTRIES }
-    requires below { HasVarsBelow (term expr) (length parsed.vars) }
-    ensures { Gets (RunsUntil (view.parsed parsed) memory schedule.now (term expr)) result }
+/// Runs what was read.
+fn run_on<'w>(alloc: Global, input: RunInput, expr: Expr) -> Result<Answer<'w>, Stop<'w>>
+    requires fits { IsRunInput input }
+    requires below { HasVarsBelow (term expr) (length input.parsed.vars) }
+    ensures { Gets (UnlessRejected (declared_rejection (view.parsed input.parsed))
+        (RunsUntil (record { run = run_input input; expression = term expr }))) result }
 {
+    let RunInput {
+        parsed,
+        memory,
+        entries,
+    } = input;
     let program = declared(alloc, parsed)?;
-    Ok(Answer::Ran(ran(alloc, &program, memory, schedule, expr)?))
+    Ok(Answer::Ran(ran(alloc, &program, memory, entries.as_slice(), expr)?))
 }
 
 /// The report on a run.

@@ -1,6 +1,6 @@
 -- `fmt` and `migrate`: what is replied to what a text spells.
 use Rattle.std.specs.Prelude.{◌≡◌, ℕ, List}
-use Rattle.call_inputs.specs.Plans.{Plan, replies}
+use Rattle.call_inputs.specs.Plans.{Plan, does}
 use Rattle.call_inputs.specs.Steps as step
 use Rattle.call_reports.specs.Replies.{Reply, spelled}
 use Rattle.cov_ast.specs.Syntax.{Parsed}
@@ -17,8 +17,8 @@ Migrates p reply = reply ≡ spelled (spelling (in_second p))
 
 -- what `fmt` does
 abbrev pub fmt_plan : (name : List ℕ) → Plan
-fmt_plan name = step.program name (λ p. replies (Unit {0}) (Formats p))
+fmt_plan name = does (step.program name) Formats
 
 -- what `migrate` does
 abbrev pub migrate_plan : (name : List ℕ) → Plan
-migrate_plan name = step.program name (λ p. replies (Unit {0}) (Migrates p))
+migrate_plan name = does (step.program name) Migrates

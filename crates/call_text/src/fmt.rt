@@ -3,7 +3,7 @@
 ghost use Rattle.cov_ast.specs.View as view;
 ghost use Rattle.call_text.specs.Format.{Formats};
 ghost use Rattle.call_reports.specs.AnswerViews.{Gets};
-ghost use Rattle.call_inputs.specs.Carried.{CarriesOut};
+ghost use Rattle.call_inputs.specs.Plans.{CarriesOut};
 ghost use Rattle.call_text.specs.Format.{fmt_plan};
 
 use call_inputs::read_program;

@@ -1,6 +1,6 @@
 //! `migrate`: the canonical spelling of a program in version 2 of the language.
 
-ghost use Rattle.call_inputs.specs.Carried.{CarriesOut};
+ghost use Rattle.call_inputs.specs.Plans.{CarriesOut};
 ghost use Rattle.call_text.specs.Format.{migrate_plan};
 
 use crate::fmt::spell;

@@ -1,219 +1,198 @@
 -- Laws of what is told of files, and of how a call ends.
-use Rattle.std.proofs.Common.{◌≡◌, ℕ, ◌+◌, ◌<◌, List, [], ◌∷◌, ◌++◌, length, map, take, drop, get_or, Result, Option, Some, None, Ok, Err, IfErr, MatchResult, inl, inr, codes, refl, sym, ap, ◌∙◌, subst, append_assoc}
+use Rattle.std.proofs.Common.{◌≡◌, ℕ, ◌+◌, ◌<◌, ◌==◌, Bool, true, false, List, [], ◌∷◌, ◌++◌, length, map, take, drop, get_or, Result, Option, Some, None, Ok, Err, IfOk, inl, inr, codes, refl, sym, ap, ◌∙◌, subst, append_assoc}
 use Rattle.std.proofs.lemmas.List.{append-nil, drop_more, map-append, map_more, take-append-drop}
-use Rattle.cov_expr.specs.declared.limits.TheConstants.{MOST_BYTES}
-use Rattle.cov_io.specs.Counters.{raised}
-use Rattle.cov_io.specs.Shelves.{Shelved, Gives}
-use Rattle.cov_io.specs.Sinks.{Sunk, Writes}
-use Rattle.cov_io.specs.declared.shelf.Fetched.TheVariants.{Whole, TooLong}
-use Rattle.cov_io.specs.declared.shelf.ShelfFault.TheVariants.{Failed, NoMemory}
-use Rattle.explain.specs.Explanations.{explanation_at, where_is, sentence_of, place_of}
-use Rattle.text_lines.specs.Excerpts.{excerpt}
-use Rattle.call_reports.specs.AnswerViews.{Stops}
-use Rattle.call_inputs.specs.Files.{Misses}
-use Rattle.call_inputs.specs.Plans.{MayReply}
-use Rattle.call_judge.specs.Check.{check_plan}
+use Rattle.call_inputs.specs.Programs.{IsShownFault, SpellsProgram}
+use Rattle.call_inputs.specs.Readings.{End, FollowsBytes, FollowsCall, HasRead, Reads, gives, lacks, stops, took, tries}
+use Rattle.call_inputs.specs.Rejections.{Rejection, UnlessRejected}
+use Rattle.call_inputs.specs.Plans.{RepliesAt}
+use Rattle.call_inputs.specs.Steps.{AreThese, NoFault, bytes}
+use Rattle.call_inputs.proofs.ReadingLaws.{reads_onward, reads_pass}
+use Rattle.call_judge.specs.Check.{rejection, verdict}
+use Rattle.call_judge.specs.Texts.{ChecksBytes}
+use Rattle.call_reports.specs.Replies.{Reply, status_of}
 use Rattle.call_reports.specs.Reports.{report_of}
-use Rattle.explain.specs.FileCalls.{Tells, TellsAll, Answers, AsksEach, Ends, IsCalled, first_status}
-use Rattle.call_reports.specs.Replies.{Reply, usage, read_fault, too_long, malformed, refused, accepted, spelled, ran, bad_starts, differ, status_of}
 use Rattle.call_reports.specs.declared.answers.Status.{Status}
 use Rattle.call_reports.specs.declared.answers.Status.TheVariants as s
-use Rattle.call_reports.specs.declared.answers.Stop.{Stop}
-use Rattle.call_reports.specs.declared.answers.Stop.TheVariants as stops
+use Rattle.cov_ast.specs.Syntax.{Parsed}
+use Rattle.cov_expr.specs.declared.limits.TheConstants.{MOST_BYTES}
+use Rattle.cov_expr.specs.declared.list.NoMemory.{NoMemory}
+use Rattle.cov_io.specs.Shelves.{Passes, Shelved}
+use Rattle.cov_io.specs.Sinks.{Sunk}
+use Rattle.cov_io.specs.declared.shelf.Fetched.{Fetched}
+use Rattle.cov_io.specs.declared.shelf.Fetched.TheVariants.{Whole, TooLong}
+use Rattle.cov_io.specs.declared.shelf.ShelfFault.{ShelfFault}
+use Rattle.cov_io.specs.declared.shelf.ShelfFault.TheVariants as fails
+use Rattle.cov_io.proofs.ShelfLaws.{passes_none}
+use Rattle.explain.specs.Explanations.{explanation_at, where_is, sentence_of, place_of}
+use Rattle.explain.specs.FileCalls.{Answers, EndsAt, Explains, FollowsFile, IsChecked, Outcome, Tells, TellsAll, first_status, out_of_memory, told, usage_line}
+use Rattle.explain.specs.Inside.{AddsTold, IsLeft}
+use Rattle.explain.specs.Tellings.{IsTold}
+use Rattle.text_lines.specs.Excerpts.{excerpt}
 
-first_of_two : (a b c : Status) → first_status a (first_status b c) ≡ first_status (first_status a b) c
-first_of_two s.Done b c = refl
-first_of_two s.Refused b c = refl
-first_of_two s.Usage b c = refl
-first_of_two s.Malformed b c = refl
-first_of_two s.ReadFault b c = refl
-first_of_two s.WriteFault b c = refl
-first_of_two s.NoMemory b c = refl
-first_of_two s.TooLong b c = refl
-first_of_two s.Differ b c = refl
-first_of_two s.BadStarts b c = refl
+-- One file -----------------------------------------------------------------------------------------------------
 
-first_done : (a : Status) → first_status a s.Done ≡ a
-first_done s.Done = refl
-first_done s.Refused = refl
-first_done s.Usage = refl
-first_done s.Malformed = refl
-first_done s.ReadFault = refl
-first_done s.WriteFault = refl
-first_done s.NoMemory = refl
-first_done s.TooLong = refl
-first_done s.Differ = refl
-first_done s.BadStarts = refl
+-- what a step adds behind a step that read a file
+pub file_told : (name old new : List ℕ) (r : Result Status NoMemory) (before after : Shelved) (end : End (List ℕ))
+    → HasRead before after (bytes name MOST_BYTES) end → AddsTold name end old new r
+    → Reads (λ shelf last. (shelf ≡ after) × AddsTold name last old new r) before (bytes name MOST_BYTES)
+file_told name old new r before after end read adds =
+    reads_onward (λ shelf last. (shelf ≡ after) × (last ≡ end)) (λ shelf last. (shelf ≡ after) × AddsTold name last old new r)
+    (λ shelf last e. (e.0, subst (λ l. AddsTold name l old new r) (sym e.1) adds)) before (bytes name MOST_BYTES) read
 
--- what is told of files, and of one more
-pub tells_more : (names : List (List ℕ)) (a b c : Shelved) (name text here : List ℕ) (status : Status) (reply : Reply)
-    → TellsAll a b names text status → Tells b c name reply here → TellsAll a c (names ++ name ∷ []) (text ++ here) (first_status status (status_of reply))
-tells_more [] a b c name text here status reply (stays, none, done) tells =
-    (c, reply, here, [], s.Done, subst (λ x. Tells x c name reply here) stays tells, (refl, refl, refl), last, ended)
-  where
-    last : text ++ here ≡ here ++ []
-    last = ap (λ x. x ++ here) none ∙ sym (append-nil here)
+-- a step behind one for which memory ran out
+pub file_not : (name : List ℕ) (before after : Shelved) → HasRead before after (bytes name MOST_BYTES) lacks
+    → Reads (λ shelf (last : End (List ℕ)). (shelf ≡ after) × Unit {0}) before (bytes name MOST_BYTES)
+file_not name before after read =
+    reads_onward (λ shelf last. (shelf ≡ after) × (last ≡ lacks)) (λ shelf (last : End (List ℕ)). (shelf ≡ after) × Unit {0})
+    (λ shelf last e. (e.0, tt)) before (bytes name MOST_BYTES) read
 
-    ended : first_status status (status_of reply) ≡ first_status (status_of reply) s.Done
-    ended = ap (λ x. first_status x (status_of reply)) done ∙ sym (first_done (status_of reply))
-tells_more (n ∷ names) a b c name text here status reply (between, first, front, rest, later, at, all, is, first_is) tells = (
-  between,
-  first,
-  front,
-  rest ++ here,
-  first_status later (status_of reply),
-  at,
-  tells_more names between b c name rest here later reply all tells,
-  ap (λ x. x ++ here) is ∙ append_assoc front rest here,
-  ap (λ x. first_status x (status_of reply)) first_is ∙ sym (first_of_two (status_of first) later (status_of reply)),
-)
+pub unread_told : (name : List ℕ) (reply : Reply) (old new : List ℕ) (r : Result Status NoMemory)
+    → IfOk r (λ status. (status ≡ status_of reply) × (new ≡ old ++ report_of reply)) → AddsTold name (stops reply) old new r
+unread_told name reply old new (Ok status) (is, more) = (reply, report_of reply, (refl, refl), is, more)
+unread_told name reply old new (Err e) h = tt
 
--- the step of a loop over files: `seen` is what contracts see of a name
-pub tells_step : {A : Type 0} (seen : A → List ℕ) (names : List A) (i : ℕ) (a b c : Shelved) (item : A) (name before text now : List ℕ) (status next : Status)
-    → i < length names → item ≡ get_or names i item → name ≡ seen item
-    → (all : List ℕ) × TellsAll a b (map seen (take i names)) all status × (text ≡ before ++ all)
-    → (reply : Reply) × (here : List ℕ) × Tells b c name reply here × (next ≡ status_of reply) × (now ≡ text ++ here)
-    → (all : List ℕ) × TellsAll a c (map seen (take (i + 1) names)) all (first_status status next) × (now ≡ before ++ all)
-tells_step seen names i a b c item name before text now status next inside at is (all, told, so_far) (reply, here, tells, status_is, more) = (
-  all ++ here,
-  subst (λ st. TellsAll a c (map seen (take (i + 1) names)) (all ++ here) (first_status status st)) (sym status_is)
-      (subst (λ ns. TellsAll a c ns (all ++ here) (first_status status (status_of reply))) (sym names_are)
-      (tells_more (map seen (take i names)) a b c name all here status reply told tells)),
-  more ∙ ap (λ x. x ++ here) so_far ∙ append_assoc before all here,
-)
-  where
-    names_are : map seen (take (i + 1) names) ≡ map seen (take i names) ++ name ∷ []
-    names_are = map_more seen names i item inside ∙ ap (λ x. map seen (take i names) ++ x ∷ []) (ap seen (sym at) ∙ sym is)
+-- Several files ------------------------------------------------------------------------------------------------
 
--- Calls of the shelf -------------------------------------------------------------------------------------------
+-- what is said of files behind which others come
+abbrev pub Onward : (left : Shelved → Outcome → Type 0) (rest : List (List ℕ)) → Shelved → Outcome → Type 0
+Onward left rest shelf (told text status) = TellsAll left shelf rest text status
+Onward left rest shelf out_of_memory = left shelf out_of_memory
 
--- one call of the shelf gave an answer: bytes, or what isn't fetched, or that memory ran out
-pub is_called : (a b : Shelved) (name : List ℕ) (given : Result (List ℕ) Stop)
-    → MatchResult given (λ bytes. Gives a b name MOST_BYTES (Ok (Whole bytes))) (λ stop. Stops (Misses a b name MOST_BYTES) stop)
-    → b.calls ≡ raised a.calls 1 → IsCalled a b name
-is_called a b name (Ok bytes) gives counted = (Ok (Whole bytes), record { gives = gives; counted = counted })
-is_called a b name (Err (stops.Answer answer)) (inl (gives, is)) counted = (Ok TooLong, record { gives = gives; counted = counted })
-is_called a b name (Err (stops.Answer answer)) (inr (gives, is)) counted = (Err Failed, record { gives = gives; counted = counted })
-is_called a b name (Err stops.NoMemory) given counted = (Err NoMemory, record { gives = tt; counted = counted })
+module _ (left : Shelved → Outcome → Type 0) (rest : List (List ℕ)) (last : Shelved) (outcome : Outcome) (next : Onward left rest last outcome) where
+  left_at : (shelf : Shelved) (other : Outcome) → IsLeft last outcome shelf other → Onward left rest shelf other
+  left_at shelf other e = subst (λ x. Onward left rest x other) (sym e.0) (subst (Onward left rest last) (sym e.1) next)
 
--- a call that is told of gave an answer other than want of memory, and then what is next follows
-asked_by : (a b c : Shelved) (name : List ℕ) (reply : Reply) (here : List ℕ) (names : List (List ℕ)) (Lacks : Type 0) → Tells a b name reply here
-    → AsksEach b c names Lacks → AsksEach a c (name ∷ names) Lacks
-asked_by a b c name reply here names Lacks (counted, inl (bytes, gives, checks, told)) next =
-    inl (b, Ok (Whole bytes), record { gives = gives; counted = counted }, next)
-asked_by a b c name reply here names Lacks (counted, inr (inl (gives, is), report)) next =
-    inl (b, Ok TooLong, record { gives = gives; counted = counted }, next)
-asked_by a b c name reply here names Lacks (counted, inr (inr (gives, is), report)) next =
-    inl (b, Err Failed, record { gives = gives; counted = counted }, next)
+  turn : (name : List ℕ) (front : List (List ℕ)) (text : List ℕ) (status : Status)
+      → ((after : Shelved) (t : List ℕ) (st : Status) → TellsAll (IsLeft last outcome) after front t st → TellsAll left after (front ++ rest) t st)
+      → (after : Shelved) (end : End (List ℕ))
+      → FollowsFile name (λ reply here. TellsAll (IsLeft last outcome) after front (text ++ here) (first_status status (status_of reply)))
+      (IsLeft last outcome after out_of_memory) end
+      → FollowsFile name (λ reply here. TellsAll left after (front ++ rest) (text ++ here) (first_status status (status_of reply))) (left after out_of_memory) end
+  turn name front text status each after end (inl (reply, here, tells, h)) =
+      inl (reply, here, tells, each after (text ++ here) (first_status status (status_of reply)) h)
+  turn name front text status each after end (inr h) = inr (left_at after out_of_memory h)
 
--- those that are told of are asked, and then the rest
-asked_front : (front rest : List (List ℕ)) (a b c : Shelved) (text : List ℕ) (status : Status) (Lacks : Type 0) → TellsAll a b front text status
-    → AsksEach b c rest Lacks → AsksEach a c (front ++ rest) Lacks
-asked_front [] rest a b c text status Lacks (stays, none, done) next = subst (λ s. AsksEach s c rest Lacks) stays next
-asked_front (n ∷ front) rest a b c text status Lacks (between, reply, here, there, later, at, all, is, first_is) next =
-    asked_by a between c n reply here (front ++ rest) Lacks at (asked_front front rest between b c there later Lacks all next)
+  -- files, and behind them others
+  pub tells_then : (front : List (List ℕ)) (shelf : Shelved) (text : List ℕ) (status : Status) → TellsAll (IsLeft last outcome) shelf front text status
+      → TellsAll left shelf (front ++ rest) text status
+  tells_then [] shelf text status h = left_at shelf (told text status) h
+  tells_then (name ∷ front) shelf text status h =
+      reads_onward
+      (λ after end. FollowsFile name (λ reply here. TellsAll (IsLeft last outcome) after front (text ++ here) (first_status status (status_of reply)))
+      (IsLeft last outcome after out_of_memory) end)
+      (λ after end. FollowsFile name (λ reply here. TellsAll left after (front ++ rest) (text ++ here) (first_status status (status_of reply)))
+      (left after out_of_memory) end)
+      (turn name front text status (λ after t st. tells_then front after t st)) shelf (bytes name MOST_BYTES) h
 
--- where all is told, each is asked
-pub asked_all : (names : List (List ℕ)) (a b : Shelved) (text : List ℕ) (status : Status) (Lacks : Type 0) → Answers a b names text status → AsksEach a b names Lacks
-asked_all [] a b text status Lacks (stays, is, done) = stays
-asked_all (n ∷ names) a b text status Lacks told =
-    subst (λ ns. AsksEach a b ns Lacks) (append-nil (n ∷ names)) (asked_front (n ∷ names) [] a b b text status Lacks told refl)
+module _ (name : List ℕ) (a b : Shelved) (text now : List ℕ) (status : Status) where
+  -- one file of which all is told, and one behind which memory ran out
+  pub one_told : (next : Status) → Reads (λ shelf end. (shelf ≡ b) × AddsTold name end text now (Ok next)) a (bytes name MOST_BYTES)
+      → TellsAll (IsLeft b (told now (first_status status next))) a (name ∷ []) text status
+  one_told next h =
+      reads_onward (λ shelf end. (shelf ≡ b) × AddsTold name end text now (Ok next))
+      (λ after end. FollowsFile name (λ reply here. IsLeft b (told now (first_status status next)) after (told (text ++ here) (first_status status (status_of reply))))
+      (IsLeft b (told now (first_status status next)) after out_of_memory) end)
+      each a (bytes name MOST_BYTES) h
+    where
+      same : (reply : Reply) (here : List ℕ) → next ≡ status_of reply → now ≡ text ++ here
+          → told (text ++ here) (first_status status (status_of reply)) ≡ told now (first_status status next)
+      same reply here status_is more = cc
 
--- where memory is lacking, none of the rest need be asked
-none_asked : (names : List (List ℕ)) (a : Shelved) (Lacks : Type 0) → Lacks → AsksEach a a names Lacks
-none_asked [] a Lacks lacks = refl
-none_asked (n ∷ names) a Lacks lacks = inr (refl, lacks)
+      each : (shelf : Shelved) (end : End (List ℕ)) → (shelf ≡ b) × AddsTold name end text now (Ok next)
+          → FollowsFile name (λ reply here. IsLeft b (told now (first_status status next)) shelf (told (text ++ here) (first_status status (status_of reply))))
+          (IsLeft b (told now (first_status status next)) shelf out_of_memory) end
+      each shelf end (stays, (reply, here, tells, status_is, more)) = inl (reply, here, tells, (stays, same reply here status_is more))
 
-last_asked : (name : List ℕ) (names : List (List ℕ)) (a b : Shelved) (Lacks : Type 0) → Lacks → IsCalled a b name → AsksEach a b (name ∷ names) Lacks
-last_asked name names a b Lacks lacks (Ok fetched, call) = inl (b, Ok fetched, call, none_asked names b Lacks lacks)
-last_asked name names a b Lacks lacks (Err Failed, call) = inl (b, Err Failed, call, none_asked names b Lacks lacks)
-last_asked name names a b Lacks lacks (Err NoMemory, call) = inl (b, Err NoMemory, call, (refl, lacks))
+  pub one_not : (names : List (List ℕ)) (e : NoMemory) → Reads (λ shelf end. (shelf ≡ b) × AddsTold name end text now (Err e)) a (bytes name MOST_BYTES)
+      → TellsAll (IsLeft b out_of_memory) a (name ∷ names) text status
+  one_not names e h =
+      reads_onward (λ shelf end. (shelf ≡ b) × AddsTold name end text now (Err e))
+      (λ after end. FollowsFile name (λ reply here. TellsAll (IsLeft b out_of_memory) after names (text ++ here) (first_status status (status_of reply)))
+      (IsLeft b out_of_memory after out_of_memory) end)
+      (λ shelf end k. inr (k.0, refl)) a (bytes name MOST_BYTES) h
 
--- the step of a loop over files that ends for want of memory: those so far are told of, and one more was asked
-pub asked_stopped : {A : Type 0} (seen : A → List ℕ) (names : List A) (i : ℕ) (a b c : Shelved) (item : A) (name text : List ℕ) (status : Status)
-    → i < length names → item ≡ get_or names i item → name ≡ seen item
-    → TellsAll a b (map seen (take i names)) text status → IsCalled b c name → AsksEach a c (map seen names) (Unit {0})
-asked_stopped seen names i a b c item name text status inside at is told called =
-    subst (λ ns. AsksEach a c ns (Unit {0})) (sym names_are)
-    (asked_front (map seen (take i names)) (name ∷ map seen (drop (i + 1) names)) a b c text status (Unit {0}) told
-    (last_asked name (map seen (drop (i + 1) names)) b c (Unit {0}) tt called))
-  where
-    names_are : map seen names ≡ map seen (take i names) ++ name ∷ map seen (drop (i + 1) names)
-    names_are =
-        ap (map seen) (sym (take-append-drop i names))
-        ∙ map-append seen (take i names) (drop i names)
-        ∙ ap (λ ns. map seen (take i names) ++ map seen ns) (drop_more names i item inside)
-        ∙ ap (λ x. map seen (take i names) ++ x ∷ map seen (drop (i + 1) names)) (ap seen (sym at) ∙ sym is)
+-- a step of the loop over files: `seen` is what contracts see of a name
+module _ {A : Type 0} (seen : A → List ℕ) (names : List A) (i : ℕ) (a b c : Shelved) (item : A) (name before text now : List ℕ) (status : Status)
+    (inside : i < length names) (at : item ≡ get_or names i item) (is : name ≡ seen item)
+    (so_far : TellsAll (IsLeft b (told text status)) a (map seen (take i names)) before s.Done) where
+  pub tells_step : (next : Status) → Reads (λ shelf end. (shelf ≡ c) × AddsTold name end text now (Ok next)) b (bytes name MOST_BYTES)
+      → TellsAll (IsLeft c (told now (first_status status next))) a (map seen (take (i + 1) names)) before s.Done
+  tells_step next h =
+      subst (λ ns. TellsAll (IsLeft c (told now (first_status status next))) a ns before s.Done) (sym names_are)
+      (tells_then (IsLeft c (told now (first_status status next))) (name ∷ []) b (told text status) (one_told name b c text now status next h)
+      (map seen (take i names)) a before s.Done so_far)
+    where
+      names_are : map seen (take (i + 1) names) ≡ map seen (take i names) ++ name ∷ []
+      names_are = map_more seen names i item inside ∙ ap (λ x. map seen (take i names) ++ x ∷ []) (ap seen (sym at) ∙ sym is)
 
--- a fact, where a step fails
-pub where_failed : {A B : Type 0} (r : Result A B) (P : Type 0) → P → IfErr r (λ e. P)
-where_failed (Ok x) P h = tt
-where_failed (Err e) P h = h
+  pub tells_stopped : (e : NoMemory) → Reads (λ shelf end. (shelf ≡ c) × AddsTold name end text now (Err e)) b (bytes name MOST_BYTES)
+      → TellsAll (IsLeft c out_of_memory) a (map seen names) before s.Done
+  tells_stopped e h =
+      subst (λ ns. TellsAll (IsLeft c out_of_memory) a ns before s.Done) (sym names_are)
+      (tells_then (IsLeft c out_of_memory) (name ∷ map seen (drop (i + 1) names)) b (told text status)
+      (one_not name b c text now status (map seen (drop (i + 1) names)) e h) (map seen (take i names)) a before s.Done so_far)
+    where
+      names_are : map seen names ≡ map seen (take i names) ++ name ∷ map seen (drop (i + 1) names)
+      names_are =
+          ap (map seen) (sym (take-append-drop i names))
+          ∙ map-append seen (take i names) (drop i names)
+          ∙ ap (λ ns. map seen (take i names) ++ map seen ns) (drop_more names i item inside)
+          ∙ ap (λ x. map seen (take i names) ++ x ∷ map seen (drop (i + 1) names)) (ap seen (sym at) ∙ sym is)
 
--- another reason
-pub asked_for : (names : List (List ℕ)) (a b : Shelved) (Lacks Other : Type 0) → (Lacks → Other) → AsksEach a b names Lacks → AsksEach a b names Other
-asked_for [] a b Lacks Other why stays = stays
-asked_for (n ∷ names) a b Lacks Other why (inr (stays, lacks)) = inr (stays, why lacks)
-asked_for (n ∷ names) a b Lacks Other why (inl (between, Ok fetched, call, next)) =
-    inl (between, Ok fetched, call, asked_for names between b Lacks Other why next)
-asked_for (n ∷ names) a b Lacks Other why (inl (between, Err Failed, call, next)) =
-    inl (between, Err Failed, call, asked_for names between b Lacks Other why next)
-asked_for (n ∷ names) a b Lacks Other why (inl (between, Err NoMemory, call, (stays, lacks))) = inl (between, Err NoMemory, call, (stays, why lacks))
+-- How a call ends ----------------------------------------------------------------------------------------------
 
--- Statuses of replies ------------------------------------------------------------------------------------------
+module _ (left : Shelved → Outcome → Type 0) (last : Shelved) where
+  nothing_next : (outcome : Outcome) → left last outcome → Onward left [] last outcome
+  nothing_next (told text status) h = h
+  nothing_next out_of_memory h = h
 
--- It is a status of a reply: memory didn't run out, and no write failed.
-abbrev pub IsOfReply : Status → Type 0
-IsOfReply s.NoMemory = ⊥
-IsOfReply s.WriteFault = ⊥
-IsOfReply status = Unit {0}
+  -- what is said of the end is said of it all
+  pub answers_so : (names : List (List ℕ)) (shelf : Shelved) (outcome : Outcome) → left last outcome → Answers (IsLeft last outcome) shelf names
+      → Answers left shelf names
+  answers_so [] shelf outcome h (inl e) = inl (left_at left [] last outcome (nothing_next outcome h) shelf (told usage_line s.Usage) e)
+  answers_so [] shelf outcome h (inr e) = inr (left_at left [] last outcome (nothing_next outcome h) shelf out_of_memory e)
+  answers_so (name ∷ names) shelf outcome h all =
+      subst (λ ns. TellsAll left shelf ns [] s.Done) (append-nil (name ∷ names))
+      (tells_then left [] last outcome (nothing_next outcome h) (name ∷ names) shelf [] s.Done all)
 
-of_reply : (reply : Reply) → IsOfReply (status_of reply)
-of_reply usage = tt
-of_reply (read_fault name) = tt
-of_reply (too_long name) = tt
-of_reply (malformed name fault) = tt
-of_reply (refused refusal thread) = tt
-of_reply (accepted threads statements entailments) = tt
-of_reply (spelled text) = tt
-of_reply (ran report) = tt
-of_reply (bad_starts name) = tt
-of_reply (differ step what) = tt
+-- files of which one at least is named, and a text that is empty before
+pub answers_all : {A : Type 0} (seen : A → List ℕ) (left : Shelved → Outcome → Type 0) (names : List A) (shelf : Shelved) (text : List ℕ) (none : Bool)
+    → none ≡ (length names == 0) → none ≡ false → text ≡ [] → TellsAll left shelf (map seen names) text s.Done → Answers left shelf (map seen names)
+answers_all seen left [] shelf text none is some e h = let wrong : true ≡ false = sym is ∙ some in cc
+answers_all seen left (name ∷ names) shelf text none is some e h = subst (λ t. TellsAll left shelf (map seen (name ∷ names)) t s.Done) e h
 
-of_first : (a b : Status) → IsOfReply a → IsOfReply b → IsOfReply (first_status a b)
-of_first s.Done b h k = k
-of_first s.Refused b h k = tt
-of_first s.Usage b h k = tt
-of_first s.Malformed b h k = tt
-of_first s.ReadFault b h k = tt
-of_first s.WriteFault b h k = h
-of_first s.NoMemory b h k = h
-of_first s.TooLong b h k = tt
-of_first s.Differ b h k = tt
-of_first s.BadStarts b h k = tt
+-- a call that ends so behind what its calls come to
+pub explained : (before after : Shelved) (old new : Sunk) (names : List (List ℕ)) (result : Status) (outcome : Outcome) → Answers (IsLeft after outcome) before names
+    → EndsAt old new result outcome → Explains before after old new names result
+explained before after old new names result outcome h ends =
+    answers_so (λ shelf other. (shelf ≡ after) × EndsAt old new result other) after names before outcome (refl, ends) h
 
-of_all : (names : List (List ℕ)) (a b : Shelved) (text : List ℕ) (status : Status) → TellsAll a b names text status → IsOfReply status
-of_all [] a b text status (stays, none, done) = subst IsOfReply (sym done) tt
-of_all (n ∷ names) a b text status (between, first, front, rest, later, at, all, is, first_is) =
-    subst IsOfReply (sym first_is) (of_first (status_of first) later (of_reply first) (of_all names between b rest later all))
+-- calls pass on what a shelf is
+module _ (last : Shelved) (outcome : Outcome) where
+  left_passes : (shelf : Shelved) (other : Outcome) → IsLeft last outcome shelf other → Passes shelf last
+  left_passes shelf other e = subst (Passes shelf) e.0 (passes_none shelf)
 
-pub of_answer : (names : List (List ℕ)) (a b : Shelved) (text : List ℕ) (status : Status) → Answers a b names text status → IsOfReply status
-of_answer [] a b text status (stays, is, done) = subst IsOfReply (sym done) tt
-of_answer (n ∷ names) a b text status h = of_all (n ∷ names) a b text status h
+  turn_passes : (name : List ℕ) (names : List (List ℕ)) (text : List ℕ) (status : Status)
+      → ((after : Shelved) (t : List ℕ) (st : Status) → TellsAll (IsLeft last outcome) after names t st → Passes after last)
+      → (after : Shelved) (end : End (List ℕ))
+      → FollowsFile name (λ reply here. TellsAll (IsLeft last outcome) after names (text ++ here) (first_status status (status_of reply)))
+      (IsLeft last outcome after out_of_memory) end
+      → Passes after last
+  turn_passes name names text status each after end (inl (reply, here, tells, h)) = each after (text ++ here) (first_status status (status_of reply)) h
+  turn_passes name names text status each after end (inr h) = left_passes after out_of_memory h
 
--- a call that puts the whole text ends with the status of a reply
-pub ends_whole : (tells : List ℕ → Status → Type 0) (before after : Sunk) (text : List ℕ) (status : Status) → IsOfReply status
-    → tells text status → Writes before after text (Ok tt) → Ends tells before after status
-ends_whole tells before after text s.NoMemory of h w = absurd of
-ends_whole tells before after text s.WriteFault of h w = absurd of
-ends_whole tells before after text s.Done of h w = (text, h, w)
-ends_whole tells before after text s.Refused of h w = (text, h, w)
-ends_whole tells before after text s.Usage of h w = (text, h, w)
-ends_whole tells before after text s.Malformed of h w = (text, h, w)
-ends_whole tells before after text s.ReadFault of h w = (text, h, w)
-ends_whole tells before after text s.TooLong of h w = (text, h, w)
-ends_whole tells before after text s.Differ of h w = (text, h, w)
-ends_whole tells before after text s.BadStarts of h w = (text, h, w)
+  tells_pass : (names : List (List ℕ)) (shelf : Shelved) (text : List ℕ) (status : Status) → TellsAll (IsLeft last outcome) shelf names text status → Passes shelf last
+  tells_pass [] shelf text status h = left_passes shelf (told text status) h
+  tells_pass (name ∷ names) shelf text status h =
+      reads_pass
+      (λ after end. FollowsFile name (λ reply here. TellsAll (IsLeft last outcome) after names (text ++ here) (first_status status (status_of reply)))
+      (IsLeft last outcome after out_of_memory) end) last
+      (turn_passes name names text status (λ after t st. tells_pass names after t st)) shelf (bytes name MOST_BYTES) h
+
+  pub answers_pass : (names : List (List ℕ)) (shelf : Shelved) → Answers (IsLeft last outcome) shelf names → Passes shelf last
+  answers_pass [] shelf (inl e) = left_passes shelf (told usage_line s.Usage) e
+  answers_pass [] shelf (inr e) = left_passes shelf out_of_memory e
+  answers_pass (name ∷ names) shelf h = tells_pass (name ∷ names) shelf [] s.Done h
 
 -- The report of `check` -----------------------------------------------------------------------------------------
 
@@ -228,10 +207,48 @@ has_report name bytes reply (Some place) = (
   regrouped (where_is name bytes place ++ report_of reply) (excerpt bytes place) (codes "  ") (sentence_of bytes reply) (codes "\n"),
 )
 
--- what is told of a file is by a reply that `check` may give to it, and has its report
-pub told_checked : (before after : Shelved) (name : List ℕ) (reply : Reply) (text : List ℕ) → Tells before after name reply text
-    → MayReply before after (check_plan name) reply × ((front : List ℕ) × (rest : List ℕ) × (text ≡ front ++ report_of reply ++ rest))
-told_checked before after name reply text (counted, inl (bytes, gives, checks, (lines, warns, is))) =
-    let h = has_report name bytes reply (place_of reply) in
-    (inl (bytes, gives, checks), (h.0, h.1 ++ lines, is ∙ ap (λ t. t ++ lines) h.2 ∙ append_assoc (h.0 ++ report_of reply) h.1 lines))
-told_checked before after name reply text (counted, inr (misses, is)) = (inr misses, ([], [], is ∙ sym (append-nil (report_of reply))))
+abbrev pub HasReport : Reply → List ℕ → Type 0
+HasReport reply text = (front : List ℕ) × (rest : List ℕ) × (text ≡ front ++ report_of reply ++ rest)
+
+told_report : (name : List ℕ) (end : End (List ℕ)) (reply : Reply) (text : List ℕ) → Tells name end reply text → HasReport reply text
+told_report name (took these) reply text (checks, (lines, adds, is)) =
+    let h = has_report name these reply (place_of reply) in
+    (h.0, h.1 ++ lines, is ∙ ap (λ t. t ++ lines) h.2 ∙ append_assoc (h.0 ++ report_of reply) h.1 lines)
+told_report name (stops other) reply text (same, is) = ([], [], is ∙ sym (append-nil (report_of reply)))
+told_report name lacks reply text h = absurd h
+
+-- `check` replies so, and the shelf is left as this
+abbrev pub Replied : (last : Shelved) → Reply → Shelved → End Parsed → Type 0
+Replied last reply left end = (left ≡ last) × RepliesAt (λ p other. other ≡ verdict p) end reply
+
+module _ (name : List ℕ) (reply : Reply) (last shelf : Shelved) (stays : shelf ≡ last) where
+  judged : (p : Parsed) (o : Option Rejection) → UnlessRejected o (λ r. r ≡ verdict p) reply → Reads (Replied last reply) shelf (tries o (gives p))
+  judged p None h = inl (stays, h)
+  judged p (Some rejects) h = inl (stays, h)
+
+  bytes_checked : (these : List ℕ) → ChecksBytes name these reply
+      → FollowsBytes SpellsProgram IsShownFault name (λ p. Reads (Replied last reply) shelf (tries (rejection p) (gives p))) (λ r. Replied last reply shelf (stops r))
+      (Replied last reply shelf lacks) these
+  bytes_checked these (inl (p, spells, judges)) = inl (p, spells, judged p (rejection p) judges)
+  bytes_checked these (inr (fault, is_fault, is)) = inr (inl (fault, is_fault, (stays, is)))
+
+module _ (name : List ℕ) (reply : Reply) (text : List ℕ) (last shelf : Shelved) where
+  -- what a call of the shelf says of a file of which something is told
+  call_checked : (end : End (List ℕ)) → Tells name end reply text → (answer : Result Fetched ShelfFault)
+      → FollowsCall AreThese NoFault name (λ these. (shelf ≡ last) × (took these ≡ end)) (λ r. (shelf ≡ last) × (stops r ≡ end)) ((shelf ≡ last) × (lacks ≡ end)) answer
+      → FollowsCall SpellsProgram IsShownFault name (λ p. Reads (Replied last reply) shelf (tries (rejection p) (gives p)))
+      (λ r. Replied last reply shelf (stops r)) (Replied last reply shelf lacks) answer
+  call_checked end tells (Ok (Whole read)) (inl (these, is, (stays, e))) =
+      let here : Tells name (took these) reply text = subst (λ x. Tells name x reply text) (sym e) tells in
+      bytes_checked name reply last shelf stays read (subst (λ b. ChecksBytes name b reply) is here.0)
+  call_checked end tells (Ok (Whole read)) (inr (inl (fault, is, e))) = absurd is
+  call_checked end tells (Ok (Whole read)) (inr (inr (stays, e))) = absurd (subst (λ x. Tells name x reply text) (sym e) tells)
+  call_checked end tells (Ok TooLong) (stays, e) = (stays, (subst (λ x. Tells name x reply text) (sym e) tells).0)
+  call_checked end tells (Err fails.Failed) (stays, e) = (stays, (subst (λ x. Tells name x reply text) (sym e) tells).0)
+  call_checked end tells (Err fails.NoMemory) (stays, e) = absurd (subst (λ x. Tells name x reply text) (sym e) tells)
+
+-- what is told of a file is by a reply that `check` gives to it, and has its report
+pub told_checked : (before after : Shelved) (name : List ℕ) (end : End (List ℕ)) (reply : Reply) (text : List ℕ) → HasRead before after (bytes name MOST_BYTES) end
+    → Tells name end reply text → IsChecked before after name reply × HasReport reply text
+told_checked before after name end reply text (between, answer, call, h) tells =
+    ((between, answer, call, call_checked name reply text after between end tells answer h), told_report name end reply text tells)

@@ -1,3 +1,2 @@
 pub mod CallLaws
-pub mod WarningLaws
-pub mod AskedLaws
+pub mod TellingLaws

@@ -1,9 +1,9 @@
 //! The call: the words of a command line, and how it ends.
 
-ghost use Rattle.std.specs.Prelude.{◌≡◌, ◌++◌, ◌≤◌, ℕ, List, IfErr, IfOk, map, string_bytes};
+ghost use Rattle.std.specs.Prelude.{◌≡◌, ◌≤◌, [], map, string_bytes};
 ghost use Rattle.cov_io.specs.Shelves.{Passes};
-ghost use Rattle.explain.specs.FileCalls.{Answers, AsksEach, Ends};
-ghost use Rattle.call_reports.specs.declared.answers.Status.TheVariants as s;
+ghost use Rattle.explain.specs.FileCalls.{Answers, Explains};
+ghost use Rattle.explain.specs.Inside.{IsLeft, outcome_of};
 
 use crate::files::tell_all;
 use call_reports::Status;
@@ -19,10 +19,9 @@ pub fn explain<S: Shelf, K: Sink>(
     shelf: &mut S,
     sink: &mut K,
 ) -> Status
-    // What is put is told of the files, in order; the status is the first of theirs that isn't Done.
-    ensures outcome { Ends (Answers (S.shelved shelf.old) (S.shelved shelf.new) (map string_bytes names.now)) (K.sunk sink.old) (K.sunk sink.new) result }
-    // The shelf is called once for each file, in order, and for fewer only where memory ran out.
-    ensures asks { AsksEach (S.shelved shelf.old) (S.shelved shelf.new) (map string_bytes names.now) (result ≡ s.NoMemory) }
+    // The shelf is called once for each file, in order, and for fewer only where memory ran out. What is put is told of the files, in order;
+    // the status is the first of theirs that isn't Done.
+    ensures does { Explains (S.shelved shelf.old) (S.shelved shelf.new) (K.sunk sink.old) (K.sunk sink.new) (map string_bytes names.now) result }
     // What a shelf tells stays, and no count falls.
     ensures passes { Passes (S.shelved shelf.old) (S.shelved shelf.new) }
     ensures counts { (K.sunk sink.old).faults ≤ (K.sunk sink.new).faults }
@@ -44,10 +43,8 @@ fn answer<S: Shelf>(
     shelf: &mut S,
     text: &mut Blob,
 ) -> Result<Status, NoMemory>
-    ensures told { IfOk result (λ status. (all : List ℕ) × Answers (S.shelved shelf.old) (S.shelved shelf.new) (map string_bytes names.now) all status
-        × (text.new ≡ text.old ++ all)) }
-    ensures stopped { IfErr result (λ e. AsksEach (S.shelved shelf.old) (S.shelved shelf.new) (map string_bytes names.now) (Unit {0})) }
-    ensures passes { Passes (S.shelved shelf.old) (S.shelved shelf.new) }
+    requires { text.old ≡ [] }
+    ensures { Answers (IsLeft (S.shelved shelf.new) (outcome_of text.new result)) (S.shelved shelf.old) (map string_bytes names.now) }
 {
     if names.is_empty() {
         text.extend_from_slice(b"usage: covern explain FILE..\n")?;

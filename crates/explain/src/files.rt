@@ -1,21 +1,24 @@
 //! What is told of each file, and the status of them all.
 
-ghost use Rattle.std.specs.Prelude.{◌≡◌, ◌++◌, ◌≤◌, ℕ, List, IfErr, IfOk, length, map, string_bytes};
-ghost use Rattle.cov_expr.specs.declared.limits.TheConstants.{MOST_BYTES};
-ghost use Rattle.cov_io.specs.Shelves.{Passes};
-ghost use Rattle.explain.specs.FileCalls as spec;
-ghost use Rattle.explain.specs.FileCalls.{AsksEach, IsCalled, Tells, TellsAll};
-ghost use Rattle.explain.specs.Tellings.{IsTold};
+ghost use Rattle.std.specs.Prelude.{◌≡◌, ◌++◌, ◌≤◌, ℕ, List, IfOk, length, map, string_bytes};
+ghost use Rattle.call_inputs.specs.Readings.{Reads, took};
+ghost use Rattle.call_inputs.specs.Steps as step;
+ghost use Rattle.call_judge.specs.Findings.{Finds};
 ghost use Rattle.call_reports.specs.AnswerViews.{seen};
-ghost use Rattle.call_reports.specs.Replies.{Reply, status_of};
-ghost use Rattle.call_judge.specs.Texts.{ChecksBytes};
+ghost use Rattle.call_reports.specs.Replies.{status_of};
+ghost use Rattle.call_reports.specs.Reports.{report_of};
+ghost use Rattle.call_reports.specs.declared.answers.Status.TheVariants as s;
+ghost use Rattle.cov_expr.specs.declared.limits.TheConstants.{MOST_BYTES};
+ghost use Rattle.explain.specs.FileCalls as spec;
+ghost use Rattle.explain.specs.FileCalls.{TellsAll};
+ghost use Rattle.explain.specs.Inside.{AddsTold, IsLeft, outcome_of};
 
 use crate::explanation::{add_explanation, add_report};
 use crate::more::add_more;
 use call_inputs::fetch;
-use call_judge::check::check_bytes;
+use call_judge::judge::{Judged, judge_bytes};
 use call_reports::{Answer, Status, Stop, status_for};
-use cov_expr::{Blob, List, MOST_BYTES, NoMemory};
+use cov_expr::{Blob, MOST_BYTES, NoMemory};
 use cov_io::Shelf;
 use std::alloc::Global;
 
@@ -26,10 +29,7 @@ pub fn tell_all<S: Shelf>(
     shelf: &mut S,
     text: &mut Blob,
 ) -> Result<Status, NoMemory>
-    ensures told { IfOk result (λ status. (all : List ℕ) × TellsAll (S.shelved shelf.old) (S.shelved shelf.new) (map string_bytes names.now) all status
-        × (text.new ≡ text.old ++ all)) }
-    ensures stopped { IfErr result (λ e. AsksEach (S.shelved shelf.old) (S.shelved shelf.new) (map string_bytes names.now) (Unit {0})) }
-    ensures passes { Passes (S.shelved shelf.old) (S.shelved shelf.new) }
+    ensures { TellsAll (IsLeft (S.shelved shelf.new) (outcome_of text.new result)) (S.shelved shelf.old) (map string_bytes names.now) text.old s.Done }
 {
     let mut status = Status::Done;
     for name in names {
@@ -56,52 +56,48 @@ fn tell<S: Shelf>(
     shelf: &mut S,
     text: &mut Blob,
 ) -> Result<Status, NoMemory>
-    ensures told { IfOk result (λ status. (reply : Reply) × (here : List ℕ) × Tells (S.shelved shelf.old) (S.shelved shelf.new) name.now reply here
-        × (status ≡ status_of reply) × (text.new ≡ text.old ++ here)) }
-    ensures called { IsCalled (S.shelved shelf.old) (S.shelved shelf.new) name.now }
-    ensures passes { Passes (S.shelved shelf.old) (S.shelved shelf.new) }
+    ensures { Reads (λ after end. (after ≡ S.shelved shelf.new) × AddsTold name.now end text.old text.new result) (S.shelved shelf.old) (step.bytes name.now MOST_BYTES) }
 {
     match fetch(alloc, name, MOST_BYTES, shelf) {
         Ok(bytes) => tell_bytes(alloc, name, bytes.as_slice(), text),
-        Err(Stop::Answer(answer)) => {
-            let status = status_for(&answer);
-            add_report(alloc, answer, text)?;
-            Ok(status)
-        }
+        Err(Stop::Answer(answer)) => tell_unread(alloc, answer, text),
         Err(Stop::NoMemory) => Err(NoMemory),
     }
+}
+
+/// Adds what is told of a file that isn't read, and gives the status of that.
+fn tell_unread(alloc: Global, answer: Answer<'_>, text: &mut Blob) -> Result<Status, NoMemory>
+    ensures { IfOk result (λ status. (status ≡ status_of (seen answer.entry)) × (text.new ≡ text.old ++ report_of (seen answer.entry))) }
+{
+    let status = status_for(&answer);
+    add_report(alloc, answer, text)?;
+    Ok(status)
 }
 
 /// Adds what is told of the bytes of a file, and gives the status that `check` has for them.
 fn tell_bytes(alloc: Global, name: &str, bytes: &[u8], text: &mut Blob) -> Result<Status, NoMemory>
     requires { length bytes.now ≤ MOST_BYTES }
-    ensures { IfOk result (λ status. (reply : Reply) × (here : List ℕ) × ChecksBytes name.now bytes.now reply × IsTold name.now bytes.now reply here
-        × (status ≡ status_of reply) × (text.new ≡ text.old ++ here)) }
+    ensures { AddsTold name.now (took bytes.now) text.old text.new result }
 {
-    match check_bytes(alloc, name, bytes) {
-        Ok(answer) => tell_answer(alloc, name, bytes, answer, text),
-        Err(Stop::Answer(answer)) => tell_answer(alloc, name, bytes, answer, text),
-        Err(Stop::NoMemory) => Err(NoMemory),
-    }
+    let judged = judge_bytes(alloc, bytes)?;
+    tell_judged(alloc, name, bytes, &judged, text)
 }
 
-/// Adds what is told of the bytes of a file that `check` answers so, and gives the status of that.
-fn tell_answer(
+/// Adds what is told of the bytes of a file of which this was found, and gives the status of that.
+fn tell_judged(
     alloc: Global,
     name: &str,
     bytes: &[u8],
-    answer: Answer<'_>,
+    judged: &Judged,
     text: &mut Blob,
 ) -> Result<Status, NoMemory>
     requires length { length bytes.now ≤ MOST_BYTES }
-    requires checked { ChecksBytes name.now bytes.now (seen answer) }
-    ensures { IfOk result (λ status. (reply : Reply) × (here : List ℕ) × ChecksBytes name.now bytes.now reply × IsTold name.now bytes.now reply here
-        × (status ≡ status_of reply) × (text.new ≡ text.old ++ here)) }
+    requires found { Finds bytes.now judged.now }
+    ensures { AddsTold name.now (took bytes.now) text.old text.new result }
 {
+    let answer = judged.answer(name);
     let status = status_for(&answer);
-    let mut more = List::new(alloc);
-    add_more(alloc, name, bytes, &answer, &mut more)?;
     add_explanation(alloc, name, bytes, answer, text)?;
-    text.extend_from_slice(more.as_slice())?;
+    add_more(alloc, name, bytes, judged, text)?;
     Ok(status)
 }

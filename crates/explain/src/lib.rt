@@ -11,21 +11,21 @@
 //! |---|---|---|
 //! | `call`, `files` | `FileCalls` | the words of a command line; what is told of each file, and the status |
 //! | `explanation` | `Explanations` | what is told of the bytes of a file |
-//! | `more`, `refusals` | `Tellings` | what is told beside it: what could stand at the place of a token, and what a refusal is about |
-//! | `accepted`, `warnings`, `sentences` | `WarningSentences` | what is warned of in a file that is accepted |
+//! | `more` | `Tellings` | what is told beside it: what could stand at the place of a token, and what a refusal is about |
+//! | `warnings`, `sentences` | `WarningSentences` | what is warned of in a file |
 //! | `rules` | `RuleSentences` | the sentence of each rule |
 //! | `faults`, `words` | `FaultSentences`, `TokenSentences` | the sentence of each fault of a text; reserved words |
 //! | `laws` | | the report is that of `check` |
+//!
+//! `specs/Inside` has the words of private contracts, which no promise cites.
 #![tactic(auto)]
 
-mod accepted;
 mod call;
 mod explanation;
 mod faults;
 mod files;
 mod laws;
 mod more;
-mod refusals;
 mod rules;
 mod sentences;
 mod warnings;

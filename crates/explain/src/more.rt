@@ -1,59 +1,78 @@
 //! What is told beside an explanation.
 
 ghost use Rattle.std.specs.Prelude.{◌≡◌, ◌≤◌, ◌++◌, ℕ, List, length, OnOk};
-ghost use Rattle.cov_ast.specs.Syntax.{Parsed};
+ghost use Rattle.call_judge.specs.Findings.{Finds, reply_to};
+ghost use Rattle.cov_ast.specs.View as view;
+ghost use Rattle.cov_ast.specs.WellFormed.{IsWellFormed};
 ghost use Rattle.cov_expr.specs.declared.limits.TheConstants.{MOST_BYTES};
-ghost use Rattle.explain.specs.Tellings.{Adds, asked_lines, stand_lines};
+ghost use Rattle.explain.specs.Tellings as spec;
+ghost use Rattle.explain.specs.Tellings.{Adds, stand_lines};
 ghost use Rattle.explain.specs.WarningSentences.{warning_lines};
 ghost use Rattle.program_warnings.specs.HiddenText.{text_warnings};
-ghost use Rattle.call_reports.specs.AnswerViews.{seen};
-ghost use Rattle.call_inputs.specs.Programs.{SpellsProgram};
-ghost use Rattle.call_judge.specs.Texts.{ChecksBytes};
 
-use crate::refusals::add_asked;
 use crate::warnings::{add_text_warnings, add_warnings};
-use call_reports::{Answer, Fault, FaultKind};
-use cov_ast::Refusal;
+use call_judge::judge::Judged;
+use call_reports::{Fault, FaultKind};
+use cov_ast::{Program, Refusal};
 use cov_expr::{Blob, NoMemory};
 use expected_tokens::add_expected;
+use refusal_names::add_names;
 use std::alloc::Global;
 
-/// Adds what is told of bytes that `check` answers so, beside the explanation: of malformed ones what could stand at the place of a token,
-/// of refused ones what was asked and what is warned of in the bytes, of accepted ones what is warned of. All are read from the bytes anew.
+/// Adds what is told of bytes of which this was found, beside the explanation: of malformed ones what could stand at the place of a token,
+/// of refused ones what the refusal is about and what is warned of in the bytes, of accepted ones what is warned of.
 pub fn add_more(
     alloc: Global,
     name: &str,
     bytes: &[u8],
-    answer: &Answer<'_>,
+    judged: &Judged,
     text: &mut Blob,
 ) -> Result<(), NoMemory>
     requires length { length bytes.now ≤ MOST_BYTES }
-    requires checked { ChecksBytes name.now bytes.now (seen answer.now) }
-    ensures { OnOk result ((more : List ℕ) × Adds name.now bytes.now (seen answer.now) more × (text.new ≡ text.old ++ more)) }
+    requires found { Finds bytes.now judged.now }
+    ensures { OnOk result ((more : List ℕ) × Adds name.now bytes.now (reply_to name.now judged.now) more × (text.new ≡ text.old ++ more)) }
 {
-    match answer {
-        Answer::Malformed(_, fault) => add_stand_lines(alloc, bytes, fault, text),
-        Answer::Refused(refusal, _) => add_refused(alloc, name, bytes, refusal, text),
-        Answer::Accepted(_) => add_warnings(alloc, name, bytes, text),
-        _ => Ok(()),
+    match judged {
+        Judged::Malformed(fault) => add_stand_lines(alloc, bytes, fault, text),
+        Judged::Unnamed(_) => add_text_warnings(alloc, name, bytes, text),
+        Judged::Refused(refusal, program) => {
+            add_refused(alloc, name, bytes, refusal, program, text)
+        }
+        Judged::Accepted(_, program) => add_warnings(alloc, name, bytes, program, text),
     }
 }
 
-/// Adds what a refusal of bytes is about, and what is warned of in them.
+/// Adds what a refusal of a program is about, and what is warned of in the bytes of its text.
 fn add_refused(
     alloc: Global,
     name: &str,
     bytes: &[u8],
     refusal: &Refusal,
+    program: &Program,
     text: &mut Blob,
 ) -> Result<(), NoMemory>
     requires length { length bytes.now ≤ MOST_BYTES }
-    requires spelled { (p : Parsed) × SpellsProgram bytes.now p }
-    ensures { OnOk result ((p : Parsed) × SpellsProgram bytes.now p
-        × (text.new ≡ text.old ++ (asked_lines p bytes.now refusal.now ++ warning_lines name.now bytes.now (text_warnings bytes.now)))) }
+    requires formed { IsWellFormed (view.program program.now) }
+    ensures { OnOk result (text.new ≡ text.old
+        ++ (spec.refusal_lines (view.program program.now) bytes.now refusal.now ++ warning_lines name.now bytes.now (text_warnings bytes.now))) }
 {
-    add_asked(alloc, bytes, refusal, text)?;
+    add_refusal_lines(alloc, bytes, refusal, program, text)?;
     add_text_warnings(alloc, name, bytes, text)
+}
+
+/// Adds what a refusal of a program is about: of W9, V1, V2, V3, V4, V8, V12, V15 and V16 names, of V9 the entailment, of other rules nothing.
+fn add_refusal_lines(
+    alloc: Global,
+    bytes: &[u8],
+    refusal: &Refusal,
+    program: &Program,
+    text: &mut Blob,
+) -> Result<(), NoMemory>
+    requires { IsWellFormed (view.program program.now) }
+    ensures { OnOk result (text.new ≡ text.old ++ spec.refusal_lines (view.program program.now) bytes.now refusal.now) }
+{
+    add_names(alloc, program, bytes, refusal, text)?;
+    entail_refused::add_asked(alloc, program, bytes, refusal, text)
 }
 
 /// Adds what could stand at the place of a fault, if that is a token with which no program goes on.

@@ -1,36 +1,33 @@
 //! The lines of what is warned of.
 
 ghost use Rattle.std.specs.Prelude.{◌≡◌, ◌≤◌, ◌++◌, length, OnOk};
-ghost use Rattle.cov_ast.specs.Syntax.{Parsed};
+ghost use Rattle.cov_ast.specs.Plain.{plain};
+ghost use Rattle.cov_ast.specs.View as view;
 ghost use Rattle.cov_expr.specs.declared.limits.TheConstants.{MOST_BYTES};
-ghost use Rattle.explain.specs.Inside.{AreAccepted};
 ghost use Rattle.explain.specs.WarningSentences as spec;
-ghost use Rattle.call_judge.specs.Meaning.{meaning};
-ghost use Rattle.call_inputs.specs.Programs.{SpellsProgram};
 ghost use Rattle.program_warnings.specs.HiddenText as hidden;
 ghost use Rattle.program_warnings.specs.Warnings as found;
 
-use crate::accepted::accepted_program;
 use crate::explanation::add_where;
 use crate::sentences::add_cause_sentence;
+use cov_ast::Program;
 use cov_expr::{Blob, NoMemory};
 use program_warnings::{Warning, text_warnings, warnings};
 use std::alloc::Global;
 
-/// Adds what is warned of in bytes that are accepted, and in their program.
+/// Adds what is warned of in a program, and in the bytes of its text.
 pub fn add_warnings(
     alloc: Global,
     name: &str,
     bytes: &[u8],
+    program: &Program,
     text: &mut Blob,
 ) -> Result<(), NoMemory>
-    requires length { length bytes.now ≤ MOST_BYTES }
-    requires accepted { AreAccepted bytes.now }
-    ensures { OnOk result ((p : Parsed) × SpellsProgram bytes.now p
-        × (text.new ≡ text.old ++ spec.warning_lines name.now bytes.now (found.warnings (meaning p) bytes.now))) }
+    requires { length bytes.now ≤ MOST_BYTES }
+    ensures { OnOk result (text.new ≡ text.old
+        ++ spec.warning_lines name.now bytes.now (found.warnings (plain (view.program program.now)) bytes.now)) }
 {
-    let program = accepted_program(alloc, bytes)?;
-    let found = warnings(alloc, &program, bytes)?;
+    let found = warnings(alloc, program, bytes)?;
     add_warning_lines(name, bytes, found.as_slice(), text)
 }
 

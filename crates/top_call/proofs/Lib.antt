@@ -1,5 +1,4 @@
 pub mod RoundsLaws
-pub mod AgreeLaws
--- Every command: what a call promises, and that it has one reply.
+-- Every command: what a call promises, and that there is one reply.
+pub mod WordLaws
 pub mod OutcomeLaws
-pub mod OneReply

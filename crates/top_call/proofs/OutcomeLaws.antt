@@ -1,136 +1,120 @@
 -- What a call promises, for every command.
-use Rattle.std.proofs.Common.{◌≡◌, ◌⊎◌, ℕ, List, Option, Some, None, IfSome, refl, sym, ap, ◌∙◌, subst, inl, inr, Ok}
+use Rattle.std.proofs.Common.{◌≡◌, ◌⊎◌, ℕ, List, [], ◌∷◌, Bool, true, false, Option, Some, None, Result, Ok, Err, IfSome, ◌≤◌, length, map, refl, sym, ap, ◌∙◌, subst, inl, inr}
+use Rattle.std.specs.Prelude.{codes}
+use Rattle.std.proofs.lemmas.List.{length-map}
+use Rattle.cov_expr.specs.Words.{IsMemory, IsSchedule}
+use Rattle.cov_expr.specs.declared.limits.TheConstants.{MOST_BYTES}
+use Rattle.schedule_replay.specs.Json.{value_of}
+use Rattle.call_inputs.specs.Inputs.{IsScheduleText, IsStart, declaration_of}
 use Rattle.cov_ast.specs.Syntax.{Parsed}
 use Rattle.cov_io.specs.Counters.{Rose}
-use Rattle.cov_io.specs.Shelves.{File, Shelved, held}
+use Rattle.cov_io.specs.Shelves.{File, Passes, Shelved, held}
 use Rattle.cov_io.specs.Sinks.{Sunk, Writes}
-use Rattle.cov_expr.specs.declared.limits.TheConstants.{MOST_BYTES}
-use Rattle.cov_print.specs.ReadBack.{in_second}
-use Rattle.cov_print.specs.Spelling.{spelling}
 use Rattle.code_text.specs.Listing.{listing}
 use Rattle.compiled_code.specs.GoodCode.{IsGoodCode}
+use Rattle.cov_print.specs.ReadBack.{in_second}
+use Rattle.cov_print.specs.Spelling.{spelling}
 use Rattle.cov_text.specs.Text.{program_of}
 use Rattle.flow_model.specs.Secure.{IsSecure}
 use Rattle.policy_class.specs.Resolved.{resolved}
-use Rattle.call_code.specs.BigReplies.{first_start, second_start}
-use Rattle.call_judge.specs.Check.{Judges, IsAcceptedText}
 use Rattle.call_code.specs.Codes.{Compiles, RepliesListing, code_of}
-use Rattle.top_call.specs.Commands.{Command, check, compile, fmt, migrate, run, run_code, run_until, pair, pair_code, big, nothing}
-use Rattle.call_reports.specs.Ends.{Ends}
-use Rattle.top_call.specs.AcceptedRuns.{RunsAccepted}
-use Rattle.top_call.specs.Headline.{HoldsSecure, PutsCode}
+use Rattle.call_inputs.specs.Plans.{CarriesOut, EndsAt, GetsAt, IsMet, LacksMemory, Performs, Plan, does}
+use Rattle.call_inputs.specs.Programs.{SpellsProgram, SpellsTree}
+use Rattle.cov_grammar.specs.PlacedTrees as trees
+use Rattle.call_inputs.specs.Readings.{End, Reading, Reads, Takes, lacks, stops, took}
+use Rattle.call_judge.specs.Check.{IsAcceptedText, accepted_program, verdict}
 use Rattle.call_judge.specs.Meaning.{AreNamesInOrder, meaning}
-use Rattle.top_call.specs.Outcome.{Does, Outcome, IsMet, IsSuccess, plan_of}
-use Rattle.call_inputs.specs.Plans.{MayReply, RepliesTo, replies}
-use Rattle.call_inputs.specs.Programs.{SpellsProgram, IsShownFault}
-use Rattle.call_reports.specs.Replies.{Reply, usage, status_of}
+use Rattle.call_reports.specs.AnswerViews.{Gets, seen}
+use Rattle.call_reports.specs.Ends.{Ends}
+use Rattle.call_reports.specs.Replies.{Reply, spelled, status_of}
 use Rattle.call_reports.specs.Reports.{report_of}
+use Rattle.call_reports.specs.declared.answers.Answer.{Answer}
 use Rattle.call_reports.specs.declared.answers.Status.{Status}
 use Rattle.call_reports.specs.declared.answers.Status.TheVariants as s
-use Rattle.top_call.proofs.AgreeLaws.{never_differs}
+use Rattle.call_reports.specs.declared.answers.Stop.{Stop}
+use Rattle.call_reports.specs.declared.answers.Stop.TheVariants as stop
+use Rattle.call_run.specs.Pairs.{Pairs, pair_reading}
+use Rattle.top_call.specs.AcceptedRuns.{HoldsAccepted, RunsAccepted}
+use Rattle.top_call.specs.Commands.{Command, command_of, check, compile, fmt, migrate, run, run_code, run_until, pair, pair_code, big, nothing}
+use Rattle.top_call.specs.Headline.{HoldsSecure, PutsCode, PutsGoodCode}
+use Rattle.top_call.specs.Laws.{IsOneReply}
+use Rattle.top_call.specs.Outcome.{IsSuccess, Outcome, plan_for, plan_of}
 use Rattle.call_code.proofs.BigLaws.{sum_sound}
-use Rattle.call_judge.proofs.CheckLaws.{check_sound, judged_accepted, names_hold}
-use Rattle.call_code.proofs.CodeLaws.{compile_sound, done_is_listed, pair_code_sound, run_code_sound}
-use Rattle.call_reports.proofs.EndLaws.{done_put, ends_onward, status_is}
+use Rattle.call_code.proofs.CodeLaws.{compile_sound, pair_code_sound, run_code_sound}
 use Rattle.call_inputs.proofs.ExpressionLaws.{expression_reading}
-use Rattle.call_inputs.proofs.FileLaws.{Reliable, done_read}
-use Rattle.call_text.proofs.FormatLaws.{spelled_sound}
-use Rattle.call_inputs.proofs.InputLaws.{start_reading, schedule_reading}
-use Rattle.call_run.proofs.PairLaws.{pair_sound}
-use Rattle.call_inputs.proofs.PlanLaws.{IsSound, IsSoundReply, reply_exact, reply_fault, reply_success}
+use Rattle.call_inputs.proofs.InputLaws.{schedule_fine, schedule_reading, start_is_memory, start_reading}
+use Rattle.call_inputs.proofs.PlanLaws.{IsResult, IsSound, IsSoundReply, Puts, one_sound, at_end, performs_exact, performs_fault, performs_met, performs_passes, performs_took, reply_one}
+use Rattle.call_inputs.proofs.ReadingLaws.{Reliable, reads_onward}
+use Rattle.call_inputs.proofs.TextLaws.{program_reading, some_one}
+use Rattle.call_judge.proofs.CheckLaws.{names_hold, not_rejected}
+use Rattle.call_reports.proofs.EndLaws.{ends_onward}
+use Rattle.call_run.proofs.PairLaws.{pair_sound, pairs_never_differ}
 use Rattle.call_run.proofs.RunLaws.{run_sound, until_sound}
-use Rattle.call_inputs.proofs.TextLaws.{program_reading}
+use Rattle.top_call.proofs.WordLaws.{may_differ, pair_words}
 
 -- The commands -------------------------------------------------------------------------------------------------
 
-nothing_sound : IsSoundReply (IsSuccess nothing) ⊥ (λ reply. reply ≡ usage)
-nothing_sound = record {
-  one = λ reply other h k. h ∙ sym k;
-  no_fault = λ reply h e. let wrong : s.Usage ≡ s.ReadFault = sym (ap status_of h) ∙ e in cc;
-  success = λ reply met h. met;
-}
+-- the statuses of success, of what may find two runs apart, and else
+abbrev IsSuccessIf : Bool → Status → Type 0
+IsSuccessIf true status = (status ≡ s.Done) ⊎ (status ≡ s.Differ)
+IsSuccessIf false status = status ≡ s.Done
+
+results : (b : Bool) (status : Status) → IsSuccessIf b status → IsResult status
+results true status (inl e) = subst IsResult (sym e) tt
+results true status (inr e) = subst IsResult (sym e) tt
+results false status e = subst IsResult (sym e) tt
 
 -- the plan of each command is sound
-pub sound : (command : Command) → IsSound (IsSuccess command) (plan_of command)
-sound (check name) = (program_reading, check_sound)
-sound (compile name) = (program_reading, compile_sound)
-sound (fmt name) = (program_reading, λ p. spelled_sound (spelling p))
-sound (migrate name) = (program_reading, λ p. spelled_sound (spelling (in_second p)))
-sound (run name start schedule) = (program_reading, λ p. (start_reading p, λ m. (schedule_reading p, λ k. run_sound p m k)))
-sound (run_code name start schedule) = (program_reading, λ p. (start_reading p, λ m. (schedule_reading p, λ k. run_code_sound p m k)))
+sound : (command : Command) → IsSound (IsSuccessIf (may_differ command)) (plan_of command)
+sound (check name) = ((program_reading, λ p. tt), λ p. one_sound (verdict p) refl)
+sound (compile name) = ((program_reading, λ p. tt), compile_sound)
+sound (fmt name) = ((program_reading, λ p. tt), λ p. one_sound (spelled (spelling p)) refl)
+sound (migrate name) = ((program_reading, λ p. tt), λ p. one_sound (spelled (spelling (in_second p))) refl)
+sound (run name start schedule) = ((program_reading, λ p. (start_reading p, λ m. (schedule_reading p, λ k. tt))), run_sound)
+sound (run_code name start schedule) = ((program_reading, λ p. (start_reading p, λ m. (schedule_reading p, λ k. tt))), run_code_sound)
 sound (run_until name start schedule word) =
-    (program_reading, λ p. (start_reading p, λ m. (schedule_reading p, λ k. (expression_reading p, λ e. until_sound p m k e))))
+    ((program_reading, λ p. (start_reading p, λ m. (schedule_reading p, λ k. (expression_reading p, λ e. tt)))), until_sound)
 sound (pair name first second schedule) =
-    (program_reading, λ p. (start_reading p, λ l. (start_reading p, λ r. (schedule_reading p, λ k. pair_sound p l r k))))
+    ((program_reading, λ p. (start_reading p, λ l. (start_reading p, λ r. (schedule_reading p, λ k. tt)))), pair_sound)
 sound (pair_code name first second schedule) =
-    (program_reading, λ p. (start_reading p, λ l. (start_reading p, λ r. (schedule_reading p, λ k. pair_code_sound p l r k))))
-sound (big rounds schedule) = (program_reading, λ p. (schedule_reading p, λ k. sum_sound rounds p (first_start p) (second_start p) k))
-sound nothing = nothing_sound
+    ((program_reading, λ p. (start_reading p, λ l. (start_reading p, λ r. (schedule_reading p, λ k. tt)))), pair_code_sound)
+sound (big rounds schedule) = ((program_reading, λ p. (schedule_reading p, λ k. tt)), sum_sound rounds)
+sound nothing = (tt, λ x. record { one = λ reply other h k. absurd h; success = λ reply h. absurd h })
 
-does_exact : (before after : Shelved) (files : List File) (command : Command) (reply : Reply) → before.told ≡ Some files → Reliable before after
-    → Does before after command reply → Outcome files command reply
-does_exact before after files command reply told reliable h = reply_exact before after files told reliable (plan_of command) reply h
+pub one_reply : IsOneReply
+one_reply files words reply other h k =
+    reply_one (IsSuccessIf (may_differ (command_of words))) files (plan_for words) reply other (sound (command_of words)) h k
 
-does_fault : (before after : Shelved) (command : Command) (reply : Reply) → Does before after command reply → status_of reply ≡ s.ReadFault
-    → Rose before.faults after.faults
-does_fault before after command reply h e = reply_fault (IsSuccess command) before after (plan_of command) reply (sound command) h e
+-- What the code does -------------------------------------------------------------------------------------------
 
-met_success : (files : List File) (command : Command) (reply : Reply) → IsMet files command → Outcome files command reply → IsSuccess command (status_of reply)
-met_success files command reply met h = reply_success (IsSuccess command) files (plan_of command) reply (sound command) met h
+module _ (before after : Shelved) (old new : Sunk) where
+  -- a command that gives an answer, and a call that ends with it
+  pub answered : (plan : Plan) (r : Result Answer Stop) (reply : Reply) (status : Status) → CarriesOut before after plan r → (LacksMemory r → ⊥)
+      → ((may_reply : Reply → Type 0) → Gets may_reply r → may_reply reply) → Ends (λ q. q ≡ reply) old new status → Performs before after old new plan status
+  answered (does reading may_reply) r reply status carried not_lacks gets ends =
+      reads_onward (λ shelf end. (shelf ≡ after) × GetsAt may_reply end r) (λ shelf end. (shelf ≡ after) × EndsAt may_reply old new status end) each before reading carried
+    where
+      at : (end : End _) → GetsAt may_reply end r → EndsAt may_reply old new status end
+      at (took x) h = ends_onward (λ q. q ≡ reply) (may_reply x) old new status (λ q e. subst (may_reply x) (sym e) (gets (may_reply x) h)) ends
+      at (stops other) h = ends_onward (λ q. q ≡ reply) (λ q. q ≡ other) old new status (λ q e. e ∙ gets (λ q. q ≡ other) h) ends
+      at lacks h = absurd (not_lacks h)
 
--- bytes of which a check is done
-judged_text : (before after : Shelved) (name bytes : List ℕ) (reply : Reply)
-    → RepliesTo SpellsProgram IsShownFault name (λ p. MayReply before after (replies (IsAcceptedText p) (Judges p))) bytes reply
-    → status_of reply ≡ s.Done → (p : Parsed) × SpellsProgram bytes p × AreNamesInOrder p × IsSecure (meaning p)
-judged_text before after name bytes reply (inl (p, spells, judged)) done =
-    let is_accepted = judged_accepted p reply judged done in
-    (p, spells, names_hold p is_accepted, judged.secure is_accepted)
-judged_text before after name bytes reply (inr (fault, is, same)) done =
-    let wrong : s.Malformed ≡ s.Done = sym (ap status_of same) ∙ done in cc
+      each : (shelf : Shelved) (end : End _) → (shelf ≡ after) × GetsAt may_reply end r → (shelf ≡ after) × EndsAt may_reply old new status end
+      each shelf end h = (h.0, at end h.1)
 
-does_secure : (before after : Shelved) (command : Command) (reply : Reply) → Does before after command reply → status_of reply ≡ s.Done
-    → (files : List File) → before.told ≡ Some files → HoldsSecure files command
-does_secure before after command reply does done files told name is_check =
-    let h : Does before after (check name) reply = subst (λ c. Does before after c reply) is_check does in
-    let read = done_read before after name MOST_BYTES
-    (RepliesTo SpellsProgram IsShownFault name (λ p. MayReply before after (replies (IsAcceptedText p) (Judges p)))) reply h done in
-    let at : held files name ≡ Some read.0 = subst (λ t. IfSome t (λ fs. held fs name ≡ Some read.0)) told read.1.1 in
-    let text = judged_text before after name read.0 reply read.2 done in
-    let is : text.0 ≡ program_of read.0 text.1.0 = text.1.2 in
-    (read.0, at, text.1.0, text.1.1, subst AreNamesInOrder is text.2, subst (λ p. IsSecure (meaning p)) is text.3)
+  -- a command that ends for want of memory
+  pub lacking : (plan : Plan) → CarriesOut before after plan (Err stop.NoMemory) → new ≡ old → Performs before after old new plan s.NoMemory
+  lacking (does reading may_reply) carried same =
+      reads_onward (λ shelf end. (shelf ≡ after) × GetsAt may_reply end (Err stop.NoMemory)) (λ shelf end. (shelf ≡ after) × EndsAt may_reply old new s.NoMemory end)
+      each before reading carried
+    where
+      at : (end : End _) → EndsAt may_reply old new s.NoMemory end
+      at (took x) = same
+      at (stops other) = same
+      at lacks = (refl, same)
 
--- bytes of which the code is listed
-listed_text : (before after : Shelved) (name bytes : List ℕ) (reply : Reply)
-    → RepliesTo SpellsProgram IsShownFault name (λ p. MayReply before after (replies (IsAcceptedText p) (Compiles p))) bytes reply
-    → status_of reply ≡ s.Done
-    → (p : Parsed) × SpellsProgram bytes p × AreNamesInOrder p × IsGoodCode (resolved p) (code_of p) × RepliesListing (code_of p) reply
-listed_text before after name bytes reply (inl (p, spells, compiles)) done =
-    let listed = done_is_listed p reply compiles done in
-    (p, spells, names_hold p listed.0, compiles.good listed.0, listed.1)
-listed_text before after name bytes reply (inr (fault, is, same)) done =
-    let wrong : s.Malformed ≡ s.Done = sym (ap status_of same) ∙ done in cc
-
-does_code : (before after : Shelved) (command : Command) (reply : Reply) → Does before after command reply → status_of reply ≡ s.Done
-    → (old new : Sunk) → Writes old new (report_of reply) (Ok tt) → (files : List File) → before.told ≡ Some files → PutsCode files command old new
-does_code before after command reply does done old new put files told name is_compile =
-    let h : Does before after (compile name) reply = subst (λ c. Does before after c reply) is_compile does in
-    let read = done_read before after name MOST_BYTES
-    (RepliesTo SpellsProgram IsShownFault name (λ p. MayReply before after (replies (IsAcceptedText p) (Compiles p)))) reply h done in
-    let text = listed_text before after name read.0 reply read.2 done in
-    let is : text.0 ≡ program_of read.0 text.1.0 = text.1.2 in
-    record {
-      bytes = read.0;
-      at = subst (λ t. IfSome t (λ fs. held fs name ≡ Some read.0)) told read.1.1;
-      tree = text.1.0;
-      spelled = text.1.1;
-      named = subst AreNamesInOrder is text.2;
-      code = code_of text.0;
-      is_code = text.4.is_code;
-      good = subst (λ p. IsGoodCode (resolved p) (code_of text.0)) is text.3;
-      text = listing (code_of text.0);
-      listing = record { listed = text.4.listed; spelling = refl };
-      put = subst (λ r. Writes old new (report_of r) (Ok tt)) text.4.is put;
-    }
+      each : (shelf : Shelved) (end : End _) → (shelf ≡ after) × GetsAt may_reply end (Err stop.NoMemory) → (shelf ≡ after) × EndsAt may_reply old new s.NoMemory end
+      each shelf end h = (h.0, at end)
 
 -- A call -------------------------------------------------------------------------------------------------------
 
@@ -139,54 +123,128 @@ if_told : (told : Option (List File)) (P : List File → Type 0) → ((files : L
 if_told None P each = tt
 if_told (Some files) P each = each files refl
 
--- A call whose command may give a reply, and that ends with it.
-module _ (before after : Shelved) (command : Command) (reply : Reply) (does : Does before after command reply)
-    (old new : Sunk) (status : Status) (ended : Ends (λ r. r ≡ reply) old new status) where
-  pub call_outcome : Ends (Does before after command) old new status
-  call_outcome = ends_onward (λ r. r ≡ reply) (Does before after command) old new status (λ r e. subst (Does before after command) (sym e) does) ended
+-- starts and schedules of a program have its sizes
+pub start_fits : (p : Parsed) (bytes m : List ℕ) → IsStart p bytes m → IsMemory (length p.vars) m
+start_fits p bytes m h = subst (λ n. IsMemory n m) (length-map p.vars declaration_of) (start_is_memory (map declaration_of p.vars) (value_of bytes) m h)
 
-  pub call_exact : Reliable before after → IfSome before.told (λ files. Ends (Outcome files command) old new status)
-  call_exact reliable = if_told before.told (λ files. Ends (Outcome files command) old new status)
-      (λ files told. ends_onward (λ r. r ≡ reply) (Outcome files command) old new status
-      (λ r e. subst (Outcome files command) (sym e) (does_exact before after files command reply told reliable does)) ended)
+pub schedule_fits : (p : Parsed) (bytes k : List ℕ) → IsScheduleText p bytes k → IsSchedule (length p.threads) k
+schedule_fits p bytes k h = (schedule_fine (length p.threads) (value_of bytes) k h).threads_below
 
-  pub call_secure : status ≡ s.Done → IfSome before.told (λ files. HoldsSecure files command)
-  call_secure done = if_told before.told (λ files. HoldsSecure files command) (by (status_is reply old new status ended))
+-- a law of what bytes spell and is accepted
+abbrev pub OfAccepted : (Parsed → Type 0) → Type 0
+OfAccepted Holds = (bytes : List ℕ) (p : Parsed) → length bytes ≤ MOST_BYTES → SpellsProgram bytes p → IsAcceptedText p → Holds p
+
+module _ (before after : Shelved) (words : List (List ℕ)) (old new : Sunk) (status : Status) (performed : Performs before after old new (plan_for words) status) where
+  pub call_exact : Reliable before after → IfSome before.told (λ files. Ends (Outcome files words) old new status)
+  call_exact reliable = if_told before.told (λ files. Ends (Outcome files words) old new status)
+      (λ files told. performs_exact before after old new status files (plan_for words) told reliable performed)
+
+  call_by : (other : List (List ℕ)) → words ≡ other → Performs before after old new (plan_for other) status
+  call_by other is = subst (λ ws. Performs before after old new (plan_for ws) status) is performed
+
+  pub call_secure : OfAccepted (λ p. IsSecure (meaning p)) → status ≡ s.Done → IfSome before.told (λ files. HoldsSecure files words)
+  call_secure is_secure done = if_told before.told (λ files. HoldsSecure files words) holds
     where
-      by : (status ≡ s.NoMemory) ⊎ (status ≡ s.WriteFault) ⊎ (status ≡ status_of reply) → (files : List File) → before.told ≡ Some files → HoldsSecure files command
-      by (inl e) files told = let wrong : s.NoMemory ≡ s.Done = sym e ∙ done in cc
-      by (inr (inl e)) files told = let wrong : s.WriteFault ≡ s.Done = sym e ∙ done in cc
-      by (inr (inr e)) files told = does_secure before after command reply does (sym e ∙ done) files told
+      secure : (name : List ℕ) (files : List File) → Takes files (λ p. Puts (λ reply. reply ≡ verdict p) old new status) (accepted_program name)
+          → (bytes : List ℕ) × (held files name ≡ Some bytes) × (tree : trees.Program) × SpellsTree bytes tree
+          × AreNamesInOrder (program_of bytes tree) × IsSecure (meaning (program_of bytes tree))
+      secure name files (bytes, at, fits, (p, spells, (none, puts))) =
+          let accepted = not_rejected p none in (
+            bytes,
+            at,
+            spells.0,
+            spells.1,
+            subst AreNamesInOrder spells.2 (names_hold p accepted),
+            subst (λ q. IsSecure (meaning q)) spells.2 (is_secure bytes p fits spells accepted),
+          )
 
-  pub call_code : status ≡ s.Done → IfSome before.told (λ files. PutsCode files command old new)
-  call_code done =
-      let put = done_put reply old new status done ended in
-      if_told before.told (λ files. PutsCode files command old new) (does_code before after command reply does put.0 old new put.1)
+      holds : (files : List File) → before.told ≡ Some files → HoldsSecure files words
+      holds files told name is =
+          secure name files (performs_took before after old new status files (accepted_program name) (λ p reply. reply ≡ verdict p) told
+          (subst IsResult (sym done) tt) (call_by (codes "check" ∷ name ∷ []) is))
 
-  pub call_agree : IfSome before.told (λ files. RunsAccepted files command → status ≡ s.Differ → ⊥)
-  call_agree = if_told before.told (λ files. RunsAccepted files command → status ≡ s.Differ → ⊥) (by (status_is reply old new status ended))
+  pub call_code : OfAccepted (λ p. IsGoodCode (resolved p) (code_of p)) → status ≡ s.Done → IfSome before.told (λ files. PutsCode files words old new)
+  call_code is_good done = if_told before.told (λ files. PutsCode files words old new) puts
     where
-      by : (status ≡ s.NoMemory) ⊎ (status ≡ s.WriteFault) ⊎ (status ≡ status_of reply) → (files : List File) → before.told ≡ Some files
-          → RunsAccepted files command → status ≡ s.Differ → ⊥
-      by (inl e) files told accepted differ = let wrong : s.NoMemory ≡ s.Differ = sym e ∙ differ in cc
-      by (inr (inl e)) files told accepted differ = let wrong : s.WriteFault ≡ s.Differ = sym e ∙ differ in cc
-      by (inr (inr e)) files told accepted differ = never_differs before after files command reply told accepted does (sym e ∙ differ)
+      good : (name : List ℕ) (files : List File) → Takes files (λ p. Puts (Compiles p) old new status) (accepted_program name)
+          → PutsGoodCode files name old new
+      good name files (bytes, at, fits, (p, spells, (none, (reply, listed, is, put)))) =
+          let accepted = not_rejected p none in
+          record {
+            bytes = bytes;
+            at = at;
+            tree = spells.0;
+            spelled = spells.1;
+            named = subst AreNamesInOrder spells.2 (names_hold p accepted);
+            code = code_of p;
+            is_code = listed.is_code;
+            good = subst (λ q. IsGoodCode (resolved q) (code_of p)) spells.2 (is_good bytes p fits spells accepted);
+            text = listing (code_of p);
+            listing = record { listed = listed.listed; spelling = refl };
+            put = subst (λ r. Writes old new (report_of r) (Ok tt)) listed.is put;
+          }
+
+      puts : (files : List File) → before.told ≡ Some files → PutsCode files words old new
+      puts files told name is =
+          good name files (performs_took before after old new status files (accepted_program name) Compiles told
+          (subst IsResult (sym done) tt) (call_by (codes "compile" ∷ name ∷ []) is))
+
+  -- a reply that two runs differ is one of `pair`
+  differs : (files : List File) → before.told ≡ Some files → status ≡ s.Differ → may_differ (command_of words) ≡ true
+  differs files told differ = by (may_differ (command_of words)) refl
+    where
+      -- what was taken has a reply of this status
+      taken : (plan : Plan) → IsSound (IsSuccessIf false) plan → Performs before after old new plan status → ⊥
+      taken (does reading may_reply) is_sound h =
+          at_end files reading (λ x. Puts (may_reply x) old new status) (λ x put. let done = (is_sound.1 x).success put.0 put.1 in
+          let wrong : s.Done ≡ s.Differ = sym done ∙ sym put.2 ∙ differ in cc)
+          (performs_took before after old new status files reading may_reply told (subst IsResult (sym differ) tt) h)
+
+      by : (b : Bool) → may_differ (command_of words) ≡ b → may_differ (command_of words) ≡ true
+      by true e = e
+      by false e = absurd (taken (plan_for words) (subst (λ c. IsSound (IsSuccessIf c) (plan_for words)) e (sound (command_of words))) performed)
+
+  pub call_agree : OfAccepted (λ p. IsSecure (meaning p)) → IfSome before.told (λ files. RunsAccepted files words → status ≡ s.Differ → ⊥)
+  call_agree is_secure = if_told before.told (λ files. RunsAccepted files words → status ≡ s.Differ → ⊥) agree
+    where
+      apart : (name first second schedule : List ℕ) (files : List File) → HoldsAccepted files name → status ≡ s.Differ
+          → Takes files (λ i. Puts (Pairs i) old new status) (pair_reading name first second schedule) → ⊥
+      apart name first second schedule files holds differ (bytes, at, fits, (p, spells, (lb, lat, lfits, (l, lread, (rb, rat, rfits, (r, rread, (kb, kat, kfits, (k, kread, (declared, (fit, (reply, runs, is, put))))))))))) =
+          let same_bytes : holds.bytes ≡ bytes = some_one (held files name) holds.bytes bytes holds.at at in
+          let same : holds.spelled ≡ p = program_reading.one_value bytes holds.spelled p (subst (λ b. SpellsProgram b holds.spelled) same_bytes holds.is) spells in
+          let accepted = subst IsAcceptedText same holds.accepted in
+          pairs_never_differ p l r k (is_secure bytes p fits spells accepted) (start_fits p lb l lread) (start_fits p rb r rread) (schedule_fits p kb k kread) fit
+          reply runs (sym is ∙ differ)
+
+      agree : (files : List File) → before.told ≡ Some files → RunsAccepted files words → status ≡ s.Differ → ⊥
+      agree files told accepted differ =
+          let (name, first, second, schedule, is) = pair_words words (differs files told differ) in
+          apart name first second schedule files (accepted name first second schedule is) differ
+          (performs_took before after old new status files (pair_reading name first second schedule) Pairs told
+          (subst IsResult (sym differ) tt) (call_by (codes "pair" ∷ name ∷ first ∷ second ∷ schedule ∷ []) is))
 
   pub call_fault : status ≡ s.ReadFault → Rose before.faults after.faults
-  call_fault fault = by (status_is reply old new status ended)
-    where
-      by : (status ≡ s.NoMemory) ⊎ (status ≡ s.WriteFault) ⊎ (status ≡ status_of reply) → Rose before.faults after.faults
-      by (inl e) = let wrong : s.NoMemory ≡ s.ReadFault = sym e ∙ fault in cc
-      by (inr (inl e)) = let wrong : s.WriteFault ≡ s.ReadFault = sym e ∙ fault in cc
-      by (inr (inr e)) = does_fault before after command reply does (sym e ∙ fault)
+  call_fault fault =
+      performs_fault before after old new status (IsSuccessIf (may_differ (command_of words))) (results (may_differ (command_of words))) (plan_for words)
+      (sound (command_of words)) fault performed
+
+  pub call_passes : Passes before after
+  call_passes = performs_passes before after old new status (plan_for words) performed
 
   pub call_complete : (status ≡ s.WriteFault → Rose old.faults new.faults) → ¬ Rose before.faults after.faults → ¬ Rose old.faults new.faults
-      → IfSome before.told (λ files. IsMet files command → IsSuccess command status ⊎ (status ≡ s.NoMemory))
-  call_complete rose quiet written = if_told before.told (λ files. IsMet files command → IsSuccess command status ⊎ (status ≡ s.NoMemory)) (by (status_is reply old new status ended))
+      → IfSome before.told (λ files. IsMet files (plan_for words) → IsSuccess words status ⊎ (status ≡ s.NoMemory))
+  call_complete rose quiet written = if_told before.told (λ files. IsMet files (plan_for words) → IsSuccess words status ⊎ (status ≡ s.NoMemory)) met
     where
-      by : (status ≡ s.NoMemory) ⊎ (status ≡ s.WriteFault) ⊎ (status ≡ status_of reply) → (files : List File) → before.told ≡ Some files
-          → IsMet files command → IsSuccess command status ⊎ (status ≡ s.NoMemory)
-      by (inl e) files told met = inr e
-      by (inr (inl e)) files told met = absurd (written (rose e))
-      by (inr (inr e)) files told met =
-          inl (subst (IsSuccess command) (sym e) (met_success files command reply met (does_exact before after files command reply told (inr quiet) does)))
+      success : (b : Bool) → may_differ (command_of words) ≡ b → IsSuccessIf b status → IsSuccess words status
+      success false e done = inl done
+      success true e (inl done) = inl done
+      success true e (inr differ) = let (name, first, second, schedule, is) = pair_words words e in inr (differ, name ∷ first ∷ second ∷ schedule ∷ [], is)
+
+      by : (status ≡ s.NoMemory) ⊎ (status ≡ s.WriteFault) ⊎ IsSuccessIf (may_differ (command_of words)) status → IsSuccess words status ⊎ (status ≡ s.NoMemory)
+      by (inl e) = inr e
+      by (inr (inl e)) = absurd (written (rose e))
+      by (inr (inr h)) = inl (success (may_differ (command_of words)) refl h)
+
+      met : (files : List File) → before.told ≡ Some files → IsMet files (plan_for words) → IsSuccess words status ⊎ (status ≡ s.NoMemory)
+      met files told all =
+          by (performs_met before after old new status (IsSuccessIf (may_differ (command_of words))) files (plan_for words) (sound (command_of words)) told (inr quiet) all performed)

@@ -1,9 +1,8 @@
 -- Whose two runs never differ: those of a program that is accepted.
-use Rattle.std.specs.Prelude.{◌≡◌, ℕ, List, Some}
+use Rattle.std.specs.Prelude.{◌≡◌, ℕ, List, [], ◌∷◌, codes, Some}
 use Rattle.cov_ast.specs.Syntax.{Parsed}
 use Rattle.cov_io.specs.Shelves.{File, held}
 use Rattle.call_judge.specs.Check.{IsAcceptedText}
-use Rattle.top_call.specs.Commands.{Command, pair}
 use Rattle.call_inputs.specs.Programs.{SpellsProgram}
 
 -- A file holds a program that is accepted.
@@ -15,5 +14,6 @@ pub record HoldsAccepted (files : List File) (name : List ℕ) : Type 0 where
   pub accepted : IsAcceptedText spelled
 
 -- The program that `pair` runs twice is accepted. Of `pair-code` and `big` nothing is asked: they run only what is accepted.
-abbrev pub RunsAccepted : List File → Command → Type 0
-RunsAccepted files command = (name first second schedule : List ℕ) → command ≡ pair name first second schedule → HoldsAccepted files name
+abbrev pub RunsAccepted : List File → (words : List (List ℕ)) → Type 0
+RunsAccepted files words =
+    (name first second schedule : List ℕ) → words ≡ codes "pair" ∷ name ∷ first ∷ second ∷ schedule ∷ [] → HoldsAccepted files name

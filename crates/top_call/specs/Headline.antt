@@ -1,5 +1,5 @@
 -- The headline: what it says of a file that it is accepted, and what is put of its code.
-use Rattle.std.specs.Prelude.{◌≡◌, ℕ, List, Some, Ok}
+use Rattle.std.specs.Prelude.{◌≡◌, ℕ, List, [], ◌∷◌, codes, Some, Ok}
 use Rattle.cov_grammar.specs.PlacedTrees as trees
 use Rattle.cov_io.specs.Shelves.{File, held}
 use Rattle.cov_io.specs.Sinks.{Sunk, Writes}
@@ -10,15 +10,14 @@ use Rattle.flow_model.specs.Secure.{IsSecure}
 use Rattle.policy_class.specs.Resolved.{resolved}
 use Rattle.risc_machine.specs.Faults.{AreGood}
 use Rattle.risc_machine.specs.declared.parts.Parts.{Parts}
-use Rattle.top_call.specs.Commands.{Command, check, compile}
 use Rattle.call_judge.specs.Meaning.{AreNamesInOrder, meaning}
 use Rattle.call_inputs.specs.Programs.{SpellsTree}
 
 -- A file that is checked holds a program that is secure: from any two fit starts, under every schedule, its two runs agree
 -- after each step, on the public output too.
-abbrev pub HoldsSecure : List File → Command → Type 0
-HoldsSecure files command =
-    (name : List ℕ) → command ≡ check name
+abbrev pub HoldsSecure : List File → (words : List (List ℕ)) → Type 0
+HoldsSecure files words =
+    (name : List ℕ) → words ≡ codes "check" ∷ name ∷ []
     → (bytes : List ℕ) × (held files name ≡ Some bytes) × (tree : trees.Program) × SpellsTree bytes tree
     × AreNamesInOrder (program_of bytes tree) × IsSecure (meaning (program_of bytes tree))
 
@@ -39,5 +38,5 @@ pub record PutsGoodCode (files : List File) (name : List ℕ) (before after : Su
   pub put : Writes before after text (Ok tt)
 
 -- What `compile` puts is the code of the file that it names.
-abbrev pub PutsCode : List File → Command → (before after : Sunk) → Type 0
-PutsCode files command before after = (name : List ℕ) → command ≡ compile name → PutsGoodCode files name before after
+abbrev pub PutsCode : List File → (words : List (List ℕ)) → (before after : Sunk) → Type 0
+PutsCode files words before after = (name : List ℕ) → words ≡ codes "compile" ∷ name ∷ [] → PutsGoodCode files name before after

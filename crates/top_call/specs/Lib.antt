@@ -3,4 +3,3 @@ pub mod Outcome
 pub mod Headline
 pub mod AcceptedRuns
 pub mod Laws
-pub mod Inside

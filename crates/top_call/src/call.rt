@@ -1,17 +1,17 @@
 //! The top call, `covern`, with all that it promises.
 
 ghost use Rattle.std.specs.Prelude.{◌≡◌, ◌≢◌, ◌⊎◌, IfSome, IsTrue, map, string_bytes, ◌≤◌};
-ghost use Rattle.cov_io.specs.Shelves.{Passes};
-ghost use Rattle.cov_io.specs.Counters.{Rose};
-ghost use Rattle.call_inputs.specs.Asks.{Asks};
-ghost use Rattle.top_call.specs.Outcome.{files_of};
-ghost use Rattle.top_call.specs.Commands.{command_of};
+ghost use Rattle.call_inputs.specs.Plans.{IsMet, Performs};
 ghost use Rattle.call_reports.specs.Ends.{Ends};
+ghost use Rattle.cov_io.specs.Counters.{Rose};
+ghost use Rattle.cov_io.specs.Shelves.{Passes};
 ghost use Rattle.top_call.specs.AcceptedRuns.{RunsAccepted};
 ghost use Rattle.top_call.specs.Headline.{HoldsSecure, PutsCode};
-ghost use Rattle.top_call.specs.Outcome.{Does, Outcome, IsMet, IsSuccess};
+ghost use Rattle.top_call.specs.Outcome.{IsSuccess, Outcome, plan_for};
 
 use crate::commands::answer;
+use call_code::accepted_programs_have_good_code;
+use call_judge::accepted_programs_are_secure;
 use call_reports::{Status, Stop, end};
 use cov_io::{Shelf, Sink};
 use std::alloc::Global;
@@ -24,36 +24,34 @@ pub fn covern<S: Shelf, K: Sink>(
     shelf: &mut S,
     sink: &mut K,
 ) -> Status
-    // The status, and what is put, are those of a reply that the command may give.
-    ensures outcome { Ends (Does (S.shelved shelf.old) (S.shelved shelf.new) (command_of (map string_bytes words.now)))
-        (K.sunk sink.old) (K.sunk sink.new) result }
+    // The shelf is called for the files of the words, in their order, once each, up to the first that isn't read, and not otherwise; the
+    // status, and what is put, are those of a reply that follows the answers.
+    ensures does { Performs (S.shelved shelf.old) (S.shelved shelf.new) (K.sunk sink.old) (K.sunk sink.new) (plan_for (map string_bytes words.now)) result }
     // On a sure shelf the reply is the one that the files say.
     ensures exact { IsTrue (S.shelved shelf.old).sure → IfSome (S.shelved shelf.old).told (λ files.
-        Ends (Outcome files (command_of (map string_bytes words.now))) (K.sunk sink.old) (K.sunk sink.new) result) }
+        Ends (Outcome files (map string_bytes words.now)) (K.sunk sink.old) (K.sunk sink.new) result) }
     // So it is on every shelf that tells its files, if no call of it failed.
     ensures quiet { ¬ Rose (S.shelved shelf.old).faults (S.shelved shelf.new).faults → IfSome (S.shelved shelf.old).told (λ files.
-        Ends (Outcome files (command_of (map string_bytes words.now))) (K.sunk sink.old) (K.sunk sink.new) result) }
+        Ends (Outcome files (map string_bytes words.now)) (K.sunk sink.old) (K.sunk sink.new) result) }
     // A program that is accepted is secure.
-    ensures secure { result ≡ Status.Done → IfSome (S.shelved shelf.old).told (λ files.
-        HoldsSecure files (command_of (map string_bytes words.now))) }
+    ensures secure { result ≡ Status.Done → IfSome (S.shelved shelf.old).told (λ files. HoldsSecure files (map string_bytes words.now)) }
     // What is put of the code of a program is the listing of a code that matches it, is secure and meets the load bound.
     ensures code { result ≡ Status.Done → IfSome (S.shelved shelf.old).told (λ files.
-        PutsCode files (command_of (map string_bytes words.now)) (K.sunk sink.old) (K.sunk sink.new)) }
+        PutsCode files (map string_bytes words.now) (K.sunk sink.old) (K.sunk sink.new)) }
     // Two runs of a program that is accepted never differ, nor do those of code, and no other command answers so.
-    ensures agree { IfSome (S.shelved shelf.old).told (λ files.
-        RunsAccepted files (command_of (map string_bytes words.now)) → result ≢ Status.Differ) }
-    // Where the shelf tells, no call of it and no put failed, and all that the command asks holds, it is done, or memory ran out.
+    ensures agree { IfSome (S.shelved shelf.old).told (λ files. RunsAccepted files (map string_bytes words.now) → result ≢ Status.Differ) }
+    // Where the shelf tells, no call of it and no put failed, and all that the words ask holds, all is done, or memory ran out.
     ensures complete { ¬ Rose (S.shelved shelf.old).faults (S.shelved shelf.new).faults → ¬ Rose (K.sunk sink.old).faults (K.sunk sink.new).faults
-        → IfSome (S.shelved shelf.old).told (λ files. IsMet files (command_of (map string_bytes words.now))
-        → IsSuccess (command_of (map string_bytes words.now)) result ⊎ (result ≡ Status.NoMemory)) }
-    // The files of the command are asked for in the order of the words, once each, up to the first that isn't read, and no other.
-    ensures asks { Asks (S.shelved shelf.old) (S.shelved shelf.new) (files_of (command_of (map string_bytes words.now))) (result ≡ Status.NoMemory) }
+        → IfSome (S.shelved shelf.old).told (λ files. IsMet files (plan_for (map string_bytes words.now))
+        → IsSuccess (map string_bytes words.now) result ⊎ (result ≡ Status.NoMemory)) }
     ensures read_fault { result ≡ Status.ReadFault → Rose (S.shelved shelf.old).faults (S.shelved shelf.new).faults }
     ensures write_fault { result ≡ Status.WriteFault → Rose (K.sunk sink.old).faults (K.sunk sink.new).faults }
     // What a shelf tells stays, and no count falls.
     ensures passes { Passes (S.shelved shelf.old) (S.shelved shelf.new) }
     ensures counts { (K.sunk sink.old).faults ≤ (K.sunk sink.new).faults }
 {
+    accepted_programs_are_secure();
+    accepted_programs_have_good_code();
     let answer = match answer(alloc, words, shelf) {
         Ok(answer) | Err(Stop::Answer(answer)) => answer,
         Err(Stop::NoMemory) => return Status::NoMemory,

@@ -1,19 +1,20 @@
 //! The top call: what the program does with a command line, as a library.
 //!
 //! [`covern`] takes the words of a command line, the files (a shelf) and the output (a sink), and ends with a status.
-//! Its contract says what each command replies, what is put, and what a reply means. A law has no body: by [`one_outcome`],
-//! over the same files a command has one reply.
+//! Its contract says what each command replies, what is put, and what a reply means. Laws have no body: by [`one_outcome`],
+//! over the same files a command has one reply, and by [`accepted_runs_never_differ`] `pair` tells no program that is accepted apart.
 //!
 //! | `src/` | `specs/` | what it has |
 //! |---|---|---|
 //! | `call` | `Headline`, `AcceptedRuns` | `covern`, with all its promises; what it says of a file that it is accepted, and of what is put that it is the listing of its code; whose two runs never differ |
 //! | `commands` | `Commands`, `Outcome` | which command the words ask for; the plan of each, in one row |
-//! | `laws` | `Laws` | one reply |
+//! | `laws` | `Laws` | one reply; no two runs of an accepted program that differ |
 //!
 //! What a command does stands in the crates below: `call_judge`, `call_text`, `call_run` and `call_code`, over what it takes (`call_inputs`) and
-//! what it answers (`call_reports`). There a command is a module with its step, and its plan and replies; here it is a row in each of `Command`,
-//! `command_of`, `plan_of` and `IsSuccess`, and of `Asked` and `carry_out` in `commands`. Definitions by
-//! command have no row for the rest, so that none is forgotten; `HoldsSecure`, `PutsCode` and `RunsAccepted` speak of one command each, and what is promised of another is a clause of its own. `specs/Inside` has the words of private contracts, which no promise of `covern` cites.
+//! what it answers (`call_reports`). There a command is a module with its step, and its plan and replies; here it is a row in each of `Command`
+//! and `plan_of`, an arm in `commands`, and rows of `sound` and `may_differ` in `proofs`. Definitions by command have no row for the rest, so that none is
+//! forgotten; `HoldsSecure`, `PutsCode` and `RunsAccepted` speak of the words of one command each, and what is promised of another is a
+//! clause of its own.
 #![tactic(auto)]
 
 mod call;
@@ -21,4 +22,4 @@ mod commands;
 mod laws;
 
 pub use call::covern;
-pub use laws::one_outcome;
+pub use laws::{accepted_runs_never_differ, one_outcome};

@@ -12,10 +12,11 @@ use Rattle.call_code.proofs.big.add_code_runs.Goals as goal
 
 pub prove-unreachable-requires : goal.prove-unreachable-requires
 prove-unreachable-requires c =
-    codes_not_apart c.args.program.now c.args.code.now c.in_ok-left.left.parts c.in_ok-left.left.state c.in_ok-right.right.state
+    let code = c.requires.coded.code in
+    codes_not_apart c.args.coded.now.program c.args.coded.now.code c.in_ok-left.left.parts c.in_ok-left.left.state c.in_ok-right.right.state
     c.args.memories.now.left c.args.memories.now.right
-    c.args.schedule.now c.pair_code-apart.result c.in_ok-left.ensures.parts c.in_ok-left.ensures.state c.in_ok-right.ensures.state c.requires.declared
-    c.requires.secure c.requires.left c.requires.right c.requires.fit c.requires.threads c.pair_code-apart.ensures.found c.if-prove.ensures
+    c.args.schedule.now c.pair_code-apart.result c.in_ok-left.ensures.parts c.in_ok-left.ensures.state c.in_ok-right.ensures.state code.declared
+    code.good.secure c.requires.left.fits c.requires.right.fits c.requires.fit c.requires.left.threads c.pair_code-apart.ensures.found c.if-prove.ensures
 
 -- a run that isn't cut short ends at the end of the schedule
 ends : (c e : Parts) (s now : CodeState) (m schedule : List ℕ) (o : Option Found) → is_some o ≡ false → e ≡ c → s ≡ code_start c m
@@ -26,9 +27,9 @@ ends c e s now m schedule (Some f) none same begun is = absurd cc
 pub returns-clause-text : goal.returns-clause-text
 returns-clause-text c =
     let n = length c.args.schedule.now in
-    let left = ends c.args.code.now c.in_ok-left.left.parts c.in_ok-left.left.state c.pair_code-apart.new.a.state c.args.memories.now.left c.args.schedule.now
+    let left = ends c.args.coded.now.code c.in_ok-left.left.parts c.in_ok-left.left.state c.pair_code-apart.new.a.state c.args.memories.now.left c.args.schedule.now
     c.pair_code-apart.result c.if-prove.ensures c.in_ok-left.ensures.parts c.in_ok-left.ensures.state c.pair_code-apart.ensures.first_state in
-    let right = ends c.args.code.now c.in_ok-left.left.parts c.in_ok-right.right.state c.pair_code-apart.new.b.state c.args.memories.now.right c.args.schedule.now
+    let right = ends c.args.coded.now.code c.in_ok-left.left.parts c.in_ok-right.right.state c.pair_code-apart.new.b.state c.args.memories.now.right c.args.schedule.now
     c.pair_code-apart.result c.if-prove.ensures c.in_ok-left.ensures.parts c.in_ok-right.ensures.state c.pair_code-apart.ensures.second_state in
-    subst₂ (λ x y. OnOk c.add_code_part.result (c.add_code_part.new.text ≡ c.args.text.now ++ code_part (view.program c.args.program.now) n x y)) left right
+    subst₂ (λ x y. OnOk c.add_code_part.result (c.add_code_part.new.text ≡ c.args.text.now ++ code_part (view.program c.args.coded.now.program) n x y)) left right
     c.add_code_part.ensures

@@ -1,13 +1,11 @@
 use Rattle.std.proofs.Common.{◌≡◌, Err, sym, subst, rules}
 use Rattle.cov_ast.specs.View as view
-use Rattle.cov_expr.specs.declared.limits.TheConstants.{MOST_BYTES}
-use Rattle.call_judge.specs.Check.{IsAcceptedText}
 use Rattle.call_code.specs.Codes.{Compiles, compile_plan}
-use Rattle.call_inputs.specs.Carried.{CarriesOut}
-use Rattle.call_inputs.specs.Plans.{replies}
-use Rattle.call_inputs.specs.Programs.{SpellsProgram, IsShownFault}
-use Rattle.call_inputs.proofs.PlanLaws.{carried_end, carried_on, carried_not}
-use Rattle.call_inputs.proofs.TextLaws.{program_reading}
+use Rattle.call_inputs.proofs.PlanLaws.{carried_not, carried_on, carried_try}
+use Rattle.call_inputs.specs.Plans.{CarriesOut}
+use Rattle.call_inputs.specs.Readings.{gives, tries}
+use Rattle.call_inputs.specs.Steps.{program}
+use Rattle.call_judge.specs.Check.{rejection}
 use Rattle.call_code.proofs.compile.compile.Goals as goal
 
 pub returns-in_err-parsed : goal.returns-in_err-parsed
@@ -15,13 +13,13 @@ returns-in_err-parsed g c =
     let shelved = g.S.Shelf.shelved in
     let same : c.from_residual.result ≡ Err c.in_err-parsed.field-0.0 = search rules in
     subst (CarriesOut (shelved c.args.shelf.now) (shelved c.read_program.new.shelf) (compile_plan c.args.name.now)) (sym same)
-    (carried_not SpellsProgram IsShownFault c.args.name.now MOST_BYTES (λ p. replies (IsAcceptedText p) (Compiles p)) (shelved c.args.shelf.now)
-    (shelved c.read_program.new.shelf) c.in_err-parsed.field-0.0 program_reading c.in_err-parsed.ensures.read)
+    (carried_not (program c.args.name.now) (λ p. tries (rejection p) (gives p)) Compiles (shelved c.args.shelf.now)
+    (shelved c.read_program.new.shelf) c.in_err-parsed.field-0.0 c.in_err-parsed.ensures.read)
 
 pub returns : goal.returns
 returns g c =
     let shelved = g.S.Shelf.shelved in
     let after = shelved c.read_program.new.shelf in
     let p = view.parsed c.in_ok-parsed.parsed in
-    carried_on SpellsProgram IsShownFault c.args.name.now MOST_BYTES (λ p. replies (IsAcceptedText p) (Compiles p)) (shelved c.args.shelf.now)
-    after after p c.compile_text.result c.in_ok-parsed.ensures.read (carried_end after (IsAcceptedText p) (Compiles p) c.compile_text.result c.compile_text.ensures)
+    carried_on (program c.args.name.now) (λ p. tries (rejection p) (gives p)) Compiles (shelved c.args.shelf.now)
+    after p c.compile_text.result c.in_ok-parsed.ensures.read (carried_try Compiles p after c.compile_text.result (rejection p) c.compile_text.ensures)

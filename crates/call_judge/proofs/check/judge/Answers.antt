@@ -1,20 +1,20 @@
-use Rattle.std.proofs.Common.{None, Err, sym, subst}
-use Rattle.cov_ast.specs.Obligations.{Decides}
-use Rattle.policy_class.specs.Resolved.{name_obligations}
-use Rattle.call_judge.specs.Check.{Judges}
-use Rattle.call_reports.specs.Replies.{refused}
+use Rattle.std.proofs.Common.{◌≡◌, Err, sym, subst, rules}
 use Rattle.cov_ast.specs.View as view
-use Rattle.call_judge.proofs.CheckLaws.{names_refused, program_judged}
+use Rattle.call_judge.specs.Check.{Judges}
+use Rattle.call_judge.specs.Inside.{IsRejected}
+use Rattle.call_judge.proofs.CheckLaws.{program_judged, rejected_judged}
+use Rattle.call_reports.specs.AnswerViews.{Gets}
+use Rattle.call_reports.proofs.AnswerLaws.{stops_onward}
 use Rattle.call_judge.proofs.check.judge.Goals as goal
 
-pub returns-in-Ok : goal.returns-in-Ok
-returns-in-Ok c =
-    program_judged (view.parsed c.args.parsed) (view.program c.in-Ok.program) c.in-Ok.ensures.program c.in-Ok.ensures.names
-    c.judge_program.result c.judge_program.ensures
-
-pub returns-in-Err-Refused : goal.returns-in-Err-Refused
-returns-in-Err-Refused c =
+pub returns-in_err-program : goal.returns-in_err-program
+returns-in_err-program c =
     let p = view.parsed c.args.parsed in
-    subst (λ refusal. Judges p (refused refusal None)) (sym c.in-Err-Refused.refusal-is)
-    (names_refused p c.in-Err-Refused.refusal
-    (subst (λ fault. Decides (name_obligations p) (Err fault)) c.in-Err-Refused.field-0-is c.in-Err-Refused.ensures.names))
+    let same : c.from_residual.result ≡ Err c.in_err-program.field-0.0 = search rules in
+    subst (Gets (Judges p)) (sym same)
+    (stops_onward (IsRejected p) (Judges p) c.in_err-program.field-0.0 (λ reply rejects. rejected_judged p reply rejects) c.in_err-program.ensures)
+
+pub returns : goal.returns
+returns c =
+    let named = c.in_ok-program.ensures in
+    program_judged (view.parsed c.args.parsed) (view.program c.in_ok-program.program) named.is named.held c.judge_program.result c.judge_program.ensures

@@ -1,18 +1,30 @@
-use Rattle.explain.proofs.CallLaws.{is_called}
+use Rattle.std.proofs.Common.{subst}
+use Rattle.call_inputs.specs.Readings.{HasRead, stopped, stops, took}
+use Rattle.call_inputs.specs.Steps.{bytes}
+use Rattle.cov_expr.specs.declared.limits.TheConstants.{MOST_BYTES}
+use Rattle.call_reports.specs.AnswerViews.{seen}
+use Rattle.explain.specs.Inside.{AddsTold}
+use Rattle.explain.proofs.CallLaws.{file_not, file_told, unread_told}
 use Rattle.explain.proofs.files.tell.Goals as goal
 
-pub returns-in_err-add_report-in-Err-Answer-clause-called : goal.returns-in_err-add_report-in-Err-Answer-clause-called
-returns-in_err-add_report-in-Err-Answer-clause-called g c =
-    is_called (g.S.Shelf.shelved c.args.shelf.now) (g.S.Shelf.shelved c.fetch.new.shelf) c.args.name.now c.fetch.result c.fetch.ensures.answer c.fetch.ensures.counted
+pub returns-in-Ok : goal.returns-in-Ok
+returns-in-Ok g c =
+    let shelved = g.S.Shelf.shelved in
+    file_told c.args.name.now c.args.text.now c.tell_bytes.new.text c.tell_bytes.result (shelved c.args.shelf.now) (shelved c.fetch.new.shelf) (took c.in-Ok.bytes)
+    c.in-Ok.ensures.read (subst (λ b. AddsTold c.args.name.now (took b) c.args.text.now c.tell_bytes.new.text c.tell_bytes.result) c.as_slice.ensures c.tell_bytes.ensures)
 
-pub returns-in-Ok-clause-called : goal.returns-in-Ok-clause-called
-returns-in-Ok-clause-called g c =
-    is_called (g.S.Shelf.shelved c.args.shelf.now) (g.S.Shelf.shelved c.fetch.new.shelf) c.args.name.now c.fetch.result c.fetch.ensures.answer c.fetch.ensures.counted
+pub returns-in-Err-Answer : goal.returns-in-Err-Answer
+returns-in-Err-Answer g c =
+    let shelved = g.S.Shelf.shelved in
+    file_told c.args.name.now c.args.text.now c.tell_unread.new.text c.tell_unread.result (shelved c.args.shelf.now) (shelved c.fetch.new.shelf)
+    (stops (seen c.in-Err-Answer.answer))
+    (subst (λ why. HasRead (shelved c.args.shelf.now) (shelved c.fetch.new.shelf) (bytes c.args.name.now MOST_BYTES) (stopped why)) c.in-Err-Answer.field-0-is
+    c.in-Err-Answer.ensures.read)
+    (unread_told c.args.name.now (seen c.in-Err-Answer.answer) c.args.text.now c.tell_unread.new.text c.tell_unread.result c.tell_unread.ensures)
 
-pub returns-in_ok-add_report-in-Err-Answer-clause-called : goal.returns-in_ok-add_report-in-Err-Answer-clause-called
-returns-in_ok-add_report-in-Err-Answer-clause-called g c =
-    is_called (g.S.Shelf.shelved c.args.shelf.now) (g.S.Shelf.shelved c.fetch.new.shelf) c.args.name.now c.fetch.result c.fetch.ensures.answer c.fetch.ensures.counted
-
-pub returns-in-Err-NoMemory-clause-called : goal.returns-in-Err-NoMemory-clause-called
-returns-in-Err-NoMemory-clause-called g c =
-    is_called (g.S.Shelf.shelved c.args.shelf.now) (g.S.Shelf.shelved c.fetch.new.shelf) c.args.name.now c.fetch.result c.fetch.ensures.answer c.fetch.ensures.counted
+pub returns-in-Err-NoMemory : goal.returns-in-Err-NoMemory
+returns-in-Err-NoMemory g c =
+    let shelved = g.S.Shelf.shelved in
+    file_not c.args.name.now (shelved c.args.shelf.now) (shelved c.fetch.new.shelf)
+    (subst (λ why. HasRead (shelved c.args.shelf.now) (shelved c.fetch.new.shelf) (bytes c.args.name.now MOST_BYTES) (stopped why)) c.in-Err-NoMemory.field-0-is
+    c.in-Err-NoMemory.ensures.read)

@@ -1,13 +1,11 @@
-use Rattle.std.proofs.Common.{◌≡◌, ℕ, List, ◌++◌, map, take, string_bytes}
-use Rattle.cov_io.specs.Shelves.{Passes}
-use Rattle.explain.specs.FileCalls.{TellsAll}
+use Rattle.std.proofs.Common.{map, take, string_bytes}
+use Rattle.call_reports.specs.declared.answers.Status.TheVariants as s
+use Rattle.explain.specs.FileCalls.{TellsAll, told}
+use Rattle.explain.specs.Inside.{IsLeft}
 use Rattle.explain.proofs.files.tell_all.Given as goal
 
 -- what is told of the files so far
 abbrev pub invariant-loop-name : goal.invariant-loop-name
 invariant-loop-name g l =
     let shelved = g.S.Shelf.shelved in
-    record {
-      told : (all : List ℕ) × TellsAll (shelved l.fn.shelf) (shelved l.shelf) (map string_bytes (take l.name-index l.names)) all l.status × (l.text ≡ l.fn.text ++ all);
-      passes : Passes (shelved l.fn.shelf) (shelved l.shelf);
-    }
+    TellsAll (IsLeft (shelved l.shelf) (told l.text l.status)) (shelved l.fn.shelf) (map string_bytes (take l.name-index l.names)) l.fn.text s.Done

@@ -1,25 +1,24 @@
-use Rattle.std.proofs.Common.{ap, subst}
+use Rattle.std.proofs.Common.{◌≡◌, rules}
 use Rattle.std.proofs.lemmas.Result.{on_ok_weaker}
-use Rattle.call_reports.specs.AnswerViews.{seen}
-use Rattle.call_judge.specs.Texts.{ChecksBytes}
-use Rattle.explain.proofs.AskedLaws.{adds_asked, refused_bytes}
-use Rattle.explain.proofs.WarningLaws.{accepted_bytes}
+use Rattle.explain.proofs.TellingLaws.{added_accepted, added_refused, added_unnamed}
 use Rattle.explain.proofs.more.add_more.Goals as goal
 
-pub add_refused-requires-clause-spelled : goal.add_refused-requires-clause-spelled
-add_refused-requires-clause-spelled c =
-    refused_bytes c.args.name.now c.args.bytes.now c.in-Refused.refusal c.in-Refused.field-1
-    (subst (λ a. ChecksBytes c.args.name.now c.args.bytes.now (seen a)) c.in-Refused.is c.requires.checked)
-
-pub add_warnings-requires-clause-accepted : goal.add_warnings-requires-clause-accepted
-add_warnings-requires-clause-accepted c =
-    let t = c.in-Accepted.field-0 in
-    accepted_bytes c.args.name.now c.args.bytes.now t.threads t.statements t.entailments
-    (subst (λ a. ChecksBytes c.args.name.now c.args.bytes.now (seen a)) c.in-Accepted.is c.requires.checked)
+pub returns-in-Unnamed : goal.returns-in-Unnamed
+returns-in-Unnamed c =
+    on_ok_weaker c.add_text_warnings.result
+    (added_unnamed c.args.name.now c.args.bytes.now c.args.judged.now c.args.text.now c.add_text_warnings.new.text c.requires.found c.in-Unnamed.field-0
+    c.in-Unnamed.is) c.add_text_warnings.ensures
 
 pub returns-in-Refused : goal.returns-in-Refused
 returns-in-Refused c =
+    let same : c.deref.result.now ≡ c.in-Refused.program.value = search rules in
     on_ok_weaker c.add_refused.result
-    (adds_asked c.args.name.now c.args.bytes.now (seen c.args.answer.now) c.in-Refused.refusal c.in-Refused.field-1 (ap seen c.in-Refused.is) c.args.text.now
-    c.add_refused.new.text)
-    c.add_refused.ensures
+    (added_refused c.args.name.now c.args.bytes.now c.args.judged.now c.args.text.now c.add_refused.new.text c.requires.found c.in-Refused.refusal
+    c.in-Refused.program c.in-Refused.is c.deref.result.now same) c.add_refused.ensures
+
+pub returns-in-Accepted : goal.returns-in-Accepted
+returns-in-Accepted c =
+    let same : c.deref-in-Accepted.result.now ≡ c.in-Accepted.program.value = search rules in
+    on_ok_weaker c.add_warnings.result
+    (added_accepted c.args.name.now c.args.bytes.now c.args.judged.now c.args.text.now c.add_warnings.new.text c.requires.found c.in-Accepted.field-0
+    c.in-Accepted.program c.in-Accepted.is c.deref-in-Accepted.result.now same) c.add_warnings.ensures

@@ -1,77 +1,115 @@
-use Rattle.std.proofs.Common.{◌≡◌, Err, refl, inl, inr, map, string_bytes, rules}
-use Rattle.top_call.specs.Outcome.{files_of}
-use Rattle.top_call.specs.Commands.{command_of}
+use Rattle.std.proofs.Common.{inl, inr, refl, map, string_bytes, rules}
 use Rattle.call_reports.specs.AnswerViews.{seen}
-use Rattle.call_inputs.specs.Carried.{LacksMemory}
 use Rattle.call_reports.specs.declared.answers.Status.TheVariants as s
-use Rattle.call_inputs.proofs.PlanLaws.{asks_onward}
-use Rattle.top_call.proofs.OutcomeLaws.{call_outcome, call_exact, call_secure, call_code, call_agree, call_fault, call_complete}
+use Rattle.top_call.specs.Outcome.{plan_for}
+use Rattle.top_call.proofs.OutcomeLaws.{answered, call_agree, call_code, call_complete, call_exact, call_fault, call_passes, call_secure, lacking}
 use Rattle.top_call.proofs.call.covern.Goals as goal
 
-pub returns-clause-outcome : goal.returns-clause-outcome
-returns-clause-outcome g c =
+-- Memory ran out before an answer ------------------------------------------------------------------------------
+
+pub returns-in-Err-NoMemory-clause-does : goal.returns-in-Err-NoMemory-clause-does
+returns-in-Err-NoMemory-clause-does g c =
     let shelved = g.S.Shelf.shelved in
     let sunk = g.K.Sink.sunk in
-    call_outcome (shelved c.args.shelf.now) (shelved c.answer.new.shelf) (command_of (map string_bytes c.args.words.now)) (seen c.match-answer.answer) (search rules)
-    (sunk c.args.sink.now) (sunk c.end.new.sink) c.end.result c.end.ensures.ends
+    lacking (shelved c.args.shelf.now) (shelved c.answer.new.shelf) (sunk c.args.sink.now) (sunk c.args.sink.now) (plan_for (map string_bytes c.args.words.now))
+    (search rules) refl
+
+pub returns-in-Err-NoMemory-clause-exact : goal.returns-in-Err-NoMemory-clause-exact
+returns-in-Err-NoMemory-clause-exact g c sure =
+    let shelved = g.S.Shelf.shelved in
+    let sunk = g.K.Sink.sunk in
+    call_exact (shelved c.args.shelf.now) (shelved c.answer.new.shelf) (map string_bytes c.args.words.now) (sunk c.args.sink.now) (sunk c.args.sink.now) s.NoMemory
+    (returns-in-Err-NoMemory-clause-does g c) (inl sure)
+
+pub returns-in-Err-NoMemory-clause-quiet : goal.returns-in-Err-NoMemory-clause-quiet
+returns-in-Err-NoMemory-clause-quiet g c quiet =
+    let shelved = g.S.Shelf.shelved in
+    let sunk = g.K.Sink.sunk in
+    call_exact (shelved c.args.shelf.now) (shelved c.answer.new.shelf) (map string_bytes c.args.words.now) (sunk c.args.sink.now) (sunk c.args.sink.now) s.NoMemory
+    (returns-in-Err-NoMemory-clause-does g c) (inr quiet)
+
+pub returns-in-Err-NoMemory-clause-agree : goal.returns-in-Err-NoMemory-clause-agree
+returns-in-Err-NoMemory-clause-agree g c =
+    let shelved = g.S.Shelf.shelved in
+    let sunk = g.K.Sink.sunk in
+    call_agree (shelved c.args.shelf.now) (shelved c.answer.new.shelf) (map string_bytes c.args.words.now) (sunk c.args.sink.now) (sunk c.args.sink.now) s.NoMemory
+    (returns-in-Err-NoMemory-clause-does g c) c.accepted_programs_are_secure.ensures
+
+pub returns-in-Err-NoMemory-clause-complete : goal.returns-in-Err-NoMemory-clause-complete
+returns-in-Err-NoMemory-clause-complete g c quiet written =
+    let shelved = g.S.Shelf.shelved in
+    let sunk = g.K.Sink.sunk in
+    call_complete (shelved c.args.shelf.now) (shelved c.answer.new.shelf) (map string_bytes c.args.words.now) (sunk c.args.sink.now) (sunk c.args.sink.now) s.NoMemory
+    (returns-in-Err-NoMemory-clause-does g c) (λ e. cc) quiet written
+
+pub returns-in-Err-NoMemory-clause-passes : goal.returns-in-Err-NoMemory-clause-passes
+returns-in-Err-NoMemory-clause-passes g c =
+    let shelved = g.S.Shelf.shelved in
+    let sunk = g.K.Sink.sunk in
+    call_passes (shelved c.args.shelf.now) (shelved c.answer.new.shelf) (map string_bytes c.args.words.now) (sunk c.args.sink.now) (sunk c.args.sink.now) s.NoMemory
+    (returns-in-Err-NoMemory-clause-does g c)
+
+-- An answer ----------------------------------------------------------------------------------------------------
+
+pub returns-clause-does : goal.returns-clause-does
+returns-clause-does g c =
+    let shelved = g.S.Shelf.shelved in
+    let sunk = g.K.Sink.sunk in
+    answered (shelved c.args.shelf.now) (shelved c.answer.new.shelf) (sunk c.args.sink.now) (sunk c.end.new.sink) (plan_for (map string_bytes c.args.words.now))
+    c.answer.result (seen c.match-answer.answer) c.end.result c.answer.ensures (search rules) (λ may_reply h. search rules) c.end.ensures.ends
 
 pub returns-clause-exact : goal.returns-clause-exact
 returns-clause-exact g c sure =
     let shelved = g.S.Shelf.shelved in
     let sunk = g.K.Sink.sunk in
-    call_exact (shelved c.args.shelf.now) (shelved c.answer.new.shelf) (command_of (map string_bytes c.args.words.now)) (seen c.match-answer.answer) (search rules)
-    (sunk c.args.sink.now) (sunk c.end.new.sink) c.end.result c.end.ensures.ends (inl sure)
+    call_exact (shelved c.args.shelf.now) (shelved c.answer.new.shelf) (map string_bytes c.args.words.now) (sunk c.args.sink.now) (sunk c.end.new.sink) c.end.result
+    (returns-clause-does g c) (inl sure)
 
 pub returns-clause-quiet : goal.returns-clause-quiet
 returns-clause-quiet g c quiet =
     let shelved = g.S.Shelf.shelved in
     let sunk = g.K.Sink.sunk in
-    call_exact (shelved c.args.shelf.now) (shelved c.answer.new.shelf) (command_of (map string_bytes c.args.words.now)) (seen c.match-answer.answer) (search rules)
-    (sunk c.args.sink.now) (sunk c.end.new.sink) c.end.result c.end.ensures.ends (inr quiet)
-
-pub returns-clause-complete : goal.returns-clause-complete
-returns-clause-complete g c quiet written =
-    let shelved = g.S.Shelf.shelved in
-    let sunk = g.K.Sink.sunk in
-    call_complete (shelved c.args.shelf.now) (shelved c.answer.new.shelf) (command_of (map string_bytes c.args.words.now)) (seen c.match-answer.answer) (search rules)
-    (sunk c.args.sink.now) (sunk c.end.new.sink) c.end.result c.end.ensures.ends c.end.ensures.write_fault quiet written
+    call_exact (shelved c.args.shelf.now) (shelved c.answer.new.shelf) (map string_bytes c.args.words.now) (sunk c.args.sink.now) (sunk c.end.new.sink) c.end.result
+    (returns-clause-does g c) (inr quiet)
 
 pub returns-clause-secure : goal.returns-clause-secure
 returns-clause-secure g c done =
     let shelved = g.S.Shelf.shelved in
     let sunk = g.K.Sink.sunk in
-    call_secure (shelved c.args.shelf.now) (shelved c.answer.new.shelf) (command_of (map string_bytes c.args.words.now)) (seen c.match-answer.answer) (search rules)
-    (sunk c.args.sink.now) (sunk c.end.new.sink) c.end.result c.end.ensures.ends done
+    call_secure (shelved c.args.shelf.now) (shelved c.answer.new.shelf) (map string_bytes c.args.words.now) (sunk c.args.sink.now) (sunk c.end.new.sink) c.end.result
+    (returns-clause-does g c) c.accepted_programs_are_secure.ensures done
 
 pub returns-clause-code : goal.returns-clause-code
 returns-clause-code g c done =
     let shelved = g.S.Shelf.shelved in
     let sunk = g.K.Sink.sunk in
-    call_code (shelved c.args.shelf.now) (shelved c.answer.new.shelf) (command_of (map string_bytes c.args.words.now)) (seen c.match-answer.answer) (search rules)
-    (sunk c.args.sink.now) (sunk c.end.new.sink) c.end.result c.end.ensures.ends done
+    call_code (shelved c.args.shelf.now) (shelved c.answer.new.shelf) (map string_bytes c.args.words.now) (sunk c.args.sink.now) (sunk c.end.new.sink) c.end.result
+    (returns-clause-does g c) c.accepted_programs_have_good_code.ensures.good done
 
 pub returns-clause-agree : goal.returns-clause-agree
 returns-clause-agree g c =
     let shelved = g.S.Shelf.shelved in
     let sunk = g.K.Sink.sunk in
-    call_agree (shelved c.args.shelf.now) (shelved c.answer.new.shelf) (command_of (map string_bytes c.args.words.now)) (seen c.match-answer.answer) (search rules)
-    (sunk c.args.sink.now) (sunk c.end.new.sink) c.end.result c.end.ensures.ends
+    call_agree (shelved c.args.shelf.now) (shelved c.answer.new.shelf) (map string_bytes c.args.words.now) (sunk c.args.sink.now) (sunk c.end.new.sink) c.end.result
+    (returns-clause-does g c) c.accepted_programs_are_secure.ensures
+
+pub returns-clause-complete : goal.returns-clause-complete
+returns-clause-complete g c quiet written =
+    let shelved = g.S.Shelf.shelved in
+    let sunk = g.K.Sink.sunk in
+    call_complete (shelved c.args.shelf.now) (shelved c.answer.new.shelf) (map string_bytes c.args.words.now) (sunk c.args.sink.now) (sunk c.end.new.sink) c.end.result
+    (returns-clause-does g c) c.end.ensures.write_fault quiet written
 
 pub returns-clause-read_fault : goal.returns-clause-read_fault
 returns-clause-read_fault g c fault =
     let shelved = g.S.Shelf.shelved in
     let sunk = g.K.Sink.sunk in
-    call_fault (shelved c.args.shelf.now) (shelved c.answer.new.shelf) (command_of (map string_bytes c.args.words.now)) (seen c.match-answer.answer) (search rules)
-    (sunk c.args.sink.now) (sunk c.end.new.sink) c.end.result c.end.ensures.ends fault
+    call_fault (shelved c.args.shelf.now) (shelved c.answer.new.shelf) (map string_bytes c.args.words.now) (sunk c.args.sink.now) (sunk c.end.new.sink) c.end.result
+    (returns-clause-does g c) fault
 
-pub returns-in-Err-NoMemory-clause-asks : goal.returns-in-Err-NoMemory-clause-asks
-returns-in-Err-NoMemory-clause-asks g c =
+pub returns-clause-passes : goal.returns-clause-passes
+returns-clause-passes g c =
     let shelved = g.S.Shelf.shelved in
-    asks_onward (shelved c.args.shelf.now) (shelved c.answer.new.shelf) (files_of (command_of (map string_bytes c.args.words.now)))
-    (LacksMemory (Err c.in-Err-NoMemory.field-0)) (s.NoMemory ≡ s.NoMemory) (λ _. refl) c.in-Err-NoMemory.ensures.asks
-
-pub returns-clause-asks : goal.returns-clause-asks
-returns-clause-asks g c =
-    let shelved = g.S.Shelf.shelved in
-    asks_onward (shelved c.args.shelf.now) (shelved c.answer.new.shelf) (files_of (command_of (map string_bytes c.args.words.now))) ⊥ (c.end.result ≡ s.NoMemory)
-    (λ none. absurd none) (search rules)
+    let sunk = g.K.Sink.sunk in
+    call_passes (shelved c.args.shelf.now) (shelved c.answer.new.shelf) (map string_bytes c.args.words.now) (sunk c.args.sink.now) (sunk c.end.new.sink) c.end.result
+    (returns-clause-does g c)

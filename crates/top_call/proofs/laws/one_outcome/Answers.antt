@@ -1,4 +1,4 @@
-use Rattle.top_call.proofs.OneReply.{one_reply}
+use Rattle.top_call.proofs.OutcomeLaws.{one_reply}
 use Rattle.top_call.proofs.laws.one_outcome.Goals as goal
 
 pub returns : goal.returns
