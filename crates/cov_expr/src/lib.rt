@@ -7,7 +7,7 @@
 //! - [`closed`], [`mentions`], [`has_conjunct`], [`vars`]: its parts. [`copy`], [`subst`]: trees made from others.
 //! - [`has_number`]: whether a number, as that of a variable, stands in a list. [`has_same`]: whether an expression does.
 //! - [`width_at_most`], [`height_at_most`], [`nodes_at_most`], [`nodes_left`]: its measures.
-//! - [`MOST_BYTES`] and the constants beside it: the limits of texts, programs, other inputs and listings.
+//! - [`MOST_BYTES`] and the constants beside it: the limits of texts, programs, other inputs, listings and objects.
 //! - [`same_is_equality`] and the functions beside it have no body: their contracts are laws.
 #![tactic(auto)]
 
@@ -34,8 +34,8 @@ pub use laws::{
 pub use limits::{
     MOST_BLOCKS, MOST_BRACKETS, MOST_BYTES, MOST_CERT_NODES, MOST_ENTRIES, MOST_EXPRESSION_BYTES,
     MOST_HEIGHT, MOST_INPUT_BYTES, MOST_LISTING_BYTES, MOST_LOCKS, MOST_MARKS, MOST_NAME_BYTES,
-    MOST_NODES, MOST_PREDICATES, MOST_ROUNDS, MOST_STATEMENTS, MOST_THREADS, MOST_TYPES,
-    MOST_VARIABLES,
+    MOST_NODES, MOST_OBJECT_BYTES, MOST_PREDICATES, MOST_ROUNDS, MOST_STATEMENTS, MOST_THREADS,
+    MOST_TYPES, MOST_VARIABLES,
 };
 pub use list::{Blob, List, NoMemory};
 pub use measures::{height_at_most, nodes_at_most, nodes_left, width_at_most};

@@ -5,7 +5,8 @@
 //! - Of an expression, a certificate, a state: [`MOST_NODES`], [`MOST_HEIGHT`], [`MOST_CERT_NODES`],
 //!   [`MOST_PREDICATES`], [`MOST_TYPES`].
 //! - Of the other inputs: [`MOST_INPUT_BYTES`], [`MOST_ENTRIES`], [`MOST_EXPRESSION_BYTES`], [`MOST_ROUNDS`].
-//! - Of a listing that is read back: [`MOST_LISTING_BYTES`], which the call asks for and doesn't try.
+//! - Of a listing and of an object that are read back: [`MOST_LISTING_BYTES`], [`MOST_OBJECT_BYTES`], which the calls ask for and don't
+//!   try.
 //!
 //! Their values are pinned by `AreTheLimits` of `specs/Limits.antt`.
 
@@ -65,3 +66,6 @@ pub const MOST_ROUNDS: u32 = 200;
 
 /// Bytes of a text that is read as a listing.
 pub const MOST_LISTING_BYTES: usize = 268_435_456;
+
+/// Bytes that are read as an object.
+pub const MOST_OBJECT_BYTES: usize = 16_777_216;

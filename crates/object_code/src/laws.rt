@@ -1,9 +1,8 @@
-//! Laws of objects and of their limit: functions with no body, whose contracts speak of all parts.
+//! Laws of objects: functions with no body, whose contracts speak of all parts.
 
 ghost use Rattle.std.specs.Prelude.{◌≡◌, List, ℕ, [], ◌++◌, Some};
 ghost use Rattle.object_code.specs.Object.{HasObject, object};
 ghost use Rattle.object_code.specs.ObjectAnswers.{IsFaultOfObject};
-ghost use Rattle.object_code.specs.declared.limits.TheConstants.{MOST_OBJECT_BYTES};
 ghost use Rattle.risc_machine.specs.Faults.{fault_of};
 ghost use Rattle.risc_machine.specs.declared.parts.CodeBad.{CodeBad};
 ghost use Rattle.risc_machine.specs.declared.parts.Parts.{Parts};
@@ -21,9 +20,4 @@ pub fn objects_tell_code()
 /// The fault of parts with an object is a name that equals an earlier one, or a target past the end.
 pub fn objects_have_two_faults()
     ensures { (p : Parts) → HasObject p → (fault : CodeBad) → fault_of p ≡ Some fault → IsFaultOfObject fault }
-{}
-
-/// The limit is the number that is told of it.
-pub fn limit_has_its_value()
-    ensures { MOST_OBJECT_BYTES ≡ 16777216 }
 {}

@@ -3,7 +3,6 @@
 //! - [`object`]: the object of a code. `specs/Object.antt` says which bytes that are.
 //! - [`read_object`]: the code of an object, or the first byte with which no object goes on. `specs/ObjectAnswers.antt` says what it
 //!   answers.
-//! - [`MOST_OBJECT_BYTES`]: how many bytes are read at most.
 //! - [`no_object_begins_another`] and the functions beside it have no body: their contracts are laws.
 #![tactic(auto)]
 
@@ -11,7 +10,6 @@ mod bytes;
 mod fault;
 mod field;
 mod laws;
-mod limits;
 mod line;
 mod opcode;
 mod parts;
@@ -21,8 +19,5 @@ mod stop;
 
 pub use bytes::object;
 pub use fault::ObjectFault;
-pub use laws::{
-    limit_has_its_value, no_object_begins_another, objects_have_two_faults, objects_tell_code,
-};
-pub use limits::MOST_OBJECT_BYTES;
+pub use laws::{no_object_begins_another, objects_have_two_faults, objects_tell_code};
 pub use read::read_object;

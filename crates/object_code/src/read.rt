@@ -5,7 +5,7 @@ ghost use Rattle.object_code.specs.Inside.Given.{Gives, Judges};
 ghost use Rattle.object_code.specs.Inside.ObjectReading as spec;
 ghost use Rattle.object_code.specs.Object.{HasObject, IsObjectOf};
 ghost use Rattle.object_code.specs.ObjectAnswers.{IsReading, IsAnswerTo};
-ghost use Rattle.object_code.specs.declared.limits.TheConstants.{MOST_OBJECT_BYTES};
+ghost use Rattle.cov_expr.specs.declared.limits.TheConstants.{MOST_OBJECT_BYTES};
 ghost use Rattle.risc_machine.specs.declared.parts.Parts.{Parts};
 
 use crate::fault::ObjectFault;

@@ -1,12 +1,12 @@
 mod PolicyLaws
-mod PositionLaws
+pub mod PositionLaws
 mod WalkLaws
 mod BlockLaws
-mod NameLaws
+pub mod NameLaws
 mod IdLaws
 mod UseLaws
-mod Each
-mod Formed
-mod Bodies
-mod ResolvedLaws
+pub mod Each
+pub mod Formed
+pub mod Bodies
+pub mod ResolvedLaws
 mod Examples
