@@ -1,6 +1,6 @@
 -- An answer of the code as the reply that it is, and what a step of the code gives: the words of public calls that hand an answer on.
 use Rattle.std.specs.Prelude.{Result, Ok, Err}
-use Rattle.call_reports.specs.Replies.{Reply, usage, read_fault, too_long, malformed, refused, accepted, spelled, ran, bad_starts, differ}
+use Rattle.call_reports.specs.Replies.{Reply, usage, read_fault, too_long, malformed, refused, accepted, spelled, ran, bad_starts, differ, refuted}
 use Rattle.call_reports.specs.declared.answers.Answer.{Answer}
 use Rattle.call_reports.specs.declared.answers.Answer.TheVariants as a
 use Rattle.call_reports.specs.declared.answers.Stop.{Stop}
@@ -18,6 +18,7 @@ seen (a.Spelled text) = spelled text
 seen (a.Ran report) = ran report
 seen (a.BadStarts name) = bad_starts name
 seen (a.Differ step what) = differ step what
+seen (a.Refuted report) = refuted report
 
 -- A step that stops gives what is said of it, unless memory ran out.
 abbrev pub Stops : (Reply → Type 0) → Stop → Type 0

@@ -18,6 +18,7 @@ pub data Reply : Type 0 where
   ran : (report : List ℕ) → Reply
   bad_starts : (name : List ℕ) → Reply
   differ : (step : ℕ) → (what : List ℕ) → Reply
+  refuted : (report : List ℕ) → Reply
 
 abbrev pub status_of : Reply → Status
 status_of usage = s.Usage
@@ -30,6 +31,7 @@ status_of (spelled text) = s.Done
 status_of (ran report) = s.Done
 status_of (bad_starts name) = s.BadStarts
 status_of (differ step what) = s.Differ
+status_of (refuted report) = s.Differ
 
 -- the number with which the program exits
 abbrev pub exit_status : Status → ℕ

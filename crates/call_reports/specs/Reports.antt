@@ -5,7 +5,7 @@ use Rattle.cov_ast.specs.declared.refusal.Rule.TheVariants as r
 use Rattle.cov_ast.specs.declared.refusal.Detail.{Detail}
 use Rattle.cov_ast.specs.declared.refusal.Detail.TheVariants as d
 use Rattle.cov_ast.specs.declared.refusal.Refusal.{Refusal}
-use Rattle.call_reports.specs.Replies.{Reply, usage, read_fault, too_long, malformed, refused, accepted, spelled, ran, bad_starts, differ}
+use Rattle.call_reports.specs.Replies.{Reply, usage, read_fault, too_long, malformed, refused, accepted, spelled, ran, bad_starts, differ, refuted}
 use Rattle.call_reports.specs.declared.answers.Fault.{Fault}
 use Rattle.call_reports.specs.declared.answers.Fault.TheVariants as f
 use Rattle.call_reports.specs.declared.answers.FaultKind.{FaultKind}
@@ -38,6 +38,8 @@ fault_text (f.NotWord name) = codes "word " ++ name
 fault_text f.NotList = codes "list"
 fault_text f.TooMany = codes "many"
 fault_text (f.BadEntry i) = codes "entry " ++ decimal i
+fault_text (f.Object at) = codes "object at " ++ decimal at
+fault_text f.Code = codes "code"
 
 -- Refusals -----------------------------------------------------------------------------------------------------
 
@@ -101,3 +103,4 @@ report_of (spelled text) = text
 report_of (ran report) = report
 report_of (bad_starts name) = codes "bad starts: " ++ name ++ codes "\n"
 report_of (differ step what) = codes "differ at step " ++ decimal step ++ codes ": " ++ what ++ codes "\n"
+report_of (refuted report) = report

@@ -95,6 +95,10 @@ pub enum Fault {
     TooMany,
     /// This entry of a schedule, counted from 0, is no number of a thread.
     BadEntry(u32),
+    /// With the byte at this offset no object goes on, or it is the length of bytes that end too early.
+    Object(u32),
+    /// An object is one of parts that are no code.
+    Code,
 }
 
 /// What a call answers, the want of memory and a failed write aside. Names of files are words of the command line.
@@ -107,14 +111,16 @@ pub enum Answer<'w> {
     /// The first rule that is broken, and the name of the thread, for a rule of statements.
     Refused(Refusal, Option<Name>),
     Accepted(Totals),
-    /// The canonical spelling of a program, or the listing of its code.
+    /// The canonical spelling of a program, or the listing or the object of a code.
     Spelled(Blob),
-    /// The report on a run, of a program or of its code, or on two that agree.
+    /// The report on a run, of a program or of its code, on two that agree, or on trials of which none sets two runs apart.
     Ran(Blob),
     /// Two memories aren't fit to start from: the name of the first variable or lock that says so.
     BadStarts(Blob),
     /// Two runs don't agree: the first step after which they don't, and what they differ in there.
     Differ(u32, Blob),
+    /// The report on a trial whose two runs don't agree.
+    Refuted(Blob),
 }
 
 /// Why a step of a command gives no value.
@@ -146,6 +152,6 @@ pub fn status_for(answer: &Answer<'_>) -> Status
         Answer::Refused(_, _) => Status::Refused,
         Answer::Accepted(_) | Answer::Spelled(_) | Answer::Ran(_) => Status::Done,
         Answer::BadStarts(_) => Status::BadStarts,
-        Answer::Differ(_, _) => Status::Differ,
+        Answer::Differ(_, _) | Answer::Refuted(_) => Status::Differ,
     }
 }

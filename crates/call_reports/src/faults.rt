@@ -42,6 +42,11 @@ fn add_fault(fault: &Fault, line: &mut Blob) -> Result<(), NoMemory>
             line.extend_from_slice(b"entry ")?;
             add_number(*i, line)
         }
+        Fault::Object(at) => {
+            line.extend_from_slice(b"object at ")?;
+            add_number(*at, line)
+        }
+        Fault::Code => line.extend_from_slice(b"code"),
     }
 }
 

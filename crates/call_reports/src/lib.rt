@@ -23,7 +23,7 @@ mod run_reports;
 
 pub use answers::{Answer, Fault, FaultKind, Status, Stop, Totals, status_for};
 pub use code_reports::{code_pair_report, code_report};
-pub use differences::{bad_name, differ_text};
+pub use differences::{bad_name, differ_line, differ_text};
 pub use ends::end;
 pub use lines::{add_number, add_numbered};
 pub use reports::{accepted_line, report};

@@ -18,7 +18,7 @@ pub fn report(alloc: Global, answer: Answer<'_>) -> Result<Blob, NoMemory>
     ensures { IfOk result (λ text. text ≡ report_of (seen answer.entry)) }
 {
     match answer {
-        Answer::Spelled(text) | Answer::Ran(text) => Ok(text),
+        Answer::Spelled(text) | Answer::Ran(text) | Answer::Refuted(text) => Ok(text),
         Answer::Malformed(name, fault) => malformed_line(alloc, name, &fault),
         Answer::Refused(refusal, thread) => refusal_line(alloc, &refusal, thread),
         Answer::BadStarts(name) => bad_starts_line(alloc, &name),
@@ -49,7 +49,8 @@ fn line(alloc: Global, answer: &Answer<'_>) -> Result<String, AllocError>
         | Answer::Spelled(_)
         | Answer::Ran(_)
         | Answer::BadStarts(_)
-        | Answer::Differ(_, _) => Ok(String::new(alloc)),
+        | Answer::Differ(_, _)
+        | Answer::Refuted(_) => Ok(String::new(alloc)),
     }
 }
 
