@@ -4,7 +4,8 @@
 //! - Of a program: [`MOST_VARIABLES`], [`MOST_LOCKS`], [`MOST_THREADS`], [`MOST_STATEMENTS`], [`MOST_BLOCKS`].
 //! - Of an expression, a certificate, a state: [`MOST_NODES`], [`MOST_HEIGHT`], [`MOST_CERT_NODES`],
 //!   [`MOST_PREDICATES`], [`MOST_TYPES`].
-//! - Of the other inputs: [`MOST_INPUT_BYTES`], [`MOST_ENTRIES`], [`MOST_EXPRESSION_BYTES`], [`MOST_ROUNDS`].
+//! - Of the other inputs: [`MOST_INPUT_BYTES`], [`MOST_ENTRIES`], [`MOST_EXPRESSION_BYTES`], [`MOST_ROUNDS`],
+//!   [`MOST_TRIALS`].
 //! - Of a listing and of an object that are read back: [`MOST_LISTING_BYTES`], [`MOST_OBJECT_BYTES`], which the calls ask for and don't
 //!   try.
 //!
@@ -63,6 +64,9 @@ pub const MOST_EXPRESSION_BYTES: usize = 4_096;
 
 /// Rounds of a generated program.
 pub const MOST_ROUNDS: u32 = 200;
+
+/// Trials of a program, numbered from 1.
+pub const MOST_TRIALS: u32 = 1000;
 
 /// Bytes of a text that is read as a listing.
 pub const MOST_LISTING_BYTES: usize = 268_435_456;

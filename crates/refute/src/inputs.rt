@@ -1,12 +1,13 @@
 //! What a trial runs on: two memories, and a schedule for both.
 
 ghost use Rattle.std.specs.Prelude.{◌≡◌, ◌<◌, ◌≤◌, length, get_or, if◌then◌else◌, IfOk};
+ghost use Rattle.cov_expr.specs.declared.limits.TheConstants.{MOST_TRIALS};
 ghost use Rattle.cov_expr.specs.Words.{HasVarsBelow, IsMemory, IsSchedule};
 ghost use Rattle.cov_ast.specs.Plain.{class_term, plain};
 ghost use Rattle.cov_ast.specs.View as view;
 ghost use Rattle.cov_ast.specs.WellFormed.{IsWellFormed};
 ghost use Rattle.flow_model.specs.FirstDifference.{is_true_in};
-ghost use Rattle.watch.specs.TrialWords.{IsTrialWord, most_trials, raw_word};
+ghost use Rattle.watch.specs.TrialWords.{IsTrialWord, raw_word};
 ghost use Rattle.refute.specs.Trials as spec;
 
 use cov_ast::{Class, Program};
@@ -35,7 +36,7 @@ impl Trial {
     pub fn new(alloc: Global, p: &Program, i: u32, m: &Maker) -> Result<Trial, NoMemory>
         requires formed { IsWellFormed (view.program p.now) }
         requires first { 1 ≤ i }
-        requires last { i ≤ most_trials }
+        requires last { i ≤ MOST_TRIALS }
         ensures made { IfOk result (λ made. IsTrial (plain (view.program p.now)) i made) }
         ensures left { IfOk result (λ made. IsMemory (length p.now.vars) made.left) }
         ensures right { IfOk result (λ made. IsMemory (length p.now.vars) made.right) }
@@ -57,7 +58,7 @@ impl Trial {
 pub fn first_memory(alloc: Global, p: &Program, i: u32, m: &Maker) -> Result<List<u32>, NoMemory>
     requires formed { IsWellFormed (view.program p.now) }
     requires first { 1 ≤ i }
-    requires last { i ≤ most_trials }
+    requires last { i ≤ MOST_TRIALS }
     ensures words { IfOk result (λ made. made ≡ spec.first_memory (plain (view.program p.now)) i) }
     ensures memory { IfOk result (λ made. IsMemory (length p.now.vars) made) }
 {
@@ -78,7 +79,7 @@ pub fn second_memory(
 ) -> Result<List<u32>, NoMemory>
     requires formed { IsWellFormed (view.program p.now) }
     requires first { 1 ≤ i }
-    requires last { i ≤ most_trials }
+    requires last { i ≤ MOST_TRIALS }
     requires left { left.now ≡ spec.first_memory (plain (view.program p.now)) i }
     ensures words { IfOk result (λ made. made ≡ spec.second_memory (plain (view.program p.now)) i) }
     ensures memory { IfOk result (λ made. IsMemory (length p.now.vars) made) }
@@ -93,7 +94,7 @@ pub fn second_memory(
 /// The schedule of a trial.
 pub fn schedule(alloc: Global, p: &Program, i: u32) -> Result<List<u32>, NoMemory>
     requires formed { IsWellFormed (view.program p.now) }
-    requires last { i ≤ most_trials }
+    requires last { i ≤ MOST_TRIALS }
     ensures entries { IfOk result (λ made. made ≡ spec.schedule (plain (view.program p.now)) i) }
     ensures threads { IfOk result (λ made. IsSchedule (length p.now.threads) made) }
     ensures few { IfOk result (λ made. length made ≤ 200) }

@@ -1,13 +1,13 @@
 //! Trials one after another, up to the first whose two runs don't agree.
 
 ghost use Rattle.std.specs.Prelude.{◌≡◌, ◌≤◌, length, IfOk, MatchOption};
+ghost use Rattle.cov_expr.specs.declared.limits.TheConstants.{MOST_TRIALS};
 ghost use Rattle.cov_expr.specs.Words.{IsSchedule};
 ghost use Rattle.cov_ast.specs.Plain.{plain};
 ghost use Rattle.cov_ast.specs.View as view;
 ghost use Rattle.cov_ast.specs.WellFormed.{IsWellFormed};
 ghost use Rattle.flow_model.specs.Source.{begin};
 ghost use Rattle.schedule_replay.specs.Replays.{AgreeThroughout, IsFirstStepApart};
-ghost use Rattle.watch.specs.TrialWords.{most_trials};
 ghost use Rattle.refute.specs.Inside.{Shows};
 ghost use Rattle.refute.specs.Trials.{IsFirstTrial, fit_among, last_of};
 
@@ -44,7 +44,7 @@ enum Outcome {
 /// and not run. It takes the memory of one trial at a time: two memories, a schedule, and two machines that run.
 pub fn refute(alloc: Global, p: &Program, n: u32, m: &Maker) -> Result<Trials, NoMemory>
     requires formed { IsWellFormed (view.program p.now) }
-    requires few { n ≤ most_trials }
+    requires few { n ≤ MOST_TRIALS }
     ensures found { IfOk result (λ trials. IsFirstTrial (plain (view.program p.now)) n trials.found) }
     ensures fit { IfOk result (λ trials. trials.fit ≡ fit_among (plain (view.program p.now)) (last_of n trials.found)) }
 {
@@ -69,7 +69,7 @@ pub fn refute(alloc: Global, p: &Program, n: u32, m: &Maker) -> Result<Trials, N
 fn try_out(alloc: Global, p: &Program, i: u32, m: &Maker) -> Result<Outcome, NoMemory>
     requires formed { IsWellFormed (view.program p.now) }
     requires first { 1 ≤ i }
-    requires last { i ≤ most_trials }
+    requires last { i ≤ MOST_TRIALS }
     ensures { IfOk result (Shows (plain (view.program p.now)) i) }
 {
     let left = first_memory(alloc, p, i, m)?;

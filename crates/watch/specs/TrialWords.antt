@@ -1,6 +1,6 @@
 -- The words of numbered trials, as a linear congruential generator draws them.
 use Rattle.std.specs.Prelude.{ℕ, ◌+◌, ◌*◌, ◌/◌, ◌%◌, ◌^◌, ◌<◌, ◌≤◌, ◌==◌, if◌then◌else◌}
-use Rattle.cov_expr.specs.declared.limits.TheConstants.{MOST_VARIABLES}
+use Rattle.cov_expr.specs.declared.limits.TheConstants.{MOST_TRIALS, MOST_VARIABLES}
 
 -- The generator ------------------------------------------------------------------------------------------------
 
@@ -29,14 +29,10 @@ drawn k = generated (generated k) / 2 ^ 16
 abbrev pub raw_word : (trial side x : ℕ) → ℕ
 raw_word trial side x = if side == 1 then drawn (512 * trial + x) % 4 else drawn (512 * trial + 256 + x) % 4
 
--- the last trial; the first is 1
-abbrev pub most_trials : ℕ
-most_trials = 1000
-
 -- There is such a word: of a trial, of one of its two sides, and of as many variables as a program may have.
 pub record IsTrialWord (trial side x : ℕ) : Type 0 where
   pub first : 1 ≤ trial
-  pub last : trial ≤ most_trials
+  pub last : trial ≤ MOST_TRIALS
   pub left : 1 ≤ side
   pub right : side ≤ 2
   pub variable : x < MOST_VARIABLES
