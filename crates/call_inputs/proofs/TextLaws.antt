@@ -1,5 +1,6 @@
 -- Laws of texts: one spells one tree or has one first fault, and never both.
 use Rattle.std.proofs.Common.{◌≡◌, ℕ, List, length, Option, Some, None, Result, Ok, Err, inl, inr, sym, ap, ◌∙◌, subst}
+use Rattle.std.specs.Prelude.{IfSome}
 use Rattle.cov_lex.specs.declared.token.Token as lexed
 use Rattle.cov_lex.specs.Lexing.{tokens_of}
 use Rattle.cov_lex.specs.declared.fault.LexFault.{LexFault}
@@ -98,9 +99,16 @@ program_reading = record {
 
 -- What is answered ---------------------------------------------------------------------------------------------
 
-pub text_unread : (name bytes : List ℕ) (fault : ParseFault) (stop : Stop) → Answers grammar.program in_program bytes view.parsed (program_of bytes) (Err fault)
-    → Stops (λ reply. (found : Fault) × (shown fault ≡ Some found) × (reply ≡ malformed name found)) stop
+-- the fault of bytes that spell no program is shown as it is
+pub text_fault_shown : (bytes : List ℕ) (fault : ParseFault) → Answers grammar.program in_program bytes view.parsed (program_of bytes) (Err fault)
+    → (o : Option Fault) → o ≡ shown fault → IfSome o (IsShownFault bytes)
+text_fault_shown bytes fault h None e = tt
+text_fault_shown bytes fault h (Some found) e =
+    shown_found grammar.program in_program program_decided view.parsed (program_of bytes) bytes fault found h (sym e)
+
+-- and a file that isn't read has it
+pub text_unread : (name bytes : List ℕ) (o : Option Fault) (stop : Stop) → IfSome o (IsShownFault bytes)
+    → Stops (λ reply. (found : Fault) × (o ≡ Some found) × (reply ≡ malformed name found)) stop
     → Stops (λ reply. (found : Fault) × IsShownFault bytes found × (reply ≡ malformed name found)) stop
-text_unread name bytes fault (stops.Answer answer) h (found, e, is) =
-    (found, shown_found grammar.program in_program program_decided view.parsed (program_of bytes) bytes fault found h e, is)
-text_unread name bytes fault stops.NoMemory h unread = tt
+text_unread name bytes o (stops.Answer answer) h (found, e, is) = (found, subst (λ q. IfSome q (IsShownFault bytes)) e h, is)
+text_unread name bytes o stops.NoMemory h unread = tt

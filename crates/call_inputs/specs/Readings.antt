@@ -58,7 +58,7 @@ module _ {B : Type 0} (IsRead : List ℕ → B → Type 0) (IsFault : List ℕ �
 
 -- The shelf is called once for each file, in their order, up to the first that isn't read, and not otherwise; what is said of the
 -- shelf as it is left, and of how the reading ends, holds. So it is for shelves that tell nothing and for faults in mid-call too: the
--- reply names the file of the very call that failed.
+-- reply names the file whose call, in this order, is said to have failed.
 module _ {A : Type 0} (left : Shelved → End A → Type 0) where
   abbrev pub Reads : Shelved → Reading A → Type 0
   Reads shelf (gives x) = left shelf (took x)

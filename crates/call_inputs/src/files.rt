@@ -1,6 +1,6 @@
 //! How a file is fetched, and a program read from its bytes.
 
-ghost use Rattle.std.specs.Prelude.{◌≡◌, ◌≤◌, IfOk, MatchResult, Some, length};
+ghost use Rattle.std.specs.Prelude.{◌≡◌, ◌≤◌, IfOk, IfSome, MatchResult, Some, length};
 ghost use Rattle.call_inputs.specs.Programs.{IsShownFault, SpellsProgram, shown};
 ghost use Rattle.call_inputs.specs.Readings.{HasRead, ended};
 ghost use Rattle.call_inputs.specs.Steps as step;
@@ -38,9 +38,21 @@ pub fn read_text<'w>(alloc: Global, name: &'w str, bytes: &[u8]) -> Result<Parse
         (Stops (λ reply. (fault : Fault) × IsShownFault bytes.now fault × (reply ≡ malformed name.now fault))) }
     ensures ready { IfOk result (λ p. IsReady (view.parsed p)) }
 {
+    match parse_text(alloc, bytes) {
+        Ok(parsed) => Ok(parsed),
+        Err(fault) => Err(unread(name, fault)),
+    }
+}
+
+/// The program that a text spells, or its first fault, as reports show it; where there is none, memory ran out.
+pub fn parse_text(alloc: Global, bytes: &[u8]) -> Result<Parsed, Option<Fault>>
+    requires { length bytes.now ≤ MOST_BYTES }
+    ensures read { MatchResult result (λ p. SpellsProgram bytes.now (view.parsed p)) (λ fault. IfSome fault (IsShownFault bytes.now)) }
+    ensures ready { IfOk result (λ p. IsReady (view.parsed p)) }
+{
     match parse(alloc, bytes) {
         Ok(parsed) => Ok(parsed),
-        Err(fault) => Err(unread(name, text_fault(fault))),
+        Err(fault) => Err(text_fault(fault)),
     }
 }
 

@@ -1,7 +1,6 @@
 -- Laws of `check`: the obligations of what a text spells, and what is replied to it.
-use Rattle.std.proofs.Common.{◌≡◌, ℕ, List, [], ◌∷◌, ◌++◌, Bool, true, false, ◌&&◌, Option, Some, None, Result, Ok, Err, IsTrue, refl, sym, ap, ◌∙◌, cond, subst, length, map, slice_get}
+use Rattle.std.proofs.Common.{◌≡◌, ℕ, List, [], ◌∷◌, ◌++◌, Bool, true, false, ◌&&◌, Option, Some, None, Result, Ok, Err, IsTrue, refl, sym, ap, ◌∙◌, cond, subst, map, slice_get}
 use Rattle.std.specs.Prelude.{MatchResult}
-use Rattle.std.proofs.lemmas.List.{length-map}
 use Rattle.cov_ast.specs.Syntax.{Parsed, Program, Thread}
 use Rattle.cov_ast.specs.declared.parsed.NameUse.{NameUse}
 use Rattle.cov_ast.specs.Obligations.{Obligation, all_hold, first_false}
@@ -10,13 +9,12 @@ use Rattle.cov_ast.specs.declared.refusal.Refusal.{Refusal}
 use Rattle.cov_ast.proofs.ObligationLaws.{append_refused, append_held, both_hold, none_refused}
 use Rattle.policy_class.specs.Resolved.{Named, declared_names, lock_id, name_obligations, resolved, resolved_thread, use_obligation, var_id, w1_from}
 use Rattle.verify.specs.Accepted.{program_obligations, IsAccepted}
-use Rattle.verify.specs.Verdicts.{counts}
 use Rattle.call_inputs.specs.Rejections.{UnlessRejected, by_rule}
-use Rattle.call_judge.specs.Check.{obligations, thread_name, name_in, rejection, rejection_by, verdict, Judges, IsAcceptedText}
-use Rattle.call_judge.specs.Inside.{IsProgramRejected, IsRejected, program_verdict}
+use Rattle.call_judge.specs.Check.{accepted_with, obligations, thread_name, name_in, rejection, rejection_by, totals, verdict, Judges, IsAcceptedText}
+use Rattle.call_judge.specs.Inside.{IsProgramRejected, IsRejected}
 use Rattle.call_judge.specs.Meaning.{AreNamesInOrder}
 use Rattle.call_reports.specs.AnswerViews.{Gets, Stops, seen}
-use Rattle.call_reports.specs.Replies.{Reply, refused, accepted}
+use Rattle.call_reports.specs.Replies.{Reply, refused}
 use Rattle.call_reports.specs.declared.answers.Answer.{Answer}
 use Rattle.call_reports.specs.declared.answers.Stop.{Stop}
 use Rattle.call_reports.proofs.AnswerLaws.{stops_onward}
@@ -76,13 +74,6 @@ none_false (e ∷ es) h = go (none_false es) e.holds h
     go rest true h = rest h
     go rest false h = cc
 
--- what is counted is the reply
-pub program_counted : (program : Program) (threads statements entailments : ℕ) → threads ≡ length program.threads → statements ≡ (counts program).statements
-    → entailments ≡ (counts program).entailments → accepted threads statements entailments ≡ program_verdict program
-program_counted program threads statements entailments t st en =
-    ap (λ n. accepted n statements entailments) t ∙ ap (λ n. accepted (length program.threads) n entailments) st
-    ∙ ap (λ n. accepted (length program.threads) (counts program).statements n) en
-
 -- what refuses the names of a text rejects it, and no thread is named
 pub names_rejected : (p : Parsed) (refusal : Refusal) → first_false (name_obligations p) ≡ Some refusal → IsRejected p (refused refusal None)
 names_rejected p refusal h =
@@ -126,12 +117,11 @@ module _ (p : Parsed) (program : Program) (is : program ≡ resolved p) (named :
 
   -- what is said of the program is said of the text
   pub program_judged : (r : Result Answer Stop)
-      → MatchResult r (λ answer. IsAccepted program × (seen answer ≡ program_verdict program))
+      → MatchResult r (λ answer. IsAccepted program × (seen answer ≡ accepted_with (totals program)))
       (Stops (IsProgramRejected program)) → Gets (Judges p) r
   program_judged (Ok answer) h =
       subst (λ o. UnlessRejected o (λ r. r ≡ verdict p) (seen answer)) (sym (none_rejects h.0))
-      (h.1 ∙ ap program_verdict is
-      ∙ ap (λ n. accepted n (counts (resolved p)).statements (counts (resolved p)).entailments) (length-map p.threads (resolved_thread (var_id p) (lock_id p))))
+      (h.1 ∙ ap (λ q. accepted_with (totals q)) is)
   program_judged (Err stop) h =
       stops_onward (IsProgramRejected program) (Judges p) stop (λ reply rejects. rejected_judged p reply (program_rejected reply rejects)) h
 

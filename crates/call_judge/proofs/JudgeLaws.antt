@@ -1,19 +1,16 @@
 -- Laws of what judging the bytes of a text finds.
-use Rattle.std.proofs.Common.{◌≡◌, ℕ, List, length, inl, inr, refl, sym, ap, ◌∙◌, subst}
-use Rattle.std.proofs.lemmas.List.{length-map}
+use Rattle.std.proofs.Common.{◌≡◌, ℕ, List, inl, inr, refl, sym, ap, ◌∙◌, subst}
 use Rattle.call_inputs.specs.Programs.{SpellsProgram}
 use Rattle.call_inputs.specs.Rejections.{UnlessRejected}
-use Rattle.call_judge.specs.Check.{rejection, verdict}
+use Rattle.call_judge.specs.Check.{accepted_with, rejection, totals, verdict}
 use Rattle.call_judge.specs.Findings.{Finds, FindsIn, reply_to}
 use Rattle.call_judge.specs.Texts.{ChecksBytes}
 use Rattle.call_judge.specs.declared.judge.Judged.{Judged}
 use Rattle.call_judge.specs.declared.judge.Judged.TheVariants as j
 use Rattle.call_judge.proofs.CheckLaws.{names_rejected, none_rejects, program_rejected, rejected_judged}
-use Rattle.call_reports.specs.Replies.{Reply, accepted}
+use Rattle.call_reports.specs.Replies.{Reply}
 use Rattle.cov_ast.specs.Syntax.{Parsed}
 use Rattle.cov_ast.specs.View as view
-use Rattle.policy_class.specs.Resolved.{lock_id, resolved, resolved_thread, var_id}
-use Rattle.verify.specs.Verdicts.{counts}
 
 -- what is found of a text is found of the bytes that spell it
 pub found_of : (bytes : List ℕ) (p : Parsed) (judged : Judged) → SpellsProgram bytes p → FindsIn p judged → Finds bytes judged
@@ -33,10 +30,7 @@ reply_checks name bytes (j.Refused refusal program) (p, spells, (named, first)) 
 reply_checks name bytes (j.Accepted found program) (p, spells, (named, holds, is)) = inl (p, spells, judged)
   where
     same : reply_to name (j.Accepted found program) ≡ verdict p
-    same =
-        ap (λ t. accepted t.threads t.statements t.entailments) is
-        ∙ ap (λ q. accepted (length q.threads) (counts q).statements (counts q).entailments) named.is
-        ∙ ap (λ n. accepted n (counts (resolved p)).statements (counts (resolved p)).entailments) (length-map p.threads (resolved_thread (var_id p) (lock_id p)))
+    same = ap accepted_with is ∙ ap (λ q. accepted_with (totals q)) named.is
 
     judged : UnlessRejected (rejection p) (λ r. r ≡ verdict p) (reply_to name (j.Accepted found program))
     judged = subst (λ o. UnlessRejected o (λ r. r ≡ verdict p) (reply_to name (j.Accepted found program))) (sym (none_rejects p (view.program program.value) named.is named.held holds)) same

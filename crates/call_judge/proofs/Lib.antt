@@ -5,7 +5,4 @@ mod NumberWords
 mod WordShapes
 mod WordTerms
 mod WordTrees
-mod UseParts
-mod ResolvedIds
-mod ResolvedBodies
 mod FormedLaws

@@ -5,8 +5,9 @@ use Rattle.call_inputs.specs.Readings.{Reading, gives, then_read, tries}
 use Rattle.call_inputs.specs.Rejections.{Rejection, UnlessRejected, by_rule}
 use Rattle.call_inputs.specs.Steps as step
 use Rattle.call_reports.specs.Replies.{Reply, accepted}
+use Rattle.call_reports.specs.declared.answers.Totals.{Totals}
 use Rattle.cov_ast.specs.Obligations.{Obligation, all_hold, first_false}
-use Rattle.cov_ast.specs.Syntax.{Parsed, Thread}
+use Rattle.cov_ast.specs.Syntax.{Parsed, Program, Thread}
 use Rattle.cov_ast.specs.declared.refusal.Refusal.{Refusal}
 use Rattle.policy_class.specs.Resolved.{name_obligations, resolved}
 use Rattle.verify.specs.Accepted.{program_obligations}
@@ -39,9 +40,17 @@ rejection_by p (Some refusal) = Some (by_rule refusal (thread_name p refusal.thr
 abbrev pub rejection : Parsed → Option Rejection
 rejection p = rejection_by p (first_false (obligations p))
 
--- the reply to a check of what is accepted: the numbers of its threads, its statements and its entailments
+-- how much a program has: the numbers of its threads, its statements and its entailments
+abbrev pub totals : Program → Totals
+totals p = record { threads = length p.threads; statements = (counts p).statements; entailments = (counts p).entailments }
+
+-- the reply to a check of a program that is accepted and has so much
+abbrev pub accepted_with : Totals → Reply
+accepted_with t = accepted t.threads t.statements t.entailments
+
+-- the reply to a check of a text that is accepted
 abbrev pub verdict : Parsed → Reply
-verdict p = accepted (length p.threads) (counts (resolved p)).statements (counts (resolved p)).entailments
+verdict p = accepted_with (totals (resolved p))
 
 -- the reply to a check of what a text spells
 abbrev pub Judges : Parsed → Reply → Type 0

@@ -1,22 +1,16 @@
 -- What judging the bytes of a text finds, and what `check` replies then.
-use Rattle.std.specs.Prelude.{◌≡◌, ℕ, List, length, Some, None}
+use Rattle.std.specs.Prelude.{◌≡◌, ℕ, List, Some, None}
 use Rattle.call_inputs.specs.Programs.{IsShownFault, SpellsProgram}
-use Rattle.call_judge.specs.Check.{name_in}
+use Rattle.call_judge.specs.Check.{accepted_with, name_in, totals}
 use Rattle.call_judge.specs.Inside.{IsNamed}
 use Rattle.call_judge.specs.declared.judge.Judged.{Judged}
 use Rattle.call_judge.specs.declared.judge.Judged.TheVariants as j
-use Rattle.call_reports.specs.Replies.{Reply, accepted, malformed, refused}
-use Rattle.call_reports.specs.declared.answers.Totals.{Totals}
+use Rattle.call_reports.specs.Replies.{Reply, malformed, refused}
 use Rattle.cov_ast.specs.Obligations.{first_false}
-use Rattle.cov_ast.specs.Syntax.{Parsed, Program}
+use Rattle.cov_ast.specs.Syntax.{Parsed}
 use Rattle.cov_ast.specs.View as view
 use Rattle.policy_class.specs.Resolved.{name_obligations}
 use Rattle.verify.specs.Accepted.{IsAccepted, program_obligations}
-use Rattle.verify.specs.Verdicts.{counts}
-
--- how much a program has
-abbrev pub totals : Program → Totals
-totals p = record { threads = length p.threads; statements = (counts p).statements; entailments = (counts p).entailments }
 
 -- What was found of a text: the first obligation of its names that doesn't hold; or the program that it stands for, and the first
 -- obligation of that which doesn't hold; or the program, of which all hold, and how much it has.
@@ -40,4 +34,4 @@ abbrev pub reply_to : (name : List ℕ) → Judged → Reply
 reply_to name (j.Malformed fault) = malformed name fault
 reply_to name (j.Unnamed refusal) = refused refusal None
 reply_to name (j.Refused refusal program) = refused refusal (name_in (view.program program.value).threads refusal.thread)
-reply_to name (j.Accepted found program) = accepted found.threads found.statements found.entailments
+reply_to name (j.Accepted found program) = accepted_with found

@@ -1,17 +1,14 @@
 -- Words of contracts of the steps that commands share: what they give. To believe what `covern` promises, nothing here need be read.
-use Rattle.std.specs.Prelude.{◌≡◌, ℕ, List, [], length, Some, None}
-use Rattle.call_inputs.specs.Programs.{IsShownFault}
+use Rattle.std.specs.Prelude.{◌≡◌, Some, None}
 use Rattle.call_inputs.specs.Rejections.{Rejection, rejected}
 use Rattle.call_judge.specs.Check.{name_in, rejection}
-use Rattle.call_reports.specs.Replies.{Reply, accepted, malformed, refused}
-use Rattle.call_reports.specs.declared.answers.Fault.{Fault}
+use Rattle.call_reports.specs.Replies.{Reply, refused}
 use Rattle.cov_ast.specs.Obligations.{first_false}
 use Rattle.cov_ast.specs.Syntax.{Parsed, Program}
 use Rattle.cov_ast.specs.WellFormed.{IsWellFormed}
 use Rattle.cov_ast.specs.declared.refusal.Refusal.{Refusal}
 use Rattle.policy_class.specs.Resolved.{name_obligations, resolved}
 use Rattle.verify.specs.Accepted.{program_obligations}
-use Rattle.verify.specs.Verdicts.{counts}
 
 -- The program that a text stands for, whose names are in order.
 pub record IsNamed (p : Parsed) (program : Program) : Type 0 where
@@ -27,11 +24,3 @@ IsRejected p reply = (q : Rejection) × (rejection p ≡ Some q) × (reply ≡ r
 abbrev pub IsProgramRejected : Program → Reply → Type 0
 IsProgramRejected program reply =
     (refusal : Refusal) × (first_false (program_obligations program) ≡ Some refusal) × (reply ≡ refused refusal (name_in program.threads refusal.thread))
-
--- the reply to bytes without a name that spell no program: their fault
-abbrev pub IsFaultReply : (bytes : List ℕ) → Reply → Type 0
-IsFaultReply bytes reply = (fault : Fault) × IsShownFault bytes fault × (reply ≡ malformed [] fault)
-
--- the reply to a check of a program that is accepted
-abbrev pub program_verdict : Program → Reply
-program_verdict program = accepted (length program.threads) (counts program).statements (counts program).entailments

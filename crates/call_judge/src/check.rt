@@ -2,8 +2,8 @@
 
 ghost use Rattle.std.specs.Prelude.{◌≡◌, IfOk, MatchResult, map};
 ghost use Rattle.call_inputs.specs.Plans.{CarriesOut};
-ghost use Rattle.call_judge.specs.Check.{Judges, check_plan, name_in};
-ghost use Rattle.call_judge.specs.Inside.{IsNamed, IsProgramRejected, IsRejected, program_verdict};
+ghost use Rattle.call_judge.specs.Check.{Judges, accepted_with, check_plan, name_in, totals};
+ghost use Rattle.call_judge.specs.Inside.{IsNamed, IsProgramRejected, IsRejected};
 ghost use Rattle.call_reports.specs.AnswerViews.{Gets, Stops, seen};
 ghost use Rattle.cov_ast.specs.Plain.{plain};
 ghost use Rattle.cov_ast.specs.Ready.{IsReady};
@@ -46,16 +46,11 @@ fn judge<'w>(alloc: Global, parsed: Parsed) -> Result<Answer<'w>, Stop<'w>>
 fn judge_program<'w>(alloc: Global, program: &Program) -> Result<Answer<'w>, Stop<'w>>
     requires { IsWellFormed (view.program program.now) }
     ensures { MatchResult result
-        (λ answer. IsAccepted (view.program program.now) × (seen answer ≡ program_verdict (view.program program.now)))
+        (λ answer. IsAccepted (view.program program.now) × (seen answer ≡ accepted_with (totals (view.program program.now))))
         (Stops (IsProgramRejected (view.program program.now))) }
 {
     let verdict = verdict_on(alloc, program)?;
-    let count = verdict.count();
-    Ok(Answer::Accepted(Totals {
-        threads: program.threads.len() as u64,
-        statements: count.statements,
-        entailments: count.entailments,
-    }))
+    Ok(Answer::Accepted(totals_of(&verdict)))
 }
 
 /// The program that a text stands for, if its names are in order. A name that is refused is that of no thread.
@@ -85,6 +80,18 @@ pub fn verdict_on<'p, 'w>(alloc: Global, program: &'p Program) -> Result<Verdict
             Err(Stop::Answer(Answer::Refused(refusal, thread)))
         }
         Err(CheckFault::NoMemory) => Err(Stop::NoMemory),
+    }
+}
+
+/// How much an accepted program has.
+pub fn totals_of(verdict: &Verdict<'_>) -> Totals
+    ensures { result ≡ totals (view.program verdict.now.program.now) }
+{
+    let count = verdict.count();
+    Totals {
+        threads: u64::from(verdict.threads()),
+        statements: count.statements,
+        entailments: count.entailments,
     }
 }
 

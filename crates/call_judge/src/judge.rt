@@ -1,10 +1,11 @@
 //! What judging the bytes of a text finds, for programs that tell more than `check` does.
 
 ghost use Rattle.std.specs.Prelude.{◌≡◌, ◌≤◌, ℕ, List, IfOk, MatchResult, Err, length};
-ghost use Rattle.call_judge.specs.Findings.{Finds, FindsIn, reply_to, totals};
-ghost use Rattle.call_judge.specs.Inside.{IsFaultReply, IsNamed};
+ghost use Rattle.call_judge.specs.Check.{totals};
+ghost use Rattle.call_judge.specs.Findings.{Finds, FindsIn, reply_to};
+ghost use Rattle.call_judge.specs.Inside.{IsNamed};
 ghost use Rattle.call_judge.specs.Texts.{ChecksBytes};
-ghost use Rattle.call_reports.specs.AnswerViews.{Stops, seen};
+ghost use Rattle.call_reports.specs.AnswerViews.{seen};
 ghost use Rattle.cov_ast.specs.Obligations.{Decides};
 ghost use Rattle.cov_ast.specs.Ready.{IsReady};
 ghost use Rattle.cov_ast.specs.Syntax as syntax;
@@ -13,9 +14,9 @@ ghost use Rattle.cov_ast.specs.WellFormed.{IsWellFormed};
 ghost use Rattle.cov_expr.specs.declared.limits.TheConstants.{MOST_BYTES};
 ghost use Rattle.verify.specs.Accepted.{IsAccepted, program_obligations};
 
-use crate::check::thread_name;
-use call_inputs::read_text;
-use call_reports::{Answer, Fault, Stop, Totals};
+use crate::check::{thread_name, totals_of};
+use call_inputs::parse_text;
+use call_reports::{Answer, Fault, Totals};
 use cov_ast::{CheckFault, Parsed, Program, Refusal};
 use cov_expr::NoMemory;
 use policy_class::resolve;
@@ -58,21 +59,10 @@ pub fn judge_bytes(alloc: Global, bytes: &[u8]) -> Result<Judged, NoMemory>
     requires { length bytes.now ≤ MOST_BYTES }
     ensures { IfOk result (λ judged. Finds bytes.now judged) }
 {
-    match read_text(alloc, "", bytes) {
+    match parse_text(alloc, bytes) {
         Ok(parsed) => judge_text(alloc, parsed),
-        Err(stop) => judge_fault(&stop),
-    }
-}
-
-/// The fault with which a text was answered that isn't read, unless memory ran out.
-fn judge_fault(stop: &Stop<'_>) -> Result<Judged, NoMemory>
-    requires { (bytes : List ℕ) × Stops (IsFaultReply bytes) stop.now }
-    ensures { (bytes : List ℕ) → Stops (IsFaultReply bytes) stop.now → IfOk result (λ judged. Finds bytes judged) }
-{
-    match stop {
-        Stop::Answer(Answer::Malformed(_, fault)) => Ok(Judged::Malformed(*fault)),
-        Stop::Answer(_) => unreachable!(),
-        Stop::NoMemory => Err(NoMemory),
+        Err(Some(fault)) => Ok(Judged::Malformed(fault)),
+        Err(None) => Err(NoMemory),
     }
 }
 
@@ -93,29 +83,22 @@ fn judge_program(alloc: Global, program: Box<Program>) -> Result<Judged, NoMemor
     requires { IsWellFormed (view.program program.value) }
     ensures { (p : syntax.Parsed) → IsNamed p (view.program program.value) → IfOk result (λ judged. FindsIn p judged) }
 {
-    match totals_of(alloc, &program) {
+    match check_totals(alloc, &program) {
         Ok(counts) => Ok(Judged::Accepted(counts, program)),
         Err(CheckFault::Refused(refusal)) => Ok(Judged::Refused(refusal, program)),
         Err(CheckFault::NoMemory) => Err(NoMemory),
     }
 }
 
-/// How much a program has that is accepted.
-fn totals_of(alloc: Global, program: &Program) -> Result<Totals, CheckFault>
+/// How much a program has, if it is accepted.
+fn check_totals(alloc: Global, program: &Program) -> Result<Totals, CheckFault>
     requires { IsWellFormed (view.program program.now) }
     ensures { MatchResult result
         (λ counts. IsAccepted (view.program program.now) × (counts ≡ totals (view.program program.now)))
         (λ fault. Decides (program_obligations (view.program program.now)) (Err fault)) }
 {
     match check_program(alloc, program) {
-        Ok(verdict) => {
-            let count = verdict.count();
-            Ok(Totals {
-                threads: program.threads.len() as u64,
-                statements: count.statements,
-                entailments: count.entailments,
-            })
-        }
+        Ok(verdict) => Ok(totals_of(&verdict)),
         Err(fault) => Err(fault),
     }
 }

@@ -1,12 +1,12 @@
 mod PolicyLaws
-pub mod PositionLaws
+mod PositionLaws
 mod WalkLaws
 mod BlockLaws
 pub mod NameLaws
 mod IdLaws
 mod UseLaws
-pub mod Each
-pub mod Formed
-pub mod Bodies
+mod Each
+mod Formed
+mod Bodies
 pub mod ResolvedLaws
 mod Examples

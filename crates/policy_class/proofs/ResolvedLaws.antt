@@ -1,6 +1,6 @@
 -- What two rules of names say of the program that a text stands for.
 use Rattle.std.proofs.Common.{◌≡◌, ℕ, ◌<◌, ◌≤◌, List, [], ◌∷◌, ◌++◌, Bool, true, false, map, length, cond, refl, subst, sym, ap, ◌∙◌, arith, None, Result, Ok, Err, All}
-use Rattle.std.specs.Prelude.{IsErrAnd}
+use Rattle.std.specs.Prelude.{IsErrAnd, IsTrue}
 use Rattle.std.specs.Str.{bytes_eq}
 use Rattle.std.proofs.lemmas.List.{length-map}
 use Rattle.std.proofs.lemmas.List.Elements.{All-cons, All-nil}
@@ -13,7 +13,6 @@ use Rattle.cov_ast.specs.Obligations.{Obligation, first_false, Decides}
 use Rattle.cov_ast.specs.Ready.{IsReady, Use, use_of, uses_in_declarations}
 use Rattle.cov_ast.specs.WellFormed.{AreOfWords, IsWellFormed, IsWithinLimits, are_distinct, names_of}
 use Rattle.cov_ast.proofs.ObligationLaws.{append_refused, append_decided}
-use Rattle.policy_class.specs.Inside.DeclaredNames.{IsTableOf}
 use Rattle.policy_class.specs.Resolved.{is_among, is_declared, use_obligation, without_value, var_id, lock_id, var_names, lock_names, text_of, resolved_variable, resolved_lock, resolved_thread, resolved}
 use Rattle.policy_class.proofs.NameLaws.{head_holds}
 use Rattle.policy_class.proofs.PositionLaws.{present}
@@ -70,15 +69,15 @@ module _ (p : Parsed) where
   }
 
   -- where the names are in order, the program is well formed
-  pub resolved_formed : (table : List (List ℕ)) → IsReady p → length p.names ≤ HOLE → IsTableOf p table → first_false (map (use_obligation p) p.uses) ≡ None
-      → AreOfWords (resolved p).vars (resolved p).locks (resolved p).threads → IsWellFormed (resolved p)
+  pub resolved_formed : IsReady p → length p.names ≤ HOLE → IsTrue (are_distinct bytes_eq (names_of p.vars p.locks p.threads))
+      → first_false (map (use_obligation p) p.uses) ≡ None → AreOfWords (resolved p).vars (resolved p).locks (resolved p).threads → IsWellFormed (resolved p)
   unfolding vars locks
-  resolved_formed table ready few t declared words = record {
+  resolved_formed ready few differ declared words = record {
     ids =
         ids_resolved (length p.names) few vars locks (var_id p) (lock_id p) p.vars p.locks p.threads ready.ids
         (each_listed (IsDeclaredId vars locks) (uses_in_declarations p) (map use_of p.uses) ready.uses (all_resolved p.uses declared));
     words = words;
-    names_differ = ap (are_distinct bytes_eq) (names_same ∙ sym t.names) ∙ t.differ;
+    names_differ = ap (are_distinct bytes_eq) names_same ∙ differ;
     limits = limits_same ready.limits;
     bodies = bodies_fine (var_id p) (lock_id p) p.threads ready.bodies;
     version = record { known = ready.version.known; silent = λ first. bodies_silent (var_id p) (lock_id p) p.threads (ready.version.silent first) };

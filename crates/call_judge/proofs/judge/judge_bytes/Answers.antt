@@ -7,9 +7,3 @@ pub returns-in-Ok : goal.returns-in-Ok
 returns-in-Ok c =
     let p = view.parsed c.in-Ok.parsed in
     IfOk-weaker c.judge_text.result _ _ (λ judged found. found_of c.args.bytes.now p judged c.in-Ok.ensures.read found) c.judge_text.ensures
-
-pub judge_fault-requires : goal.judge_fault-requires
-judge_fault-requires c = (c.args.bytes.now, c.in-Err.ensures.read)
-
-pub returns-in-Err : goal.returns-in-Err
-returns-in-Err c = c.judge_fault.ensures c.args.bytes.now c.in-Err.ensures.read

@@ -1,6 +1,8 @@
-use Rattle.std.proofs.Common.{◌∙◌, [], map, arith, ◌≤◌, length}
+use Rattle.std.proofs.Common.{◌∙◌, [], map, arith, ◌≤◌, length, sym, ap}
+use Rattle.std.specs.Str.{bytes_eq}
 use Rattle.cov_expr.specs.declared.expr.TheConstants.{HOLE}
 use Rattle.cov_ast.specs.View as view
+use Rattle.cov_ast.specs.WellFormed.{are_distinct}
 use Rattle.cov_ast.proofs.ObligationLaws.{append_held}
 use Rattle.policy_class.specs.Resolved.{w1_from, declared_names, use_obligation}
 use Rattle.policy_class.proofs.ResolvedLaws.{resolved_formed, first_refused, rest_refused}
@@ -30,4 +32,5 @@ pub returns-clause-formed : goal.returns-clause-formed
 returns-clause-formed c words =
     let p = view.parsed c.args.p.now in
     let few : length p.names ≤ HOLE = omega (arith, c.in_ok-ids.ensures.few) in
-    resolved_formed p c.in_ok-declared.declared c.requires few c.in_ok-declared.ensures.table c.in_ok-check_uses.ensures words
+    let table = c.in_ok-declared.ensures.table in
+    resolved_formed p c.requires few (ap (are_distinct bytes_eq) (sym table.names) ∙ table.differ) c.in_ok-check_uses.ensures words
