@@ -25,16 +25,15 @@ use Rattle.schedule_replay.specs.declared.replays.Found.{Found}
 use Rattle.verify.specs.Accepted.{IsAccepted}
 use Rattle.call_code.specs.Codes.{Compiles, PairsCode, RunsCode, cleared, code_of, code_start, report_on_code}
 use Rattle.call_code.specs.Inside.{IsCodeOf, IsOfText, Rejects}
-use Rattle.call_code.specs.Summaries.{accepted_reply}
 use Rattle.call_code.specs.declared.codes.Coded.{Coded}
 use Rattle.call_inputs.proofs.PlanLaws.{IsSoundReply, one_sound}
 use Rattle.call_inputs.specs.Inputs.{PairInput, RunInput}
 use Rattle.call_inputs.specs.Rejections.{Rejection, UnlessRejected, rejected}
 use Rattle.call_judge.proofs.ApartLaws.{schedule_front}
-use Rattle.call_judge.specs.Check.{rejection}
+use Rattle.call_judge.specs.Check.{rejection, totals}
 use Rattle.call_reports.proofs.AnswerLaws.{gets_onward, stops_onward}
 use Rattle.call_reports.specs.AnswerViews.{Gets, Stops}
-use Rattle.call_reports.specs.Replies.{Reply, accepted, ran, status_of}
+use Rattle.call_reports.specs.Replies.{Reply, ran, status_of}
 use Rattle.call_reports.specs.declared.answers.Answer.{Answer}
 use Rattle.call_reports.specs.declared.answers.Status.TheVariants as s
 use Rattle.call_reports.specs.declared.answers.Stop.{Stop}
@@ -87,10 +86,10 @@ declares_as_many p c names = record {
 }
 
 -- the code of the program of a verdict, which is the one that was checked
-pub made_code : (p q : d.Program) (c : Parts) (totals : Totals) → q ≡ p → IsAccepted (view.program p) → IsSecure (plain (view.program p))
+pub made_code : (p q : d.Program) (c : Parts) (checked : Totals) → q ≡ p → IsAccepted (view.program p) → IsSecure (plain (view.program p))
     → c ≡ compiled (view.program q) → IsGoodCode (view.program q) c
-    → accepted totals.threads totals.statements totals.entailments ≡ accepted_reply (view.program q) → IsCodeOf p c totals
-made_code p q c totals same holds secure is good counted =
+    → checked ≡ totals (view.program q) → IsCodeOf p c checked
+made_code p q c checked same holds secure is good counted =
     let here : IsGoodCode (view.program p) c = subst (λ r. IsGoodCode (view.program r) c) same good in
     record {
       is = is ∙ ap (λ r. compiled (view.program r)) same;
@@ -98,7 +97,7 @@ made_code p q c totals same holds secure is good counted =
       holds = holds;
       secure = secure;
       good = here;
-      counted = counted ∙ ap (λ r. accepted_reply (view.program r)) same;
+      counted = counted ∙ ap (λ r. totals (view.program r)) same;
     }
 
 -- Registers ----------------------------------------------------------------------------------------------------

@@ -16,7 +16,8 @@ use Rattle.risc_machine.specs.declared.parts.Parts.{Parts}
 use Rattle.schedule_replay.specs.CodeReplays.{CodeAgreesThroughout}
 use Rattle.schedule_replay.specs.Replays.{AgreeThroughout}
 use Rattle.call_code.specs.Codes.{accepted_pair, code_end, code_of, code_start}
-use Rattle.call_code.specs.Summaries.{accepted_reply, code_part, head, source_part}
+use Rattle.call_code.specs.Summaries.{code_part, head, source_part}
+use Rattle.call_judge.specs.Check.{accepted_with, totals}
 
 -- Starts -------------------------------------------------------------------------------------------------------
 
@@ -43,7 +44,7 @@ code_summary p c left right schedule = code_part p (length schedule) (code_end c
 pub record AllRunTogether (rounds : ℕ) (p : Program) (c : Parts) (left right schedule : List ℕ) (reply : Reply) : Type 0 where
   pub agree : AgreeThroughout (plain p) (begin (plain p) left) (begin (plain p) right) schedule
   pub code_agree : CodeAgreesThroughout (plain p) c (code_start c left) (code_start c right) schedule
-  pub is : reply ≡ ran (head rounds (accepted_reply p) ++ source_summary p left right schedule ++ code_summary p c left right schedule)
+  pub is : reply ≡ ran (head rounds (accepted_with (totals p)) ++ source_summary p left right schedule ++ code_summary p c left right schedule)
 
 -- the reply to four runs of a program that is accepted, from fit starts: they never differ
 abbrev pub SumsUp : (rounds : ℕ) → PairInput → Reply → Type 0

@@ -1,8 +1,8 @@
 -- Words of private contracts: what steps of the code give. To believe what `covern` promises, nothing here need be read.
 use Rattle.std.specs.Prelude.{◌≡◌, ◌≤◌, ℕ, List, length, Option, Some, None}
 use Rattle.call_inputs.specs.Rejections.{Rejection, rejected}
-use Rattle.call_judge.specs.Check.{rejection}
-use Rattle.call_reports.specs.Replies.{Reply, accepted}
+use Rattle.call_judge.specs.Check.{rejection, totals}
+use Rattle.call_reports.specs.Replies.{Reply}
 use Rattle.call_reports.specs.declared.answers.Totals.{Totals}
 use Rattle.compiled_code.specs.Compiled.{compiled}
 use Rattle.compiled_code.specs.GoodCode.{IsGoodCode}
@@ -18,7 +18,6 @@ use Rattle.policy_class.specs.Resolved.{resolved}
 use Rattle.risc_machine.specs.declared.parts.Parts.{Parts}
 use Rattle.schedule_replay.specs.CodeReplays.{DeclaresAsMany}
 use Rattle.verify.specs.Accepted.{IsAccepted}
-use Rattle.call_code.specs.Summaries.{accepted_reply}
 use Rattle.call_code.specs.declared.codes.Coded.{Coded}
 
 -- The reply is that of a rejection, which there is.
@@ -26,13 +25,13 @@ abbrev pub Rejects : Option Rejection → Reply → Type 0
 Rejects o reply = (q : Rejection) × (o ≡ Some q) × (reply ≡ rejected q)
 
 -- The code of a program that is accepted, and how much was checked of it.
-pub record IsCodeOf (p : Program) (c : Parts) (totals : Totals) : Type 0 where
+pub record IsCodeOf (p : Program) (c : Parts) (checked : Totals) : Type 0 where
   pub is : c ≡ compiled (view.program p)
   pub declared : DeclaresAsMany c p
   pub holds : IsAccepted (view.program p)
   pub secure : IsSecure (plain (view.program p))
   pub good : IsGoodCode (view.program p) c
-  pub counted : accepted totals.threads totals.statements totals.entailments ≡ accepted_reply (view.program p)
+  pub counted : checked ≡ totals (view.program p)
 
 -- A program that is accepted, with its code.
 pub record IsAcceptedCode (coded : Coded) : Type 0 where

@@ -1,16 +1,11 @@
 -- The texts of summaries of runs: of two of a program, and of two of its code.
-use Rattle.std.specs.Prelude.{ℕ, List, ◌++◌, length, codes, decimal}
+use Rattle.std.specs.Prelude.{ℕ, List, ◌++◌, codes, decimal}
 use Rattle.cov_ast.specs.Syntax.{Program}
 use Rattle.flow_model.specs.Source.{Run}
 use Rattle.risc_machine.specs.Machine.{CodeState}
-use Rattle.verify.specs.Verdicts.{counts}
-use Rattle.call_reports.specs.Replies.{Reply, accepted}
+use Rattle.call_reports.specs.Replies.{Reply}
 use Rattle.call_reports.specs.Reports.{report_of}
 use Rattle.call_reports.specs.RunReports.{lines_from, number_line, pair_line}
-
--- what a check replies to a program that it accepts
-abbrev pub accepted_reply : Program → Reply
-accepted_reply p = accepted (length p.threads) (counts p).statements (counts p).entailments
 
 -- the number of rounds, and the line of a check that accepts the program
 abbrev pub head : (rounds : ℕ) → (line : Reply) → List ℕ

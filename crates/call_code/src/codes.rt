@@ -9,13 +9,11 @@ ghost use Rattle.flow_model.specs.Agreement.{AreFitStarts};
 ghost use Rattle.flow_model.specs.FirstDifference.{first_bad_start};
 ghost use Rattle.call_code.specs.Codes as spec;
 ghost use Rattle.call_code.specs.Inside.{IsCodeOf, IsOfText, Rejects};
-ghost use Rattle.call_code.specs.Summaries.{accepted_reply};
 ghost use Rattle.call_judge.specs.Inside.{IsProgramRejected, IsRejected};
 ghost use Rattle.call_judge.specs.Starts.{unfit_by};
 ghost use Rattle.call_reports.specs.AnswerViews.{Stops};
-ghost use Rattle.call_reports.specs.Replies.{accepted};
 
-use call_judge::check::{named, verdict_on};
+use call_judge::check::{named, totals_of, verdict_on};
 use call_reports::{Answer, Stop, Totals, bad_name};
 use cov_ast::{Parsed, Program};
 use cov_expr::{List, NoMemory};
@@ -23,7 +21,6 @@ use flow_model::starts;
 use risc_compile::compile;
 use risc_machine::{Code, Risc};
 use std::alloc::Global;
-use verify::Verdict;
 
 /// An accepted program with its code, and how much was checked of it.
 #[derive(Drop)]
@@ -56,19 +53,7 @@ fn code_of<'w>(alloc: Global, program: &Program) -> Result<(Code, Totals), Stop<
 {
     let verdict = verdict_on(alloc, program)?;
     let code = compile(alloc, &verdict)?;
-    Ok((code, totals(&verdict)))
-}
-
-/// How much an accepted program has.
-fn totals(verdict: &Verdict<'_>) -> Totals
-    ensures { accepted result.threads result.statements result.entailments ≡ accepted_reply (view.program verdict.now.program.now) }
-{
-    let count = verdict.count();
-    Totals {
-        threads: u64::from(verdict.threads()),
-        statements: count.statements,
-        entailments: count.entailments,
-    }
+    Ok((code, totals_of(&verdict)))
 }
 
 /// That two memories are fit starts of a program, or the answer that says why they aren't.

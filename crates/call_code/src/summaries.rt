@@ -5,7 +5,7 @@ ghost use Rattle.cov_ast.specs.View as view;
 ghost use Rattle.schedule_replay.specs.CodeReplays.{DeclaresAsMany};
 ghost use Rattle.source_machine.specs.SourceMachine.{run_of};
 ghost use Rattle.call_code.specs.Summaries as spec;
-ghost use Rattle.call_reports.specs.Replies.{accepted};
+ghost use Rattle.call_judge.specs.Check.{accepted_with};
 
 use call_reports::{Totals, accepted_line, add_number, add_numbered, add_pairs};
 use cov_ast::Program;
@@ -21,7 +21,7 @@ pub fn add_head(
     totals: &Totals,
     text: &mut Blob,
 ) -> Result<(), NoMemory>
-    ensures { OnOk result (text.new ≡ text.old ++ spec.head rounds (accepted totals.now.threads totals.now.statements totals.now.entailments)) }
+    ensures { OnOk result (text.new ≡ text.old ++ spec.head rounds (accepted_with totals.now)) }
 {
     add_numbered(b"big ", rounds, text)?;
     text.extend_from_slice(accepted_line(alloc, totals)?.as_bytes())
