@@ -1,7 +1,7 @@
 -- Laws of replies by code: what is rejected is rejected as it is by a check, and two runs of the code of what is accepted, from fit starts,
 -- never differ.
 use Rattle.std.specs.Prelude.{MatchOption}
-use Rattle.std.proofs.Common.{◌≡◌, ℕ, zero, suc, List, true, false, is_some, Option, Some, None, Result, Err, refl, sym, ap, ◌∙◌, subst, length, map, replicate, take, arith}
+use Rattle.std.proofs.Common.{◌≡◌, ℕ, zero, suc, List, true, false, is_some, Option, Some, None, Result, Err, sym, ap, ◌∙◌, subst, length, map, replicate, take, arith}
 use Rattle.std.proofs.lemmas.List.{length-map, length-replicate}
 use Rattle.std.proofs.lemmas.List.Elements.{All-replicate}
 use Rattle.compiled_code.specs.Compiled.{compiled}
@@ -23,17 +23,16 @@ use Rattle.risc_machine.specs.declared.parts.ThreadCode.{ThreadCode}
 use Rattle.schedule_replay.specs.CodeReplays.{CodeAgreesThroughout, DeclaresAsMany, IsFirstCodeStepApart}
 use Rattle.schedule_replay.specs.declared.replays.Found.{Found}
 use Rattle.verify.specs.Accepted.{IsAccepted}
-use Rattle.call_code.specs.Codes.{Compiles, PairsCode, RunsCode, cleared, code_of, code_start, report_on_code}
+use Rattle.call_code.specs.Codes.{Compiles, cleared, code_of, code_start}
 use Rattle.call_code.specs.Inside.{IsCodeOf, IsOfText, Rejects}
 use Rattle.call_code.specs.declared.codes.Coded.{Coded}
-use Rattle.call_inputs.proofs.PlanLaws.{IsSoundReply, one_sound}
-use Rattle.call_inputs.specs.Inputs.{PairInput, RunInput}
+use Rattle.call_inputs.proofs.PlanLaws.{IsSoundReply}
 use Rattle.call_inputs.specs.Rejections.{Rejection, UnlessRejected, rejected}
 use Rattle.call_judge.proofs.ApartLaws.{schedule_front}
 use Rattle.call_judge.specs.Check.{rejection, totals}
 use Rattle.call_reports.proofs.AnswerLaws.{gets_onward, stops_onward}
 use Rattle.call_reports.specs.AnswerViews.{Gets, Stops}
-use Rattle.call_reports.specs.Replies.{Reply, ran, status_of}
+use Rattle.call_reports.specs.Replies.{Reply, status_of}
 use Rattle.call_reports.specs.declared.answers.Answer.{Answer}
 use Rattle.call_reports.specs.declared.answers.Status.TheVariants as s
 use Rattle.call_reports.specs.declared.answers.Stop.{Stop}
@@ -142,9 +141,3 @@ codes_not_apart p c e s1 s2 left right schedule (Some f) same first second decla
 
 pub compile_sound : (p : Parsed) → IsSoundReply (λ status. status ≡ s.Done) (Compiles p)
 compile_sound p = record { one = λ reply other h k. h.is ∙ sym k.is; success = λ reply h. ap status_of h.is }
-
-pub run_code_sound : (i : RunInput) → IsSoundReply (λ status. status ≡ s.Done) (RunsCode i)
-run_code_sound i = one_sound (ran (report_on_code (resolved i.program) (code_of i.program) i.memory i.schedule)) refl
-
-pub pair_code_sound : (i : PairInput) → IsSoundReply (λ status. status ≡ s.Done) (PairsCode i)
-pair_code_sound i = record { one = λ reply other h k. h.is ∙ sym k.is; success = λ reply h. ap status_of h.is }

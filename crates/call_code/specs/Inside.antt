@@ -1,4 +1,4 @@
--- Words of private contracts: what steps of the code give. To believe what `covern` promises, nothing here need be read.
+-- Words of contracts of the steps that commands share: what they give. To believe what `covern` promises, nothing here need be read.
 use Rattle.std.specs.Prelude.{◌≡◌, ◌≤◌, ℕ, List, length, Option, Some, None}
 use Rattle.call_inputs.specs.Rejections.{Rejection, rejected}
 use Rattle.call_judge.specs.Check.{rejection, totals}

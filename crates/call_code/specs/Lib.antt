@@ -1,4 +1,2 @@
 pub mod Codes
-pub mod Summaries
-pub mod BigReplies
 pub mod Inside

@@ -39,8 +39,9 @@ use Rattle.top_call.specs.Commands.{Command, command_of, check, compile, fmt, mi
 use Rattle.top_call.specs.Headline.{HoldsSecure, PutsCode, PutsGoodCode}
 use Rattle.top_call.specs.Laws.{IsOneReply}
 use Rattle.top_call.specs.Outcome.{IsSuccess, Outcome, plan_for, plan_of}
-use Rattle.call_code.proofs.BigLaws.{sum_sound}
-use Rattle.call_code.proofs.CodeLaws.{compile_sound, pair_code_sound, run_code_sound}
+use Rattle.call_big.proofs.BigLaws.{sum_sound}
+use Rattle.call_code.proofs.CodeLaws.{compile_sound}
+use Rattle.call_run_code.proofs.CodeRunLaws.{pair_code_sound, run_code_sound}
 use Rattle.call_inputs.proofs.ExpressionLaws.{expression_reading}
 use Rattle.call_inputs.proofs.InputLaws.{schedule_fine, schedule_reading, start_is_memory, start_reading}
 use Rattle.call_inputs.proofs.PlanLaws.{IsResult, IsSound, IsSoundReply, Puts, one_sound, at_end, performs_exact, performs_fault, performs_met, performs_passes, performs_took, reply_one}

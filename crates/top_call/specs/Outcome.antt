@@ -1,7 +1,7 @@
 -- What each command does: the plan of each in one row, and what it replies.
 use Rattle.std.specs.Prelude.{◌≡◌, ◌⊎◌, ◌∷◌, ℕ, List, codes, Some}
-use Rattle.call_code.specs.BigReplies.{big_plan}
-use Rattle.call_code.specs.Codes.{compile_plan, run_code_plan, pair_code_plan}
+use Rattle.call_big.specs.BigReplies.{big_plan}
+use Rattle.call_code.specs.Codes.{compile_plan}
 use Rattle.call_inputs.specs.Plans.{Plan, does, RepliesOver}
 use Rattle.call_inputs.specs.Readings.{gives, tries}
 use Rattle.call_inputs.specs.Rejections.{no_form}
@@ -11,6 +11,7 @@ use Rattle.call_reports.specs.declared.answers.Status.{Status}
 use Rattle.call_reports.specs.declared.answers.Status.TheVariants as s
 use Rattle.call_run.specs.Pairs.{pair_plan}
 use Rattle.call_run.specs.Runs.{run_plan, run_until_plan}
+use Rattle.call_run_code.specs.CodeRuns.{pair_code_plan, run_code_plan}
 use Rattle.call_text.specs.Format.{fmt_plan, migrate_plan}
 use Rattle.cov_io.specs.Shelves.{File}
 use Rattle.top_call.specs.Commands.{Command, command_of, check, compile, fmt, migrate, run, run_code, run_until, pair, pair_code, big, nothing}

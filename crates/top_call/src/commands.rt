@@ -5,15 +5,15 @@ ghost use Rattle.call_inputs.specs.Plans.{CarriesOut};
 ghost use Rattle.top_call.specs.Commands as spec;
 ghost use Rattle.top_call.specs.Outcome.{plan_for, plan_of};
 
-use call_code::big::big;
+use call_big::big::big;
 use call_code::compile::compile;
-use call_code::pair_code::pair_code;
-use call_code::run_code::run_code;
 use call_judge::check::check;
 use call_reports::{Answer, Stop};
 use call_run::pair::pair;
 use call_run::run::run;
 use call_run::run_until::run_until;
+use call_run_code::pair_code::pair_code;
+use call_run_code::run_code::run_code;
 use call_text::fmt::format;
 use call_text::migrate::migrate;
 use cov_expr::{MOST_EXPRESSION_BYTES, MOST_ROUNDS};
