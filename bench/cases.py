@@ -445,7 +445,8 @@ def limits(cases):
     cases.call("run-until p s k n==4", f"stopped after 0\nsteps 0\nstayed 0\nvar n 4\nthread t at {at + 20}\n")
     cases.call("pair p s s k", "agree: 2 steps\nvar n 1 1\nthread t done\n")
     cases.call("pair-code p s s k", "agree: 2 steps\nvar n 1 1\nthread t done\n")
-    for words in ("check q", "compile q", "fmt q", "migrate q", "run q s k", "run-code q s k", "run-until q s k 0", "pair q s s k", "pair-code q s s k"):
+    cases.works_out("refute", "p", "1")
+    for words in ("check q", "compile q", "object q", "refute q 9", "fmt q", "migrate q", "run q s k", "run-code q s k", "run-until q s k 0", "pair q s s k", "pair-code q s s k"):
         cases.call(words, "too long: q\n", 7)
     cases.close()
     cases.case("starts and schedules as long as they may be, and a byte longer", "var n: low; thread t { n := 1; }", s="@4194297 ~\n@1 {\"n\":4}",
@@ -498,7 +499,58 @@ def numbers():
     return cases
 
 
-FILES = {"positions": positions, "registers": registers, "failures": failures, "cuts": cuts, "inputs": inputs, "numbers": numbers}
+def example(name):
+    with open(os.path.join(DATA, "..", "..", "..", "examples", name), encoding="utf-8") as text:
+        return text.read().rstrip("\n")
+
+
+def trials():
+    """Numbered trials: of programs that leak and that don't, that are fit always, sometimes and never."""
+    cases = Cases("`refute`: numbered trials of programs that leak and that don't, whose starts are fit always, sometimes and never.")
+    cases.case("the smallest programs", "var a: low; var s: high; thread t { a := s; }", q="var a: low; thread t { a := 1; }", r="thread t { }", e="")
+    for words in ("p 1", "p 1000", "q 1", "q 100", "q 1000", "r 7", "e 1", "e 1000"):
+        cases.works_out("refute", *words.split())
+    cases.close()
+    cases.case("numbers of trials", "var a: low; thread t { a := 1; }")
+    for word in ("0", "1001", "01", "00", "1e2", "-1", "+1", "4294967297", "100000000000000000000", "one", "1 ", " 1", "''"):
+        cases.call(f"refute p {word if word.strip() == word else repr(word)}", "usage: covern COMMAND WORDS\n", 2)
+    for words in ("refute", "refute p", "refute p 1 1", "refute 1 p"):
+        cases.call(words, "usage: covern COMMAND WORDS\n", 2)
+    cases.close()
+    cases.case("what is asked of the program", "var a: low; var a: high;", q="var a: low; thread t assume hide a { } thread u { }", r="var a", s="var a: low; thread t { b := 1; }",
+               t="var a: low; var s: high; lock l hide a; thread t { a := s; lock l; lock l; }")
+    for words in ("p 1", "q 1", "r 1", "s 1", "t 1000", "u 1"):
+        cases.works_out("refute", *words.split())
+    cases.close()
+    cases.case("starts that are fit never, and some that are", "var n: low; lock l nowrite n inv n < 0; thread t { }", q="var n: low; var s: high; lock l nowrite n inv n == 2; thread t { lock l; n := s; unlock l; }",
+               r="var m: low; var b: low when m == 0; var s: high; thread t { b := s; }", z="var n: low; lock l nowrite n inv 0;")
+    for words in ("p 1000", "q 1", "q 1000", "r 1", "r 1000", "z 3"):
+        cases.works_out("refute", *words.split())
+    cases.close()
+    many = "".join(f"var v{i}: {'low when v0 == 0' if i % 3 == 2 else ('low', 'high')[i % 3]}; " for i in range(256))
+    cases.case("256 variables", many + "thread t { v0 := 1; v255 := v1; }", q=many + "thread t { v0 := v253; }", r=many)
+    for words in ("p 1000", "q 1000", "r 2"):
+        cases.works_out("refute", *words.split())
+    cases.close()
+    sixteen = "".join(f"thread t{i} {{ lock l; n := n + {i}; if n == {7 * i} {{ o := s; }} else {{ }} unlock l; }} " for i in range(16))
+    cases.case("16 threads", "var n: low; var o: high; var s: high; lock l nowrite n; " + sixteen, q="var n: low; var o: low; var s: high; lock l nowrite n; " + sixteen)
+    for words in ("p 20", "q 1000"):
+        cases.works_out("refute", *words.split())
+    cases.close()
+    cases.case("what two runs differ in", "version 2; var s: high; thread t { output s; }", q="var s: high; thread t { if s == 1 { skip; } else { } }",
+               r="var s: high; lock l; thread t { if s == 1 { lock l; } else { skip; } }", v="var s: high; lock l; thread t { if s == 0 { skip; skip; } else { lock l; lock l; } }")
+    for words in ("p 1000", "q 1000", "r 1000", "v 5"):
+        cases.works_out("refute", *words.split())
+    cases.close()
+    leaks = ["leak", "switch_leak", "ring_leak", "message_leak", "counter_wraps", "gateway_leak", "mail_leak", "keys_leak"]
+    for name in leaks + ["first", "switch", "gateway"]:
+        cases.case(f"the example {name}", example(f"{name}.cov"))
+        cases.works_out("refute", "p", "1000" if name in leaks else "50")
+        cases.close()
+    return cases
+
+
+FILES = {"positions": positions, "registers": registers, "failures": failures, "cuts": cuts, "inputs": inputs, "numbers": numbers, "trials": trials}
 
 
 def main():

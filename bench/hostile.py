@@ -10,8 +10,10 @@ The parts are
 - `outside`: each read and each write of each command fails in turn, is interrupted, or is short, where there is strace;
 - `texts`: N mutated programs (100,000 if N isn't given) by `check`, against bench/machines.py for faults of texts and of declarations, and
   against bench/plain/check.rs for the rules of statements, where rustc is on the path;
-- `inputs`: N mutated starts and schedules, and N / 10 mutated expressions, by `run`, `pair` and `run-until`, against bench/machines.py;
+- `inputs`: N mutated starts and schedules, and N / 10 mutated expressions, by `run`, `pair` and `run-until`, and their programs by `refute`, against
+  bench/machines.py;
 - `listings`: N mutated listings by PARTS, against bench/machines.py;
+- `objects`: N mutated objects by `unobject`, against bench/machines.py;
 - `limits`: deep, wide and long files, with the time and the memory that each takes, as a table;
 - `memory`: commands in more and more room for addresses: they answer whole, or with status 6 and nothing;
 - `allocations`: each request for memory of each command is refused in turn, where there is cc: the same;
@@ -35,7 +37,7 @@ import tempfile
 import time
 
 from bench import built_plain
-from machines import KEYWORDS, Fault, Refused, listed, program_of, reply, rules_of_declarations
+from machines import KEYWORDS, Fault, Refused, code_of, listed, object_of, program_of, reply, rules_of_declarations, unobject
 
 TOP = os.path.dirname(os.path.dirname(os.path.abspath(__file__)))
 DATA = os.path.join(TOP, "crates", "covern_cases", "data")
@@ -80,7 +82,7 @@ def write(folder, name, text):
 WRITER = (b"var mode: low; var buf: low when mode == 0; var key: high; lock l hide mode, buf; thread w { lock l; buf := key; mode := 1; "
           b"unlock l by { 1: have [1 == 0] (rev 1 [_ == 0] (hyp 2)) (clash 3) }; }")
 WORDS = [["check", "p"], ["fmt", "p"], ["migrate", "p"], ["compile", "p"], ["run", "p", "s", "k"], ["run-code", "p", "s", "k"],
-         ["run-until", "p", "s", "k", "mode == 1"], ["pair", "p", "s", "t", "k"], ["pair-code", "p", "s", "t", "k"]]
+         ["run-until", "p", "s", "k", "mode == 1"], ["pair", "p", "s", "t", "k"], ["pair-code", "p", "s", "t", "k"], ["object", "p"], ["unobject", "o"], ["refute", "p", "20"]]
 
 
 def write_writer(folder):
@@ -88,6 +90,7 @@ def write_writer(folder):
     for name, key in (("s", 1), ("t", 2)):
         write(folder, name, b" " * 70_000 + json.dumps({"mode": 0, "buf": 0, "key": key}).encode())
     write(folder, "k", b" " * 70_000 + b"[0,0,0,0,0,0,0,0,0,0]")
+    write(folder, "o", object_of(code_of(b"code 1\nthread t 70000\n" + b"1 nop\n" * 70_000)))
 
 
 def injected(folder, call, what, when, path=None):
@@ -322,7 +325,7 @@ def some_inputs(order):
                 files[changed] = mutated_json(files[changed], chance)
             for name, piece in files.items():
                 write(folder, name, piece)
-            words = ["run-until", "p", "s", "k", os.fsdecode(expression)] if changed == "e" else chance.choice((["run", "p", "s", "k"], ["pair", "p", "s", "t", "k"]))
+            words = ["run-until", "p", "s", "k", os.fsdecode(expression)] if changed == "e" else chance.choice((["run", "p", "s", "k"], ["pair", "p", "s", "t", "k"], ["refute", "p", chance.choice("1259")]))
             if changed == "e" and not expression.isascii():
                 continue
             due, answer = reply(words, files), ended(program, words, folder)
@@ -398,6 +401,45 @@ def listings_part(options, folder, found):
     print(f"listings: {found.tried} tried, of which {sound} are listings")
 
 
+OBJECTS = [object_of(code_of(text)) for text in LISTINGS]
+
+
+def mutated_object(chance):
+    """An object with one to three changes: bytes that are other ones, that are left out, or that stand twice."""
+    data = bytearray(chance.choice(OBJECTS))
+    for _ in range(chance.choice((1, 1, 2, 3))):
+        at = chance.randrange(len(data) + 1)
+        to = min(len(data), at + chance.choice((0, 1, 1, 1, 4, 9)))
+        data[at:to] = chance.choice((b"", data[at:to] * 2, bytes([chance.randrange(256)]), bytes([chance.choice((0, 1, 2, 7, 8, 20, 26, 32, 33, 95, 97, 122, 255))]),
+                                     chance.choice(EDGES[:12]).to_bytes(8, "little")[:4]))
+    return bytes(data)
+
+
+def some_objects(order):
+    """A batch of mutated objects: how many are tried, how many are objects of code, and what is told."""
+    program, _, _, part, number = order
+    chance, found, sound = random.Random(f"{part} {number}"), [], 0
+    with tempfile.TemporaryDirectory() as folder:
+        for _ in range(BATCH):
+            data = mutated_object(chance)
+            write(folder, "o", data)
+            due, answer = unobject("o", data), ended(program, ["unobject", "o"], folder)
+            sound += due[1] == 0
+            if answer != due:
+                found.append((data, answer, due))
+    return BATCH, sound, found
+
+
+def objects_part(options, folder, found):
+    sound = 0
+    for tried, some_sound, differ in batches(options, "objects", some_objects):
+        found.tried, sound = found.tried + tried, sound + some_sound
+        for data, answer, due in differ:
+            found.tried -= 1
+            found.case(f"unobject of {data!r}", answer, due)
+    print(f"objects: {found.tried} tried, of which {sound} are of code")
+
+
 # Files at the limits.
 
 def repeated(first, piece, last, limit):
@@ -471,6 +513,13 @@ def limit_rows():
         yield row(f"`{command}` of 256 variables, 100,000 entries", wide, f"{command} p s s k", s=many, k=start["k"])
     deep = low(1) + "thread t { while 1 {" + "if v0 == 0 {" * 62 + "v0 := 0;" + "} else { }" * 62 + "} }"
     yield row("`pair` of 64 blocks, 100,000 entries", deep, "pair p s s k", **start)
+    yield row("`object` of 9,990 assignments of width 7", code, "object p")
+    heads = b"COVO\1" + b"\0" * 8 + b"\1\0\0\0\1t"
+    yield row("`unobject` of an object of 16 MiB, a line for each byte", "", "unobject o", o=heads + (16_777_193).to_bytes(4, "little") + b"\x14" * 16_777_193)
+    yield row("`unobject` of an object of 16 MiB and a byte", "", "unobject o", o=b"COVO" + b"\0" * 16_777_213)
+    yield row("`unobject` of a count of 4,294,967,295 lines that aren't there", "", "unobject o", o=heads + b"\xff" * 4)
+    yield row("`refute` of a program of 256 variables, 1000 trials", wide, "refute p 1000")
+    yield row("`refute` of 9,990 assignments, 1000 trials", code, "refute p 1000")
     yield row("a start of 4 MiB of blanks", loop, "run p s k", s=b" " * (longest - 8) + b'{"v0":0}', k=b"[]")
     yield row("a start of 4 MiB of one string", loop, "run p s k", s=b'{"' + b"a" * (longest - 6) + b'":0}', k=b"[]")
     yield row("a start of 4 MiB of keys", loop, "run p s k", s=repeated(b'{"v0":0', b',"a":0', b"}", longest), k=b"[]")
@@ -620,6 +669,7 @@ def allocations_part(options, folder, found):
     entries = json.dumps([0, 1] * 50).encode()
     for title, text, starts in (("writer", WRITER, {"mode": 0, "buf": 0}), ("shared", SHARED, {"mode": 0, "buf": 0, "tmp": 0, "net": 0})):
         write(folder, "p", text)
+        write(folder, "o", OBJECTS[0])
         write(folder, "k", entries if title == "shared" else b"[0,0,0,0,0,0,0,0,0,0]")
         for name, key in (("s", 5), ("t", 9)):
             write(folder, name, json.dumps({**starts, "key": key}).encode())
@@ -675,7 +725,7 @@ def explanations_part(options, folder, found):
     print(f"explanations: {found.tried} tried, {shown} by V9")
 
 
-PARTS = {"outside": outside, "texts": texts_part, "inputs": inputs_part, "listings": listings_part, "limits": limits_part, "memory": memory_part,
+PARTS = {"outside": outside, "texts": texts_part, "inputs": inputs_part, "listings": listings_part, "objects": objects_part, "limits": limits_part, "memory": memory_part,
          "allocations": allocations_part, "explanations": explanations_part}
 
 

@@ -888,6 +888,133 @@ def listed(text):
     return text
 
 
+SIGNS = "+ - * & | ^ == != < <= && ||".split()
+
+
+def four(number):
+    return number.to_bytes(4, "little")
+
+
+def named(name):
+    return bytes([len(name)]) + name.encode()
+
+
+def line_object(code, line):
+    """The bytes of a line of code."""
+    weight, word, fields = line
+    known = {"load": (0, "rx"), "store": (1, "xr"), "jump": (2, "i"), "jz": (3, "ri"), "nop": (4, ""), "movc": (5, "ri"), "movr": (6, "rr"),
+             "op": (7, "orr"), "acquire": (8, "l"), "release": (9, "l"), "out": (10, "r")}
+    number, kinds = known[word]
+    places = {"r": lambda field: bytes([int(field)]), "x": lambda field: four(code.vars.index(field)), "l": lambda field: four(code.locks.index(field)),
+              "i": four, "o": lambda field: bytes([SIGNS.index(field)])}
+    pieces = [places[kind](field) for kind, field in zip(kinds, fields)]
+    return bytes([16 * weight + number]) + b"".join(pieces[::-1] if word == "store" else pieces)
+
+
+def object_of(code):
+    """The object of a code."""
+    pieces = [b"COVO", bytes([code.version])]
+    for names in (code.vars, code.locks):
+        pieces += [four(len(names)), *map(named, names)]
+    pieces.append(four(len(code.threads)))
+    for name, lines in code.threads:
+        pieces += [named(name), four(len(lines)), *(line_object(code, line) for line in lines)]
+    return b"".join(pieces)
+
+
+class ObjectReader:
+    """Reads an object byte by byte. The first byte with which no object goes on, or the length, is raised."""
+
+    def __init__(self, data):
+        self.data, self.at, self.code = data, 0, Code()
+
+    def byte(self, is_one):
+        """A byte of some kind."""
+        if self.at == len(self.data) or not is_one(self.data[self.at]):
+            raise CodeFault(f"object at {self.at}")
+        self.at += 1
+        return self.data[self.at - 1]
+
+    def number(self, count=2**32):
+        """A number below a count, its lowest byte first. Each byte is one with which such a number can go on."""
+        known = 0
+        for place in range(4):
+            known += 256**place * self.byte(lambda byte, above=known, place=place: above + 256**place * byte < count)
+        return known
+
+    def name(self):
+        length = self.byte(lambda byte: 1 <= byte <= 32)
+        name = ""
+        for place in range(length):
+            def goes_on(byte):
+                known = name + chr(byte)
+                return re.fullmatch("[a-z][a-z0-9_]*", known) and not (len(known) == length and known in KEYWORDS)
+            name += chr(self.byte(goes_on))
+        return name
+
+    def names(self):
+        return [self.name() for _ in range(self.number())]
+
+    def register(self):
+        return self.byte(lambda byte: byte < 8)
+
+    def is_line(self, byte):
+        """Whether a line begins with a byte: its weight and its instruction are there, and so is what that works on."""
+        weight, number = divmod(byte, 16)
+        return (weight <= 2 and number <= 10 and (number > 1 or self.code.vars) and (number not in (8, 9) or self.code.locks)
+                and (number != 10 or self.code.version == 2))
+
+    def line(self):
+        weight, number = divmod(self.byte(self.is_line), 16)
+        word = ["load", "store", "jump", "jz", "nop", "movc", "movr", "op", "acquire", "release", "out"][number]
+        if word in ("load", "store"):
+            register, x = self.register(), self.code.vars[self.number(len(self.code.vars))]
+            return weight, word, [register, x] if word == "load" else [x, register]
+        if word in ("acquire", "release"):
+            return weight, word, [self.code.locks[self.number(len(self.code.locks))]]
+        fields = [SIGNS[self.byte(lambda byte: byte < len(SIGNS))]] if word == "op" else []
+        fields += [self.register() for _ in range({"jz": 1, "movc": 1, "movr": 2, "op": 2, "out": 1}.get(word, 0))]
+        return weight, word, fields + ([self.number()] if word in ("jump", "jz", "movc") else [])
+
+    def read(self):
+        for due in b"COVO":
+            self.byte(lambda byte, due=due: byte == due)
+        self.code.version = self.byte(lambda byte: byte in (1, 2))
+        self.code.vars, self.code.locks = self.names(), self.names()
+        for _ in range(self.number()):
+            name, count = self.name(), self.number()
+            self.code.threads.append((name, [self.line() for _ in range(count)]))
+        if self.at < len(self.data):
+            raise CodeFault(f"object at {self.at}")
+        names = self.code.vars + self.code.locks + [name for name, _ in self.code.threads]
+        if len(set(names)) < len(names) or any(fields[-1] > len(lines) for _, lines in self.code.threads
+                                               for _, word, fields in lines if word in ("jump", "jz")):
+            raise CodeFault("code")
+        return self.code
+
+
+def listing_of(code):
+    """The listing of a code."""
+    lines = [f"code {code.version}", *(f"var {name}" for name in code.vars), *(f"lock {name}" for name in code.locks)]
+    for name, thread in code.threads:
+        lines.append(f"thread {name} {len(thread)}")
+        for weight, word, fields in thread:
+            known = {"load": "rx", "store": "xr", "jz": "ri", "movc": "ri", "movr": "rr", "op": "orr", "out": "r"}.get(word, "i" * len(fields))
+            shown = [f"r{field}" if kind == "r" else str(field) for kind, field in zip(known, fields)]
+            lines.append(" ".join([str(weight), word, *shown]))
+    return "".join(line + "\n" for line in lines).encode()
+
+
+def unobject(name, data):
+    """The bytes and the status of `unobject` on a file with a name."""
+    if len(data) > 16_777_216:
+        return f"too long: {name}\n".encode(), 7
+    try:
+        return listing_of(ObjectReader(data).read()), 0
+    except CodeFault as fault:
+        return f"malformed {name}: {fault}\n".encode(), 3
+
+
 class CodeRun:
     """A run of code, from registers that are all 0, and the schedule that it stands for."""
 
@@ -982,16 +1109,46 @@ def pair_report(p, a, b, schedule, positions=are_alike):
     return [f"agree: {len(schedule)} steps", *state_lines(p, a, b)], 0
 
 
-FORMS = {"run": "psk", "run-until": "pske", "pair": "pssk"}
+def drawn(place):
+    """What is drawn at a place, by two steps of a linear congruential generator."""
+    for _ in range(2):
+        place = (1664525 * place + 1013904223) % 2**32
+    return place // 65536
+
+
+def trial_of(p, number):
+    """The two starts and the schedule of a numbered trial."""
+    left = {name: drawn(512 * number + x) % 4 for x, (name, _, _) in enumerate(p.vars)}
+    right = {name: left[name] if is_low(value, left) else drawn(512 * number + 256 + x) % 4 for x, (name, _, value) in enumerate(p.vars)}
+    return left, right, [drawn(1_000_000 + 256 * number + j) % len(p.threads) for j in range(200)] if p.threads else []
+
+
+def refuted(p, trials):
+    """Runs trials up to the first whose runs don't agree, and gives the report and the status."""
+    fit = 0
+    for number in range(1, trials + 1):
+        left, right, schedule = trial_of(p, number)
+        if bad_start(p, left, right) is not None:
+            continue
+        fit += 1
+        lines, status = pair_report(p, SourceRun(p, left), SourceRun(p, right), schedule)
+        if status:
+            step = int(lines[0].split()[3].rstrip(":"))
+            starts = [f"var {name} {left[name]} {right[name]}" for name, _, _ in p.vars]
+            return [f"trial {number}", *lines, *starts, "schedule" + "".join(f" {t}" for t in schedule[:step])], status
+    return [f"none of {trials} trials, {fit} fit"], 0
+
+
+FORMS = {"run": "psk", "run-until": "pske", "pair": "pssk", "refute": "pn"}
 MOST = {"p": 1_048_576, "s": 4_194_304, "k": 4_194_304}
 
 
 def answered(words, files):
-    """The lines and the status of `run`, `run-until` and `pair`, where the words are a form."""
+    """The lines and the status of `run`, `run-until`, `pair` and `refute`, where the words are a form."""
     form = FORMS[words[0]]
     p, starts, schedule, tree = None, [], [], None
     for kind, word in zip(form, words[1:]):
-        if kind == "e":
+        if kind in "en":
             continue
         if word not in files:
             return [f"read fault: {word}"], 4
@@ -1024,6 +1181,8 @@ def answered(words, files):
         return run_report(p, SourceRun(p, starts[0]).run(schedule), len(schedule)), 0
     if words[0] == "run-until":
         return run_until(p, SourceRun(p, starts[0]), schedule, tree), 0
+    if words[0] == "refute":
+        return refuted(p, int(words[2]))
     name = bad_start(p, *starts)
     if name is not None:
         return [f"bad starts: {name}"], 9
@@ -1031,6 +1190,6 @@ def answered(words, files):
 
 
 def reply(words, files):
-    """The bytes and the status of `run`, `run-until` and `pair` on files by name."""
+    """The bytes and the status of `run`, `run-until`, `pair` and `refute` on files by name."""
     lines, status = answered(words, files)
     return "".join(line + "\n" for line in lines).encode(), status

@@ -58,8 +58,9 @@ def texts():
 
 def calls(path):
     programs = ["flat", "branches", "loops", "expression", "calc", "ring", "range", "brackets"]
-    for command in ["check", "fmt", "migrate", "compile"]:
+    for command in ["check", "fmt", "migrate", "compile", "object"]:
         yield from ([command, path(name)] for name in programs)
+    yield from (["refute", path(name), "3"] for name in programs)
     for name in programs:
         yield ["run", path(name), path("start"), path("schedule")]
         yield ["run-code", path(name), path("start"), path("schedule")]

@@ -10,14 +10,19 @@ use Rattle.cov_ast.specs.Syntax.{Parsed}
 use Rattle.cov_io.specs.Counters.{Rose}
 use Rattle.cov_io.specs.Shelves.{File, Passes, Shelved, held}
 use Rattle.cov_io.specs.Sinks.{Sunk, Writes}
-use Rattle.code_text.specs.Listing.{listing}
+use Rattle.code_text.specs.Listing.{IsListingOf, listing}
+use Rattle.object_code.specs.Object.{IsObjectOf}
+use Rattle.object_code.specs.Object as object_code
+use Rattle.risc_machine.specs.Faults.{AreGood}
+use Rattle.risc_machine.specs.declared.parts.Parts.{Parts}
 use Rattle.compiled_code.specs.GoodCode.{IsGoodCode}
 use Rattle.cov_print.specs.ReadBack.{in_second}
 use Rattle.cov_print.specs.Spelling.{spelling}
 use Rattle.cov_text.specs.Text.{program_of}
 use Rattle.flow_model.specs.Secure.{IsSecure}
 use Rattle.policy_class.specs.Resolved.{resolved}
-use Rattle.call_code.specs.Codes.{Compiles, RepliesListing, code_of}
+use Rattle.call_code.specs.Codes.{Compiles, code_of}
+use Rattle.call_code.specs.Objects.{RepliesObject}
 use Rattle.call_inputs.specs.Plans.{CarriesOut, EndsAt, GetsAt, IsMet, LacksMemory, Performs, Plan, does}
 use Rattle.call_inputs.specs.Programs.{SpellsProgram, SpellsTree}
 use Rattle.cov_grammar.specs.PlacedTrees as trees
@@ -34,13 +39,15 @@ use Rattle.call_reports.specs.declared.answers.Status.TheVariants as s
 use Rattle.call_reports.specs.declared.answers.Stop.{Stop}
 use Rattle.call_reports.specs.declared.answers.Stop.TheVariants as stop
 use Rattle.call_run.specs.Pairs.{Pairs, pair_reading}
+use Rattle.call_run.specs.Refutes.{Refutes, refute_reading}
 use Rattle.top_call.specs.AcceptedRuns.{HoldsAccepted, RunsAccepted}
-use Rattle.top_call.specs.Commands.{Command, command_of, check, compile, fmt, migrate, run, run_code, run_until, pair, pair_code, big, nothing}
-use Rattle.top_call.specs.Headline.{HoldsSecure, PutsCode, PutsGoodCode}
+use Rattle.top_call.specs.Commands.{Command, command_of, of_trials, check, compile, fmt, migrate, object, unobject, refute, run, run_code, run_until, pair, pair_code, big, nothing}
+use Rattle.top_call.specs.Headline.{HoldsSecure, PutsCode, PutsGoodCode, PutsObject}
 use Rattle.top_call.specs.Laws.{IsOneReply}
 use Rattle.top_call.specs.Outcome.{IsSuccess, Outcome, plan_for, plan_of}
 use Rattle.call_big.proofs.BigLaws.{sum_sound}
 use Rattle.call_code.proofs.CodeLaws.{compile_sound}
+use Rattle.call_code.proofs.ObjectLaws.{code_reading, object_sound, unobject_sound}
 use Rattle.call_run_code.proofs.CodeRunLaws.{pair_code_sound, run_code_sound}
 use Rattle.call_inputs.proofs.ExpressionLaws.{expression_reading}
 use Rattle.call_inputs.proofs.InputLaws.{schedule_fine, schedule_reading, start_is_memory, start_reading}
@@ -50,8 +57,9 @@ use Rattle.call_inputs.proofs.TextLaws.{program_reading, some_one}
 use Rattle.call_judge.proofs.CheckLaws.{names_hold, not_rejected}
 use Rattle.call_reports.proofs.EndLaws.{ends_onward}
 use Rattle.call_run.proofs.PairLaws.{pair_sound, pairs_never_differ}
+use Rattle.call_run.proofs.RefuteLaws.{never_refuted, refute_sound}
 use Rattle.call_run.proofs.RunLaws.{run_sound, until_sound}
-use Rattle.top_call.proofs.WordLaws.{may_differ, pair_words}
+use Rattle.top_call.proofs.WordLaws.{ArePairWords, AreTrialWords, differing_words, may_differ}
 
 -- The commands -------------------------------------------------------------------------------------------------
 
@@ -71,6 +79,9 @@ sound (check name) = ((program_reading, λ p. tt), λ p. one_sound (verdict p) r
 sound (compile name) = ((program_reading, λ p. tt), compile_sound)
 sound (fmt name) = ((program_reading, λ p. tt), λ p. one_sound (spelled (spelling p)) refl)
 sound (migrate name) = ((program_reading, λ p. tt), λ p. one_sound (spelled (spelling (in_second p))) refl)
+sound (object name) = ((program_reading, λ p. tt), object_sound)
+sound (unobject name) = ((code_reading, λ c. tt), unobject_sound)
+sound (refute name trials) = ((program_reading, λ p. tt), refute_sound trials)
 sound (run name start schedule) = ((program_reading, λ p. (start_reading p, λ m. (schedule_reading p, λ k. tt))), run_sound)
 sound (run_code name start schedule) = ((program_reading, λ p. (start_reading p, λ m. (schedule_reading p, λ k. tt))), run_code_sound)
 sound (run_until name start schedule word) =
@@ -164,33 +175,46 @@ module _ (before after : Shelved) (words : List (List ℕ)) (old new : Sunk) (st
           secure name files (performs_took before after old new status files (accepted_program name) (λ p reply. reply ≡ verdict p) told
           (subst IsResult (sym done) tt) (call_by (codes "check" ∷ name ∷ []) is))
 
+  -- what is put to the code of an accepted program, where each reply tells it
+  module _ (is_good : OfAccepted (λ p. IsGoodCode (resolved p) (code_of p))) (done : status ≡ s.Done) (Tells : Parts → List ℕ → Type 0)
+      (may_reply : Parsed → Reply → Type 0)
+      (told : (p : Parsed) (reply : Reply) → may_reply p reply → AreGood (code_of p) × (text : List ℕ) × Tells (code_of p) text × (reply ≡ spelled text)) where
+    good : (name : List ℕ) (files : List File) → Takes files (λ p. Puts (may_reply p) old new status) (accepted_program name)
+        → PutsGoodCode Tells files name old new
+    good name files (bytes, at, fits, (p, spells, (none, (reply, replied, is, put)))) =
+        let accepted = not_rejected p none in
+        let code = told p reply replied in
+        record {
+          bytes = bytes;
+          at = at;
+          tree = spells.0;
+          spelled = spells.1;
+          named = subst AreNamesInOrder spells.2 (names_hold p accepted);
+          code = code_of p;
+          is_code = code.0;
+          good = subst (λ q. IsGoodCode (resolved q) (code_of p)) spells.2 (is_good bytes p fits spells accepted);
+          text = code.1;
+          tells = code.2;
+          put = subst (λ r. Writes old new (report_of r) (Ok tt)) code.3 put;
+        }
+
+    puts_good : (files : List File) (name : List ℕ) → before.told ≡ Some files → Performs before after old new (does (accepted_program name) may_reply) status
+        → PutsGoodCode Tells files name old new
+    puts_good files name told performed =
+        good name files (performs_took before after old new status files (accepted_program name) may_reply told (subst IsResult (sym done) tt) performed)
+
   pub call_code : OfAccepted (λ p. IsGoodCode (resolved p) (code_of p)) → status ≡ s.Done → IfSome before.told (λ files. PutsCode files words old new)
-  call_code is_good done = if_told before.told (λ files. PutsCode files words old new) puts
-    where
-      good : (name : List ℕ) (files : List File) → Takes files (λ p. Puts (Compiles p) old new status) (accepted_program name)
-          → PutsGoodCode files name old new
-      good name files (bytes, at, fits, (p, spells, (none, (reply, listed, is, put)))) =
-          let accepted = not_rejected p none in
-          record {
-            bytes = bytes;
-            at = at;
-            tree = spells.0;
-            spelled = spells.1;
-            named = subst AreNamesInOrder spells.2 (names_hold p accepted);
-            code = code_of p;
-            is_code = listed.is_code;
-            good = subst (λ q. IsGoodCode (resolved q) (code_of p)) spells.2 (is_good bytes p fits spells accepted);
-            text = listing (code_of p);
-            listing = record { listed = listed.listed; spelling = refl };
-            put = subst (λ r. Writes old new (report_of r) (Ok tt)) listed.is put;
-          }
+  call_code is_good done = if_told before.told (λ files. PutsCode files words old new) (λ files told name is.
+      puts_good is_good done IsListingOf Compiles (λ p reply h. (h.is_code, listing (code_of p), record { listed = h.listed; spelling = refl }, h.is)) files name told
+      (call_by (codes "compile" ∷ name ∷ []) is))
 
-      puts : (files : List File) → before.told ≡ Some files → PutsCode files words old new
-      puts files told name is =
-          good name files (performs_took before after old new status files (accepted_program name) Compiles told
-          (subst IsResult (sym done) tt) (call_by (codes "compile" ∷ name ∷ []) is))
+  pub call_object : OfAccepted (λ p. IsGoodCode (resolved p) (code_of p)) → status ≡ s.Done → IfSome before.told (λ files. PutsObject files words old new)
+  call_object is_good done = if_told before.told (λ files. PutsObject files words old new) (λ files told name is.
+      puts_good is_good done IsObjectOf (λ p. RepliesObject (code_of p))
+      (λ p reply h. (h.is_code, object_code.object (code_of p), record { whole = h.whole; spelling = refl }, h.is)) files name told
+      (call_by (codes "object" ∷ name ∷ []) is))
 
-  -- a reply that two runs differ is one of `pair`
+  -- a reply that two runs differ is one of `pair` or of `refute`
   differs : (files : List File) → before.told ≡ Some files → status ≡ s.Differ → may_differ (command_of words) ≡ true
   differs files told differ = by (may_differ (command_of words)) refl
     where
@@ -208,21 +232,37 @@ module _ (before after : Shelved) (words : List (List ℕ)) (old new : Sunk) (st
   pub call_agree : OfAccepted (λ p. IsSecure (meaning p)) → IfSome before.told (λ files. RunsAccepted files words → status ≡ s.Differ → ⊥)
   call_agree is_secure = if_told before.told (λ files. RunsAccepted files words → status ≡ s.Differ → ⊥) agree
     where
+      -- one file spells one program
+      same_text : (files : List File) (name : List ℕ) (holds : HoldsAccepted files name) (bytes : List ℕ) (p : Parsed) → held files name ≡ Some bytes
+          → SpellsProgram bytes p → holds.spelled ≡ p
+      same_text files name holds bytes p at spells =
+          let same : holds.bytes ≡ bytes = some_one (held files name) holds.bytes bytes holds.at at in
+          program_reading.one_value bytes holds.spelled p (subst (λ b. SpellsProgram b holds.spelled) same holds.is) spells
+
       apart : (name first second schedule : List ℕ) (files : List File) → HoldsAccepted files name → status ≡ s.Differ
           → Takes files (λ i. Puts (Pairs i) old new status) (pair_reading name first second schedule) → ⊥
       apart name first second schedule files holds differ (bytes, at, fits, (p, spells, (lb, lat, lfits, (l, lread, (rb, rat, rfits, (r, rread, (kb, kat, kfits, (k, kread, (declared, (fit, (reply, runs, is, put))))))))))) =
-          let same_bytes : holds.bytes ≡ bytes = some_one (held files name) holds.bytes bytes holds.at at in
-          let same : holds.spelled ≡ p = program_reading.one_value bytes holds.spelled p (subst (λ b. SpellsProgram b holds.spelled) same_bytes holds.is) spells in
-          let accepted = subst IsAcceptedText same holds.accepted in
+          let accepted = subst IsAcceptedText (same_text files name holds bytes p at spells) holds.accepted in
           pairs_never_differ p l r k (is_secure bytes p fits spells accepted) (start_fits p lb l lread) (start_fits p rb r rread) (schedule_fits p kb k kread) fit
           reply runs (sym is ∙ differ)
 
+      tried : (name : List ℕ) (trials : ℕ) (files : List File) → HoldsAccepted files name → status ≡ s.Differ
+          → Takes files (λ p. Puts (Refutes trials p) old new status) (refute_reading name) → ⊥
+      tried name trials files holds differ (bytes, at, fits, (p, spells, (declared, (reply, replied, is, put)))) =
+          never_refuted p trials (is_secure bytes p fits spells (subst IsAcceptedText (same_text files name holds bytes p at spells) holds.accepted)) reply replied (sym is ∙ differ)
+
       agree : (files : List File) → before.told ≡ Some files → RunsAccepted files words → status ≡ s.Differ → ⊥
-      agree files told accepted differ =
-          let (name, first, second, schedule, is) = pair_words words (differs files told differ) in
-          apart name first second schedule files (accepted name first second schedule is) differ
-          (performs_took before after old new status files (pair_reading name first second schedule) Pairs told
-          (subst IsResult (sym differ) tt) (call_by (codes "pair" ∷ name ∷ first ∷ second ∷ schedule ∷ []) is))
+      agree files told accepted differ = by (differing_words words (differs files told differ))
+        where
+          by : ArePairWords words ⊎ AreTrialWords words → ⊥
+          by (inl (name, first, second, schedule, is)) =
+              apart name first second schedule files (accepted.pair name first second schedule is) differ
+              (performs_took before after old new status files (pair_reading name first second schedule) Pairs told
+              (subst IsResult (sym differ) tt) (call_by (codes "pair" ∷ name ∷ first ∷ second ∷ schedule ∷ []) is))
+          by (inr (name, number, trials, some, is)) =
+              tried name trials files (accepted.refute name number is) differ
+              (performs_took before after old new status files (refute_reading name) (Refutes trials) told (subst IsResult (sym differ) tt)
+              (subst (λ o. Performs before after old new (plan_of (of_trials name o)) status) some (call_by (codes "refute" ∷ name ∷ number ∷ []) is)))
 
   pub call_fault : status ≡ s.ReadFault → Rose before.faults after.faults
   call_fault fault =
@@ -239,7 +279,11 @@ module _ (before after : Shelved) (words : List (List ℕ)) (old new : Sunk) (st
       success : (b : Bool) → may_differ (command_of words) ≡ b → IsSuccessIf b status → IsSuccess words status
       success false e done = inl done
       success true e (inl done) = inl done
-      success true e (inr differ) = let (name, first, second, schedule, is) = pair_words words e in inr (differ, name ∷ first ∷ second ∷ schedule ∷ [], is)
+      success true e (inr differ) = by_words (differing_words words e)
+        where
+          by_words : ArePairWords words ⊎ AreTrialWords words → IsSuccess words status
+          by_words (inl (name, first, second, schedule, is)) = inr (differ, name ∷ first ∷ second ∷ schedule ∷ [], inl is)
+          by_words (inr (name, number, trials, some, is)) = inr (differ, name ∷ number ∷ [], inr is)
 
       by : (status ≡ s.NoMemory) ⊎ (status ≡ s.WriteFault) ⊎ IsSuccessIf (may_differ (command_of words)) status → IsSuccess words status ⊎ (status ≡ s.NoMemory)
       by (inl e) = inr e

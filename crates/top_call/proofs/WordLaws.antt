@@ -1,10 +1,10 @@
--- Laws of words: which of them ask for two runs side by side.
+-- Laws of words: which of them ask for two runs side by side, or for many.
 use Rattle.std.specs.Prelude.{codes, if◌then◌else◌}
 use Rattle.std.specs.Str.{bytes_eq}
-use Rattle.std.proofs.Common.{◌≡◌, ℕ, List, [], ◌∷◌, Bool, true, false, Option, Some, None, length, ◌<◌, refl, ap, nat_le, arith}
+use Rattle.std.proofs.Common.{◌≡◌, ◌⊎◌, ℕ, List, [], ◌∷◌, Bool, true, false, Option, Some, None, length, ◌<◌, refl, ap, inl, inr, nat_le, arith}
 use Rattle.std.proofs.lemmas.Slice.Eq.{bytes_eq-Decides}
-use Rattle.cov_expr.specs.declared.limits.TheConstants.{MOST_EXPRESSION_BYTES}
-use Rattle.top_call.specs.Commands.{Command, command_of, of_four, of_one, of_rounds, of_three, of_two, rounds_of, check, compile, fmt, migrate, run, run_code, run_until, pair, pair_code, big, nothing}
+use Rattle.cov_expr.specs.declared.limits.TheConstants.{MOST_EXPRESSION_BYTES, MOST_ROUNDS, MOST_TRIALS}
+use Rattle.top_call.specs.Commands.{Command, command_of, number_of, of_four, of_one, of_rounds, of_three, of_trials, of_two, check, compile, fmt, migrate, object, unobject, refute, run, run_code, run_until, pair, pair_code, big, nothing}
 
 -- whether what is asked for may find two runs apart
 abbrev pub may_differ : Command → Bool
@@ -12,6 +12,9 @@ may_differ (check name) = false
 may_differ (compile name) = false
 may_differ (fmt name) = false
 may_differ (migrate name) = false
+may_differ (object name) = false
+may_differ (unobject name) = false
+may_differ (refute name trials) = true
 may_differ (run name start schedule) = false
 may_differ (run_code name start schedule) = false
 may_differ (run_until name start schedule word) = false
@@ -20,18 +23,24 @@ may_differ (pair_code name first second schedule) = false
 may_differ (big rounds schedule) = false
 may_differ nothing = false
 
-one : (name : List ℕ) (a b c d : Bool)
-    → may_differ (if a then check name else (if b then compile name else (if c then fmt name else (if d then migrate name else nothing)))) ≡ true → ⊥
-one name true b c d h = cc
-one name false true c d h = cc
-one name false false true d h = cc
-one name false false false true h = cc
-one name false false false false h = cc
+one : (name : List ℕ) (a b c d e f : Bool)
+    → may_differ (if a then check name else (if b then compile name else (if c then fmt name else (if d then migrate name
+    else (if e then object name else (if f then unobject name else nothing)))))) ≡ true → ⊥
+one name true b c d e f h = cc
+one name false true c d e f h = cc
+one name false false true d e f h = cc
+one name false false false true e f h = cc
+one name false false false false true f h = cc
+one name false false false false false true h = cc
+one name false false false false false false h = cc
 
-two : (schedule : List ℕ) (a : Bool) (o : Option ℕ) → may_differ (if a then of_rounds o schedule else nothing) ≡ true → ⊥
-two schedule true (Some rounds) h = cc
-two schedule true None h = cc
-two schedule false o h = cc
+two : (first second : List ℕ) (a b : Bool) (rounds trials : Option ℕ)
+    → may_differ (if a then of_rounds rounds second else (if b then of_trials first trials else nothing)) ≡ true → (b ≡ true) × (n : ℕ) × (trials ≡ Some n)
+two first second true b (Some rounds) trials h = cc
+two first second true b None trials h = cc
+two first second false true rounds (Some n) h = (refl, n, refl)
+two first second false true rounds None h = cc
+two first second false false rounds trials h = cc
 
 three : (program start schedule : List ℕ) (a b : Bool)
     → may_differ (if a then run program start schedule else (if b then run_code program start schedule else nothing)) ≡ true → ⊥
@@ -48,21 +57,32 @@ four program start next last false l true c h = refl
 four program start next last false l false true h = cc
 four program start next last false l false false h = cc
 
--- words that ask for two runs of a program that may be found apart are those of `pair`
-pub pair_words : (words : List (List ℕ)) → may_differ (command_of words) ≡ true
-    → (name first second schedule : List ℕ) × (words ≡ codes "pair" ∷ name ∷ first ∷ second ∷ schedule ∷ [])
-pair_words [] h = cc
-pair_words (word ∷ []) h = cc
-pair_words (word ∷ name ∷ []) h =
-    absurd (one name (bytes_eq word (codes "check")) (bytes_eq word (codes "compile")) (bytes_eq word (codes "fmt")) (bytes_eq word (codes "migrate")) h)
-pair_words (word ∷ number ∷ schedule ∷ []) h = absurd (two schedule (bytes_eq word (codes "big")) (rounds_of number) h)
-pair_words (word ∷ program ∷ start ∷ schedule ∷ []) h =
+-- The words are those of `pair`.
+abbrev pub ArePairWords : List (List ℕ) → Type 0
+ArePairWords words = (name first second schedule : List ℕ) × (words ≡ codes "pair" ∷ name ∷ first ∷ second ∷ schedule ∷ [])
+
+-- The words are those of `refute`, with a number of trials.
+abbrev pub AreTrialWords : List (List ℕ) → Type 0
+AreTrialWords words = (name number : List ℕ) (trials : ℕ) × (number_of MOST_TRIALS number ≡ Some trials) × (words ≡ codes "refute" ∷ name ∷ number ∷ [])
+
+-- words that ask for runs of a program that may be found apart are those of `pair` and of `refute`
+pub differing_words : (words : List (List ℕ)) → may_differ (command_of words) ≡ true → ArePairWords words ⊎ AreTrialWords words
+differing_words [] h = cc
+differing_words (word ∷ []) h = cc
+differing_words (word ∷ name ∷ []) h =
+    absurd (one name (bytes_eq word (codes "check")) (bytes_eq word (codes "compile")) (bytes_eq word (codes "fmt")) (bytes_eq word (codes "migrate"))
+    (bytes_eq word (codes "object")) (bytes_eq word (codes "unobject")) h)
+differing_words (word ∷ first ∷ second ∷ []) h =
+    let (is_refute, trials, some) =
+    two first second (bytes_eq word (codes "big")) (bytes_eq word (codes "refute")) (number_of MOST_ROUNDS first) (number_of MOST_TRIALS second) h in
+    inr (first, second, trials, some, ap (λ w. w ∷ first ∷ second ∷ []) ((bytes_eq-Decides word (codes "refute")).0 is_refute))
+differing_words (word ∷ program ∷ start ∷ schedule ∷ []) h =
     absurd (three program start schedule (bytes_eq word (codes "run")) (bytes_eq word (codes "run-code")) h)
-pair_words (word ∷ program ∷ start ∷ next ∷ last ∷ []) h =
+differing_words (word ∷ program ∷ start ∷ next ∷ last ∷ []) h =
     let is_pair = four program start next last (bytes_eq word (codes "run-until")) (nat_le (length last) MOST_EXPRESSION_BYTES) (bytes_eq word (codes "pair"))
     (bytes_eq word (codes "pair-code")) h in
-    (program, start, next, last, ap (λ w. w ∷ program ∷ start ∷ next ∷ last ∷ []) ((bytes_eq-Decides word (codes "pair")).0 is_pair))
-pair_words (word ∷ program ∷ start ∷ next ∷ last ∷ more ∷ rest) h = cc
+    inl (program, start, next, last, ap (λ w. w ∷ program ∷ start ∷ next ∷ last ∷ []) ((bytes_eq-Decides word (codes "pair")).0 is_pair))
+differing_words (word ∷ program ∷ start ∷ next ∷ last ∷ more ∷ rest) h = cc
 
 -- words of no form, fewer or more than any has
 pub few_words : (words : List (List ℕ)) → length words < 2 → command_of words ≡ nothing

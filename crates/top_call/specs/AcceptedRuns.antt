@@ -1,4 +1,4 @@
--- Whose two runs never differ: those of a program that is accepted.
+-- Whose runs never differ: those of a program that is accepted.
 use Rattle.std.specs.Prelude.{◌≡◌, ℕ, List, [], ◌∷◌, codes, Some}
 use Rattle.cov_ast.specs.Syntax.{Parsed}
 use Rattle.cov_io.specs.Shelves.{File, held}
@@ -13,7 +13,8 @@ pub record HoldsAccepted (files : List File) (name : List ℕ) : Type 0 where
   pub is : SpellsProgram bytes spelled
   pub accepted : IsAcceptedText spelled
 
--- The program that `pair` runs twice is accepted. Of `pair-code` and `big` nothing is asked: they run only what is accepted.
-abbrev pub RunsAccepted : List File → (words : List (List ℕ)) → Type 0
-RunsAccepted files words =
-    (name first second schedule : List ℕ) → words ≡ codes "pair" ∷ name ∷ first ∷ second ∷ schedule ∷ [] → HoldsAccepted files name
+-- The program that `pair` runs twice, and that `refute` tries, is accepted. Of `pair-code` and `big` nothing is asked: they run only what is
+-- accepted.
+pub record RunsAccepted (files : List File) (words : List (List ℕ)) : Type 0 where
+  pub pair : (name first second schedule : List ℕ) → words ≡ codes "pair" ∷ name ∷ first ∷ second ∷ schedule ∷ [] → HoldsAccepted files name
+  pub refute : (name number : List ℕ) → words ≡ codes "refute" ∷ name ∷ number ∷ [] → HoldsAccepted files name

@@ -2,14 +2,17 @@
 use Rattle.std.specs.Prelude.{ℕ, List, [], ◌∷◌, length, nat_le, Bool, ◌&&◌, Option, Some, None, codes, decimal, if◌then◌else◌}
 use Rattle.std.specs.Str.{bytes_eq}
 use Rattle.std.specs.Str.Parse.{digits_value}
-use Rattle.cov_expr.specs.declared.limits.TheConstants.{MOST_EXPRESSION_BYTES, MOST_ROUNDS}
+use Rattle.cov_expr.specs.declared.limits.TheConstants.{MOST_EXPRESSION_BYTES, MOST_ROUNDS, MOST_TRIALS}
 
--- a command, with the words that it takes: names of files, an expression, and a number of rounds
+-- a command, with the words that it takes: names of files, an expression, and a number of rounds or of trials
 pub data Command : Type 0 where
   check : (name : List ℕ) → Command
   compile : (name : List ℕ) → Command
   fmt : (name : List ℕ) → Command
   migrate : (name : List ℕ) → Command
+  object : (name : List ℕ) → Command
+  unobject : (name : List ℕ) → Command
+  refute : (name : List ℕ) (trials : ℕ) → Command
   run : (program start schedule : List ℕ) → Command
   run_code : (program start schedule : List ℕ) → Command
   run_until : (program start schedule expression : List ℕ) → Command
@@ -24,23 +27,31 @@ of_one word name =
     if bytes_eq word (codes "check") then check name
     else (if bytes_eq word (codes "compile") then compile name
     else (if bytes_eq word (codes "fmt") then fmt name
-    else (if bytes_eq word (codes "migrate") then migrate name else nothing)))
+    else (if bytes_eq word (codes "migrate") then migrate name
+    else (if bytes_eq word (codes "object") then object name
+    else (if bytes_eq word (codes "unobject") then unobject name else nothing)))))
 
--- whether a number is one of rounds, from 1 to the most, and a word spells it in decimal without leading zeros
-abbrev pub is_rounds : (word : List ℕ) → ℕ → Bool
-is_rounds word n = nat_le 1 n && (nat_le n MOST_ROUNDS && bytes_eq word (decimal n))
+-- whether a number is from 1 to a most, and a word spells it in decimal without leading zeros
+abbrev pub is_number : (most : ℕ) (word : List ℕ) → ℕ → Bool
+is_number most word n = nat_le 1 n && (nat_le n most && bytes_eq word (decimal n))
 
--- the number of rounds that a word spells, if it is one
-abbrev pub rounds_of : List ℕ → Option ℕ
-rounds_of word = if is_rounds word (digits_value 10 word) then Some (digits_value 10 word) else None
+-- the number from 1 to a most that a word spells, if it spells one
+abbrev pub number_of : (most : ℕ) → List ℕ → Option ℕ
+number_of most word = if is_number most word (digits_value 10 word) then Some (digits_value 10 word) else None
 
 abbrev pub of_rounds : Option ℕ → (schedule : List ℕ) → Command
 of_rounds (Some rounds) schedule = big rounds schedule
 of_rounds None schedule = nothing
 
--- the command of a number and a file
-abbrev pub of_two : (word number schedule : List ℕ) → Command
-of_two word number schedule = if bytes_eq word (codes "big") then of_rounds (rounds_of number) schedule else nothing
+abbrev pub of_trials : (name : List ℕ) → Option ℕ → Command
+of_trials name (Some trials) = refute name trials
+of_trials name None = nothing
+
+-- the commands of a number and a file
+abbrev pub of_two : (word first second : List ℕ) → Command
+of_two word first second =
+    if bytes_eq word (codes "big") then of_rounds (number_of MOST_ROUNDS first) second
+    else (if bytes_eq word (codes "refute") then of_trials first (number_of MOST_TRIALS second) else nothing)
 
 -- the commands of three files
 abbrev pub of_three : (word program start schedule : List ℕ) → Command
@@ -58,7 +69,7 @@ of_four word program start next last =
 -- the command of the words behind the program's name, and nothing where they have none of the forms
 abbrev pub command_of : List (List ℕ) → Command
 command_of (word ∷ name ∷ []) = of_one word name
-command_of (word ∷ number ∷ schedule ∷ []) = of_two word number schedule
+command_of (word ∷ first ∷ second ∷ []) = of_two word first second
 command_of (word ∷ program ∷ start ∷ schedule ∷ []) = of_three word program start schedule
 command_of (word ∷ program ∷ start ∷ next ∷ last ∷ []) = of_four word program start next last
 command_of words = nothing

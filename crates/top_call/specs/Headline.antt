@@ -8,6 +8,7 @@ use Rattle.code_text.specs.Listing.{IsListingOf}
 use Rattle.compiled_code.specs.GoodCode.{IsGoodCode}
 use Rattle.flow_model.specs.Secure.{IsSecure}
 use Rattle.policy_class.specs.Resolved.{resolved}
+use Rattle.object_code.specs.Object.{IsObjectOf}
 use Rattle.risc_machine.specs.Faults.{AreGood}
 use Rattle.risc_machine.specs.declared.parts.Parts.{Parts}
 use Rattle.call_judge.specs.Meaning.{AreNamesInOrder, meaning}
@@ -21,10 +22,10 @@ HoldsSecure files words =
     → (bytes : List ℕ) × (held files name ≡ Some bytes) × (tree : trees.Program) × SpellsTree bytes tree
     × AreNamesInOrder (program_of bytes tree) × IsSecure (meaning (program_of bytes tree))
 
--- What is put is the listing of a code, to which no fault applies, and a file holds a program for which this code is good: each
+-- What is put tells a code, to which no fault applies, and a file holds a program for which this code is good: each
 -- run of the code is a run of the program, from any two fit starts, under every schedule, two runs of the code agree after each
 -- step, and small bodies load few times.
-pub record PutsGoodCode (files : List File) (name : List ℕ) (before after : Sunk) : Type 0 where
+pub record PutsGoodCode (Tells : Parts → List ℕ → Type 0) (files : List File) (name : List ℕ) (before after : Sunk) : Type 0 where
   pub bytes : List ℕ
   pub at : held files name ≡ Some bytes
   pub tree : trees.Program
@@ -34,9 +35,13 @@ pub record PutsGoodCode (files : List File) (name : List ℕ) (before after : Su
   pub is_code : AreGood code
   pub good : IsGoodCode (resolved (program_of bytes tree)) code
   pub text : List ℕ
-  pub listing : IsListingOf code text
+  pub tells : Tells code text
   pub put : Writes before after text (Ok tt)
 
--- What `compile` puts is the code of the file that it names.
+-- What `compile` puts is the listing of the code of the file that it names.
 abbrev pub PutsCode : List File → (words : List (List ℕ)) → (before after : Sunk) → Type 0
-PutsCode files words before after = (name : List ℕ) → words ≡ codes "compile" ∷ name ∷ [] → PutsGoodCode files name before after
+PutsCode files words before after = (name : List ℕ) → words ≡ codes "compile" ∷ name ∷ [] → PutsGoodCode IsListingOf files name before after
+
+-- What `object` puts is the object of the code of the file that it names.
+abbrev pub PutsObject : List File → (words : List (List ℕ)) → (before after : Sunk) → Type 0
+PutsObject files words before after = (name : List ℕ) → words ≡ codes "object" ∷ name ∷ [] → PutsGoodCode IsObjectOf files name before after

@@ -6,7 +6,7 @@ ghost use Rattle.call_reports.specs.Ends.{Ends};
 ghost use Rattle.cov_io.specs.Counters.{Rose};
 ghost use Rattle.cov_io.specs.Shelves.{Passes};
 ghost use Rattle.top_call.specs.AcceptedRuns.{RunsAccepted};
-ghost use Rattle.top_call.specs.Headline.{HoldsSecure, PutsCode};
+ghost use Rattle.top_call.specs.Headline.{HoldsSecure, PutsCode, PutsObject};
 ghost use Rattle.top_call.specs.Outcome.{IsSuccess, Outcome, plan_for};
 
 use crate::commands::answer;
@@ -38,7 +38,10 @@ pub fn covern<S: Shelf, K: Sink>(
     // What is put of the code of a program is the listing of a code that matches it, is secure and meets the load bound.
     ensures code { result ≡ Status.Done → IfSome (S.shelved shelf.old).told (λ files.
         PutsCode files (map string_bytes words.now) (K.sunk sink.old) (K.sunk sink.new)) }
-    // Two runs of a program that is accepted never differ, nor do those of code, and no other command answers so.
+    // Its object is that of such a code too.
+    ensures object { result ≡ Status.Done → IfSome (S.shelved shelf.old).told (λ files.
+        PutsObject files (map string_bytes words.now) (K.sunk sink.old) (K.sunk sink.new)) }
+    // Two runs of a program that is accepted never differ, be they asked for or tried, nor do those of code, and no other command answers so.
     ensures agree { IfSome (S.shelved shelf.old).told (λ files. RunsAccepted files (map string_bytes words.now) → result ≢ Status.Differ) }
     // Where the shelf tells, no call of it and no put failed, and all that the words ask holds, all is done, or memory ran out.
     ensures complete { ¬ Rose (S.shelved shelf.old).faults (S.shelved shelf.new).faults → ¬ Rose (K.sunk sink.old).faults (K.sunk sink.new).faults

@@ -2,21 +2,25 @@
 
 ghost use Rattle.std.specs.Prelude.{◌≡◌, ◌≤◌, IfSome, map, string_bytes};
 ghost use Rattle.call_inputs.specs.Plans.{CarriesOut};
+ghost use Rattle.cov_expr.specs.declared.limits.TheConstants.{MOST_TRIALS};
 ghost use Rattle.top_call.specs.Commands as spec;
 ghost use Rattle.top_call.specs.Outcome.{plan_for, plan_of};
 
 use call_big::big::big;
 use call_code::compile::compile;
+use call_code::object::object;
+use call_code::unobject::unobject;
 use call_judge::check::check;
 use call_reports::{Answer, Stop};
 use call_run::pair::pair;
+use call_run::refute::refute;
 use call_run::run::run;
 use call_run::run_until::run_until;
 use call_run_code::pair_code::pair_code;
 use call_run_code::run_code::run_code;
 use call_text::fmt::format;
 use call_text::migrate::migrate;
-use cov_expr::{MOST_EXPRESSION_BYTES, MOST_ROUNDS};
+use cov_expr::{MOST_EXPRESSION_BYTES, MOST_ROUNDS, MOST_TRIALS};
 use cov_io::Shelf;
 use itoa::Buffer;
 use std::alloc::Global;
@@ -31,11 +35,11 @@ pub fn answer<'w, S: Shelf>(
 {
     match words {
         [command, name] => of_one(alloc, command.as_str(), name.as_str(), shelf),
-        [command, number, schedule] => of_two(
+        [command, first, second] => of_two(
             alloc,
             command.as_str(),
-            number.as_str(),
-            schedule.as_str(),
+            first.as_str(),
+            second.as_str(),
             shelf,
         ),
         [command, program, start, schedule] => of_three(
@@ -76,46 +80,60 @@ fn of_one<'w, S: Shelf>(
         format(alloc, name, shelf)
     } else if command == "migrate" {
         migrate(alloc, name, shelf)
+    } else if command == "object" {
+        object(alloc, name, shelf)
+    } else if command == "unobject" {
+        unobject(alloc, name, shelf)
     } else {
         Ok(Answer::Usage)
     }
 }
 
-/// The command of a number and a file.
+/// The commands of a number and a file.
 fn of_two<'w, S: Shelf>(
     alloc: Global,
     command: &str,
-    number: &str,
-    schedule: &'w str,
+    first: &'w str,
+    second: &'w str,
     shelf: &mut S,
 ) -> Result<Answer<'w>, Stop<'w>>
-    ensures { CarriesOut (S.shelved shelf.old) (S.shelved shelf.new) (plan_of (spec.of_two command.now number.now schedule.now)) result }
+    ensures { CarriesOut (S.shelved shelf.old) (S.shelved shelf.new) (plan_of (spec.of_two command.now first.now second.now)) result }
 {
-    match rounds_of(number) {
-        Some(rounds) if command == "big" => big(alloc, rounds, schedule, shelf),
-        _ => Ok(Answer::Usage),
+    if command == "big" {
+        match number_of(first, MOST_ROUNDS) {
+            Some(rounds) => big(alloc, rounds, second, shelf),
+            None => Ok(Answer::Usage),
+        }
+    } else if command == "refute" {
+        match number_of(second, MOST_TRIALS) {
+            Some(trials) => refute(alloc, first, trials, shelf),
+            None => Ok(Answer::Usage),
+        }
+    } else {
+        Ok(Answer::Usage)
     }
 }
 
-/// The number of rounds that a word spells, if it is one.
-fn rounds_of(word: &str) -> Option<u32>
-    ensures is { result ≡ spec.rounds_of word.now }
-    ensures within { IfSome result (λ rounds. (1 ≤ rounds) × (rounds ≤ MOST_ROUNDS)) }
+/// The number from 1 to a most that a word spells, if it spells one.
+fn number_of(word: &str, most: u32) -> Option<u32>
+    requires { most ≤ MOST_TRIALS }
+    ensures is { result ≡ spec.number_of most word.now }
+    ensures within { IfSome result (λ n. (1 ≤ n) × (n ≤ most)) }
 {
     let number = word.parse::<u32>().ok()?;
-    if is_rounds(word, number) {
+    if is_number(word, number, most) {
         Some(number)
     } else {
         None
     }
 }
 
-/// Whether a number is one of rounds, and a word spells it as numbers are printed.
-fn is_rounds(word: &str, number: u32) -> bool
-    ensures { result ≡ spec.is_rounds word.now number }
+/// Whether a number is from 1 to a most, and a word spells it as numbers are printed.
+fn is_number(word: &str, number: u32, most: u32) -> bool
+    ensures { result ≡ spec.is_number most word.now number }
 {
     let mut buffer = Buffer::new();
-    1 <= number && number <= MOST_ROUNDS && word == buffer.format(number)
+    1 <= number && number <= most && word == buffer.format(number)
 }
 
 /// The commands of three files.

@@ -7,6 +7,8 @@ ghost use Rattle.call_judge.specs.Check.{IsAcceptedText};
 ghost use Rattle.call_judge.specs.Starts.{unfit_starts};
 ghost use Rattle.call_reports.specs.Replies.{Reply, status_of};
 ghost use Rattle.call_run.specs.Pairs.{Pairs};
+ghost use Rattle.call_run.specs.Refutes.{Refutes};
+ghost use Rattle.cov_ast.specs.Syntax.{Parsed};
 ghost use Rattle.cov_expr.specs.declared.limits.TheConstants.{MOST_BYTES};
 ghost use Rattle.top_call.specs.Laws.{IsOneReply};
 
@@ -25,6 +27,15 @@ pub fn accepted_runs_never_differ()
     ensures { (bytes left right schedule : List ℕ) (i : PairInput) (reply : Reply) → length bytes ≤ MOST_BYTES → SpellsProgram bytes i.program → IsAcceptedText i.program
         → IsStart i.program left i.left → IsStart i.program right i.right → IsScheduleText i.program schedule i.schedule
         → unfit_starts i.program i.left i.right ≡ None → Pairs i reply → status_of reply ≢ Status.Differ }
+{
+    accepted_programs_are_secure();
+}
+
+/// A law: whatever bytes were read as a program, where it is accepted, `refute` has no reply that two runs differ, whatever the number of
+/// trials.
+pub fn accepted_programs_are_never_refuted()
+    ensures { (bytes : List ℕ) (p : Parsed) (trials : ℕ) (reply : Reply) → length bytes ≤ MOST_BYTES → SpellsProgram bytes p → IsAcceptedText p
+        → Refutes trials p reply → status_of reply ≢ Status.Differ }
 {
     accepted_programs_are_secure();
 }

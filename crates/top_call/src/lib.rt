@@ -2,18 +2,19 @@
 //!
 //! [`covern`] takes the words of a command line, the files (a shelf) and the output (a sink), and ends with a status.
 //! Its contract says what each command replies, what is put, and what a reply means. Laws have no body: by [`one_outcome`],
-//! over the same files a command has one reply, and by [`accepted_runs_never_differ`] `pair` tells no program that is accepted apart.
+//! over the same files a command has one reply, and by [`accepted_runs_never_differ`] and [`accepted_programs_are_never_refuted`]
+//! `pair` and `refute` tell no two runs of an accepted program apart.
 //!
 //! | `src/` | `specs/` | what it has |
 //! |---|---|---|
-//! | `call` | `Headline`, `AcceptedRuns` | `covern`, with all its promises; what it says of a file that it is accepted, and of what is put that it is the listing of its code; whose two runs never differ |
+//! | `call` | `Headline`, `AcceptedRuns` | `covern`, with all its promises; what it says of a file that it is accepted, and of what is put that it is the listing or the object of its code; whose runs never differ |
 //! | `commands` | `Commands`, `Outcome` | which command the words ask for; the plan of each, in one row |
 //! | `laws` | `Laws` | one reply; no two runs of an accepted program that differ |
 //!
-//! What a command does stands in the crates below: `call_judge`, `call_text`, `call_run` and `call_code`, over what it takes (`call_inputs`) and
+//! What a command does stands in the crates below: `call_judge`, `call_text`, `call_run`, `call_code`, `call_run_code` and `call_big`, over what it takes (`call_inputs`) and
 //! what it answers (`call_reports`). There a command is a module with its step, and its plan and replies; here it is a row in each of `Command`
 //! and `plan_of`, an arm in `commands`, and rows of `sound` and `may_differ` in `proofs`. Definitions by command have no row for the rest, so that none is
-//! forgotten; `HoldsSecure`, `PutsCode` and `RunsAccepted` speak of the words of one command each, and what is promised of another is a
+//! forgotten; `HoldsSecure`, `PutsCode`, `PutsObject` and `RunsAccepted` speak of the words of one or two commands each, and what is promised of another is a
 //! clause of its own.
 #![tactic(auto)]
 
@@ -22,4 +23,4 @@ mod commands;
 mod laws;
 
 pub use call::covern;
-pub use laws::{accepted_runs_never_differ, one_outcome};
+pub use laws::{accepted_programs_are_never_refuted, accepted_runs_never_differ, one_outcome};

@@ -2,7 +2,7 @@ use Rattle.std.proofs.Common.{inl, inr, refl, map, string_bytes, rules}
 use Rattle.call_reports.specs.AnswerViews.{seen}
 use Rattle.call_reports.specs.declared.answers.Status.TheVariants as s
 use Rattle.top_call.specs.Outcome.{plan_for}
-use Rattle.top_call.proofs.OutcomeLaws.{answered, call_agree, call_code, call_complete, call_exact, call_fault, call_passes, call_secure, lacking}
+use Rattle.top_call.proofs.OutcomeLaws.{answered, call_agree, call_code, call_complete, call_object, call_exact, call_fault, call_passes, call_secure, lacking}
 use Rattle.top_call.proofs.call.covern.Goals as goal
 
 -- Memory ran out before an answer ------------------------------------------------------------------------------
@@ -84,6 +84,13 @@ returns-clause-code g c done =
     let shelved = g.S.Shelf.shelved in
     let sunk = g.K.Sink.sunk in
     call_code (shelved c.args.shelf.now) (shelved c.answer.new.shelf) (map string_bytes c.args.words.now) (sunk c.args.sink.now) (sunk c.end.new.sink) c.end.result
+    (returns-clause-does g c) c.accepted_programs_have_good_code.ensures.good done
+
+pub returns-clause-object : goal.returns-clause-object
+returns-clause-object g c done =
+    let shelved = g.S.Shelf.shelved in
+    let sunk = g.K.Sink.sunk in
+    call_object (shelved c.args.shelf.now) (shelved c.answer.new.shelf) (map string_bytes c.args.words.now) (sunk c.args.sink.now) (sunk c.end.new.sink) c.end.result
     (returns-clause-does g c) c.accepted_programs_have_good_code.ensures.good done
 
 pub returns-clause-agree : goal.returns-clause-agree
