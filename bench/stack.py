@@ -11,6 +11,8 @@ import subprocess
 import sys
 import tempfile
 
+from hostile import WORDS
+
 TOP = os.path.dirname(os.path.dirname(os.path.abspath(__file__)))
 STEP, AMPLE = 8, 65536
 BLOCKS, HEIGHT, BRACKETS, STEPS = 64, 64, 200, 500
@@ -58,15 +60,11 @@ def texts():
 
 def calls(path):
     programs = ["flat", "branches", "loops", "expression", "calc", "ring", "range", "brackets"]
-    for command in ["check", "fmt", "migrate", "compile", "object"]:
-        yield from ([command, path(name)] for name in programs)
-    yield from (["refute", path(name), "3"] for name in programs)
     for name in programs:
-        yield ["run", path(name), path("start"), path("schedule")]
-        yield ["run-code", path(name), path("start"), path("schedule")]
-        yield ["run-until", path(name), path("start"), path("schedule"), sum_of("a")]
-        yield ["pair", path(name), path("start"), path("start"), path("schedule")]
-        yield ["pair-code", path(name), path("start"), path("start"), path("schedule")]
+        files = {"p": path(name), "s": path("start"), "t": path("start"), "k": path("schedule"), "mode == 1": sum_of("a")}
+        for command, *words in WORDS:
+            if "p" in words:
+                yield [command, *(files.get(word, word) for word in words)]
     yield ["run", path("flat"), path("lists"), path("schedule")]
 
 

@@ -16,8 +16,6 @@ use Rattle.object_code.specs.Object as object_code
 use Rattle.risc_machine.specs.Faults.{AreGood}
 use Rattle.risc_machine.specs.declared.parts.Parts.{Parts}
 use Rattle.compiled_code.specs.GoodCode.{IsGoodCode}
-use Rattle.cov_print.specs.ReadBack.{in_second}
-use Rattle.cov_print.specs.Spelling.{spelling}
 use Rattle.cov_text.specs.Text.{program_of}
 use Rattle.flow_model.specs.Secure.{IsSecure}
 use Rattle.policy_class.specs.Resolved.{resolved}
@@ -41,57 +39,21 @@ use Rattle.call_reports.specs.declared.answers.Stop.TheVariants as stop
 use Rattle.call_run.specs.Pairs.{Pairs, pair_reading}
 use Rattle.call_run.specs.Refutes.{Refutes, refute_reading}
 use Rattle.top_call.specs.AcceptedRuns.{HoldsAccepted, RunsAccepted}
-use Rattle.top_call.specs.Commands.{Command, command_of, of_trials, check, compile, fmt, migrate, object, unobject, refute, run, run_code, run_until, pair, pair_code, big, nothing}
+use Rattle.top_call.specs.Commands.{command_of, of_trials, plan_of}
 use Rattle.top_call.specs.Headline.{HoldsSecure, PutsCode, PutsGoodCode, PutsObject}
 use Rattle.top_call.specs.Laws.{IsOneReply}
-use Rattle.top_call.specs.Outcome.{IsSuccess, Outcome, plan_for, plan_of}
-use Rattle.call_big.proofs.BigLaws.{sum_sound}
-use Rattle.call_code.proofs.CodeLaws.{compile_sound}
-use Rattle.call_code.proofs.ObjectLaws.{code_reading, object_sound, unobject_sound}
-use Rattle.call_run_code.proofs.CodeRunLaws.{pair_code_sound, run_code_sound}
-use Rattle.call_inputs.proofs.ExpressionLaws.{expression_reading}
-use Rattle.call_inputs.proofs.InputLaws.{schedule_fine, schedule_reading, start_is_memory, start_reading}
-use Rattle.call_inputs.proofs.PlanLaws.{IsResult, IsSound, IsSoundReply, Puts, one_sound, at_end, performs_exact, performs_fault, performs_met, performs_passes, performs_took, reply_one}
+use Rattle.top_call.specs.Outcome.{IsSuccess, Outcome, plan_for}
+use Rattle.call_inputs.proofs.InputLaws.{schedule_fine, start_is_memory}
+use Rattle.call_inputs.proofs.PlanLaws.{IsResult, IsSound, Puts, at_end, performs_exact, performs_fault, performs_met, performs_passes, performs_took, reply_one}
 use Rattle.call_inputs.proofs.ReadingLaws.{Reliable, reads_onward}
 use Rattle.call_inputs.proofs.TextLaws.{program_reading, some_one}
 use Rattle.call_judge.proofs.CheckLaws.{names_hold, not_rejected}
 use Rattle.call_reports.proofs.EndLaws.{ends_onward}
-use Rattle.call_run.proofs.PairLaws.{pair_sound, pairs_never_differ}
-use Rattle.call_run.proofs.RefuteLaws.{never_refuted, refute_sound}
-use Rattle.call_run.proofs.RunLaws.{run_sound, until_sound}
-use Rattle.top_call.proofs.WordLaws.{ArePairWords, AreTrialWords, differing_words, may_differ}
+use Rattle.call_run.proofs.PairLaws.{pairs_never_differ}
+use Rattle.call_run.proofs.RefuteLaws.{never_refuted}
+use Rattle.top_call.proofs.CommandLaws.{ArePairWords, AreTrialWords, IsSuccessIf, differing_words, may_differ, results, sound}
 
--- The commands -------------------------------------------------------------------------------------------------
-
--- the statuses of success, of what may find two runs apart, and else
-abbrev IsSuccessIf : Bool → Status → Type 0
-IsSuccessIf true status = (status ≡ s.Done) ⊎ (status ≡ s.Differ)
-IsSuccessIf false status = status ≡ s.Done
-
-results : (b : Bool) (status : Status) → IsSuccessIf b status → IsResult status
-results true status (inl e) = subst IsResult (sym e) tt
-results true status (inr e) = subst IsResult (sym e) tt
-results false status e = subst IsResult (sym e) tt
-
--- the plan of each command is sound
-sound : (command : Command) → IsSound (IsSuccessIf (may_differ command)) (plan_of command)
-sound (check name) = ((program_reading, λ p. tt), λ p. one_sound (verdict p) refl)
-sound (compile name) = ((program_reading, λ p. tt), compile_sound)
-sound (fmt name) = ((program_reading, λ p. tt), λ p. one_sound (spelled (spelling p)) refl)
-sound (migrate name) = ((program_reading, λ p. tt), λ p. one_sound (spelled (spelling (in_second p))) refl)
-sound (object name) = ((program_reading, λ p. tt), object_sound)
-sound (unobject name) = ((code_reading, λ c. tt), unobject_sound)
-sound (refute name trials) = ((program_reading, λ p. tt), refute_sound trials)
-sound (run name start schedule) = ((program_reading, λ p. (start_reading p, λ m. (schedule_reading p, λ k. tt))), run_sound)
-sound (run_code name start schedule) = ((program_reading, λ p. (start_reading p, λ m. (schedule_reading p, λ k. tt))), run_code_sound)
-sound (run_until name start schedule word) =
-    ((program_reading, λ p. (start_reading p, λ m. (schedule_reading p, λ k. (expression_reading p, λ e. tt)))), until_sound)
-sound (pair name first second schedule) =
-    ((program_reading, λ p. (start_reading p, λ l. (start_reading p, λ r. (schedule_reading p, λ k. tt)))), pair_sound)
-sound (pair_code name first second schedule) =
-    ((program_reading, λ p. (start_reading p, λ l. (start_reading p, λ r. (schedule_reading p, λ k. tt)))), pair_code_sound)
-sound (big rounds schedule) = ((program_reading, λ p. (schedule_reading p, λ k. tt)), sum_sound rounds)
-sound nothing = (tt, λ x. record { one = λ reply other h k. absurd h; success = λ reply h. absurd h })
+-- One reply ---------------------------------------------------------------------------------------------------
 
 pub one_reply : IsOneReply
 one_reply files words reply other h k =

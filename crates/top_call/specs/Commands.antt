@@ -1,7 +1,19 @@
--- What a command line asks.
+-- The commands: what each does, in one row, and which one the words of a command line are.
 use Rattle.std.specs.Prelude.{ℕ, List, [], ◌∷◌, length, nat_le, Bool, ◌&&◌, Option, Some, None, codes, decimal, if◌then◌else◌}
 use Rattle.std.specs.Str.{bytes_eq}
 use Rattle.std.specs.Str.Parse.{digits_value}
+use Rattle.call_big.specs.BigReplies.{big_plan}
+use Rattle.call_code.specs.Codes.{compile_plan}
+use Rattle.call_code.specs.Objects.{object_plan, unobject_plan}
+use Rattle.call_inputs.specs.Plans.{Plan, does}
+use Rattle.call_inputs.specs.Readings.{gives, tries}
+use Rattle.call_inputs.specs.Rejections.{no_form}
+use Rattle.call_judge.specs.Check.{check_plan}
+use Rattle.call_run.specs.Pairs.{pair_plan}
+use Rattle.call_run.specs.Refutes.{refute_plan}
+use Rattle.call_run.specs.Runs.{run_plan, run_until_plan}
+use Rattle.call_run_code.specs.CodeRuns.{pair_code_plan, run_code_plan}
+use Rattle.call_text.specs.Format.{fmt_plan, migrate_plan}
 use Rattle.cov_expr.specs.declared.limits.TheConstants.{MOST_EXPRESSION_BYTES, MOST_ROUNDS, MOST_TRIALS}
 
 -- a command, with the words that it takes: names of files, an expression, and a number of rounds or of trials
@@ -20,6 +32,25 @@ pub data Command : Type 0 where
   pair_code : (program first second schedule : List ℕ) → Command
   big : (rounds : ℕ) (schedule : List ℕ) → Command
   nothing : Command
+
+-- what each command does; words of none of the forms are rejected before anything is read
+abbrev pub plan_of : Command → Plan
+plan_of (check name) = check_plan name
+plan_of (compile name) = compile_plan name
+plan_of (fmt name) = fmt_plan name
+plan_of (migrate name) = migrate_plan name
+plan_of (object name) = object_plan name
+plan_of (unobject name) = unobject_plan name
+plan_of (refute name trials) = refute_plan name trials
+plan_of (run name start schedule) = run_plan name start schedule
+plan_of (run_code name start schedule) = run_code_plan name start schedule
+plan_of (run_until name start schedule word) = run_until_plan name start schedule word
+plan_of (pair name first second schedule) = pair_plan name first second schedule
+plan_of (pair_code name first second schedule) = pair_code_plan name first second schedule
+plan_of (big rounds schedule) = big_plan rounds schedule
+plan_of nothing = does (tries (Some no_form) (gives (tt {0}))) (λ x reply. ⊥)
+
+-- Words ----------------------------------------------------------------------------------------------------------
 
 -- the commands of one file
 abbrev pub of_one : (word name : List ℕ) → Command

@@ -4,7 +4,8 @@ ghost use Rattle.std.specs.Prelude.{◌≡◌, ◌≤◌, IfSome, map, string_by
 ghost use Rattle.call_inputs.specs.Plans.{CarriesOut};
 ghost use Rattle.cov_expr.specs.declared.limits.TheConstants.{MOST_TRIALS};
 ghost use Rattle.top_call.specs.Commands as spec;
-ghost use Rattle.top_call.specs.Outcome.{plan_for, plan_of};
+ghost use Rattle.top_call.specs.Commands.{plan_of};
+ghost use Rattle.top_call.specs.Outcome.{plan_for};
 
 use call_big::big::big;
 use call_code::compile::compile;

@@ -8,7 +8,7 @@
 //! | `src/` | `specs/` | what it has |
 //! |---|---|---|
 //! | `call` | `Headline`, `AcceptedRuns` | `covern`, with all its promises; what it says of a file that it is accepted, and of what is put that it is the listing or the object of its code; whose runs never differ |
-//! | `commands` | `Commands`, `Outcome` | which command the words ask for; the plan of each, in one row |
+//! | `commands` | `Commands`, `Outcome` | the plan of each command, in one row, and which command the words are; what is replied to the words |
 //! | `laws` | `Laws` | one reply; no two runs of an accepted program that differ |
 //!
 //! What a command does stands in the crates below: `call_judge`, `call_text`, `call_run`, `call_code`, `call_run_code` and `call_big`, over what it takes (`call_inputs`) and

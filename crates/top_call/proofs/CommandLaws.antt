@@ -1,10 +1,29 @@
--- Laws of words: which of them ask for two runs side by side, or for many.
+-- Laws of commands: the plan of each is sound, and which words ask for two runs side by side, or for many.
 use Rattle.std.specs.Prelude.{codes, if◌then◌else◌}
 use Rattle.std.specs.Str.{bytes_eq}
-use Rattle.std.proofs.Common.{◌≡◌, ◌⊎◌, ℕ, List, [], ◌∷◌, Bool, true, false, Option, Some, None, length, ◌<◌, refl, ap, inl, inr, nat_le, arith}
+use Rattle.std.proofs.Common.{◌≡◌, ◌⊎◌, ℕ, List, [], ◌∷◌, Bool, true, false, Option, Some, None, length, ◌<◌, refl, sym, subst, ap, inl, inr, nat_le, arith}
 use Rattle.std.proofs.lemmas.Slice.Eq.{bytes_eq-Decides}
 use Rattle.cov_expr.specs.declared.limits.TheConstants.{MOST_EXPRESSION_BYTES, MOST_ROUNDS, MOST_TRIALS}
-use Rattle.top_call.specs.Commands.{Command, command_of, number_of, of_four, of_one, of_rounds, of_three, of_trials, of_two, check, compile, fmt, migrate, object, unobject, refute, run, run_code, run_until, pair, pair_code, big, nothing}
+use Rattle.top_call.specs.Commands.{Command, command_of, plan_of, number_of, of_four, of_one, of_rounds, of_three, of_trials, of_two, check, compile, fmt, migrate, object, unobject, refute, run, run_code, run_until, pair, pair_code, big, nothing}
+use Rattle.call_big.proofs.BigLaws.{sum_sound}
+use Rattle.call_code.proofs.CodeLaws.{compile_sound}
+use Rattle.call_code.proofs.ObjectLaws.{code_reading, object_sound, unobject_sound}
+use Rattle.call_inputs.proofs.ExpressionLaws.{expression_reading}
+use Rattle.call_inputs.proofs.InputLaws.{schedule_reading, start_reading}
+use Rattle.call_inputs.proofs.PlanLaws.{IsResult, IsSound, one_sound}
+use Rattle.call_inputs.proofs.TextLaws.{program_reading}
+use Rattle.call_judge.specs.Check.{verdict}
+use Rattle.call_reports.specs.Replies.{spelled}
+use Rattle.call_reports.specs.declared.answers.Status.{Status}
+use Rattle.call_reports.specs.declared.answers.Status.TheVariants as s
+use Rattle.call_run.proofs.PairLaws.{pair_sound}
+use Rattle.call_run.proofs.RefuteLaws.{refute_sound}
+use Rattle.call_run.proofs.RunLaws.{run_sound, until_sound}
+use Rattle.call_run_code.proofs.CodeRunLaws.{pair_code_sound, run_code_sound}
+use Rattle.cov_print.specs.ReadBack.{in_second}
+use Rattle.cov_print.specs.Spelling.{spelling}
+
+-- The commands -------------------------------------------------------------------------------------------------
 
 -- whether what is asked for may find two runs apart
 abbrev pub may_differ : Command → Bool
@@ -22,6 +41,38 @@ may_differ (pair name first second schedule) = true
 may_differ (pair_code name first second schedule) = false
 may_differ (big rounds schedule) = false
 may_differ nothing = false
+
+-- the statuses of success: of what may find two runs apart, and else
+abbrev pub IsSuccessIf : Bool → Status → Type 0
+IsSuccessIf true status = (status ≡ s.Done) ⊎ (status ≡ s.Differ)
+IsSuccessIf false status = status ≡ s.Done
+
+pub results : (b : Bool) (status : Status) → IsSuccessIf b status → IsResult status
+results true status (inl e) = subst IsResult (sym e) tt
+results true status (inr e) = subst IsResult (sym e) tt
+results false status e = subst IsResult (sym e) tt
+
+-- the plan of each command is sound
+pub sound : (command : Command) → IsSound (IsSuccessIf (may_differ command)) (plan_of command)
+sound (check name) = ((program_reading, λ p. tt), λ p. one_sound (verdict p) refl)
+sound (compile name) = ((program_reading, λ p. tt), compile_sound)
+sound (fmt name) = ((program_reading, λ p. tt), λ p. one_sound (spelled (spelling p)) refl)
+sound (migrate name) = ((program_reading, λ p. tt), λ p. one_sound (spelled (spelling (in_second p))) refl)
+sound (object name) = ((program_reading, λ p. tt), object_sound)
+sound (unobject name) = ((code_reading, λ c. tt), unobject_sound)
+sound (refute name trials) = ((program_reading, λ p. tt), refute_sound trials)
+sound (run name start schedule) = ((program_reading, λ p. (start_reading p, λ m. (schedule_reading p, λ k. tt))), run_sound)
+sound (run_code name start schedule) = ((program_reading, λ p. (start_reading p, λ m. (schedule_reading p, λ k. tt))), run_code_sound)
+sound (run_until name start schedule word) =
+    ((program_reading, λ p. (start_reading p, λ m. (schedule_reading p, λ k. (expression_reading p, λ e. tt)))), until_sound)
+sound (pair name first second schedule) =
+    ((program_reading, λ p. (start_reading p, λ l. (start_reading p, λ r. (schedule_reading p, λ k. tt)))), pair_sound)
+sound (pair_code name first second schedule) =
+    ((program_reading, λ p. (start_reading p, λ l. (start_reading p, λ r. (schedule_reading p, λ k. tt)))), pair_code_sound)
+sound (big rounds schedule) = ((program_reading, λ p. (schedule_reading p, λ k. tt)), sum_sound rounds)
+sound nothing = (tt, λ x. record { one = λ reply other h k. absurd h; success = λ reply h. absurd h })
+
+-- Words ----------------------------------------------------------------------------------------------------------
 
 one : (name : List ℕ) (a b c d e f : Bool)
     → may_differ (if a then check name else (if b then compile name else (if c then fmt name else (if d then migrate name
