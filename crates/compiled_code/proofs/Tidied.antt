@@ -24,9 +24,9 @@ use Rattle.mode_state.specs.Sets.{is_stable, may_write}
 use Rattle.typing_law.specs.Blocks.{after_stm, after_block}
 use Rattle.typing_law.specs.ThreadObligations.{flat, agree, same_held, reads, one_unstable, narrow, assign_parts, unlock_parts, stm_parts, block_obligations, end_obligation, end_point, thread_obligations}
 use Rattle.typing_law.proofs.Soundness.Sound.{agreed}
-use Rattle.typing_state.specs.After.{start, with_guard, meet}
-use Rattle.typing_state.specs.Point.{Point}
-use Rattle.verify.specs.Accepted.{IsAccepted}
+use Rattle.point_law.specs.After.{start, with_guard, meet}
+use Rattle.point_law.specs.Point.{Point}
+use Rattle.program_law.specs.Accepted.{IsAccepted}
 use Rattle.compiled_code.proofs.LaidOut.{IsTidyExpr, IsTidy}
 
 -- At most one that passes a test ----------------------------------------------------------------------------------

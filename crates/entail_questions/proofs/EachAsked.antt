@@ -16,8 +16,8 @@ use Rattle.typing_law.specs.Counts.{entailment_count}
 use Rattle.typing_law.specs.Entailments.{Entailment, assign_entailments, guard_follows, state_follows, unlock_entailments}
 use Rattle.typing_law.specs.ThreadEntailments.{PlacedEntailment, placed_from, stm_entailments, block_entailments, entailment_among, all_entailments, reached, thread_entailments}
 use Rattle.typing_law.specs.ThreadObligations.{thread_obligations}
-use Rattle.typing_state.specs.After.{meet, start, with_guard}
-use Rattle.typing_state.specs.Point.{Point}
+use Rattle.point_law.specs.After.{meet, start, with_guard}
+use Rattle.point_law.specs.Point.{Point}
 use Rattle.cov_ast.specs.LocksAlong.{no_locks}
 use Rattle.held_locks.specs.LocksHeld.{held_along}
 use Rattle.entail_questions.specs.Questions.{asked, asked_among, asked_of_way, questions}

@@ -9,8 +9,8 @@ use Rattle.cov_ast.specs.Syntax.{State, Stm, skip, assign, lock, unlock, branch,
 use Rattle.mode_state.specs.Sets.{is_hidden}
 use Rattle.typing_law.specs.Blocks.{after_block, value_type}
 use Rattle.typing_law.specs.Entailments.{controlled_follows, controlled_values, freed_value, from_one_more, from_preds, guard_follows, retype_follows, shown_controlled, shown_value, state_follows, type_follows, unlock_entailments, written_type}
-use Rattle.typing_state.specs.After.{meet, with_guard}
-use Rattle.typing_state.specs.Point.{Point}
+use Rattle.point_law.specs.After.{meet, with_guard}
+use Rattle.point_law.specs.Point.{Point}
 use Rattle.entail_questions.specs.OwnEntailments.{own_entailments}
 use Rattle.entail_questions.specs.Questions.{of_controlled, of_preds, of_shown, of_state, of_unlock, of_written, questions}
 use Rattle.entail_questions.specs.declared.kinds.End.{End}

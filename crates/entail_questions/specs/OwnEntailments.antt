@@ -5,8 +5,8 @@ use Rattle.cov_ast.specs.Plain.{Plain}
 use Rattle.cov_ast.specs.Syntax.{Stm, skip, assign, lock, unlock, branch, loop, note, output}
 use Rattle.typing_law.specs.Blocks.{after_block}
 use Rattle.typing_law.specs.Entailments.{Entailment, assign_entailments, guard_follows, state_follows, unlock_entailments}
-use Rattle.typing_state.specs.After.{meet, with_guard}
-use Rattle.typing_state.specs.Point.{Point}
+use Rattle.point_law.specs.After.{meet, with_guard}
+use Rattle.point_law.specs.Point.{Point}
 
 -- in the order of their numbers, at the point in front of the statement
 abbrev pub own_entailments : Plain → (t : ℕ) → Stm → Point → List Entailment

@@ -5,7 +5,7 @@ ghost use Rattle.cov_ast.specs.Plain.{Plain};
 ghost use Rattle.cov_ast.specs.Syntax.{Program, Stm};
 ghost use Rattle.cov_ast.specs.WellFormed.{IsWellFormed};
 ghost use Rattle.typing_law.specs.ThreadEntailments.{entailment_among, thread_entailments};
-ghost use Rattle.typing_state.specs.Point.{Point};
+ghost use Rattle.point_law.specs.Point.{Point};
 ghost use Rattle.entail_questions.specs.OwnEntailments.{own_entailments};
 ghost use Rattle.entail_questions.specs.Questions as spec;
 

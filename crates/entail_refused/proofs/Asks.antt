@@ -12,8 +12,8 @@ use Rattle.cov_ast.specs.declared.refusal.Detail.{Detail}
 use Rattle.cov_ast.specs.declared.refusal.Detail.TheVariants.{Number}
 use Rattle.cov_ast.specs.declared.refusal.Rule.TheVariants.{V2, V5}
 use Rattle.mode_state.specs.Sets.{is_stable, may_write}
-use Rattle.typing_state.specs.After.{after_assign, meet, noted, with_guard}
-use Rattle.typing_state.specs.Point.{Point, is_tracked}
+use Rattle.point_law.specs.After.{after_assign, meet, noted, with_guard}
+use Rattle.point_law.specs.Point.{Point, is_tracked}
 use Rattle.typing_law.specs.Blocks.{after_block, after_stm, value_type}
 use Rattle.typing_law.specs.Counts.{entailment_count, is_entailment}
 use Rattle.typing_law.specs.Entailments.{Entailment, assign_entailments, guard_follows, is_proved, state_follows, unlock_entailments}

@@ -7,8 +7,8 @@ use Rattle.cov_expr.specs.Term.{neg}
 use Rattle.cov_ast.specs.Plain.{Plain}
 use Rattle.cov_ast.specs.Syntax.{Stm, skip, assign, lock, unlock, branch, loop, note, output, Block, done, more}
 use Rattle.cov_ast.specs.WellFormed.{are_distinct, places, places_within}
-use Rattle.typing_state.specs.After.{meet, with_guard}
-use Rattle.typing_state.specs.Point.{Point}
+use Rattle.point_law.specs.After.{meet, with_guard}
+use Rattle.point_law.specs.Point.{Point}
 use Rattle.typing_law.specs.Blocks.{after_block, after_stm}
 use Rattle.typing_law.specs.Entailments.{Entailment, assign_entailments, guard_follows, state_follows, unlock_entailments}
 use Rattle.typing_law.specs.ThreadEntailments.{PlacedEntailment, block_entailments, entailment_among, placed_from, stm_entailments}

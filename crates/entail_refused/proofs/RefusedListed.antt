@@ -10,7 +10,7 @@ use Rattle.cov_ast.specs.declared.refusal.Detail.TheVariants.{Number}
 use Rattle.cov_ast.specs.declared.refusal.Refusal.{Refusal}
 use Rattle.cov_ast.specs.declared.refusal.Rule.TheVariants.{V9}
 use Rattle.mode_compat.specs.Compatible.{numbered}
-use Rattle.typing_state.specs.After.{start}
+use Rattle.point_law.specs.After.{start}
 use Rattle.typing_law.specs.Counts.{entailment_count, is_entailment}
 use Rattle.typing_law.specs.Entailments.{is_proved}
 use Rattle.typing_law.specs.ThreadEntailments.{PlacedEntailment, all_entailments, entailment_among, is_about_certificates, is_passed, reached, reached_entailments}

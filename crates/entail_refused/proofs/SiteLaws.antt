@@ -18,8 +18,8 @@ use Rattle.typing_law.specs.Counts.{entailment_count}
 use Rattle.typing_law.specs.Entailments.{Entailment, assign_entailments, controlled_follows, controlled_values, freed_value, from_one_more, from_preds, guard_follows, retype_follows, shown_controlled, shown_value, state_follows, type_follows, unlock_entailments, written_type}
 use Rattle.typing_law.specs.ThreadEntailments.{PlacedEntailment, placed_from, stm_entailments, block_entailments, entailment_among, all_entailments, reached, thread_entailments}
 use Rattle.typing_law.specs.ThreadObligations.{thread_obligations}
-use Rattle.typing_state.specs.After.{meet, start, with_guard}
-use Rattle.typing_state.specs.Point.{Point}
+use Rattle.point_law.specs.After.{meet, start, with_guard}
+use Rattle.point_law.specs.Point.{Point}
 use Rattle.cov_ast.specs.LocksAlong.{no_locks}
 use Rattle.held_locks.specs.LocksHeld.{held_along}
 use Rattle.entail_questions.specs.OwnEntailments.{own_entailments}

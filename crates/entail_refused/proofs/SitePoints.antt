@@ -12,8 +12,8 @@ use Rattle.hypothesis_origins.specs.Points.{after_steps, point_after_steps}
 use Rattle.statement_paths.specs.Paths.{Step, passed_all, to_body_end, to_first_end, to_head, to_second_end}
 use Rattle.type_origins.specs.GoalTypes.{asked_point, at_body_end, at_end, at_first_end, at_head, at_second_end}
 use Rattle.typing_law.specs.Blocks.{after_block, after_stm}
-use Rattle.typing_state.specs.After.{meet, start, with_guard}
-use Rattle.typing_state.specs.Point.{Point}
+use Rattle.point_law.specs.After.{meet, start, with_guard}
+use Rattle.point_law.specs.Point.{Point}
 use Rattle.entail_refused.specs.Sites.{site_at, steps_to_end, steps_to_point}
 
 module _ (p : Plain) (t : ℕ) where

@@ -3,8 +3,8 @@ use Rattle.std.proofs.Common.{◌≡◌, ℕ, refl, ap, ◌∙◌}
 use Rattle.cov_ast.specs.Plain.{Plain, plain_block}
 use Rattle.cov_ast.specs.Syntax.{Stm, skip, assign, lock, unlock, branch, loop, note, output, Block, done, more}
 use Rattle.typing_law.specs.Blocks.{after_stm, after_block}
-use Rattle.typing_state.specs.After.{with_guard}
-use Rattle.typing_state.specs.Point.{Point}
+use Rattle.point_law.specs.After.{with_guard}
+use Rattle.point_law.specs.Point.{Point}
 use Rattle.held_locks.specs.LocksHeld.{held_past, held_at_end}
 use Rattle.held_locks.proofs.PlainLaws.{after_the_first}
 

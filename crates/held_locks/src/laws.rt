@@ -4,7 +4,7 @@ ghost use Rattle.std.specs.Prelude.{◌≡◌, ℕ};
 ghost use Rattle.cov_ast.specs.Plain.{Plain};
 ghost use Rattle.cov_ast.specs.Syntax.{Stm};
 ghost use Rattle.typing_law.specs.Blocks.{after_stm};
-ghost use Rattle.typing_state.specs.Point.{Point};
+ghost use Rattle.point_law.specs.Point.{Point};
 ghost use Rattle.held_locks.specs.LocksHeld.{held_past};
 
 /// A law: the locks that are held behind a statement are those of the point behind it.

@@ -11,9 +11,9 @@ use Rattle.cov_ast.specs.Declarations.{lock_at}
 use Rattle.cov_ast.specs.Plain.{Plain}
 use Rattle.cov_ast.specs.Syntax.{skip, assign, lock, unlock, branch, loop, note, output}
 use Rattle.statement_paths.specs.Paths.{Step, passed, yes, no, head, place_of}
-use Rattle.typing_state.specs.After.{start, with_term_if, keeps_value}
-use Rattle.typing_state.specs.Point.{Point, is_over_stable}
-use Rattle.typing_state.specs.Terms.{with_term, with_terms, with_option, distinct_terms}
+use Rattle.point_law.specs.After.{start, with_term_if, keeps_value}
+use Rattle.point_law.specs.Point.{Point, is_over_stable}
+use Rattle.point_law.specs.Terms.{with_term, with_terms, with_option, distinct_terms}
 use Rattle.hypothesis_origins.specs.Origins.{Given, given, each, by_invariant, given_by, first_given, at_place, origin_at, origin}
 use Rattle.hypothesis_origins.specs.Points.{after_step, after_steps, point_after_steps}
 use Rattle.hypothesis_origins.specs.declared.origin.Origin.{Origin}

@@ -3,7 +3,7 @@ use Rattle.std.proofs.Common.{◌≡◌, ℕ, List, [], ◌∷◌, ◌++◌, ref
 use Rattle.cov_ast.specs.Plain.{Plain}
 use Rattle.hypothesis_origins.specs.Points.{after_step, after_steps}
 use Rattle.statement_paths.specs.Paths.{Step}
-use Rattle.typing_state.specs.Point.{Point}
+use Rattle.point_law.specs.Point.{Point}
 
 module _ (p : Plain) (t : ℕ) where
   pub appended : (ss rs : List Step) (a : Point) → after_steps p t (ss ++ rs) a ≡ after_steps p t rs (after_steps p t ss a)

@@ -4,8 +4,8 @@ use Rattle.cov_expr.specs.Term.{neg}
 use Rattle.cov_ast.specs.Plain.{Plain}
 use Rattle.statement_paths.specs.Paths.{Step, passed, yes, no, head}
 use Rattle.typing_law.specs.Blocks.{after_stm}
-use Rattle.typing_state.specs.After.{start, with_guard, meet}
-use Rattle.typing_state.specs.Point.{Point}
+use Rattle.point_law.specs.After.{start, with_guard, meet}
+use Rattle.point_law.specs.Point.{Point}
 
 module _ (p : Plain) (t : ℕ) where
   abbrev pub after_step : Step → Point → Point

@@ -13,7 +13,7 @@ use Rattle.cov_ast.specs.Plain.{Plain}
 use Rattle.cov_ast.specs.Tables.{has}
 use Rattle.hypothesis_origins.specs.Origins.{Given, given, given_by}
 use Rattle.statement_paths.specs.Paths.{Step, place_of}
-use Rattle.typing_state.specs.Terms.{each_variable}
+use Rattle.point_law.specs.Terms.{each_variable}
 use Rattle.left_out_predicates.specs.LeftOut.{LeftOut, left_out, left_out_at, search_along, state_of_step, gives_nothing, is_left_out, with_given, with_each, with_step}
 use Rattle.left_out_predicates.specs.WouldBeKnown.{first_state}
 use Rattle.left_out_predicates.specs.declared.found.TheConstants.{MOST_FOUND}

@@ -20,9 +20,9 @@ use Rattle.hypothesis_origins.specs.declared.origin.HypothesisSource.{Hypothesis
 use Rattle.hypothesis_origins.specs.declared.origin.HypothesisSource.TheVariants as by
 use Rattle.mode_state.specs.Sets.{is_stable}
 use Rattle.statement_paths.specs.Paths.{Step, passed, yes, no, head}
-use Rattle.typing_state.specs.After.{start}
-use Rattle.typing_state.specs.Point.{Point, is_over_stable}
-use Rattle.typing_state.specs.Terms.{each_variable}
+use Rattle.point_law.specs.After.{start}
+use Rattle.point_law.specs.Point.{Point, is_over_stable}
+use Rattle.point_law.specs.Terms.{each_variable}
 use Rattle.left_out_predicates.specs.LeftOut.{LeftOut, left_out, search_along, gives_nothing, state_of_step}
 use Rattle.left_out_predicates.specs.WouldBeKnown.{WouldBeKnown, first_listed, first_state, predicates_of_step, listing, own_or, step_with}
 use Rattle.left_out_predicates.specs.declared.states.StateAt.{StateAt}

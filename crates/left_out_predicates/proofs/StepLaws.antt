@@ -13,9 +13,9 @@ use Rattle.cov_ast.specs.Syntax.{State, skip, assign, lock, unlock, branch, loop
 use Rattle.cov_ast.specs.Tables.{has}
 use Rattle.mode_state.specs.Sets.{is_stable}
 use Rattle.statement_paths.specs.Paths.{Step, passed, yes, no, head}
-use Rattle.typing_state.specs.After.{with_term_if, keeps_value}
-use Rattle.typing_state.specs.Point.{Point, is_over_stable}
-use Rattle.typing_state.specs.Terms.{each_variable, with_term, with_terms, with_option, distinct_terms}
+use Rattle.point_law.specs.After.{with_term_if, keeps_value}
+use Rattle.point_law.specs.Point.{Point, is_over_stable}
+use Rattle.point_law.specs.Terms.{each_variable, with_term, with_terms, with_option, distinct_terms}
 use Rattle.hypothesis_origins.specs.Origins.{Given, given, each, by_invariant, given_by}
 use Rattle.hypothesis_origins.specs.Points.{after_step}
 use Rattle.hypothesis_origins.specs.declared.origin.HypothesisSource.{HypothesisSource}

@@ -18,7 +18,7 @@ use Rattle.hypothesis_origins.specs.declared.origin.Origin.{Origin}
 use Rattle.hypothesis_origins.specs.declared.origin.HypothesisSource.{HypothesisSource}
 use Rattle.hypothesis_origins.specs.declared.origin.HypothesisSource.TheVariants as by
 use Rattle.statement_paths.specs.Paths.{Step, passed, yes, no, head, place_of}
-use Rattle.typing_state.specs.Terms.{each_variable}
+use Rattle.point_law.specs.Terms.{each_variable}
 use Rattle.left_out_predicates.specs.declared.found.LeftOut as declared
 use Rattle.left_out_predicates.specs.declared.found.TheConstants.{MOST_FOUND}
 use Rattle.left_out_predicates.specs.declared.states.StateAt.{StateAt}

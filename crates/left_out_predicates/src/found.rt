@@ -8,7 +8,7 @@ ghost use Rattle.cov_ast.specs.Tables.{has};
 ghost use Rattle.cov_ast.specs.View as view;
 ghost use Rattle.hypothesis_origins.specs.GivenViews.{given};
 ghost use Rattle.statement_paths.specs.Paths as paths;
-ghost use Rattle.typing_state.specs.Terms.{each_variable};
+ghost use Rattle.point_law.specs.Terms.{each_variable};
 ghost use Rattle.left_out_predicates.specs.LeftOut as spec;
 
 use crate::states::StateAt;

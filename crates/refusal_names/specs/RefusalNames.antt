@@ -6,7 +6,7 @@ use Rattle.cov_ast.specs.declared.refusal.Rule.{Rule}
 use Rattle.cov_ast.specs.declared.refusal.Rule.TheVariants.{V1, V2, V3, V4, V8, V12, V15, V16, W9}
 use Rattle.cov_ast.specs.declared.refusal.Detail.{Detail}
 use Rattle.cov_ast.specs.declared.refusal.Detail.TheVariants.{Three}
-use Rattle.typing_state.specs.KeptPoints.{controls_of}
+use Rattle.point_law.specs.Point.{controls_of}
 use Rattle.text_parts.specs.VariableNames.{variable_names}
 use Rattle.cov_ast.specs.LocksAlong.{no_locks}
 use Rattle.held_locks.specs.LocksHeld.{held_along}

@@ -4,7 +4,7 @@ ghost use Rattle.std.specs.Prelude.{◌≡◌, ◌<◌, ◌++◌, ℕ, List, Boo
 ghost use Rattle.cov_ast.specs.Plain.{plain};
 ghost use Rattle.cov_ast.specs.View as view;
 ghost use Rattle.cov_ast.specs.WellFormed.{IsWellFormed};
-ghost use Rattle.typing_state.specs.KeptPoints.{controls_of};
+ghost use Rattle.point_law.specs.Point.{controls_of};
 ghost use Rattle.text_parts.specs.VariableNames as spelled;
 ghost use Rattle.cov_ast.specs.LocksAlong.{no_locks};
 ghost use Rattle.held_locks.specs.LocksHeld.{held_along};

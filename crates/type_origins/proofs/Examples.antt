@@ -6,12 +6,12 @@ use Rattle.cov_expr.specs.declared.expr.Op.TheVariants.{Eq, Add, Both}
 use Rattle.cov_ast.specs.Declarations.{no_modes}
 use Rattle.cov_ast.specs.Plain.{Plain, none}
 use Rattle.cov_ast.specs.Syntax as s
-use Rattle.typing_state.specs.KeptPoints.{controls_of}
+use Rattle.point_law.specs.Point.{controls_of}
 use Rattle.entail_questions.specs.declared.kinds.End.TheVariants as e
 use Rattle.entail_questions.specs.declared.kinds.Question.TheVariants as q
 use Rattle.statement_paths.specs.Paths.{Step, passed, yes, head}
 use Rattle.type_origins.specs.AskedVariables.{variables_of}
-use Rattle.typing_state.specs.After.{start}
+use Rattle.point_law.specs.After.{start}
 use Rattle.type_origins.specs.GoalTypes.{goal_of, goals_of}
 use Rattle.type_origins.specs.TypeLines.{type_lines}
 use Rattle.type_origins.specs.TypeOrigins.{history, locks_over, change_at}

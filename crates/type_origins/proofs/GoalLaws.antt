@@ -11,9 +11,9 @@ use Rattle.cov_ast.specs.Syntax.{State, Stm, skip, assign, lock, unlock, branch,
 use Rattle.mode_state.specs.Sets.{is_hidden}
 use Rattle.typing_law.specs.Blocks.{after_block, value_type}
 use Rattle.typing_law.specs.Entailments.{Entailment, controlled_follows, controlled_values, freed_value, from_one_more, from_preds, guard_follows, retype_follows, shown_controlled, shown_value, state_follows, type_follows, unlock_entailments, written_type}
-use Rattle.typing_state.specs.After.{meet, with_guard}
-use Rattle.typing_state.specs.Point.{Point, is_tracked, ty, ty_var, type_at}
-use Rattle.typing_state.specs.Terms.{distinct_terms, joined, without_ones}
+use Rattle.point_law.specs.After.{meet, with_guard}
+use Rattle.point_law.specs.Point.{Point, is_tracked, ty, ty_var, type_at}
+use Rattle.point_law.specs.Terms.{distinct_terms, joined, without_ones}
 use Rattle.entail_questions.specs.OwnEntailments.{own_entailments}
 use Rattle.entail_questions.specs.Questions.{of_controlled, of_preds, of_shown, of_state, of_written}
 use Rattle.entail_questions.specs.declared.kinds.End.{End}

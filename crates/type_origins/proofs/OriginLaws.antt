@@ -12,15 +12,15 @@ use Rattle.cov_ast.specs.Declarations.{class_of, is_control, lists, no_lock, und
 use Rattle.cov_ast.specs.Plain.{Plain}
 use Rattle.cov_ast.specs.Syntax.{State, skip, assign, lock, unlock, branch, loop, note, output}
 use Rattle.cov_ast.specs.Tables.{has}
-use Rattle.typing_state.specs.KeptPoints.{controls_of}
+use Rattle.point_law.specs.Point.{controls_of}
 use Rattle.hypothesis_origins.proofs.PointLaws.{appended}
 use Rattle.hypothesis_origins.specs.Points as points
 use Rattle.hypothesis_origins.specs.Points.{point_after_steps}
 use Rattle.statement_paths.specs.Paths.{Step, passed, yes, no, head, place_of}
 use Rattle.typing_law.specs.Blocks.{after_block, value_type}
-use Rattle.typing_state.specs.After.{start, start_type, with_guard, updated, updated_from, retyped, listed_or, locked_type, assigned_type, forgotten_type}
-use Rattle.typing_state.specs.Point.{Point, default_type, given_type, is_tracked}
-use Rattle.typing_state.specs.Terms.{listed}
+use Rattle.point_law.specs.After.{start, start_type, with_guard, updated, updated_from, retyped, listed_or, locked_type, assigned_type, forgotten_type}
+use Rattle.point_law.specs.Point.{Point, default_type, given_type, is_tracked}
+use Rattle.point_law.specs.Terms.{listed}
 use Rattle.type_origins.specs.TypeOrigins.{history_after_step, history_after_steps, changed_by, is_listed, locks_over, no_history, set_by, set_by_assignment, set_by_state, set_by_types, change_at, changed_at, where_true, with_step}
 use Rattle.type_origins.specs.TypesFromOrigins.{IsFrom, IsTold, TellsOfType, type_by_source, type_by_source_in, type_after_steps}
 use Rattle.type_origins.specs.declared.origin.By.{By}

@@ -12,8 +12,8 @@ use Rattle.entail_questions.specs.declared.kinds.Question.{Question}
 use Rattle.entail_questions.specs.declared.kinds.Question.TheVariants as q
 use Rattle.typing_law.specs.Blocks.{after_block, value_type}
 use Rattle.typing_law.specs.Entailments.{Entailment}
-use Rattle.typing_state.specs.After.{meet, with_guard}
-use Rattle.typing_state.specs.Point.{Point, ty, ty_var, type_at}
+use Rattle.point_law.specs.After.{meet, with_guard}
+use Rattle.point_law.specs.Point.{Point, ty, ty_var, type_at}
 use Rattle.type_origins.specs.AskedVariables.{guard_of, printed_of, assigned_value}
 
 -- the predicates of the state of a statement, if it has one

@@ -6,7 +6,7 @@ use Rattle.cov_ast.specs.Plain.{Plain}
 use Rattle.cov_ast.specs.Syntax.{Stm}
 use Rattle.cov_ast.specs.Tables.{has}
 use Rattle.cov_print.specs.Spelling.{Names, whole}
-use Rattle.typing_state.specs.KeptPoints.{controls_of}
+use Rattle.point_law.specs.Point.{controls_of}
 use Rattle.entail_questions.specs.declared.kinds.Question.{Question}
 use Rattle.text_parts.specs.VariableNames.{variable_names}
 use Rattle.cov_ast.specs.LocksAlong.{no_locks}

@@ -4,12 +4,12 @@ use Rattle.cov_expr.specs.Term.{Term}
 use Rattle.cov_ast.specs.Declarations.{class_of}
 use Rattle.cov_ast.specs.Plain.{Plain}
 use Rattle.cov_ast.specs.Syntax.{Stm, skip, assign, lock, unlock, branch, loop, note, output}
-use Rattle.typing_state.specs.KeptPoints.{controls_of}
+use Rattle.point_law.specs.Point.{controls_of}
 use Rattle.hypothesis_origins.specs.Points.{after_step, point_after_steps}
 use Rattle.statement_paths.specs.Paths.{Step, passed, yes, no, head, place_of}
 use Rattle.typing_law.specs.Blocks.{value_type}
-use Rattle.typing_state.specs.Point.{Point, default_type, given_type}
-use Rattle.typing_state.specs.Terms.{listed}
+use Rattle.point_law.specs.Point.{Point, default_type, given_type}
+use Rattle.point_law.specs.Terms.{listed}
 use Rattle.type_origins.specs.TypeOrigins.{history, locks_over, set_by}
 use Rattle.type_origins.specs.declared.origin.History.{History}
 use Rattle.type_origins.specs.declared.origin.TypeOrigin.{TypeOrigin}

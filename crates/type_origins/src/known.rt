@@ -13,7 +13,7 @@ use held_locks::{hidden_set, modes_along, stable_set};
 use mode_state::Mask;
 use statement_paths::Step;
 use std::alloc::Global;
-use typing_state::control_set;
+use variable_types::control_set;
 
 /// What is known of the variables at a point: which are controls, which no other thread writes, and which none reads either.
 #[derive(Drop)]

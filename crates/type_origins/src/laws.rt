@@ -7,7 +7,7 @@ ghost use Rattle.cov_ast.specs.Syntax.{Stm};
 ghost use Rattle.entail_questions.specs.OwnEntailments.{own_entailments};
 ghost use Rattle.entail_questions.specs.declared.kinds.Question.{Question};
 ghost use Rattle.statement_paths.specs.Paths.{Step};
-ghost use Rattle.typing_state.specs.Point.{Point};
+ghost use Rattle.point_law.specs.Point.{Point};
 ghost use Rattle.type_origins.specs.AskedVariables.{variables_of};
 ghost use Rattle.type_origins.specs.GoalTypes.{AgreeOnTypes, goal_of, goals, goals_of};
 ghost use Rattle.type_origins.specs.TypesFromOrigins.{TellsOfType};

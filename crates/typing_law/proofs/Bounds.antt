@@ -19,8 +19,8 @@ use Rattle.policy_class.specs.Policy.{policy_obligations}
 use Rattle.mode_compat.specs.Compatible.{mode_obligations}
 use Rattle.mode_compat.specs.Declared.{declaration_obligations}
 use Rattle.mode_state.specs.Sets.{is_hidden}
-use Rattle.typing_state.specs.Point.{Point, vars_of}
-use Rattle.typing_state.specs.After.{with_guard, meet}
+use Rattle.point_law.specs.Point.{Point, vars_of}
+use Rattle.point_law.specs.After.{with_guard, meet}
 use Rattle.typing_law.specs.Counts.{entailment_count}
 use Rattle.typing_law.specs.Blocks.{value_type, after_stm, after_block}
 use Rattle.typing_law.specs.Entailments.{Entailment, from_preds, from_one_more, type_follows, state_follows, guard_follows, written_type, shown_value, shown_controlled, controlled_follows, controlled_values, retype_follows, assign_entailments, freed_value, unlock_entailments}

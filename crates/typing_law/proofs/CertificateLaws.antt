@@ -13,8 +13,8 @@ use Rattle.cov_ast.specs.WellFormed.{IsWellFormed, are_distinct, places, places_
 use Rattle.cov_ast.specs.declared.refusal.Rule.TheVariants.{V9}
 use Rattle.cov_ast.specs.declared.refusal.Detail.TheVariants.{Number}
 use Rattle.mode_compat.specs.Compatible.{numbered, no_thread}
-use Rattle.typing_state.specs.Point.{Point, is_tracked}
-use Rattle.typing_state.specs.After.{start, with_guard, meet}
+use Rattle.point_law.specs.Point.{Point, is_tracked}
+use Rattle.point_law.specs.After.{start, with_guard, meet}
 use Rattle.typing_law.specs.Blocks.{after_stm, after_block}
 use Rattle.typing_law.specs.Counts.{entailment_count, is_entailment}
 use Rattle.typing_law.specs.Entailments.{Entailment, is_proved, guard_follows, state_follows, assign_entailments, unlock_entailments}

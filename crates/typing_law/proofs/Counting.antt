@@ -11,8 +11,8 @@ use Rattle.cov_ast.specs.Syntax.{State, Proof, Stm, skip, assign, lock, unlock, 
 use Rattle.cov_ast.specs.declared.refusal.Rule.TheVariants.{V5, V9}
 use Rattle.cov_ast.specs.declared.refusal.Detail.TheVariants.{Number}
 use Rattle.mode_state.specs.Sets.{is_stable}
-use Rattle.typing_state.specs.Point.{Point, is_tracked}
-use Rattle.typing_state.specs.After.{with_guard, meet}
+use Rattle.point_law.specs.Point.{Point, is_tracked}
+use Rattle.point_law.specs.After.{with_guard, meet}
 use Rattle.typing_law.specs.Counts.{entailment_count, is_entailment}
 use Rattle.typing_law.specs.Blocks.{after_stm, after_block}
 use Rattle.typing_law.specs.Entailments.{Entailment, is_proved, guard_follows, state_follows, assign_entailments, unlock_entailments}

@@ -6,3 +6,4 @@ pub mod Counting
 pub mod Reached
 mod CertificateLaws
 pub mod Bounds
+pub mod VerdictLaws

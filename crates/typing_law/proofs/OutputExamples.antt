@@ -10,7 +10,7 @@ use Rattle.cov_ast.specs.View.{block_of}
 use Rattle.cov_ast.specs.Obligations.{first_false}
 use Rattle.cov_ast.specs.declared.refusal.Rule.TheVariants.{V1, V3, V9, V10, V13}
 use Rattle.cov_ast.specs.declared.refusal.Detail.TheVariants.{Nothing, One, Number}
-use Rattle.typing_state.specs.Point.{Point}
+use Rattle.point_law.specs.Point.{Point}
 use Rattle.typing_law.specs.Blocks.{after_stm}
 use Rattle.typing_law.specs.ThreadObligations.{thread_obligations}
 use Rattle.typing_law.specs.Counts.{counts}

@@ -3,8 +3,8 @@ use Rattle.std.specs.Prelude.{ℕ, Option, unwrap_or}
 use Rattle.cov_expr.specs.Term.{Term, neg}
 use Rattle.cov_ast.specs.Syntax.{Stm, skip, assign, lock, unlock, branch, loop, note, output, Block, done, more}
 use Rattle.cov_ast.specs.Plain.{Plain}
-use Rattle.typing_state.specs.Point.{Point, ty}
-use Rattle.typing_state.specs.After.{after_assign, after_lock, after_unlock, with_guard, meet, noted}
+use Rattle.point_law.specs.Point.{Point, ty}
+use Rattle.point_law.specs.After.{after_assign, after_lock, after_unlock, with_guard, meet, noted}
 
 -- the type of an assigned value: the one that is written, else that of its expression
 abbrev pub value_type : Plain → (t : ℕ) → Point → Option Term → Term → Term

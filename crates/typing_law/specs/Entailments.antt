@@ -8,8 +8,8 @@ use Rattle.cov_ast.specs.Plain.{Plain}
 use Rattle.cov_ast.specs.Declarations.{class_of, is_control, lock_at}
 use Rattle.mode_state.specs.Sets.{is_hidden}
 use Rattle.entail_cert.specs.Valid.{is_valid}
-use Rattle.typing_state.specs.Point.{Point, vars_of, type_at, ty, ty_var}
-use Rattle.typing_state.specs.Terms.{is_small}
+use Rattle.point_law.specs.Point.{Point, vars_of, type_at, ty, ty_var}
+use Rattle.point_law.specs.Terms.{is_small}
 use Rattle.typing_law.specs.Blocks.{value_type}
 
 -- what has to follow from hypotheses

@@ -10,8 +10,8 @@ use Rattle.cov_ast.specs.declared.refusal.Rule.{Rule}
 use Rattle.cov_ast.specs.declared.refusal.Rule.TheVariants.{W1, W2, W3, W4, W5, W6, W7, W8, W9, V1, V2, V3, V4, V5, V6, V7, V8, V9, V10, V11, V12, V13, V14, V15, V16}
 use Rattle.cov_ast.specs.declared.refusal.Detail.TheVariants.{Number}
 use Rattle.mode_compat.specs.Compatible.{numbered}
-use Rattle.typing_state.specs.Point.{Point}
-use Rattle.typing_state.specs.After.{start, with_guard, meet}
+use Rattle.point_law.specs.Point.{Point}
+use Rattle.point_law.specs.After.{start, with_guard, meet}
 use Rattle.typing_law.specs.Blocks.{after_stm, after_block}
 use Rattle.typing_law.specs.Counts.{entailment_count, is_entailment}
 use Rattle.typing_law.specs.Entailments.{Entailment, is_proved, state_follows, guard_follows, assign_entailments, unlock_entailments}

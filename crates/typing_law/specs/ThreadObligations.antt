@@ -18,8 +18,8 @@ use Rattle.cov_ast.specs.declared.refusal.Detail.{Detail}
 use Rattle.cov_ast.specs.declared.refusal.Detail.TheVariants.{Nothing, One, Number}
 use Rattle.mode_state.specs.Sets.{locks_of, is_stable, may_read, may_write}
 use Rattle.mode_compat.specs.Compatible.{numbered}
-use Rattle.typing_state.specs.Point.{Point, has_small_types, is_tracked, is_over_stable, is_over_controls}
-use Rattle.typing_state.specs.After.{start, after_assign, after_lock, after_unlock, with_guard, meet, noted}
+use Rattle.point_law.specs.Point.{Point, has_small_types, is_tracked, is_over_stable, is_over_controls}
+use Rattle.point_law.specs.After.{start, after_assign, after_lock, after_unlock, with_guard, meet, noted}
 use Rattle.typing_law.specs.Blocks.{value_type, after_stm, after_block}
 use Rattle.typing_law.specs.Entailments.{Entailment, is_proved, is_small_entailment, state_follows, guard_follows, assign_entailments, unlock_entailments}
 

@@ -7,15 +7,17 @@
 //! compute worked examples.
 //!
 //! - [`Count`]: how many statements and entailments a thread has. [`Entail`]: one of these, as it is handed out.
+//! - [`Site`]: where an obligation of a thread stands. [`require_at`] and [`refused_at`] refuse one there.
 //! - [`threads_end_without_locks`], [`entailments_are_obligations`], [`true_declarations_are_declared`],
 //!   [`true_obligations_are_secure`]: laws, without a body. The last is the soundness of the rules.
 //!
-//! The walk over statements that tries these obligations is `typing_rules`.
+//! The walk over statements that tries these obligations is `typing_rules`; each alone is tried by `statement_rules` and `entail_rules`.
 #![tactic(auto)]
 
 mod count;
 mod entail;
 mod laws;
+mod site;
 
 pub use count::Count;
 pub use entail::Entail;
@@ -23,3 +25,4 @@ pub use laws::{
     entailments_are_obligations, threads_end_without_locks, true_declarations_are_declared,
     true_obligations_are_secure,
 };
+pub use site::{Site, refused_at, require_at};

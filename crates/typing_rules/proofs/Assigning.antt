@@ -5,17 +5,17 @@ use Rattle.cov_ast.specs.Obligations.{Decides, Obligation, first_false}
 use Rattle.cov_ast.specs.Plain.{Plain}
 use Rattle.cov_ast.specs.Syntax.{Proof, assign}
 use Rattle.cov_ast.specs.declared.refusal.CheckFault.{CheckFault}
-use Rattle.typing_state.specs.After.{after_assign}
-use Rattle.typing_state.specs.Point.{Point}
+use Rattle.point_law.specs.After.{after_assign}
+use Rattle.point_law.specs.Point.{Point}
 use Rattle.typing_law.specs.Blocks.{after_stm, value_type}
 use Rattle.typing_law.specs.Entailments.{Entailment, assign_entailments}
 use Rattle.typing_law.specs.ThreadEntailments.{PlacedEntailment, stm_entailments}
 use Rattle.typing_law.specs.ThreadObligations.{few_preds, flat, numbers, proved, small_terms, stm_parts}
 use Rattle.typing_law.specs.declared.entail.Entail.{Entail}
-use Rattle.typing_rules.specs.Inside.Keeping.{are_others}
+use Rattle.entail_rules.specs.Keeping.{are_others}
 use Rattle.typing_rules.specs.Inside.Passing.{Stops}
 use Rattle.typing_rules.specs.Inside.Walking.{Walks, last_parts, value_parts}
-use Rattle.typing_rules.specs.declared.purpose.Purpose.{Purpose}
+use Rattle.entail_rules.specs.declared.purpose.Purpose.{Purpose}
 use Rattle.typing_rules.specs.declared.walk.Walked.{Walked}
 use Rattle.typing_rules.proofs.Others.{others_value}
 use Rattle.typing_rules.proofs.Parts.{flat-append}

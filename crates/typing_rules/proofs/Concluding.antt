@@ -1,5 +1,5 @@
 -- Obligations of a statement the last of which are about entailments and the numbers of proofs.
-use Rattle.std.proofs.Common.{◌≡◌, ℕ, suc, List, [], ◌∷◌, ◌++◌, length, map, take, true, refl, sym, ap, ◌∙◌, subst, arith, append_assoc, Some, None, Err}
+use Rattle.std.proofs.Common.{◌≡◌, ℕ, List, [], ◌∷◌, ◌++◌, length, map, take, true, refl, sym, ap, ◌∙◌, subst, arith, append_assoc, Some, None, Err}
 use Rattle.std.proofs.lemmas.List.{append-nil, length-map, take-map, take_at}
 use Rattle.cov_ast.specs.Obligations.{Decides, Obligation, first_false}
 use Rattle.cov_ast.specs.Plain.{Plain}
@@ -9,7 +9,7 @@ use Rattle.cov_ast.specs.declared.refusal.CheckFault.TheVariants.{Refused, NoMem
 use Rattle.cov_ast.specs.declared.refusal.Detail.TheVariants.{Number}
 use Rattle.cov_ast.specs.declared.refusal.Refusal.{Refusal}
 use Rattle.cov_ast.specs.declared.refusal.Rule.TheVariants.{V13}
-use Rattle.typing_state.specs.Point.{Point}
+use Rattle.point_law.specs.Point.{Point}
 use Rattle.typing_law.specs.Counts.{entailment_count}
 use Rattle.typing_law.specs.Entailments.{Entailment}
 use Rattle.typing_law.proofs.Reached.{reached_no_more}
@@ -17,13 +17,14 @@ use Rattle.typing_law.specs.ThreadEntailments.{PlacedEntailment, placed_from, re
 use Rattle.typing_law.specs.ThreadObligations.{is_number, numbers, obligation, proved, small_terms}
 use Rattle.typing_law.specs.declared.entail.Entail.{Entail}
 use Rattle.typing_law.proofs.Counting.{count_append, count_numbers, count_proved, placed_length}
-use Rattle.typing_rules.specs.Inside.Keeping.{are_others, kept_for, looked_at, wanted_among}
+use Rattle.entail_rules.specs.Keeping.{are_others, kept_for, looked_at, wanted_among}
 use Rattle.typing_rules.specs.Inside.Passing.{Passes, Stops}
 use Rattle.typing_rules.specs.Inside.Walking.{Tries}
 use Rattle.typing_rules.specs.declared.entailments_tried.Tried.{Tried}
-use Rattle.typing_rules.specs.declared.purpose.Purpose.{Purpose}
-use Rattle.typing_rules.specs.declared.purpose.Purpose.TheVariants.{Judge, Collect}
-use Rattle.typing_rules.specs.declared.purpose.Wanted.{Wanted}
+use Rattle.entail_rules.specs.declared.purpose.Purpose.{Purpose}
+use Rattle.entail_rules.specs.declared.purpose.Purpose.TheVariants.{Judge, Collect}
+use Rattle.entail_rules.specs.declared.purpose.Wanted.{Wanted}
+use Rattle.entail_rules.proofs.UnprovedLaws.{proved_silent}
 use Rattle.typing_rules.proofs.Parts.{append_none, tried_decided}
 use Rattle.typing_rules.proofs.Reaching.{adds_all, adds_none, looked-append, no_entailments, others-append, others_counted, others_looked, others_stop}
 
@@ -31,10 +32,6 @@ use Rattle.typing_rules.proofs.Reaching.{adds_all, adds_none, looked-append, no_
 
 module _ (p : Plain) (t at : ℕ) (wanted : Wanted) (proofs : List Proof) where
   -- a walk that collects looks at none of them
-  pub proved_silent : (n : ℕ) (gs : List Entailment) → looked_at (Collect wanted) (proved p t at proofs n gs) ≡ []
-  proved_silent n [] = refl
-  proved_silent n (g ∷ gs) = proved_silent (suc n) gs
-
   numbers_of : (count : ℕ) (qs : List Proof) → looked_at (Collect wanted) (map (λ q. obligation p t at V13 (Number q.number) (is_number count proofs q.number)) qs) ≡ []
   numbers_of count [] = refl
   numbers_of count (q ∷ qs) = numbers_of count qs
@@ -45,11 +42,11 @@ module _ (p : Plain) (t at : ℕ) (wanted : Wanted) (proofs : List Proof) where
   pub last_silent : (n count : ℕ) (gs : List Entailment) → looked_at (Collect wanted) (proved p t at proofs n gs ++ (numbers p t at count proofs ++ [])) ≡ []
   last_silent n count gs =
       looked-append (Collect wanted) (proved p t at proofs n gs) (numbers p t at count proofs ++ [])
-      ∙ ap (λ l. l ++ looked_at (Collect wanted) (numbers p t at count proofs ++ [])) (proved_silent n gs)
+      ∙ ap (λ l. l ++ looked_at (Collect wanted) (numbers p t at count proofs ++ [])) (proved_silent p t at wanted proofs n gs)
       ∙ ap (looked_at (Collect wanted)) (append-nil (numbers p t at count proofs)) ∙ numbers_silent count
 
   pub asked_silent : (n : ℕ) (gs : List Entailment) → looked_at (Collect wanted) (proved p t at proofs n gs ++ []) ≡ []
-  asked_silent n gs = ap (looked_at (Collect wanted)) (append-nil (proved p t at proofs n gs)) ∙ proved_silent n gs
+  asked_silent n gs = ap (looked_at (Collect wanted)) (append-nil (proved p t at proofs n gs)) ∙ proved_silent p t at wanted proofs n gs
 
 -- How many there are -------------------------------------------------------------------------------------------------
 

@@ -8,10 +8,10 @@ use Rattle.cov_ast.specs.Plain.{Plain}
 use Rattle.cov_ast.specs.Syntax.{State}
 use Rattle.cov_ast.specs.declared.refusal.Rule.TheVariants.{V5}
 use Rattle.mode_state.specs.Sets.{is_stable}
-use Rattle.typing_state.specs.Point.{Point, is_tracked}
+use Rattle.point_law.specs.Point.{Point, is_tracked}
 use Rattle.typing_law.specs.ThreadEntailments.{is_about_certificates}
 use Rattle.typing_law.specs.ThreadObligations.{flat, guard_obligations, narrow, of_var, one_unstable, over_stable, reads, state_obligations, type_obligations}
-use Rattle.typing_rules.specs.Inside.Keeping.{are_others}
+use Rattle.entail_rules.specs.Keeping.{are_others}
 use Rattle.typing_rules.specs.Inside.Walking.{value_parts}
 use Rattle.typing_rules.proofs.Reaching.{others-append}
 

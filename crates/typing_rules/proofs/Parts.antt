@@ -2,7 +2,6 @@
 use Rattle.std.proofs.Common.{◌≡◌, ℕ, suc, ◌+◌, ◌&&◌, List, [], ◌∷◌, ◌++◌, length, Bool, true, false, cond, refl, sym, ap, ◌∙◌, subst, arith, append_assoc, Some, None, Result, Err}
 use Rattle.std.specs.List.{list_all}
 use Rattle.std.proofs.lemmas.Bool.{and_parts}
-use Rattle.std.proofs.lemmas.List.{append-nil}
 use Rattle.cov_ast.specs.Obligations.{Decides, Obligation, first_false}
 use Rattle.cov_ast.specs.Plain.{Plain}
 use Rattle.cov_ast.specs.Syntax.{Proof}
@@ -12,19 +11,17 @@ use Rattle.cov_ast.specs.declared.refusal.Rule.TheVariants.{V16}
 use Rattle.cov_ast.specs.declared.refusal.Detail.TheVariants.{Nothing}
 use Rattle.cov_ast.proofs.ObligationLaws.{append_decided, append_refused}
 use Rattle.typing_law.specs.Entailments.{Entailment, is_small_entailment}
-use Rattle.typing_state.specs.Point.{Point, has_small_types}
+use Rattle.point_law.specs.Point.{Point, has_small_types}
 use Rattle.typing_law.specs.ThreadObligations.{obligation, flat, proved, small_terms}
 use Rattle.typing_law.specs.ThreadEntailments.{placed_from}
 use Rattle.typing_law.specs.declared.entail.Entail.{Entail}
-use Rattle.typing_rules.specs.Inside.Keeping.{kept_for}
-use Rattle.typing_rules.specs.Inside.Walking.{Tries, unproved_for}
-use Rattle.typing_rules.specs.declared.purpose.Purpose.{Purpose}
+use Rattle.entail_rules.specs.Keeping.{kept_for}
+use Rattle.typing_rules.specs.Inside.Walking.{Tries}
+use Rattle.entail_rules.specs.Unproved.{unproved_for}
+use Rattle.entail_rules.specs.declared.purpose.Purpose.{Purpose}
 use Rattle.typing_rules.specs.declared.entailments_tried.Tried.{Tried}
 
 -- The verdict on parts --------------------------------------------------------------------------------------------
-
-pub padded : (a : List Obligation) (r : Result (Unit {0}) CheckFault) → Decides a r → Decides (a ++ []) r
-padded a r h = subst (λ b. Decides b r) (sym (append-nil a)) h
 
 pub flat-append : (ess fss : List (List Obligation)) → flat (ess ++ fss) ≡ flat ess ++ flat fss
 flat-append [] fss = refl

@@ -16,9 +16,9 @@ use Rattle.cov_ast.specs.WellFormed.{AreTypesInRange, IsBlockInRange, IsStmInRan
 use Rattle.cov_ast.specs.declared.decl.Program as decl
 use Rattle.cov_ast.proofs.WellFormedLaws.{class_at}
 use Rattle.mode_state.specs.Sets.{is_hidden}
-use Rattle.typing_state.specs.After.{after_assign, after_lock, after_unlock, assigned_type, forgotten_type, kept_type, listed_or, locked_type, meet, noted, start, start_type, unlocked_type, with_guard}
-use Rattle.typing_state.specs.Point.{Point, default_type, is_over_stable, is_tracked, ty, ty_var, type_at, vars_of}
-use Rattle.typing_state.specs.Terms.{distinct_terms, is_one, joined, joined_from, with_term, with_terms, without_ones}
+use Rattle.point_law.specs.After.{after_assign, after_lock, after_unlock, assigned_type, forgotten_type, kept_type, listed_or, locked_type, meet, noted, start, start_type, unlocked_type, with_guard}
+use Rattle.point_law.specs.Point.{Point, default_type, is_over_stable, is_tracked, ty, ty_var, type_at, vars_of}
+use Rattle.point_law.specs.Terms.{distinct_terms, is_one, joined, joined_from, with_term, with_terms, without_ones}
 use Rattle.typing_law.specs.Blocks.{after_block, after_stm, value_type}
 use Rattle.typing_law.proofs.Soundness.Conditions.{EachType}
 use Rattle.typing_law.proofs.Soundness.Lists.{listed_is, retyped_is, updated_is}

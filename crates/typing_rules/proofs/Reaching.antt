@@ -14,20 +14,20 @@ use Rattle.cov_ast.specs.declared.refusal.Refusal.{Refusal}
 use Rattle.cov_ast.specs.declared.refusal.Rule.{Rule}
 use Rattle.cov_ast.specs.declared.refusal.Rule.TheVariants.{W1, W2, W3, W4, W5, W6, W7, W8, W9, V1, V2, V3, V4, V5, V6, V7, V8, V9, V10, V11, V12, V13, V14, V15, V16}
 use Rattle.cov_ast.proofs.ObligationLaws.{append_held, append_refused}
-use Rattle.typing_state.specs.Point.{Point}
+use Rattle.point_law.specs.Point.{Point}
 use Rattle.typing_law.specs.Counts.{entailment_count, is_entailment}
 use Rattle.typing_law.specs.Entailments.{Entailment}
 use Rattle.typing_law.specs.ThreadEntailments.{PlacedEntailment, is_about_certificates, placed_from, reached, reached_entailments, view_entail}
 use Rattle.typing_law.specs.declared.entail.Entail.{Entail}
 use Rattle.typing_law.proofs.Counting.{count_cons}
 use Rattle.typing_law.proofs.Reached.{all_reached, reached_no_more, reached_then}
-use Rattle.typing_rules.specs.Inside.Keeping.{are_others, are_passed, is_other, kept_for, looked_at, wanted_among}
+use Rattle.entail_rules.specs.Keeping.{are_others, are_passed, is_other, kept_for, looked_at, wanted_among}
 use Rattle.typing_rules.specs.Inside.Passing.{Adds, Passes, Stops}
 use Rattle.typing_rules.specs.Inside.Walking.{Walks}
-use Rattle.typing_rules.specs.declared.purpose.Purpose.{Purpose}
-use Rattle.typing_rules.specs.declared.purpose.Purpose.TheVariants.{Judge, Collect}
+use Rattle.entail_rules.specs.declared.purpose.Purpose.{Purpose}
+use Rattle.entail_rules.specs.declared.purpose.Purpose.TheVariants.{Judge, Collect}
 use Rattle.typing_rules.specs.declared.walk.Walked.{Walked}
-use Rattle.typing_rules.proofs.KeptLaws.{kept-append, kept_none}
+use Rattle.entail_rules.proofs.KeptLaws.{kept-append, kept_none}
 
 -- Obligations that are passed --------------------------------------------------------------------------------------
 

@@ -6,8 +6,8 @@ use Rattle.cov_ast.specs.Obligations.{Obligation}
 use Rattle.cov_ast.specs.Plain.{Plain}
 use Rattle.cov_ast.specs.Syntax.{State, Proof, Block, branch, loop}
 use Rattle.cov_ast.specs.declared.refusal.CheckFault.{CheckFault}
-use Rattle.typing_state.specs.After.{with_guard, meet}
-use Rattle.typing_state.specs.Point.{Point}
+use Rattle.point_law.specs.After.{with_guard, meet}
+use Rattle.point_law.specs.Point.{Point}
 use Rattle.typing_law.specs.Counts.{entailment_count}
 use Rattle.typing_law.specs.Blocks.{after_block, after_stm}
 use Rattle.typing_law.specs.Entailments.{Entailment, guard_follows, state_follows}
@@ -15,10 +15,10 @@ use Rattle.typing_law.specs.ThreadEntailments.{PlacedEntailment, block_entailmen
 use Rattle.typing_law.specs.ThreadObligations.{block_obligations, few_preds, flat, guard_obligations, proved, small_terms, state_obligations, stm_parts}
 use Rattle.typing_law.specs.declared.entail.Entail.{Entail}
 use Rattle.typing_law.proofs.Counting.{block_counted, count_append, placed_length}
-use Rattle.typing_rules.specs.Inside.Keeping.{are_others}
+use Rattle.entail_rules.specs.Keeping.{are_others}
 use Rattle.typing_rules.specs.Inside.Passing.{Passes, Stops}
 use Rattle.typing_rules.specs.Inside.Walking.{Walks, fork_parts, head_parts, join_parts, turn_parts}
-use Rattle.typing_rules.specs.declared.purpose.Purpose.{Purpose}
+use Rattle.entail_rules.specs.declared.purpose.Purpose.{Purpose}
 use Rattle.typing_rules.specs.declared.walk.Walked.{Walked}
 use Rattle.typing_rules.proofs.Concluding.{asked_counted}
 use Rattle.typing_rules.proofs.Others.{others_guard, others_state}

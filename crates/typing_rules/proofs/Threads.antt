@@ -15,19 +15,19 @@ use Rattle.cov_ast.proofs.ObligationLaws.{append_decided, append_held, append_re
 use Rattle.cov_ast.proofs.WellFormedLaws.{seen_item, thread_in_range}
 use Rattle.mode_compat.specs.Compatible.{no_thread, numbered}
 use Rattle.mode_compat.specs.Declared.{declaration_obligations}
-use Rattle.typing_state.specs.After.{start}
+use Rattle.point_law.specs.After.{start}
 use Rattle.typing_law.specs.Counts.{counts, entailment_count}
 use Rattle.typing_law.specs.Blocks.{after_block}
-use Rattle.typing_state.specs.Point.{Point}
+use Rattle.point_law.specs.Point.{Point}
 use Rattle.typing_law.specs.ThreadEntailments.{all_entailments, block_entailments, reached_entailments, thread_entailments, view_entail}
 use Rattle.typing_law.specs.ThreadObligations.{block_obligations, end_obligation, end_point, thread_obligations}
 use Rattle.typing_law.specs.declared.entail.Entail.{Entail}
 use Rattle.typing_law.proofs.Bounds.{few_entailments, few_places}
 use Rattle.typing_law.proofs.Counting.{block_counted, count_append}
-use Rattle.typing_rules.specs.Inside.Keeping.{wanted_among}
+use Rattle.entail_rules.specs.Keeping.{wanted_among}
 use Rattle.typing_rules.specs.Inside.Passing.{Adds, Passes, Stops}
-use Rattle.typing_rules.specs.declared.purpose.Purpose.TheVariants.{Collect}
-use Rattle.typing_rules.specs.declared.purpose.Wanted.{Wanted}
+use Rattle.entail_rules.specs.declared.purpose.Purpose.TheVariants.{Collect}
+use Rattle.entail_rules.specs.declared.purpose.Wanted.{Wanted}
 use Rattle.typing_rules.proofs.Reaching.{adds_none, adds_stop, adds_then, no_entailments}
 
 -- Obligations ----------------------------------------------------------------------------------------------------

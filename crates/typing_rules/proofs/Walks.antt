@@ -12,7 +12,7 @@ use Rattle.cov_ast.specs.declared.stmt.Stmt.{Stmt}
 use Rattle.cov_ast.specs.declared.stmt.StmtKind.{StmtKind, StmtKind-F, fold-roll-StmtKind}
 use Rattle.cov_ast.specs.declared.stmt.StmtKind.TheVariants as kinds
 use Rattle.typing_state.specs.KeptPoints.{Keeps}
-use Rattle.typing_state.specs.Point.{Point}
+use Rattle.point_law.specs.Point.{Point}
 use Rattle.typing_state.specs.declared.point.Point as declared
 use Rattle.typing_law.specs.Counts.{entailment_count}
 use Rattle.typing_law.specs.ThreadEntailments.{block_entailments, stm_entailments}
@@ -22,10 +22,10 @@ use Rattle.typing_law.specs.ThreadObligations.{block_obligations, flat, stm_part
 use Rattle.typing_law.proofs.Counting.{count_more, stm_counted}
 use Rattle.typing_rules.specs.Inside.Passing.{Stops}
 use Rattle.typing_rules.specs.Inside.Walking.{Walks}
-use Rattle.typing_rules.specs.declared.purpose.Purpose.{Purpose}
+use Rattle.entail_rules.specs.declared.purpose.Purpose.{Purpose}
 use Rattle.typing_rules.specs.declared.walk.Walked.{Walked}
 use Rattle.typing_rules.proofs.Reaching.{front_passes, stops_behind, walks_then}
-use Rattle.typing_rules.proofs.StatementLaws.{branch_is}
+use Rattle.statement_rules.proofs.StatementLaws.{branch_is}
 
 -- what is kept is kept of one point
 pub one_point : (p : Plain) (t : ℕ) (a b : Point) (kept : declared.Point) → Keeps p t a kept → Keeps p t b kept → a ≡ b

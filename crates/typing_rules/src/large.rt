@@ -9,23 +9,22 @@ ghost use Rattle.cov_ast.specs.Obligations.{Decides};
 ghost use Rattle.cov_ast.specs.Syntax as syntax;
 ghost use Rattle.cov_ast.specs.View as view;
 ghost use Rattle.cov_ast.specs.WellFormed.{AreTypesInRange, IsStmInRange};
-ghost use Rattle.typing_state.specs.After.{after_assign};
-ghost use Rattle.typing_state.specs.Point.{conjuncts_of_types, is_over_controls, ty, ty_var};
+ghost use Rattle.point_law.specs.After.{after_assign};
+ghost use Rattle.point_law.specs.Point.{conjuncts_of_types, is_over_controls, ty, ty_var};
 ghost use Rattle.typing_law.specs.Blocks as blocks;
 ghost use Rattle.typing_law.specs.Entailments.{assign_entailments};
 ghost use Rattle.typing_law.specs.ThreadObligations.{few_preds, flat, small_terms};
 ghost use Rattle.typing_rules.specs.Inside.Walking.{IsWalk, Stands, Wherever, plain_of, type_parts, value_parts};
 
-use crate::entailment_parts::read_held;
-use crate::evaluation::check_evaluation;
-use crate::site::{refused_at, require_at};
-use crate::sizes::{MOST_PARTS, check_few_preds};
-use crate::types::check_retypes;
 use crate::walk::{Walk, both};
-use crate::writes::{check_access, check_stable_if};
 use cov_ast::{CheckFault, Detail, Retype, Rule};
 use cov_expr::{Expr, List, NoMemory, copy, vars};
 use entail_cert::Held;
+use entail_rules::{MOST_PARTS, read_held};
+use statement_rules::{
+    check_access, check_evaluation, check_few_preds, check_retypes, check_stable_if,
+};
+use typing_law::{refused_at, require_at};
 use typing_state::Point;
 
 impl Walk<'_> {

@@ -8,18 +8,17 @@ ghost use Rattle.cov_ast.specs.Syntax as syntax;
 ghost use Rattle.cov_ast.specs.View as view;
 ghost use Rattle.cov_ast.specs.WellFormed.{IsBlockInRange, IsStmInRange, block_size, stm_size, most_size};
 ghost use Rattle.typing_state.specs.KeptPoints.{Keeps};
-ghost use Rattle.typing_state.specs.Point as typing;
+ghost use Rattle.point_law.specs.Point as typing;
 ghost use Rattle.typing_law.specs.declared.entail.Entail.{Entail};
-ghost use Rattle.typing_rules.specs.Inside.Keeping.{looked_at};
+ghost use Rattle.entail_rules.specs.Keeping.{looked_at};
 ghost use Rattle.typing_rules.specs.Inside.Walking.{IsWalk, Stands, Walks, WalksBlock, WalksStm};
-ghost use Rattle.typing_rules.specs.declared.purpose.Purpose.{Purpose};
+ghost use Rattle.entail_rules.specs.declared.purpose.Purpose.{Purpose};
 
-use crate::purpose::Purpose;
-use crate::site::Site;
 use cov_ast::{CheckFault, Program, Proof, State, Stmt, StmtKind};
 use cov_expr::{Expr, List};
+use entail_rules::Purpose;
 use std::alloc::Global;
-use typing_law::Entail;
+use typing_law::{Entail, Site};
 use typing_state::Point;
 
 /// A walk over the statements of a thread of a program, to judge them or to collect what has to follow at them.

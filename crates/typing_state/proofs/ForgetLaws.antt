@@ -3,10 +3,10 @@ use Rattle.std.proofs.Common.{◌≡◌, ℕ, List, Bool, true, false, not, is_s
 use Rattle.cov_expr.specs.Term.{Term}
 use Rattle.cov_expr.specs.Trees.{mentions}
 use Rattle.cov_ast.specs.Plain.{Plain}
-use Rattle.typing_state.specs.After.{forgotten_type}
-use Rattle.typing_state.specs.Inside.Groups.{is_free}
+use Rattle.point_law.specs.After.{forgotten_type}
+use Rattle.variable_types.specs.Groups.{is_free}
 use Rattle.typing_state.specs.Inside.Tells.{passes}
-use Rattle.typing_state.specs.Point.{default_type}
+use Rattle.point_law.specs.Point.{default_type}
 
 -- a type that passes the test is kept
 pub passed : (test : Term → Bool) (known : Term) (q : Option Term) → passes test q ≡ true → q ≡ option_map (λ g. if test g then g else known) q

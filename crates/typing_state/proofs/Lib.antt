@@ -1,15 +1,3 @@
-mod DropLaws
 mod ForgetLaws
-mod GroupLaws
-mod OnceLaws
-mod KeyLaws
 mod LockLaws
-mod KeyedLaws
-mod PointLaws
-mod RetainLaws
-mod SharedLaws
-mod Steps
-mod TyLaws
-mod TypeLaws
-mod VariableLaws
 mod WalkLaws

@@ -14,13 +14,13 @@ use Rattle.cov_ast.specs.View as view
 use Rattle.cov_ast.specs.declared.decl.LockDecl.{LockDecl}
 use Rattle.mode_state.specs.Sets.{Sets, modes_at, is_stable, locks_of}
 use Rattle.mode_state.proofs.HeldLaws.{any_from}
-use Rattle.typing_state.specs.Point.{Point, is_tracked, given_type, default_type}
-use Rattle.typing_state.specs.After.{locked_type, after_lock, unlocked_type, kept_type, after_unlock}
-use Rattle.typing_state.specs.KeptPoints.{IsPoint}
+use Rattle.point_law.specs.Point.{Point, is_tracked, given_type, default_type}
+use Rattle.point_law.specs.After.{locked_type, after_lock, unlocked_type, kept_type, after_unlock}
+use Rattle.point_law.specs.Point.{IsPoint}
 use Rattle.typing_state.specs.Inside.Tells.{IsTrackedBeside}
-use Rattle.typing_state.specs.Terms.{each_variable, is_closed_type}
-use Rattle.typing_state.proofs.PointLaws.{updated_at, length-updated, some_mapped}
-use Rattle.typing_state.proofs.VariableLaws.{lists_is}
+use Rattle.point_law.specs.Terms.{each_variable, is_closed_type}
+use Rattle.point_law.proofs.PointLaws.{updated_at, length-updated, some_mapped}
+use Rattle.variable_types.proofs.VariableLaws.{lists_is}
 
 pub lock_of : (locks : List LockDecl) (l : ℕ) (lock : LockDecl) → l < length locks → lock ≡ get_or locks l lock → view.lock lock ≡ get_or (map view.lock locks) l no_lock
 lock_of locks l lock inside is = ap view.lock is ∙ sym (get_or-map view.lock locks l lock no_lock inside)

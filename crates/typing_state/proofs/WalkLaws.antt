@@ -1,16 +1,12 @@
 -- Walks over the variables that pass over those of which nothing is to be done.
-use Rattle.std.proofs.Common.{◌≡◌, ℕ, ◌<◌, ◌≤◌, ◌&&◌, List, Bool, true, false, not, length, get_or, set, nat_lt, refl, sym, ap, ◌∙◌, arith, inl, inr, Option, Some, None, if◌then◌else◌}
+use Rattle.std.proofs.Common.{◌≡◌, ℕ, ◌<◌, ◌≤◌, ◌&&◌, List, Bool, true, false, length, get_or, nat_lt, refl, ap, ◌∙◌, arith, Option, Some, None, if◌then◌else◌}
 use Rattle.std.specs.Prelude.{IfSome}
-use Rattle.std.proofs.lemmas.Bool.{cases_eq, cases_lt, ltb-true, ltb-false, not-true, not-false}
-use Rattle.std.proofs.lemmas.List.{get_or-set_same, get_or-set_other, get_or_past, length-set}
+use Rattle.std.proofs.lemmas.Bool.{ltb-true, ltb-false}
 use Rattle.cov_expr.specs.Term.{Term}
-use Rattle.cov_ast.specs.Tables.{has}
-use Rattle.mode_state.specs.Bits.{IsNext}
-use Rattle.typing_state.specs.After.{updated}
-use Rattle.typing_state.specs.Terms.{is_closed_type}
-use Rattle.typing_state.specs.Next.{AreDone}
+use Rattle.point_law.specs.After.{updated}
+use Rattle.variable_types.specs.Next.{AreDone}
 use Rattle.typing_state.specs.Inside.Least.{earlier, if_below}
-use Rattle.typing_state.proofs.Steps.{upto, upto_pass, upto_end, upto_from}
+use Rattle.point_law.proofs.Steps.{upto, upto_pass, upto_end, upto_from}
 
 -- The next one -----------------------------------------------------------------------------------------------------
 
@@ -31,11 +27,7 @@ done_below f from n end (Some x) le h = at (nat_lt x end) refl
     at true e = (ltb-true x end e, h.1, h.2)
     at false e = λ k low high. h.2 k low (let past : end ≤ x = ltb-false x end e in omega arith)
 
--- what comes next comes from the first number on, and before an end that it is below
-pub done_further : (f : ℕ → Bool) (from : ℕ) (x : Option ℕ) → AreDone f from 256 x → IfSome x (λ y. from ≤ y)
-done_further f from None h = tt
-done_further f from (Some x) h = h.1
-
+-- what comes next comes before an end that it is below
 pub below_some : (P : ℕ → Type 0) (end : ℕ) (x : Option ℕ) → IfSome x P → IfSome (if_below end x) P
 below_some P end None h = tt
 below_some P end (Some x) h = at (nat_lt x end)
@@ -51,40 +43,6 @@ below_within from end (Some x) h = at (nat_lt x end) refl
     at : (b : Bool) → nat_lt x end ≡ b → IfSome (if b then Some x else None) (λ y. (from ≤ y) × (y < end))
     at true e = (h, ltb-true x end e)
     at false e = tt
-
--- none before the next number of a set is in it
-pub next_done : (s : List Bool) (from end : ℕ) (x : Option ℕ) → IsNext (has s) from (length s) x → IfSome x (λ y. y < end) → AreDone (λ k. not (has s k)) from end x
-next_done s from end None h small = λ k le lt. elim (cases_lt k (length s)) [
-  | inl inside ↦ ap not (h k le inside)
-  | inr past ↦ ap not (get_or_past s k false past)
-]
-next_done s from end (Some x) h small = (small, h.1, λ k le lt. ap not (h.3 k le lt))
-
--- Which types mention a variable -----------------------------------------------------------------------------------
-
--- each type that isn't marked mentions no variable
-abbrev pub AreMarked : (marks : List Bool) → List (Option Term) → Type 0
-AreMarked marks qs = (x : ℕ) → x < 256 → has marks x ≡ false → is_closed_type (get_or qs x None) ≡ true
-
-module _ (marks : List Bool) (long : length marks ≡ 256) (qs : List (Option Term)) (old : AreMarked marks qs) where
-  -- a type is put in the place of another, and its mark with it
-  pub marked_set : (b : Bool) (q : Option Term) → b ≡ not (is_closed_type q) → (x : ℕ) → AreMarked (set marks x b) (set qs x q)
-  marked_set b q is x k lt away = elim (cases_eq k x) [
-    | inl e ↦ let inside : x < length marks = omega (arith, e, long) in
-        let same : b ≡ false = sym (get_or-set_same marks x b false inside) ∙ ap (λ j. has (set marks x b) j) (sym e) ∙ away in
-        ap (λ j. is_closed_type (get_or (set qs x q) j None)) e
-        ∙ elim (cases_lt x (length qs)) [
-          | inl there ↦ ap is_closed_type (get_or-set_same qs x q None there) ∙ not-false (is_closed_type q) (sym is ∙ same)
-          | inr past ↦ ap is_closed_type (get_or_past (set qs x q) x None (omega (arith, length-set qs x q)))
-        ]
-    | inr ne ↦ ap is_closed_type (get_or-set_other qs x k q None ne) ∙ old k lt (sym (get_or-set_other marks x k b false ne) ∙ away)
-  ]
-
-  -- types before the next mark
-  pub marked_done : (from : ℕ) (x : Option ℕ) → AreDone (λ k. not (has marks k)) from 256 x → AreDone (λ k. is_closed_type (get_or qs k None)) from 256 x
-  marked_done from None none = λ k le lt. old k lt (not-true (has marks k) (none k le lt))
-  marked_done from (Some x) next =
-      (next.0, next.1, λ k le lt. let inside : x < 256 = next.0 in old k (omega arith) (not-true (has marks k) (next.2 k le lt)))
 
 -- The list so far --------------------------------------------------------------------------------------------------
 

@@ -1,6 +1,6 @@
 //! The check of a whole program: its declarations, and then each of its threads.
 
-ghost use Rattle.std.specs.Prelude.{◌≡◌, ◌<◌, length, IfOk, MatchResult, Err, IsTrue};
+ghost use Rattle.std.specs.Prelude.{◌≡◌, ◌<◌, IfOk, MatchResult, Err, IsTrue};
 ghost use Rattle.std.specs.List.{flat_map};
 ghost use Rattle.cov_ast.specs.Obligations.{Decides, all_hold};
 ghost use Rattle.cov_ast.specs.Plain.{plain};
@@ -11,16 +11,15 @@ ghost use Rattle.mode_compat.specs.Compatible.{threads_of};
 ghost use Rattle.mode_compat.specs.Declared.{declaration_obligations};
 ghost use Rattle.typing_law.specs.Counts.{DecidesWith};
 ghost use Rattle.typing_law.specs.ThreadObligations.{thread_obligations};
-ghost use Rattle.verify.specs.Accepted.{IsAccepted, program_obligations};
-ghost use Rattle.verify.specs.Disciplined.{IsDisciplined};
-ghost use Rattle.verify.specs.Verdicts.{counts};
+ghost use Rattle.program_law.specs.Accepted.{IsAccepted, program_obligations};
+ghost use Rattle.program_law.specs.Disciplined.{IsDisciplined};
+ghost use Rattle.program_law.specs.Verdicts.{counts};
 
-use crate::laws::{accepted_is_disciplined, accepted_is_secure};
-use crate::verdict::Verdict;
 use cov_ast::{CheckFault, Program};
 use lock_spec::check_locks;
 use mode_compat::check_modes;
 use policy_class::check_policy;
+use program_law::{Verdict, accepted_is_disciplined, accepted_is_secure};
 use std::alloc::Global;
 use typing_law::Count;
 use typing_rules::check_thread;
@@ -43,7 +42,7 @@ pub fn check_program<'p>(alloc: Global, p: &'p Program) -> Result<Verdict<'p>, C
         Ok(count) => {
             accepted_is_secure();
             accepted_is_disciplined();
-            Ok(Verdict { program: p, count })
+            Ok(Verdict::new(p, count))
         }
         Err(fault) => Err(fault),
     }

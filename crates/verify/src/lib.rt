@@ -1,17 +1,12 @@
-//! Whole programs: which are accepted, and that an accepted program is secure and disciplined.
+//! The check of whole programs: whether a program is accepted.
 //!
-//! The definitions stand in `specs/`: `Accepted` has the obligations of a program (W3 to W9, and V1 to V16 of each thread),
-//! `Verdicts` how many statements and entailments it has, and `Disciplined` what every run of an accepted program keeps, from
-//! any memory. `proofs/Examples.antt` computes worked rows.
+//! Which programs are accepted, and that they are secure and disciplined, stands in `program_law`.
 //!
 //! - [`check_program`]: the first obligation that fails, or a [`Verdict`]. [`check_declared`] looks at declarations alone.
-//! - [`accepted_is_secure`], [`accepted_is_disciplined`]: laws, without code of their own.
+//! - [`accepted_is_secure`], [`accepted_is_disciplined`]: laws of `program_law`.
 #![tactic(auto)]
 
 mod check;
-mod laws;
-mod verdict;
 
 pub use check::{check_declared, check_program};
-pub use laws::{accepted_is_disciplined, accepted_is_secure};
-pub use verdict::Verdict;
+pub use program_law::{Verdict, accepted_is_disciplined, accepted_is_secure};

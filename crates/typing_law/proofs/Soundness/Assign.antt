@@ -18,9 +18,9 @@ use Rattle.flow_model.specs.Game.{FreeInvariantsHold}
 use Rattle.flow_model.proofs.Turns.{set_words}
 use Rattle.mode_state.specs.Sets.{is_stable, is_hidden}
 use Rattle.mode_compat.specs.Declared.{IsDeclared}
-use Rattle.typing_state.specs.Point.{Point, type_at, default_type, ty, ty_var, is_over_stable}
-use Rattle.typing_state.specs.Terms.{listed}
-use Rattle.typing_state.specs.After.{after_assign, assigned_type, keeps_value}
+use Rattle.point_law.specs.Point.{Point, type_at, default_type, ty, ty_var, is_over_stable}
+use Rattle.point_law.specs.Terms.{listed}
+use Rattle.point_law.specs.After.{after_assign, assigned_type, keeps_value}
 use Rattle.typing_law.proofs.Soundness.Conditions.{AssignChecks, Gives}
 use Rattle.typing_law.proofs.Soundness.Fits.{World, Settled, Fits, IsNotForeign, AllStable, OverStableControls, Pending, AssignOk, stored}
 use Rattle.typing_law.proofs.Soundness.Lists.{listed_is, each_map, retyped_is}

@@ -10,8 +10,8 @@ use Rattle.cov_ast.specs.Plain.{Plain}
 use Rattle.cov_ast.specs.Syntax.{State, Stm, skip, assign, lock, unlock, branch, loop, note, output, Block, done, more}
 use Rattle.cov_ast.specs.Tables.{has}
 use Rattle.mode_state.specs.Sets.{is_stable, is_hidden, may_read, may_write}
-use Rattle.typing_state.specs.Point.{Point, type_at, ty, ty_var, is_over_stable, is_over_controls}
-use Rattle.typing_state.specs.After.{with_guard, meet}
+use Rattle.point_law.specs.Point.{Point, type_at, ty, ty_var, is_over_stable, is_over_controls}
+use Rattle.point_law.specs.After.{with_guard, meet}
 use Rattle.typing_law.specs.Blocks.{value_type, after_stm, after_block}
 use Rattle.typing_law.specs.ThreadObligations.{same_held}
 

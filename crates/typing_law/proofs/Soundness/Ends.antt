@@ -7,7 +7,7 @@ use Rattle.cov_ast.specs.Syntax.{Program}
 use Rattle.cov_ast.specs.Plain.{plain}
 use Rattle.cov_ast.specs.Tables.{has}
 use Rattle.cov_ast.specs.Obligations.{Obligation, all_hold}
-use Rattle.typing_state.specs.After.{start}
+use Rattle.point_law.specs.After.{start}
 use Rattle.typing_law.specs.ThreadObligations.{thread_obligations, block_obligations, end_obligation, end_point}
 use Rattle.mode_compat.specs.Compatible.{numbered}
 

@@ -14,9 +14,9 @@ use Rattle.flow_model.specs.Holdings.{IsStableNow, IsHiddenNow}
 use Rattle.flow_model.specs.Agreement.{SameAt}
 use Rattle.mode_state.specs.Sets.{is_stable, may_read}
 use Rattle.mode_compat.specs.Declared.{IsDeclared}
-use Rattle.typing_state.specs.Terms.{with_term, with_terms, distinct_terms}
-use Rattle.typing_state.specs.Point.{Point, type_at, ty, ty_var}
-use Rattle.typing_state.specs.After.{with_term_if}
+use Rattle.point_law.specs.Terms.{with_term, with_terms, distinct_terms}
+use Rattle.point_law.specs.Point.{Point, type_at, ty, ty_var}
+use Rattle.point_law.specs.After.{with_term_if}
 use Rattle.typing_law.proofs.Soundness.Fits.{World, Fits, IsNotForeign, AllOver, AllStable}
 use Rattle.typing_law.proofs.Soundness.Lists.{with_holds, all_joined_hold, parts_hold, in_vars}
 use Rattle.typing_law.proofs.Soundness.Static.{stable_gives, stable_of, readable_not_foreign, unstable_shown, clash, cond_is}

@@ -11,7 +11,7 @@ use Rattle.flow_model.specs.Holdings.{IsStableNow, IsWritableNow}
 use Rattle.flow_model.specs.Agreement.{SameAt, MemoriesAgree}
 use Rattle.flow_model.specs.Game.{FreeInvariantsHold}
 use Rattle.mode_compat.specs.HeldSets.{AreHeldBy}
-use Rattle.typing_state.specs.Point.{Point, type_at}
+use Rattle.point_law.specs.Point.{Point, type_at}
 
 -- the memories of two copies, and the holders of locks and the outputs, which are the same in both
 pub record World : Type 0 where

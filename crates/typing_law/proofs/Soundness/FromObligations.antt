@@ -19,8 +19,8 @@ use Rattle.entail_cert.proofs.Instances.{valid_entails}
 use Rattle.entail_cert.proofs.Truth.{all_both}
 use Rattle.mode_state.specs.Sets.{is_stable, is_hidden, may_read}
 use Rattle.mode_state.proofs.HeldLaws.{any_from}
-use Rattle.typing_state.specs.Point.{Point, type_at, ty, ty_var, vars_of, is_tracked, is_over_stable, is_over_controls}
-use Rattle.typing_state.specs.After.{with_guard, meet}
+use Rattle.point_law.specs.Point.{Point, type_at, ty, ty_var, vars_of, is_tracked, is_over_stable, is_over_controls}
+use Rattle.point_law.specs.After.{with_guard, meet}
 use Rattle.typing_law.specs.Blocks.{value_type, after_stm, after_block}
 use Rattle.typing_law.specs.Entailments.{Entailment, from_preds, from_one_more, cert_for, is_proved, type_follows, state_follows, guard_follows, written_type, shown_value, shown_controlled, controlled_follows, controlled_values, retype_follows, assign_entailments, freed_value}
 use Rattle.typing_law.specs.ThreadObligations.{flat, of_var, reads, one_unstable, narrow, guard_obligations, over_stable, type_obligations, state_obligations, proved, assign_parts, unlock_parts, stm_parts, block_obligations}

@@ -9,8 +9,8 @@ use Rattle.cov_expr.specs.Trees.{same, conjuncts, has_term, occurrences, has_num
 use Rattle.cov_expr.proofs.Trees.{same_is}
 use Rattle.entail_cert.proofs.Truth.{all_left, all_right, all_both, both_left, both_right, both_of}
 use Rattle.mode_compat.proofs.Apart.{in_distinct}
-use Rattle.typing_state.specs.Terms.{with_term, with_terms, distinct_terms, is_one, without_ones, joined_from, joined, listed}
-use Rattle.typing_state.specs.After.{updated_from, updated, retyped}
+use Rattle.point_law.specs.Terms.{with_term, with_terms, distinct_terms, is_one, without_ones, joined_from, joined, listed}
+use Rattle.point_law.specs.After.{updated_from, updated, retyped}
 use Rattle.typing_law.proofs.Soundness.Conditions.{EachType}
 use Rattle.typing_law.proofs.Soundness.Static.{cond_is}
 

@@ -18,9 +18,9 @@ use Rattle.flow_model.proofs.Holders.{is_held}
 use Rattle.mode_state.specs.Sets.{is_hidden}
 use Rattle.mode_compat.specs.Declared.{IsDeclared}
 use Rattle.mode_compat.specs.HeldSets.{AreHeldBy}
-use Rattle.typing_state.specs.Terms.{with_option, listed}
-use Rattle.typing_state.specs.Point.{Point, given_type, type_at, default_type, is_tracked, is_over_stable}
-use Rattle.typing_state.specs.After.{after_lock, locked_type, after_unlock, kept_type, unlocked_type, with_guard, meet, noted}
+use Rattle.point_law.specs.Terms.{with_option, listed}
+use Rattle.point_law.specs.Point.{Point, given_type, type_at, default_type, is_tracked, is_over_stable}
+use Rattle.point_law.specs.After.{after_lock, locked_type, after_unlock, kept_type, unlocked_type, with_guard, meet, noted}
 use Rattle.typing_law.proofs.Soundness.Conditions.{Each, StateFollows, StateOver, UnlockChecks, GuardChecks}
 use Rattle.typing_law.proofs.Soundness.Fits.{World, Settled, Fits, IsNotForeign, AllOver, AllStable, OverStableControls, LockOk, UnlockOk, OutputOk, GuardOk, Weaker, holding}
 use Rattle.typing_law.proofs.Soundness.Static.{held_gives, over_gives, all_stable, stable_shown, not_foreign_of_shown, class_over, under_hide, clash, cond_is}

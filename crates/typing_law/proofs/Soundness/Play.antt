@@ -13,7 +13,7 @@ use Rattle.flow_model.specs.Holdings.{IsStableNow, IsWritableNow}
 use Rattle.flow_model.specs.Agreement.{AreFitStarts, SameAt, AreAlike, shape}
 use Rattle.flow_model.specs.Game.{AreLawful, after_moves, opening, IsSecureThread, Copies, Move, own, outside, after_move, IsLawfulOutside, MeetsGuarantees, IsSecureMove}
 use Rattle.flow_model.proofs.Holders.{held_is, is_held}
-use Rattle.typing_state.specs.Point.{Point, type_at}
+use Rattle.point_law.specs.Point.{Point, type_at}
 use Rattle.typing_law.proofs.Soundness.Fits.{World, AllStable, AllOver, Settled, Fits, stored, holding, saying, Pending, AssignOk, LockOk, UnlockOk, GuardOk, Typed, TypedItems, typed_then, typed_append}
 
 pub same_truth : (a b : Bool) → (IsTrue a → IsTrue b) → (IsTrue b → IsTrue a) → a ≡ b

@@ -16,8 +16,8 @@ use Rattle.flow_model.specs.Agreement.{AreFitStarts, SameAt}
 use Rattle.flow_model.specs.Game.{IsSecureThread}
 use Rattle.mode_compat.specs.Declared.{IsDeclared}
 use Rattle.mode_compat.specs.HeldSets.{AreHeldBy}
-use Rattle.typing_state.specs.Point.{Point, is_tracked, vars_of, type_at}
-use Rattle.typing_state.specs.After.{start, after_assign, after_lock, after_unlock, with_guard, meet, noted}
+use Rattle.point_law.specs.Point.{Point, is_tracked, vars_of, type_at}
+use Rattle.point_law.specs.After.{start, after_assign, after_lock, after_unlock, with_guard, meet, noted}
 use Rattle.typing_law.specs.Blocks.{value_type, after_stm, after_block}
 use Rattle.typing_law.specs.ThreadObligations.{agree, same_held}
 use Rattle.typing_law.proofs.Soundness.Fits.{Fits, Weaker, Typed, OverStableControls, typed_from}

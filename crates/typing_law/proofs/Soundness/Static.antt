@@ -18,8 +18,8 @@ use Rattle.mode_state.proofs.HeldLaws.{any_from}
 use Rattle.mode_compat.specs.Declared.{IsDeclared}
 use Rattle.mode_compat.specs.HeldSets.{AreHeldBy}
 use Rattle.mode_compat.proofs.Apart.{sets_of, listing_is_declared}
-use Rattle.typing_state.specs.Terms.{each_variable}
-use Rattle.typing_state.specs.Point.{is_over_stable, is_over_controls}
+use Rattle.point_law.specs.Terms.{each_variable}
+use Rattle.point_law.specs.Point.{is_over_stable, is_over_controls}
 use Rattle.typing_law.proofs.Soundness.Fits.{IsNotForeign}
 
 pub clash {ℓ} : {A : Type ℓ} (b : Bool) → b ≡ true → b ≡ false → A

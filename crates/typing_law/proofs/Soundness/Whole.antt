@@ -15,7 +15,7 @@ use Rattle.flow_model.specs.Game.{IsSecureThread}
 use Rattle.mode_compat.specs.Compatible.{numbered}
 use Rattle.mode_compat.specs.Compatible as rules
 use Rattle.mode_compat.specs.Declared.{declaration_obligations}
-use Rattle.typing_state.specs.After.{start}
+use Rattle.point_law.specs.After.{start}
 use Rattle.typing_law.specs.ThreadObligations.{thread_obligations, block_obligations, end_obligation, end_point}
 use Rattle.typing_law.proofs.Soundness.FromDeclarations.{declared}
 use Rattle.typing_law.proofs.Soundness.FromObligations.{all_true, true_left, block_of}

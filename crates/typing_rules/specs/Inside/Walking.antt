@@ -1,5 +1,5 @@
 -- What a walk over the statements of a thread rests on, and what its parts answer.
-use Rattle.std.specs.Prelude.{◌≡◌, ℕ, suc, ◌+◌, ◌<◌, ◌≤◌, ◌&&◌, List, [], ◌∷◌, ◌++◌, length, map, Bool, true, if◌then◌else◌, Option, None, Some, Result, Ok, Err, IsTrue}
+use Rattle.std.specs.Prelude.{◌≡◌, ℕ, suc, ◌+◌, ◌<◌, ◌≤◌, ◌&&◌, List, [], ◌∷◌, ◌++◌, length, map, true, if◌then◌else◌, Result, Ok, Err, IsTrue}
 use Rattle.std.specs.List.{list_all}
 use Rattle.cov_expr.specs.Term.{Term, neg}
 use Rattle.cov_expr.specs.Trees.{vars}
@@ -13,34 +13,26 @@ use Rattle.cov_ast.specs.WellFormed.{IsWellFormed}
 use Rattle.cov_ast.specs.declared.refusal.CheckFault.{CheckFault}
 use Rattle.cov_ast.specs.declared.refusal.Rule.TheVariants.{V2, V5}
 use Rattle.mode_compat.specs.Declared.{declaration_obligations}
-use Rattle.mode_state.specs.Sets.{Sets, is_stable, may_write, modes_at}
-use Rattle.typing_state.specs.After.{meet, with_guard}
-use Rattle.typing_state.specs.KeptPoints.{Keeps}
-use Rattle.typing_state.specs.Point as spec
-use Rattle.typing_state.specs.Point.{is_tracked}
+use Rattle.mode_state.specs.Sets.{is_stable, may_write}
+use Rattle.point_law.specs.After.{meet, with_guard}
+use Rattle.typing_state.specs.KeptPoints.{AtPoint, Keeps}
+use Rattle.point_law.specs.Point as spec
+use Rattle.point_law.specs.Point.{is_tracked}
 use Rattle.typing_state.specs.declared.point.Point.{Point}
 use Rattle.typing_law.specs.Counts.{entailment_count}
 use Rattle.typing_law.specs.Blocks.{after_block, after_stm}
-use Rattle.typing_law.specs.Entailments.{Entailment, is_proved, is_small_entailment, guard_follows, state_follows}
+use Rattle.typing_law.specs.Entailments.{Entailment, is_small_entailment, guard_follows, state_follows}
 use Rattle.typing_law.specs.ThreadObligations.{block_obligations, few_preds, flat, guard_obligations, narrow, numbers, of_var, one_unstable, over_controls, proved, reads, same_locks, small_terms, state_obligations, stm_parts, type_obligations}
 use Rattle.typing_law.specs.ThreadEntailments.{PlacedEntailment, block_entailments, placed_from, stm_entailments, view_entail}
 use Rattle.typing_law.specs.declared.entail.Entail.{Entail}
-use Rattle.typing_rules.specs.Inside.Keeping.{kept_for}
+use Rattle.entail_rules.specs.Keeping.{kept_for}
+use Rattle.entail_rules.specs.Unproved.{unproved_for}
 use Rattle.typing_rules.specs.Inside.Passing.{Passes, Stops}
 use Rattle.typing_rules.specs.declared.entailments_tried.Tried.{Tried}
-use Rattle.typing_rules.specs.declared.purpose.Purpose.{Purpose}
-use Rattle.typing_rules.specs.declared.purpose.Purpose.TheVariants.{Judge, Collect}
+use Rattle.entail_rules.specs.declared.purpose.Purpose.{Purpose}
 use Rattle.typing_rules.specs.declared.walk.Guarded.{Guarded}
 use Rattle.typing_rules.specs.declared.walk.Walk.{Walk}
 use Rattle.typing_rules.specs.declared.walk.Walked.{Walked}
-
--- whichever locks the thread holds for which these are its sets
-abbrev pub AtHeld : Plain → (t : ℕ) → Sets → (List Bool → Type 0) → Type 0
-AtHeld p t sets P = (held : List Bool) → sets ≡ modes_at p t held → P held
-
--- whatever point of the thread this is kept of
-abbrev pub AtPoint : Plain → (t : ℕ) → Point → (spec.Point → Type 0) → Type 0
-AtPoint p t kept P = (a : spec.Point) → Keeps p t a kept → P a
 
 -- All obligations hold that the walk looks at, and this is the point after them, with how many entailments were counted; or this
 -- is the first of them that doesn't hold, unless memory ran out.
@@ -91,16 +83,6 @@ WalksBlock w b kept before after result =
     (entailment_count obligations) before after result)
 
 -- Entailments ----------------------------------------------------------------------------------------------------
-
--- the number of the first entailment without a valid certificate, where they are numbered from a number on
-abbrev pub first_unproved : List Proof → (n : ℕ) → List Entailment → Option ℕ
-first_unproved proofs n [] = None
-first_unproved proofs n (g ∷ gs) = if is_proved proofs n g then first_unproved proofs (suc n) gs else Some n
-
--- the one that a walk finds: to collect, it looks at no certificate
-abbrev pub unproved_for : Purpose → List Proof → (n : ℕ) → List Entailment → Option ℕ
-unproved_for Judge proofs n gs = first_unproved proofs n gs
-unproved_for (Collect wanted) proofs n gs = None
 
 -- What came of entailments of the statement at a place that are numbered from a number on: whether they are small, and, if so, how
 -- many there are, which has no valid certificate, and that copies of those that the walk keeps are all that was added to others.

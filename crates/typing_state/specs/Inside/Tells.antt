@@ -1,25 +1,21 @@
 -- What answers and changes of parts of a point say, whichever thread they are of.
 use Rattle.std.specs.Prelude.{◌≡◌, ℕ, ◌<◌, List, Bool, true, false, length, get_or, is_some, Option, Some, None}
 use Rattle.cov_expr.specs.Term.{Term}
-use Rattle.cov_expr.specs.Words.{HasVarsBelow}
 use Rattle.cov_ast.specs.Declarations.{under}
 use Rattle.cov_ast.specs.Plain.{Plain}
 use Rattle.mode_state.specs.Sets.{Sets, modes_at}
-use Rattle.typing_state.specs.KeptPoints.{AreVariables, KeepsParts}
-use Rattle.typing_state.specs.Point.{is_tracked}
-use Rattle.typing_state.specs.Point as spec
+use Rattle.point_law.specs.Point.{is_tracked}
+use Rattle.point_law.specs.Point as spec
+use Rattle.variable_types.specs.KeptVariables.{AreVariables}
+use Rattle.variable_types.specs.declared.variables.Variables.{Variables}
+use Rattle.typing_state.specs.KeptPoints.{KeepsParts}
 use Rattle.typing_state.specs.declared.parts.Parts.{Parts}
-use Rattle.typing_state.specs.declared.variables.Variables.{Variables}
 
 -- Whatever point these parts are kept of, something holds of it.
 abbrev pub OfParts : Plain → Parts → ((t : ℕ) (a : spec.Point) → Type 0) → Type 0
 OfParts p kept P = (t : ℕ) (a : spec.Point) → KeepsParts p t a kept → P t a
 
--- whatever thread of the program the sets are of, and whichever locks it holds
-abbrev pub AtModes : Plain → Sets → ((t : ℕ) (held : List Bool) → Type 0) → Type 0
-AtModes p sets P = (t : ℕ) (held : List Bool) → sets ≡ modes_at p t held → P t held
-
--- the same where what is declared of the variables is known
+-- whatever thread of the program the sets are of, and whichever locks it holds, where what is declared of the variables is known
 abbrev pub AtEach : Plain → Sets → Variables → ((t : ℕ) (held : List Bool) → Type 0) → Type 0
 AtEach p sets variables P = (t : ℕ) (held : List Bool) → sets ≡ modes_at p t held → AreVariables p variables → P t held
 
@@ -27,12 +23,6 @@ AtEach p sets variables P = (t : ℕ) (held : List Bool) → sets ≡ modes_at p
 abbrev pub Tells : ((p : Plain) (t : ℕ) (held : List Bool) (x : ℕ) → Bool) → Sets → Variables → ℕ → Bool → Type 0
 Tells definition sets variables x answer =
     (p : Plain) → AtEach p sets variables (λ t held. x < length p.vars → answer ≡ definition p t held x)
-
--- Whatever program and thread the sets are of, and whichever locks are held, the answer is what the definition says of an
--- expression over variables of the program.
-abbrev pub TellsOf : ((p : Plain) (t : ℕ) (held : List Bool) → Term → Bool) → Sets → Term → Bool → Type 0
-TellsOf definition sets e answer =
-    (p : Plain) (t : ℕ) (held : List Bool) → sets ≡ modes_at p t held → HasVarsBelow e (length p.vars) → answer ≡ definition p t held e
 
 -- whether a type passes a test, if there is one
 abbrev pub passes : (Term → Bool) → Option Term → Bool

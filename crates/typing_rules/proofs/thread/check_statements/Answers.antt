@@ -3,7 +3,7 @@ use Rattle.cov_ast.specs.Plain.{plain}
 use Rattle.cov_ast.specs.View as view
 use Rattle.cov_ast.specs.WellFormed.{IsBlockInRange, block_size, most_size}
 use Rattle.mode_compat.specs.Compatible.{numbered}
-use Rattle.typing_state.specs.After.{start}
+use Rattle.point_law.specs.After.{start}
 use Rattle.typing_law.specs.Blocks.{after_block}
 use Rattle.typing_law.specs.ThreadEntailments.{block_entailments}
 use Rattle.typing_law.specs.ThreadObligations.{block_obligations}

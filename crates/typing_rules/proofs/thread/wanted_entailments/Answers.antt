@@ -3,7 +3,7 @@ use Rattle.cov_ast.specs.Plain.{plain}
 use Rattle.cov_ast.specs.View as view
 use Rattle.cov_ast.specs.WellFormed.{IsBlockInRange, block_size, most_size}
 use Rattle.mode_compat.specs.Compatible.{numbered}
-use Rattle.typing_state.specs.After.{start}
+use Rattle.point_law.specs.After.{start}
 use Rattle.typing_rules.proofs.Ranges.{classes_below, start_below}
 use Rattle.typing_rules.proofs.Threads.{body_in_range, body_small, kept_held, kept_refused, thread_seen}
 use Rattle.typing_rules.proofs.thread.wanted_entailments.Goals as goal

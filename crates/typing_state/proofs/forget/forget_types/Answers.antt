@@ -4,10 +4,10 @@ use Rattle.cov_expr.specs.Term.{Term}
 use Rattle.cov_expr.specs.View.{term}
 use Rattle.cov_ast.specs.Plain.{plain}
 use Rattle.cov_ast.specs.View as view
-use Rattle.typing_state.specs.After.{forgotten_type}
-use Rattle.typing_state.specs.Inside.Groups.{is_free}
+use Rattle.point_law.specs.After.{forgotten_type}
+use Rattle.variable_types.specs.Groups.{is_free}
 use Rattle.typing_state.proofs.ForgetLaws.{forgotten_keeps}
-use Rattle.typing_state.proofs.Steps.{upto_none, upto_more}
+use Rattle.point_law.proofs.Steps.{upto_none, upto_more}
 use Rattle.typing_state.proofs.WalkLaws.{walked_to, walked_all}
 use Rattle.typing_state.proofs.forget.forget_types.Goals as goal
 

@@ -2,8 +2,8 @@ use Rattle.std.proofs.Common.{◌∙◌, ap, map, option_map}
 use Rattle.cov_expr.specs.View.{term}
 use Rattle.cov_ast.specs.Plain.{plain}
 use Rattle.cov_ast.specs.View as view
-use Rattle.typing_state.specs.After.{retyped, listed_or, forgotten_type}
-use Rattle.typing_state.proofs.PointLaws.{retyped_twice}
+use Rattle.point_law.specs.After.{retyped, listed_or, forgotten_type}
+use Rattle.point_law.proofs.PointLaws.{retyped_twice}
 use Rattle.typing_state.proofs.forget.retype.Goals as goal
 
 pub returns : goal.returns

@@ -4,10 +4,10 @@ use Rattle.cov_expr.specs.View.{term}
 use Rattle.cov_ast.specs.Plain.{plain}
 use Rattle.cov_ast.specs.Tables.{has}
 use Rattle.cov_ast.specs.View as view
-use Rattle.typing_state.specs.After.{unlocked_type}
-use Rattle.typing_state.specs.Terms.{is_closed_type}
+use Rattle.point_law.specs.After.{unlocked_type}
+use Rattle.point_law.specs.Terms.{is_closed_type}
 use Rattle.typing_state.proofs.LockLaws.{passed_keeps}
-use Rattle.typing_state.proofs.Steps.{upto_none, upto_more}
+use Rattle.point_law.proofs.Steps.{upto_none, upto_more}
 use Rattle.typing_state.proofs.WalkLaws.{walked_to, walked_all}
 use Rattle.typing_state.proofs.forget.unlock_types.Goals as goal
 

@@ -2,9 +2,9 @@ use Rattle.std.proofs.Common.{◌≡◌, ◌-◌, length, map, option_map}
 use Rattle.cov_expr.specs.View.{term}
 use Rattle.cov_ast.specs.Plain.{plain}
 use Rattle.cov_ast.specs.View as view
-use Rattle.typing_state.specs.After.{unlocked_type}
+use Rattle.point_law.specs.After.{unlocked_type}
 use Rattle.typing_state.specs.Inside.Tells.{AtEach, IsTrackedBeside}
-use Rattle.typing_state.proofs.Steps.{upto}
+use Rattle.point_law.proofs.Steps.{upto}
 use Rattle.typing_state.proofs.forget.unlock_types.Given as goal
 
 abbrev pub decreases-loop-z : goal.decreases-loop-z

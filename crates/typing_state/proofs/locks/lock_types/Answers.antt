@@ -4,9 +4,9 @@ use Rattle.cov_expr.specs.View.{term}
 use Rattle.cov_ast.specs.Plain.{plain}
 use Rattle.cov_ast.specs.Tables.{has}
 use Rattle.cov_ast.specs.View as view
-use Rattle.typing_state.specs.After.{locked_type}
-use Rattle.typing_state.proofs.Steps.{upto_none, upto_more}
-use Rattle.typing_state.proofs.VariableLaws.{lists_long, unlisted_keeps}
+use Rattle.point_law.specs.After.{locked_type}
+use Rattle.point_law.proofs.Steps.{upto_none, upto_more}
+use Rattle.variable_types.proofs.VariableLaws.{lists_long, unlisted_keeps}
 use Rattle.typing_state.proofs.WalkLaws.{walked_to, walked_all}
 use Rattle.typing_state.proofs.locks.lock_types.Goals as goal
 

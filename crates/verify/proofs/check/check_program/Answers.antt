@@ -6,7 +6,7 @@ use Rattle.cov_ast.proofs.ObligationLaws.{append_decided, append_refused, append
 use Rattle.mode_compat.specs.Compatible.{threads_of}
 use Rattle.mode_compat.specs.Declared.{declaration_obligations}
 use Rattle.typing_law.specs.ThreadObligations.{thread_obligations}
-use Rattle.verify.specs.Accepted.{IsAccepted, program_obligations}
+use Rattle.program_law.specs.Accepted.{program_obligations}
 use Rattle.verify.proofs.check.check_program.Goals as goal
 
 pub returns-in-Err-clause-answer : goal.returns-in-Err-clause-answer
@@ -23,19 +23,11 @@ returns-in-Err-check_threads-clause-answer c =
 pub check_threads-requires-clause-declared : goal.check_threads-requires-clause-declared
 check_threads-requires-clause-declared c = none_refused (declaration_obligations (view.program c.args.p.now)) c.in_default.ensures
 
-pub invariant_of-result : goal.invariant_of-result
-invariant_of-result c =
+pub new-requires-clause-accepted : goal.new-requires-clause-accepted
+new-requires-clause-accepted c =
     let p = view.program c.args.p.now in
-    let none : first_false (program_obligations p) ≡ None =
-    append_held (declaration_obligations p) (flat_map (thread_obligations p) (threads_of p)) c.in_default.ensures ∙ c.in-Ok.ensures.0 in
-    let accepted : IsAccepted p = none_refused (program_obligations p) none in
-    record {
-      formed = ∣ c.requires ∣₁;
-      accepted = accepted;
-      secure = ∣ c.accepted_is_secure.ensures p c.requires accepted ∣₁;
-      disciplined = c.accepted_is_disciplined.ensures p c.requires accepted;
-      counted = c.in-Ok.ensures.1;
-    }
+    none_refused (program_obligations p)
+    (append_held (declaration_obligations p) (flat_map (thread_obligations p) (threads_of p)) c.in_default.ensures ∙ c.in-Ok.ensures.0)
 
 pub returns-in-Ok-clause-secure : goal.returns-in-Ok-clause-secure
 returns-in-Ok-clause-secure c =

@@ -6,8 +6,8 @@ use Rattle.cov_ast.specs.Syntax.{branch, loop, Block}
 use Rattle.cov_ast.specs.View as view
 use Rattle.cov_ast.specs.WellFormed.{IsBlockInRange, IsStmInRange, block_size, stm_size, most_size}
 use Rattle.cov_ast.specs.declared.decl.Program as decl
-use Rattle.typing_state.specs.After.{meet, with_guard}
-use Rattle.typing_state.specs.Point.{Point}
+use Rattle.point_law.specs.After.{meet, with_guard}
+use Rattle.point_law.specs.Point.{Point}
 use Rattle.typing_law.specs.Counts.{entailment_count}
 use Rattle.typing_law.specs.Blocks.{after_block, after_stm}
 use Rattle.typing_law.specs.Entailments.{guard_follows, state_follows}
@@ -20,7 +20,7 @@ use Rattle.typing_rules.specs.Inside.Walking.{HasTypesBelow, IsWalk, WalksStm, p
 use Rattle.typing_rules.specs.declared.walk.Walk.{Walk}
 use Rattle.typing_rules.proofs.Ranges.{block_below, classes_below, meet_below, stm_below}
 use Rattle.typing_rules.proofs.Splits.{branch_walks, first_refused, fork_refused, head_refused, loop_walks, second_refused, turn_refused}
-use Rattle.typing_rules.proofs.StatementLaws.{block_from}
+use Rattle.statement_rules.proofs.StatementLaws.{block_from}
 use Rattle.typing_rules.proofs.Walks.{assign_is, branch_seen, lock_is, loop_seen, output_is, skip_is, Reaches, one_point, reaches_end, reaches_few, reaches_more, reaches_refused, reaches_start}
 use Rattle.typing_rules.proofs.walk.Walk.+walk.Goals as goal
 

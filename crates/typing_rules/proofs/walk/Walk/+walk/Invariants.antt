@@ -4,7 +4,7 @@ use Rattle.cov_ast.specs.Syntax.{branch, loop}
 use Rattle.cov_ast.specs.View as view
 use Rattle.cov_ast.specs.WellFormed.{IsBlockInRange, block_size, stm_size}
 use Rattle.typing_state.specs.KeptPoints.{Keeps}
-use Rattle.typing_state.specs.Point.{Point}
+use Rattle.point_law.specs.Point.{Point}
 use Rattle.typing_rules.specs.Inside.Walking.{HasTypesBelow, plain_of}
 use Rattle.typing_rules.proofs.Walks.{Reaches}
 use Rattle.typing_rules.proofs.walk.Walk.+walk.Given as goal

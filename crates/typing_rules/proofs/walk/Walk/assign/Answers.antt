@@ -5,7 +5,7 @@ use Rattle.cov_expr.specs.declared.expr.Expr.{Expr}
 use Rattle.cov_ast.specs.Obligations.{Decides, first_false}
 use Rattle.cov_ast.specs.Syntax as syntax
 use Rattle.cov_ast.specs.View as view
-use Rattle.typing_state.specs.After.{after_assign}
+use Rattle.point_law.specs.After.{after_assign}
 use Rattle.typing_state.specs.KeptPoints.{Keeps}
 use Rattle.typing_law.specs.Blocks.{value_type}
 use Rattle.typing_law.specs.Counts.{entailment_count}

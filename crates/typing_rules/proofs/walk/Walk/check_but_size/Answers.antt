@@ -2,11 +2,12 @@ use Rattle.std.proofs.Common.{[], ◌∷◌, ◌++◌, map, sym, subst}
 use Rattle.cov_expr.specs.View.{term}
 use Rattle.cov_ast.specs.Obligations.{Decides}
 use Rattle.cov_ast.specs.View as view
-use Rattle.typing_state.specs.After.{after_assign}
-use Rattle.typing_state.specs.Point.{ty}
+use Rattle.point_law.specs.After.{after_assign}
+use Rattle.point_law.specs.Point.{ty}
 use Rattle.typing_law.specs.ThreadObligations.{few_preds, flat}
 use Rattle.typing_rules.specs.Inside.Walking.{plain_of, value_parts}
-use Rattle.typing_rules.proofs.Parts.{flat-append, padded}
+use Rattle.typing_rules.proofs.Parts.{flat-append}
+use Rattle.typing_law.proofs.VerdictLaws.{padded}
 use Rattle.typing_rules.proofs.walk.Walk.check_but_size.Goals as goal
 
 pub returns : goal.returns

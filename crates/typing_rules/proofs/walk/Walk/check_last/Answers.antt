@@ -7,10 +7,10 @@ use Rattle.cov_ast.specs.declared.refusal.Detail.TheVariants.{Nothing}
 use Rattle.cov_ast.proofs.ObligationLaws.{append_decided, append_refused}
 use Rattle.typing_law.specs.Entailments.{is_small_entailment}
 use Rattle.typing_law.specs.ThreadObligations.{obligation, numbers, proved, small_terms}
-use Rattle.typing_rules.specs.Inside.Keeping.{looked_at}
-use Rattle.typing_state.specs.Point.{has_small_types}
+use Rattle.entail_rules.specs.Keeping.{looked_at}
+use Rattle.point_law.specs.Point.{has_small_types}
 use Rattle.typing_rules.specs.Inside.Walking.{plain_of}
-use Rattle.typing_rules.specs.declared.site.Site.{Site}
+use Rattle.typing_law.specs.declared.site.Site.{Site}
 use Rattle.typing_rules.proofs.Concluding.{looked_last}
 use Rattle.typing_rules.proofs.Parts.{tried_decided}
 use Rattle.typing_rules.proofs.walk.Walk.check_last.Goals as goal

@@ -9,10 +9,10 @@ use Rattle.cov_ast.specs.declared.refusal.Rule.TheVariants.{V4, V5}
 use Rattle.cov_ast.specs.declared.refusal.Detail.TheVariants.{Nothing}
 use Rattle.cov_ast.proofs.ObligationLaws.{append_decided, append_refused}
 use Rattle.mode_state.specs.Sets.{is_stable}
-use Rattle.typing_state.specs.Point.{is_tracked}
+use Rattle.point_law.specs.Point.{is_tracked}
 use Rattle.typing_law.specs.ThreadObligations.{obligation, of_var, over_controls, type_obligations}
 use Rattle.typing_rules.specs.Inside.Walking.{plain_of}
-use Rattle.typing_rules.proofs.Parts.{padded}
+use Rattle.typing_law.proofs.VerdictLaws.{padded}
 use Rattle.typing_rules.proofs.walk.Walk.check_typing.Goals as goal
 
 pub returns-in-Ok-check_stable_if : goal.returns-in-Ok-check_stable_if

@@ -4,7 +4,7 @@ use Rattle.std.proofs.lemmas.Result.{IfOk-weaker}
 use Rattle.cov_expr.specs.View.{term}
 use Rattle.cov_expr.specs.Words.{HasVarsBelow}
 use Rattle.cov_ast.specs.View as view
-use Rattle.typing_state.specs.After.{with_guard}
+use Rattle.point_law.specs.After.{with_guard}
 use Rattle.typing_state.specs.KeptPoints.{Keeps}
 use Rattle.typing_rules.specs.Inside.Walking.{plain_of}
 use Rattle.typing_rules.proofs.walk.Walk.failing.Goals as goal

@@ -2,7 +2,7 @@ use Rattle.std.proofs.Common.{[], ◌∷◌, ◌++◌, map, arith}
 use Rattle.cov_expr.specs.Term.{neg}
 use Rattle.cov_expr.specs.View.{term}
 use Rattle.cov_ast.specs.View as view
-use Rattle.typing_state.specs.After.{with_guard}
+use Rattle.point_law.specs.After.{with_guard}
 use Rattle.typing_law.specs.Entailments.{guard_follows}
 use Rattle.typing_rules.specs.Inside.Walking.{plain_of}
 use Rattle.typing_rules.proofs.walk.Walk.guard.Goals as goal

@@ -1,7 +1,7 @@
 use Rattle.std.proofs.Common.{[], ◌∷◌, ◌++◌, map, length, sym, arith, append_assoc, subst}
 use Rattle.cov_expr.specs.View.{term}
 use Rattle.cov_ast.specs.View as view
-use Rattle.typing_state.specs.After.{meet}
+use Rattle.point_law.specs.After.{meet}
 use Rattle.typing_law.specs.Entailments.{guard_follows, state_follows}
 use Rattle.typing_law.specs.ThreadObligations.{flat, guard_obligations, state_obligations}
 use Rattle.typing_law.proofs.Bounds.{few_entailments_state}

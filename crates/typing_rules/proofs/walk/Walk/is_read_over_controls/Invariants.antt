@@ -1,6 +1,6 @@
 use Rattle.std.proofs.Common.{◌≡◌, take, true}
 use Rattle.std.specs.List.{list_all}
-use Rattle.typing_state.specs.Point.{is_over_controls, ty_var}
+use Rattle.point_law.specs.Point.{is_over_controls, ty_var}
 use Rattle.typing_rules.specs.Inside.Walking.{Wherever, plain_of}
 use Rattle.typing_rules.proofs.walk.Walk.is_read_over_controls.Given as goal
 

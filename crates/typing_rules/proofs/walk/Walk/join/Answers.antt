@@ -1,6 +1,6 @@
 use Rattle.std.proofs.Common.{◌≡◌, [], ◌∷◌, ◌++◌, ◌+◌, sym, suc, map, length, refl, arith, append_assoc, subst}
 use Rattle.cov_ast.specs.View as view
-use Rattle.typing_state.specs.After.{meet}
+use Rattle.point_law.specs.After.{meet}
 use Rattle.typing_law.specs.Entailments.{state_follows}
 use Rattle.typing_law.specs.ThreadEntailments.{placed_from}
 use Rattle.typing_law.specs.ThreadObligations.{flat, same_locks, state_obligations}

@@ -4,9 +4,9 @@ use Rattle.cov_ast.specs.Obligations.{Decides}
 use Rattle.cov_ast.specs.Tables.{has}
 use Rattle.cov_ast.specs.declared.refusal.Rule.TheVariants.{V6, V16}
 use Rattle.cov_ast.specs.declared.refusal.Detail.TheVariants.{One, Nothing}
-use Rattle.typing_state.specs.After.{after_lock}
+use Rattle.point_law.specs.After.{after_lock}
 use Rattle.typing_law.specs.ThreadObligations.{obligation, few_preds, of_lock, small_terms, thread_obligation}
-use Rattle.typing_state.specs.Point.{has_small_types}
+use Rattle.point_law.specs.Point.{has_small_types}
 use Rattle.typing_rules.specs.Inside.Walking.{plain_of}
 use Rattle.typing_rules.proofs.Reaching.{others_looked}
 use Rattle.typing_rules.proofs.walk.Walk.lock.Goals as goal

@@ -1,7 +1,7 @@
 use Rattle.std.proofs.Common.{◌≡◌, ◌+◌, [], ◌∷◌, ◌++◌, length, map, sym, ◌∙◌, arith, zero-add}
 use Rattle.cov_ast.specs.Obligations.{Decides}
 use Rattle.cov_ast.specs.View as view
-use Rattle.typing_state.specs.After.{noted}
+use Rattle.point_law.specs.After.{noted}
 use Rattle.typing_law.specs.Counts.{entailment_count}
 use Rattle.typing_law.specs.Entailments.{state_follows}
 use Rattle.typing_law.specs.ThreadObligations.{flat, state_obligations}

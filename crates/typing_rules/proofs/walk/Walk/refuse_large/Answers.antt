@@ -6,14 +6,14 @@ use Rattle.cov_ast.specs.View as view
 use Rattle.cov_ast.specs.declared.refusal.CheckFault.TheVariants.{Refused}
 use Rattle.cov_ast.specs.declared.refusal.Rule.TheVariants.{V16}
 use Rattle.cov_ast.specs.declared.refusal.Detail.TheVariants.{Nothing}
-use Rattle.typing_state.specs.After.{after_assign}
-use Rattle.typing_state.specs.Point.{ty, has_small_types}
+use Rattle.point_law.specs.After.{after_assign}
+use Rattle.point_law.specs.Point.{ty, has_small_types}
 use Rattle.typing_law.specs.Entailments.{assign_entailments, is_small_entailment}
 use Rattle.typing_law.specs.ThreadObligations.{obligation, few_preds, small_terms, thread_obligation}
 use Rattle.typing_rules.specs.Inside.Walking.{plain_of, value_parts}
-use Rattle.typing_rules.proofs.LargeTypes.{large_type, large_value}
+use Rattle.entail_rules.proofs.LargeTypes.{large_type, large_value}
 use Rattle.typing_rules.proofs.Parts.{part_refused, parts_refused}
-use Rattle.typing_rules.proofs.StateLaws.{obligation_refused}
+use Rattle.typing_law.proofs.VerdictLaws.{obligation_refused}
 use Rattle.typing_rules.proofs.walk.Walk.refuse_large.Goals as goal
 
 pub returns-in-Ok : goal.returns-in-Ok

@@ -4,7 +4,7 @@ use Rattle.cov_ast.specs.Tables.{has}
 use Rattle.cov_ast.specs.View as view
 use Rattle.cov_ast.specs.declared.refusal.Rule.TheVariants.{V7}
 use Rattle.cov_ast.specs.declared.refusal.Detail.TheVariants.{One}
-use Rattle.typing_state.specs.After.{after_unlock}
+use Rattle.point_law.specs.After.{after_unlock}
 use Rattle.typing_law.specs.Counts.{entailment_count}
 use Rattle.typing_law.specs.Entailments.{unlock_entailments}
 use Rattle.typing_law.specs.ThreadObligations.{flat, of_lock, thread_obligation}

@@ -1,0 +1,5 @@
+pub mod KeptLaws
+pub mod LargeTypes
+mod ListedLaws
+mod SeenLaws
+pub mod UnprovedLaws

@@ -1,0 +1,4 @@
+pub mod Keeping
+pub mod Listed
+pub mod Unproved
+pub mod Inside

@@ -1,0 +1,4 @@
+pub mod Terms
+pub mod Point
+pub mod After
+pub mod AtModes

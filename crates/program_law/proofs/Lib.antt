@@ -1,0 +1,5 @@
+mod Parts
+mod Placed
+mod Places
+mod Discipline
+mod Examples

@@ -1,0 +1,3 @@
+mod GuardLaws
+mod StateLaws
+pub mod StatementLaws

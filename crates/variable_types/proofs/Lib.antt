@@ -1,0 +1,5 @@
+mod GroupLaws
+pub mod NextLaws
+mod SharedLaws
+mod TypeLaws
+pub mod VariableLaws
