@@ -1,5 +1,1 @@
-pub mod NameLaws
-pub mod Items
-pub mod BlockLaws
 pub mod ParseLaws
-pub mod LimitLaws

@@ -1,25 +1,19 @@
 -- What parts of the code answer. These are words of the code's contracts.
 use Rattle.std.specs.Prelude.{◌≡◌, ℕ, List, None, Result, Ok, Err}
 use Rattle.cov_expr.specs.View.{term}
-use Rattle.cov_lex.specs.Lexing.{tokens_of, Gives}
-use Rattle.cov_lex.specs.declared.fault.LexFault.{LexFault}
+use Rattle.cov_lex.specs.Lexing.{tokens_of}
 use Rattle.cov_text.specs.declared.fault.ParseFault.{ParseFault}
 use Rattle.cov_text.specs.declared.fault.ParseFault.TheVariants as faults
-use Rattle.cov_parse.specs.declared.tokens.Tokens.{Tokens}
+use Rattle.text_tokens.specs.declared.tokens.Tokens.{Tokens}
 use Rattle.cov_parse.specs.declared.text.ParsedExpr.{ParsedExpr}
 use Rattle.cov_ast.specs.declared.parsed.NameUse.{NameUse}
 use Rattle.cov_grammar.specs.Grammar.{program}
 use Rattle.cov_grammar.specs.Spells.{Is}
-use Rattle.cov_read.specs.DeclViews as decls
-use Rattle.cov_read.specs.declared.decl.PlacedProgram.{PlacedProgram}
+use Rattle.placed_trees.specs.DeclViews as decls
+use Rattle.placed_trees.specs.declared.decl.PlacedProgram.{PlacedProgram}
 use Rattle.cov_text.specs.Limits.{in_program}
-use Rattle.cov_text.specs.Text.{lexed_of, words_of, names_of, IsShallow, IsFirstFault, IsFault, Expression}
+use Rattle.cov_text.specs.Text.{words_of, names_of, IsShallow, IsFirstFault, IsFault, Expression}
 use Rattle.cov_text.specs.Uses.{uses_of}
-
--- the tokens of the text and its names, or its lexical fault
-abbrev pub AreRead : (text : List ℕ) → Result Tokens LexFault → Type 0
-AreRead text (Ok r) = (tokens_of text ≡ Ok (lexed_of text)) × (r.names ≡ names_of text) × (r.tokens ≡ words_of text)
-AreRead text (Err fault) = Gives (Err fault) (tokens_of text)
 
 -- tokens that aren't too deep, or the first fault of bytes or brackets
 abbrev pub Reads : (text : List ℕ) → Result Tokens ParseFault → Type 0

@@ -17,7 +17,8 @@ use Rattle.cov_grammar.specs.Shapes.{Shape, opt, many, head}
 use Rattle.cov_grammar.specs.Reading.{Reading, got, stopped, spent, ◌>>=◌, Reader, take_kind, reading}
 use Rattle.cov_grammar.specs.FirstKinds.{first_kinds, more_of}
 use Rattle.cov_grammar.specs.Grammar.{signs, grouped, compared, negated, atom, template_atom, unary, prod, sum, band, bxor, bor, cmp, both, either, body}
-use Rattle.cov_read.specs.Inside.Levels.{first_sign, other_signs, level, operand, repeats, next_index, levels, tail, atom_of, rule_for, tails_by, tails, onward, levelled, SignOf, SignAt, IsDone, Ends, Skips}
+use Rattle.cov_read.specs.Templates.{rule_for}
+use Rattle.cov_read.specs.Inside.Levels.{first_sign, other_signs, level, operand, repeats, next_index, levels, tail, atom_of, tails_by, tails, onward, levelled, SignOf, SignAt, IsDone, Ends, Skips}
 use Rattle.cov_grammar.proofs.Repeats.{Item, pushed, pushed_none, item_goes, item_ends, item_breaks}
 use Rattle.cov_grammar.proofs.Basics.{left_false, right_false, kind_one}
 use Rattle.cov_grammar.proofs.Many.{Shrinks, many_of, many_is}

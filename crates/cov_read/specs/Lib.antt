@@ -1,6 +1,2 @@
-pub mod WrittenViews
-pub mod CertViews
-pub mod StateViews
-pub mod StmtViews
-pub mod DeclViews
+pub mod Templates
 pub mod Inside

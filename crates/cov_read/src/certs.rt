@@ -8,13 +8,13 @@ ghost use Rattle.cov_grammar.specs.Shapes.{seq, rule, placed};
 ghost use Rattle.cov_grammar.specs.Grammar as grammar;
 ghost use Rattle.cov_grammar.specs.Reading.{reading};
 ghost use Rattle.cov_grammar.specs.ReaderAnswers.{Gives, Shorter};
-ghost use Rattle.cov_read.specs.Inside.Levels.{rule_for};
-ghost use Rattle.cov_read.specs.CertViews as views;
+ghost use Rattle.cov_read.specs.Templates.{rule_for};
+ghost use Rattle.placed_trees.specs.CertViews as views;
 
-use crate::cert::{PlacedCert, Whole};
 use crate::expressions::read_expr;
 use cov_expr::{List, NoMemory};
 use cov_grammar::{Kind, Stop, TokenReader};
+use placed_trees::{PlacedCert, Whole};
 use std::alloc::Global;
 
 fn boxed_cert(alloc: Global, cert: PlacedCert) -> Result<Box<PlacedCert>, NoMemory>

@@ -6,12 +6,12 @@ ghost use Rattle.cov_grammar.specs.Shapes.{opt, many};
 ghost use Rattle.cov_grammar.specs.Grammar as grammar;
 ghost use Rattle.cov_grammar.specs.Reading.{reading};
 ghost use Rattle.cov_grammar.specs.ReaderAnswers.{Gives, Shorter};
-ghost use Rattle.cov_read.specs.DeclViews as decls;
+ghost use Rattle.placed_trees.specs.DeclViews as decls;
 
-use crate::decl::{ClassDecl, Pair, PlacedLock, PlacedProgram, PlacedThread, PlacedVariable};
 use crate::stmts::{read_block, read_whole_behind};
 use cov_expr::List;
 use cov_grammar::{Kind, Stop, TokenReader};
+use placed_trees::{ClassDecl, Pair, PlacedLock, PlacedProgram, PlacedThread, PlacedVariable};
 use std::alloc::Global;
 
 #[tactic(auto, unfolding(cov_grammar::specs::Grammar::class))]

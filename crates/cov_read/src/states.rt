@@ -6,37 +6,14 @@ ghost use Rattle.cov_grammar.specs.Shapes.{seq, opt};
 ghost use Rattle.cov_grammar.specs.Grammar as grammar;
 ghost use Rattle.cov_grammar.specs.Reading.{reading};
 ghost use Rattle.cov_grammar.specs.ReaderAnswers.{Gives, Shorter};
-ghost use Rattle.cov_read.specs.CertViews as views;
-ghost use Rattle.cov_read.specs.StateViews as states;
+ghost use Rattle.placed_trees.specs.CertViews as views;
+ghost use Rattle.placed_trees.specs.StateViews as states;
 
-use crate::cert::{PlacedCert, Whole};
 use crate::certs::{read_cert, read_number, read_whole, read_wholes};
 use cov_expr::{List, NoMemory};
 use cov_grammar::{Kind, Stop, TokenReader};
+use placed_trees::{PlacedProof, PlacedState, Typed, Whole};
 use std::alloc::Global;
-
-/// A variable and an expression.
-#[derive(Drop)]
-pub struct Typed {
-    pub name: u32,
-    pub class: Whole,
-}
-
-/// What a join, a loop or a note states.
-#[derive(Drop)]
-pub struct PlacedState {
-    pub at: u32,
-    pub preds: List<Whole>,
-    pub types: List<Typed>,
-}
-
-/// A proof of the entailment of a number.
-#[derive(Drop)]
-pub struct PlacedProof {
-    pub number: u32,
-    pub at: u32,
-    pub cert: PlacedCert,
-}
 
 /// Predicates, if an expression is next.
 #[tactic(auto, unfolding(cov_grammar::specs::LookAhead::kind_is))]

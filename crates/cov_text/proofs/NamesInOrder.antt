@@ -21,7 +21,7 @@ use Rattle.cov_ast.specs.Plain.{class_term}
 use Rattle.cov_ast.specs.WellFormed.{IsLockInRange}
 use Rattle.cov_grammar.proofs.Basics.{kind_one}
 use Rattle.cov_text.specs.Limits.{in_program, in_expr}
-use Rattle.cov_text.specs.Inside.Named.{AreNamed}
+use Rattle.cov_text.specs.Named.{AreNamed}
 use Rattle.cov_text.specs.Uses.{declares, is_lock, use_of, uses_behind, uses_of, AreUsesOf}
 use Rattle.cov_text.specs.GivenTrees.{var_of, lock_of, thread_of, expr_of}
 use Rattle.cov_text.specs.Text.{words_of, names_of, IsShallow, IsText, program_of}

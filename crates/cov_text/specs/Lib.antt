@@ -5,4 +5,4 @@ pub mod GivenTrees
 pub mod Uses
 pub mod Limits
 pub mod Depth
-pub mod Inside
+pub mod Named

@@ -9,8 +9,8 @@ use Rattle.cov_grammar.specs.declared.token.Token.{Token}
 use Rattle.cov_grammar.specs.LookAhead.{kind_is}
 use Rattle.cov_lex.specs.Lexing.{tokens_of}
 use Rattle.cov_lex.specs.declared.fault.LexFault.{LexFault}
-use Rattle.cov_parse.specs.Reads.{AreRead}
-use Rattle.cov_parse.specs.declared.tokens.Tokens.{Tokens}
+use Rattle.text_tokens.specs.ReadTokens.{AreRead}
+use Rattle.text_tokens.specs.declared.tokens.Tokens.{Tokens}
 use Rattle.cov_text.specs.Numbered as numbered
 use Rattle.cov_text.specs.Text.{or_none, lexed_of, numbered_of, words_of}
 use Rattle.cov_text.specs.Versioned.{versioned, of_first, foreign, behind_version, is_other_number}

@@ -14,9 +14,9 @@ use crate::next::Next;
 use cov_expr::{Kind, List, NoMemory, SPELLINGS};
 use cov_grammar::{Token, is};
 use cov_lex::LexFault;
-use cov_parse::read_tokens;
 use std::alloc::Global;
 use text_lines::halves;
+use text_tokens::read_tokens;
 
 /// What could stand at a place of a text of at most 1 MiB, behind the bytes in front of it: a name, a number, keywords and signs in the
 /// order of their table, and the end of the text. Nothing could, where these bytes have no tokens.

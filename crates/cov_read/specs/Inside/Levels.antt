@@ -7,8 +7,7 @@ use Rattle.cov_expr.specs.declared.expr.Op.TheVariants as ops
 use Rattle.cov_expr.specs.declared.kind.Kind.{Kind}
 use Rattle.cov_expr.specs.declared.kind.Kind.TheVariants as k
 use Rattle.cov_grammar.specs.declared.token.Token.{Token}
-use Rattle.cov_grammar.specs.PlacedTrees.{expr, template}
-use Rattle.cov_grammar.specs.Shapes.{Shape, rule, seq, opt, many, head}
+use Rattle.cov_grammar.specs.Shapes.{Shape, seq, opt, many, head}
 use Rattle.cov_grammar.specs.LookAhead.{starts, firsts}
 use Rattle.cov_grammar.specs.FirstKinds.{first_kinds}
 use Rattle.cov_grammar.specs.Reading.{Reader, ◌>>=◌, reading, got}
@@ -85,11 +84,6 @@ tail l a = seq (signs (first_sign l) (other_signs l)) (operand l a)
 abbrev pub atom_of : (holes : Bool) → Shape Term
 atom_of true = template_atom
 atom_of false = atom
-
--- expressions, or templates
-abbrev pub rule_for : (holes : Bool) → Shape Term
-rule_for true = rule template
-rule_for false = rule expr
 
 -- Reading level by level ---------------------------------------------------------------------------------------
 

@@ -1,0 +1,12 @@
+use Rattle.std.proofs.Common.{◌∙◌, map, ap}
+use Rattle.cov_ast.specs.View as ast
+use Rattle.placed_trees.specs.StmtViews as stmts
+use Rattle.cov_text.specs.GivenTrees as spec
+use Rattle.given_trees.proofs.Items.{items_moved}
+use Rattle.given_trees.proofs.BlockLaws.{block_is}
+use Rattle.given_trees.proofs.programs.+made.Goals as goal
+
+pub stmts_of-returns : goal.stmts_of-returns
+stmts_of-returns t c =
+    ap ast.block_of (items_moved spec.stmt_of stmts.stmt ast.stmt c.loop-stmt.made c.loop-stmt.rest _ c.in_default.ensures.0 c.loop-stmt.invariant.same)
+    ∙ block_is (map stmts.stmt c.args.body)

@@ -1,0 +1,5 @@
+pub mod WrittenViews
+pub mod CertViews
+pub mod StateViews
+pub mod StmtViews
+pub mod DeclViews
