@@ -13,7 +13,7 @@ use Rattle.cov_io.specs.declared.shelf.ShelfFault.{ShelfFault}
 use Rattle.cov_io.specs.declared.shelf.ShelfFault.TheVariants.{Failed, NoMemory}
 use Rattle.call_inputs.proofs.PlanLaws.{IsSoundReply}
 use Rattle.call_inputs.proofs.ReadingLaws.{IsReading, answer_whole, bytes_read}
-use Rattle.call_inputs.proofs.TextLaws.{program_reading, some_one, not_some}
+use Rattle.call_inputs.proofs.TextLaws.{program_reading, not_some}
 use Rattle.call_inputs.specs.Plans.{RepliesAt, RepliesOver}
 use Rattle.call_inputs.specs.Programs.{IsShownFault, SpellsProgram}
 use Rattle.call_inputs.specs.Readings.{FollowsBytes, FollowsCall, Over, answer_by, gives, tries}
