@@ -32,11 +32,7 @@ pub fn unobject<'w, S: Shelf>(
 }
 
 /// The code of which a file is the object.
-fn read_code<'w, S: Shelf>(
-    alloc: Global,
-    name: &'w str,
-    shelf: &mut S,
-) -> Result<Code, Stop<'w>>
+fn read_code<'w, S: Shelf>(alloc: Global, name: &'w str, shelf: &mut S) -> Result<Code, Stop<'w>>
     ensures read { HasRead (S.shelved shelf.old) (S.shelved shelf.new) (spec.code name.now) (ended (λ code. code) result) }
     ensures good { IfOk result (λ code. AreGood code) }
 {
