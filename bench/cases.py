@@ -7,9 +7,11 @@ What a case has to show is worked out by bench/machines.py, or stands here. That
 both to their ends, where their memories are the same and the positions of threads tell nothing of the code.
 """
 import os
+import re
 import sys
 
-from machines import Fault, Refused, SourceRun, pair_report, program_of, reply, rules_of_declarations, run_report, schedule_of, start_of
+from machines import (Fault, Refused, SourceRun, code_of, four, named, object_of, pair_report, program_of, reply, rules_of_declarations, run_report,
+                      schedule_of, start_of)
 
 DATA = os.path.join(os.path.dirname(os.path.dirname(os.path.abspath(__file__))), "crates", "covern_cases", "data")
 
@@ -550,13 +552,148 @@ def trials():
     return cases
 
 
-FILES = {"positions": positions, "registers": registers, "failures": failures, "cuts": cuts, "inputs": inputs, "numbers": numbers, "trials": trials}
+def raw(piece):
+    """Bytes as a line of a file of cases, which has no line feed at its end."""
+    if b"#" in piece or b"~" in piece or piece.endswith((b" ", b"\t", b"\f", b"\r")):
+        sys.exit(f"no line has these bytes: {piece}")
+    return "@1 " + piece.decode("latin-1").replace("\n", "~") + "\n"
+
+
+def compiled():
+    """The programs of the file `codes` that are compiled there, by the name of the case: text and listing."""
+    with open(os.path.join(DATA, "codes"), encoding="latin-1") as file:
+        pieces = file.read().split("//// ")[1:]
+    for piece in pieces:
+        name, rest = piece.split("\n", 1)
+        text, *calls = re.split(r"^\$ ", rest, flags=re.MULTILINE)
+        for call in calls:
+            words, due = call.split("\n", 1)
+            if words == "compile p" and due.startswith("code "):
+                yield name, re.split(r"^> ", text, flags=re.MULTILINE)[0], due.split("\n\n")[0].rstrip("\n") + "\n"
+
+
+ONE_LINE = "code 1\nthread t 1\n1 nop\n"
+LISTED = {"a name that goes on behind a keyword": "code 1\nvar skips\n", "a target at the end": "code 1\nthread t 1\n1 jump 1\n"}
+USAGE = "usage: covern COMMAND WORDS\n"
+EACH_INSTRUCTION = """code 2
+var a
+var b_1
+lock l
+thread t 14
+0 load r0 a
+1 store b_1 r7
+2 jump 14
+0 jz r1 0
+0 nop
+1 movc r2 4294967295
+0 movr r3 r4
+1 op + r5 r6
+0 op || r0 r1
+1 acquire l
+1 release l
+2 out r0
+0 out r3
+1 load r7 b_1
+thread u 0
+thread a_name_that_has_thirty_two_bytes 1
+1 jump 1
+"""
+
+
+def faulty_objects(front):
+    """Bytes that are no object, each with its fault. `front` is what begins each object of version 1."""
+    none, one = four(0), four(1)
+    line = one + named("t") + one
+    var = one + named("a") + none
+    return {
+        "nothing": (b"", "object at 0"),
+        "a listing": (ONE_LINE.encode(), "object at 0"),
+        "the mark with a small letter": (b"COVo" + front[4:], "object at 3"),
+        "version 0": (b"COVO\0", "object at 4"),
+        "version 3": (b"COVO\3", "object at 4"),
+        "a count that claims more names than there are": (front + b"\xff\xff\xff\xff" + named("a"), "object at 11"),
+        "a name of no bytes": (front + one + b"\0" + none, "object at 9"),
+        "a name of 33 bytes": (front + one + bytes([33]) + b"a" * 33, "object at 9"),
+        "a name that begins with a capital letter": (front + one + b"\1A" + none, "object at 10"),
+        "a name that begins with a digit": (front + one + b"\0021a" + none, "object at 10"),
+        "a name with a blank": (front + one + b"\3a b" + none, "object at 11"),
+        "a keyword as a name": (front + one + named("skip") + none, "object at 13"),
+        "a name that goes on behind a keyword": (front + one + named("skips") + none + none, None),
+        "a weight of 3": (front + none + none + line + b"\x34", "object at 23"),
+        "a line of no kind": (front + none + none + line + b"\x0b", "object at 23"),
+        "an output in version 1": (front + none + none + line + b"\x1a\0", "object at 23"),
+        "a variable where there is none": (front + none + none + line + b"\x10\0" + none, "object at 23"),
+        "a lock where there is none": (front + none + none + line + b"\x18" + none, "object at 23"),
+        "register 8": (front + none + none + line + b"\x15\x08" + none, "object at 24"),
+        "the second variable of one": (front + var + line + b"\x10\0" + one, "object at 27"),
+        "a variable far behind the last": (front + var + line + b"\x10\0\0\0\0\1", "object at 30"),
+        "operator 12": (front + none + none + line + b"\x17\x0c\0\0", "object at 24"),
+        "a target past the end": (front + none + none + line + b"\x12" + four(2), "code"),
+        "a target at the end": (front + none + none + line + b"\x12" + one, None),
+        "the largest target": (front + none + none + line + b"\x13\0\xff\xff\xff\xff", "code"),
+        "two variables of one name": (front + four(2) + named("a") * 2 + none + none, "code"),
+        "a lock with the name of a variable": (front + one + named("a") + one + named("a") + none, "code"),
+        "a thread with the name of a variable": (front + var + one + named("a") + none, "code"),
+        "equal names, and then a byte that is faulty": (front + four(2) + named("a") * 2 + none + none + b"\0", "object at 21"),
+    }
+
+
+def objects():
+    """Objects that are written and listed, and bytes that are none."""
+    cases = Cases("Objects of code: what is written of a program is listed as the program is compiled, and the first fault of bytes that are no object.")
+    for name, text, listing in compiled():
+        whole = raw(object_of(code_of(listing.encode())))
+        cases.pieces.append(f"//// {name}\n{text}> o\n{whole}$ compile p\n{listing}$ object p\n{whole}$ unobject o\n{listing}\n")
+    whole = object_of(code_of(EACH_INSTRUCTION.encode()))
+    cases.pieces.append(f"//// each instruction\n{raw(whole)}$ unobject p\n{EACH_INSTRUCTION}")
+    for length in range(len(whole)):
+        cases.call(f"cut={length} unobject p", f"malformed p: object at {length}\n", 3)
+    cases.close()
+    whole = object_of(code_of(ONE_LINE.encode()))
+    cases.pieces.append(f"//// one line\n{raw(whole)}> longer\n{raw(whole + b'0')}> twice\n{raw(whole * 2)}$ unobject p\n{ONE_LINE}")
+    for name in ("longer", "twice"):
+        cases.call(f"unobject {name}", f"malformed {name}: object at 24\n", 3)
+    cases.close()
+    for name, (piece, fault) in faulty_objects(b"COVO\1").items():
+        cases.pieces.append(f"//// {name}\n{raw(piece) if piece else '@0 x' + chr(10)}")
+        if fault is None:
+            cases.call("unobject p", LISTED[name])
+        else:
+            cases.call("unobject p", f"malformed p: {fault}\n", 3)
+        cases.close()
+    cases.case("as many bytes as are read, and one more", "@262144 " + "C" * 64, o="@262144 " + "C" * 64 + "\n@1 C")
+    cases.call("unobject p", "malformed p: object at 1\n", 3)
+    cases.call("unobject o", "too long: o\n", 7)
+    cases.close()
+    cases.case("no object is written of these", "var a: low; var s: high; thread t { a := s; }", w="var a: low; var a: high; thread t { a := b; }", q="thread")
+    for words, due, status in (("object p", "refused V9 in t at 36 entailment 1\n", 1), ("object w", "refused W1 at 16: a\n", 1),
+                               ("object q", "malformed q: token at 7\n", 3), ("object x", "read fault: x\n", 4), ("unobject x", "read fault: x\n", 4),
+                               ("object", USAGE, 2), ("unobject", USAGE, 2), ("object p p", USAGE, 2), ("unobject p p", USAGE, 2),
+                               ("objects p", USAGE, 2), ("Object p", USAGE, 2)):
+        cases.call(words, due, status)
+    cases.close()
+    text = "var a: low; thread t { a := 1; }"
+    listing = "code 1\nvar a\nthread t 2\n1 movc r0 1\n1 store a r0\n"
+    whole = object_of(code_of(listing.encode()))
+    cases.pieces.append(f"//// each call outside fails\n{text}\n> o\n{raw(whole)}> f\n{raw(whole[:-1])}> g\n{raw(whole[:-4] + four(1))}")
+    cases.call("fetch=1 object p", "read fault: p\n", 4)
+    cases.call("fetch=1 unobject o", "read fault: o\n", 4)
+    for put, length in enumerate(range(0, len(whole), 7), 1):
+        cases.pieces.append(f"$ step=7 put={put} object p\n{raw(whole[:length] + b'[5]' + bytes([10]))}")
+    puts_each(cases, "unobject o", listing, 0, 7)
+    puts_each(cases, "unobject f", f"malformed f: object at {len(whole) - 1}\n", 3, 7)
+    puts_each(cases, "unobject g", f"malformed g: object at {len(whole) - 4}\n", 3, 7)
+    cases.close()
+    return cases
+
+
+FILES = {"positions": positions, "registers": registers, "failures": failures, "cuts": cuts, "inputs": inputs, "numbers": numbers, "trials": trials, "objects": objects}
 
 
 def main():
     for name in sys.argv[1:] or FILES:
         cases = FILES[name]()
-        with open(os.path.join(DATA, name), "w", encoding="utf-8", newline="") as out:
+        with open(os.path.join(DATA, name), "w", encoding="latin-1", newline="") as out:
             out.write("".join(cases.pieces).rstrip("\n") + "\n")
 
 

@@ -8,4 +8,5 @@ pub mod Texts
 pub mod Writing
 pub mod KnownNames
 pub mod Answered
+pub mod FaultLaws
 mod Examples

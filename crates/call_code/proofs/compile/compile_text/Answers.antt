@@ -5,6 +5,7 @@ use Rattle.call_code.specs.Codes.{Compiles, RepliesListing}
 use Rattle.call_inputs.specs.Rejections.{UnlessRejected}
 use Rattle.call_judge.specs.Check.{rejection}
 use Rattle.call_reports.specs.AnswerViews.{Gets}
+use Rattle.risc_machine.specs.Faults.{AreGood}
 use Rattle.call_code.proofs.compile.compile_text.Goals as goal
 
 pub returns-in_err-coded : goal.returns-in_err-coded
@@ -13,6 +14,11 @@ returns-in_err-coded c =
     let same : c.from_residual.result ≡ Err c.in_err-coded.field-0.0 = search rules in
     subst (Gets (UnlessRejected (rejection p) (Compiles p))) (sym same)
     (gets_rejected (rejection p) (Compiles p) c.in_err-coded.field-0.0 c.in_err-coded.ensures.coded)
+
+pub listed-requires : goal.listed-requires
+listed-requires c =
+    let made = c.in_ok-coded.ensures.coded.good in
+    subst AreGood (sym made.code.is) (c.compiled_is_code.ensures (view.program c.in_ok-coded.coded.program) made.formed)
 
 pub returns : goal.returns
 returns c =
