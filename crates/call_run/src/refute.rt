@@ -51,11 +51,7 @@ fn refute_text<'w>(alloc: Global, parsed: Parsed, trials: u32) -> Result<Answer<
 }
 
 /// What is answered to so many trials of a program. The function that makes their words is made here.
-fn try_program<'w>(
-    alloc: Global,
-    program: &Program,
-    trials: u32,
-) -> Result<Answer<'w>, NoMemory>
+fn try_program<'w>(alloc: Global, program: &Program, trials: u32) -> Result<Answer<'w>, NoMemory>
     requires formed { IsWellFormed (view.program program.now) }
     requires few { trials ≤ MOST_TRIALS }
     ensures { IfOk result (λ answer. RefutesWith (view.program program.now) trials (seen answer)) }
