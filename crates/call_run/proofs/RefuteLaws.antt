@@ -1,5 +1,5 @@
 -- Laws of trials: there is one reply, and that to an accepted program is never that two runs differ.
-use Rattle.std.proofs.Common.{◌≡◌, ◌⊎◌, ℕ, ◌≤◌, List, length, take, Option, Some, None, refl, sym, ap, ◌∙◌, subst, inl, inr, arith}
+use Rattle.std.proofs.Common.{◌≡◌, ◌⊎◌, ◌↔◌, ℕ, Option, Some, None, refl, sym, ap, ◌∙◌, subst, inl, inr}
 use Rattle.cov_ast.specs.Plain.{plain}
 use Rattle.cov_ast.specs.Syntax.{Parsed, Program}
 use Rattle.flow_model.specs.Secure.{IsSecure}
@@ -32,6 +32,21 @@ refute_sound n p = record {
   one = refuted_one (resolved p) n;
   success = refuted_success (resolved p) n;
 }
+
+-- Exactly where there is a first trial -------------------------------------------------------------------------
+
+module _ (n : ℕ) (p : Parsed) (reply : Reply) where
+  differs_found : (found : Option (ℕ × Found)) → IsFirstTrial (meaning p) n found → reply ≡ reply_to_trials (resolved p) n found → status_of reply ≡ s.Differ
+      → (r : ℕ × Found) × IsFirstTrial (meaning p) n (Some r)
+  differs_found None first is e = let wrong : s.Done ≡ s.Differ = sym (ap status_of is) ∙ e in cc
+  differs_found (Some r) first is e = (r, first)
+
+  -- the reply is that two runs differ exactly where there is a first trial
+  pub differs_exactly : Refutes n p reply → (status_of reply ≡ s.Differ) ↔ ((r : ℕ × Found) × IsFirstTrial (meaning p) n (Some r))
+  differs_exactly h = (
+    differs_found h.found h.first h.is,
+    λ there. ap status_of (h.is ∙ ap (reply_to_trials (resolved p) n) (first_trial_one (meaning p) n h.found (Some there.0) h.first there.1)),
+  )
 
 -- Accepted programs --------------------------------------------------------------------------------------------
 
