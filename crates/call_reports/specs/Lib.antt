@@ -4,5 +4,6 @@ pub mod Reports
 pub mod RunReports
 pub mod CodeReports
 pub mod Differences
+pub mod TrialReports
 pub mod Ends
 pub mod Inside

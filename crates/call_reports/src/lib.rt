@@ -5,6 +5,7 @@
 //! | `answers` | `Replies`, `AnswerViews` | what a call can answer, the status of each answer and its exit status; an answer of the code as the reply that it is |
 //! | `reports`, `refusals`, `faults`, `lines` | `Reports` | the text of each answer |
 //! | `run_reports`, `code_reports` | `RunReports`, `CodeReports` | the texts of reports on runs, of a program and of its code |
+//! | `trial_reports` | `TrialReports` | the texts of reports on trials |
 //! | `differences` | `Differences` | what makes two starts unfit, and what two runs differ in |
 //! | `ends` | `Ends` | the report is made and written |
 //!
@@ -20,6 +21,7 @@ mod lines;
 mod refusals;
 mod reports;
 mod run_reports;
+mod trial_reports;
 
 pub use answers::{Answer, Fault, FaultKind, Status, Stop, Totals, status_for};
 pub use code_reports::{code_pair_report, code_report};
@@ -28,3 +30,4 @@ pub use ends::end;
 pub use lines::{add_number, add_numbered};
 pub use reports::{accepted_line, report};
 pub use run_reports::{add_pairs, pair_report, run_report, stop_report};
+pub use trial_reports::{apart_report, none_report};

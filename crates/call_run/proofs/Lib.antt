@@ -1,2 +1,4 @@
+mod Examples
 pub mod RunLaws
 pub mod PairLaws
+pub mod RefuteLaws

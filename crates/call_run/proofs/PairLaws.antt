@@ -1,19 +1,18 @@
 -- Laws of two runs side by side: there is one reply, and that to an accepted program is never that they differ.
-use Rattle.std.proofs.Common.{◌≡◌, ◌⊎◌, ℕ, ◌<◌, List, length, Option, Some, None, refl, sym, ap, ap₂, ◌∙◌, subst, inl, inr}
+use Rattle.std.proofs.Common.{◌≡◌, ◌⊎◌, ℕ, List, length, Option, Some, None, refl, sym, ap, ◌∙◌, subst, inl, inr}
 use Rattle.std.proofs.lemmas.List.{length-map}
-use Rattle.cov_ast.specs.Plain.{Plain, plain, plain_thread}
+use Rattle.cov_ast.specs.Plain.{plain, plain_thread}
 use Rattle.cov_ast.specs.Syntax.{Parsed, Program}
 use Rattle.cov_expr.specs.Words.{IsMemory, IsSchedule}
 use Rattle.flow_model.proofs.Decided.{none_is_fit}
-use Rattle.flow_model.specs.Agreement.{AreFitStarts, IsAlikeAt, IsFirstApart}
+use Rattle.flow_model.specs.Agreement.{AreFitStarts}
 use Rattle.flow_model.specs.FirstDifference.{first_bad_start}
 use Rattle.flow_model.specs.Secure.{IsSecure}
-use Rattle.flow_model.specs.Source.{Run, begin}
-use Rattle.flow_model.specs.declared.agreement.Differ.{Differ}
-use Rattle.flow_model.specs.declared.agreement.Differ.TheVariants as differs
+use Rattle.flow_model.specs.Source.{begin}
 use Rattle.flow_model.specs.declared.start.BadStart.{BadStart}
 use Rattle.policy_class.specs.Resolved.{lock_id, resolved, resolved_thread, resolved_variable, var_id}
-use Rattle.schedule_replay.specs.Replays.{after_steps, AgreeThroughout, DiffersIn, IsFirstStepApart}
+use Rattle.refute.proofs.FirstLaws.{found_one, together_or_apart}
+use Rattle.schedule_replay.specs.Replays.{IsFirstStepApart}
 use Rattle.schedule_replay.specs.declared.replays.Found.{Found}
 use Rattle.call_inputs.specs.Inputs.{PairInput}
 use Rattle.call_inputs.specs.Rejections.{UnlessRejected}
@@ -25,53 +24,8 @@ use Rattle.call_reports.specs.Differences.{differ_text}
 use Rattle.call_reports.specs.Replies.{Reply, differ, status_of}
 use Rattle.call_reports.specs.declared.answers.Status.TheVariants as s
 use Rattle.call_run.specs.Pairs.{Pairs, RunApart, RunTogether, RunsFit}
-use Rattle.call_run.proofs.RunLaws.{same_number}
 
 -- One reply ----------------------------------------------------------------------------------------------------
-
--- two states differ in one thing
-module _ (p : Plain) (r q : Run) where
-  apart_one : (n t u : ℕ) → IsFirstApart IsAlikeAt r q n t → IsFirstApart IsAlikeAt r q n u → t < u → ⊥
-  apart_one n t u h k l = h.apart (k.before t l)
-
-  threads_one : (n t u : ℕ) → IsFirstApart IsAlikeAt r q n t → IsFirstApart IsAlikeAt r q n u → t ≡ u
-  threads_one n t u h k = same_number t u (apart_one n t u h k) (apart_one n u t k h)
-
-  differs_one : (d e : Differ) → DiffersIn p r q d → DiffersIn p r q e → d ≡ e
-  differs_one (differs.Lock l) (differs.Lock m) h k = let same : Some (differs.Lock l) ≡ Some (differs.Lock m) = sym h ∙ k in cc
-  differs_one (differs.Lock l) (differs.Var y) h k = let wrong : Some (differs.Lock l) ≡ Some (differs.Var y) = sym h ∙ k in cc
-  differs_one (differs.Lock l) differs.Output h k = let wrong : Some (differs.Lock l) ≡ None = sym h ∙ k.0 in cc
-  differs_one (differs.Lock l) (differs.Thread u) h k = let wrong : Some (differs.Lock l) ≡ None = sym h ∙ k.0 in cc
-  differs_one (differs.Var x) (differs.Lock m) h k = let wrong : Some (differs.Var x) ≡ Some (differs.Lock m) = sym h ∙ k in cc
-  differs_one (differs.Var x) (differs.Var y) h k = let same : Some (differs.Var x) ≡ Some (differs.Var y) = sym h ∙ k in cc
-  differs_one (differs.Var x) differs.Output h k = let wrong : Some (differs.Var x) ≡ None = sym h ∙ k.0 in cc
-  differs_one (differs.Var x) (differs.Thread u) h k = let wrong : Some (differs.Var x) ≡ None = sym h ∙ k.0 in cc
-  differs_one differs.Output (differs.Lock m) h k = let wrong : None ≡ Some (differs.Lock m) = sym h.0 ∙ k in cc
-  differs_one differs.Output (differs.Var y) h k = let wrong : None ≡ Some (differs.Var y) = sym h.0 ∙ k in cc
-  differs_one differs.Output differs.Output h k = refl
-  differs_one differs.Output (differs.Thread u) h k = absurd (h.1 k.1)
-  differs_one (differs.Thread t) (differs.Lock m) h k = let wrong : None ≡ Some (differs.Lock m) = sym h.0 ∙ k in cc
-  differs_one (differs.Thread t) (differs.Var y) h k = let wrong : None ≡ Some (differs.Var y) = sym h.0 ∙ k in cc
-  differs_one (differs.Thread t) differs.Output h k = absurd (k.1 h.1)
-  differs_one (differs.Thread t) (differs.Thread u) h k = ap differs.Thread (threads_one (length p.threads) t u h.2 k.2)
-
-module _ (p : Plain) (r q : Run) (schedule : List ℕ) where
-  -- a step before the first one apart
-  not_sooner : (f g : Found) → IsFirstStepApart p r q schedule f → IsFirstStepApart p r q schedule g → f.step < g.step → ⊥
-  not_sooner f g h k l = h.apart (k.before f.step l h.some)
-
-  step_one : (f g : Found) → IsFirstStepApart p r q schedule f → IsFirstStepApart p r q schedule g → f.step ≡ g.step
-  step_one f g h k = same_number f.step g.step (not_sooner f g h k) (not_sooner g f k h)
-
-  found_one : (f g : Found) → IsFirstStepApart p r q schedule f → IsFirstStepApart p r q schedule g → f ≡ g
-  found_one f g h k =
-      let step = step_one f g h k in
-      let same = differs_one p (after_steps r schedule g.step) (after_steps q schedule g.step) f.differ g.differ (subst (λ n. DiffersIn p (after_steps r schedule n) (after_steps q schedule n) f.differ) step h.differ) k.differ in
-      let made : ℕ → Differ → Found = λ n d. record { step = n; differ = d } in
-      ap₂ made step same
-
-  together_or_apart : (f : Found) → AgreeThroughout p r q schedule → IsFirstStepApart p r q schedule f → ⊥
-  together_or_apart f h k = k.apart (h f.step k.within k.some)
 
 module _ (p : Program) (left right schedule : List ℕ) where
   fit_one : (reply other : Reply) → RunsFit p left right schedule reply → RunsFit p left right schedule other → reply ≡ other

@@ -1,6 +1,5 @@
 -- Laws of runs, also of those that stop where an expression holds: the obligations of declarations, and what is replied.
 use Rattle.std.proofs.Common.{◌≡◌, ℕ, ◌<◌, List, [], ◌++◌, Bool, Option, Some, None, Result, cond, length, take, inl, inr, refl, sym, ap, ◌∙◌, subst, arith}
-use Rattle.std.proofs.lemmas.Bool.{cases_lt}
 use Rattle.std.proofs.lemmas.List.{length-map}
 use Rattle.std.specs.Cmp.{both_ways}
 use Rattle.cov_ast.specs.Obligations.{first_false, Decides}
@@ -17,6 +16,7 @@ use Rattle.cov_expr.specs.Words.{IsMemory, IsSchedule}
 use Rattle.flow_model.specs.Source.{Run, begin, stayed_from}
 use Rattle.mode_compat.specs.Declared.{declaration_obligations}
 use Rattle.policy_class.specs.Resolved.{lock_id, name_obligations, resolved, resolved_thread, resolved_variable, var_id}
+use Rattle.refute.proofs.FirstLaws.{same_number}
 use Rattle.schedule_replay.specs.Replays.{StopsAt, after_steps}
 use Rattle.schedule_replay.specs.declared.replays.Until.{Until}
 use Rattle.call_inputs.specs.Inputs.{RunInput}
@@ -49,13 +49,6 @@ pub run_sound : (i : RunInput) → IsSoundReply (λ status. status ≡ s.Done) (
 run_sound i = one_sound (ran (report_on_run (resolved i.program) i.memory i.schedule)) refl
 
 -- Until an expression holds ------------------------------------------------------------------------------------
-
--- numbers of which neither is below the other
-pub same_number : (m n : ℕ) → (m < n → ⊥) → (n < m → ⊥) → m ≡ n
-same_number m n no_less no_more = elim (cases_lt m n) [
-  | inl less ↦ absurd (no_less less)
-  | inr more ↦ elim (cases_lt n m) [ inl less ↦ absurd (no_more less) | inr least ↦ omega (arith, more, least) ]
-]
 
 module _ (e : Term) (r : Run) (schedule : List ℕ) where
   -- a run doesn't stop later than where the expression holds

@@ -1,3 +1,4 @@
 pub mod Runs
 pub mod Pairs
+pub mod Refutes
 pub mod Inside

@@ -1,8 +1,9 @@
-//! The commands that run a program: `run` and `run-until` once, and `pair` twice, side by side.
+//! The commands that run a program: `run` and `run-until` once, `pair` twice, side by side, and `refute` so for each of many trials.
 //!
-//! What is replied stands in `specs/Runs` and `specs/Pairs`. `specs/Inside` has the words of private contracts, which no promise cites.
+//! What is replied stands in `specs/Runs`, `specs/Pairs` and `specs/Refutes`. `specs/Inside` has the words of private contracts, which no promise cites.
 #![tactic(auto)]
 
 pub mod pair;
+pub mod refute;
 pub mod run;
 pub mod run_until;

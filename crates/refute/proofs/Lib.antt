@@ -1,2 +1,3 @@
 mod Examples
+pub mod FirstLaws
 pub mod TrialLaws

@@ -50,7 +50,7 @@ use Rattle.call_inputs.proofs.TextLaws.{program_reading, some_one}
 use Rattle.call_judge.proofs.CheckLaws.{names_hold, not_rejected}
 use Rattle.call_reports.proofs.EndLaws.{ends_onward}
 use Rattle.call_run.proofs.PairLaws.{pairs_never_differ}
-use Rattle.call_run.proofs.RefuteLaws.{never_refuted}
+use Rattle.call_run.proofs.RefuteLaws.{refutes_never_differ}
 use Rattle.top_call.proofs.CommandLaws.{ArePairWords, AreTrialWords, IsSuccessIf, differing_words, may_differ, results, sound}
 
 -- One reply ---------------------------------------------------------------------------------------------------
@@ -211,7 +211,7 @@ module _ (before after : Shelved) (words : List (List ℕ)) (old new : Sunk) (st
       tried : (name : List ℕ) (trials : ℕ) (files : List File) → HoldsAccepted files name → status ≡ s.Differ
           → Takes files (λ p. Puts (Refutes trials p) old new status) (refute_reading name) → ⊥
       tried name trials files holds differ (bytes, at, fits, (p, spells, (declared, (reply, replied, is, put)))) =
-          never_refuted p trials (is_secure bytes p fits spells (subst IsAcceptedText (same_text files name holds bytes p at spells) holds.accepted)) reply replied (sym is ∙ differ)
+          refutes_never_differ trials p (is_secure bytes p fits spells (subst IsAcceptedText (same_text files name holds bytes p at spells) holds.accepted)) reply replied (sym is ∙ differ)
 
       agree : (files : List File) → before.told ≡ Some files → RunsAccepted files words → status ≡ s.Differ → ⊥
       agree files told accepted differ = by (differing_words words (differs files told differ))
