@@ -3,7 +3,8 @@
 ghost use Rattle.std.specs.Prelude.{◌≡◌, ◌++◌, ◌≤◌, IfOk, MatchResult, OnOk, codes, length, map};
 ghost use Rattle.call_big.specs.BigReplies as spec;
 ghost use Rattle.call_code.specs.Codes.{code_start};
-ghost use Rattle.call_code.specs.Inside.{IsAcceptedCode, IsRunOf};
+ghost use Rattle.call_code.specs.Inside.{IsAcceptedCode};
+ghost use Rattle.call_inputs.specs.InputViews.{IsRunOf};
 ghost use Rattle.call_inputs.specs.Plans.{CarriesOut};
 ghost use Rattle.call_inputs.specs.Programs.{IsShownFault, SpellsProgram};
 ghost use Rattle.call_inputs.specs.Rejections.{UnlessRejected};

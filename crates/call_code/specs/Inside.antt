@@ -1,5 +1,5 @@
 -- Words of contracts of the steps that commands share: what they give. To believe what `covern` promises, nothing here need be read.
-use Rattle.std.specs.Prelude.{◌≡◌, ◌≤◌, ℕ, List, length, Option, Some, None}
+use Rattle.std.specs.Prelude.{◌≡◌, Option, Some, None}
 use Rattle.call_inputs.specs.Rejections.{Rejection, rejected}
 use Rattle.call_judge.specs.Check.{rejection, totals}
 use Rattle.call_reports.specs.Replies.{Reply}
@@ -11,8 +11,6 @@ use Rattle.cov_ast.specs.Syntax.{Parsed}
 use Rattle.cov_ast.specs.View as view
 use Rattle.cov_ast.specs.WellFormed.{IsWellFormed}
 use Rattle.cov_ast.specs.declared.decl.Program.{Program}
-use Rattle.cov_expr.specs.Words.{IsMemory, IsSchedule}
-use Rattle.cov_expr.specs.declared.limits.TheConstants.{MOST_ENTRIES}
 use Rattle.flow_model.specs.Secure.{IsSecure}
 use Rattle.policy_class.specs.Resolved.{resolved}
 use Rattle.risc_machine.specs.declared.parts.Parts.{Parts}
@@ -43,9 +41,3 @@ pub record IsOfText (p : Parsed) (coded : Coded) : Type 0 where
   pub is : view.program coded.program ≡ resolved p
   pub accepted : rejection p ≡ None
   pub good : IsAcceptedCode coded
-
--- A memory and a schedule are of a program.
-pub record IsRunOf (p : Program) (memory schedule : List ℕ) : Type 0 where
-  pub fits : IsMemory (length p.vars) memory
-  pub threads : IsSchedule (length p.threads) schedule
-  pub few : length schedule ≤ MOST_ENTRIES

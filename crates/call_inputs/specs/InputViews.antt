@@ -1,5 +1,5 @@
 -- What runs take, as contracts see it.
-use Rattle.std.specs.Prelude.{◌≤◌, length}
+use Rattle.std.specs.Prelude.{◌≤◌, ℕ, List, length}
 use Rattle.call_inputs.specs.Inputs as pure
 use Rattle.call_inputs.specs.declared.runs.PairInput.{PairInput}
 use Rattle.call_inputs.specs.declared.runs.RunInput.{RunInput}
@@ -7,6 +7,7 @@ use Rattle.call_inputs.specs.declared.runs.Starts.{Starts}
 use Rattle.cov_ast.specs.Ready.{IsReady}
 use Rattle.cov_ast.specs.Syntax.{Parsed}
 use Rattle.cov_ast.specs.View as view
+use Rattle.cov_ast.specs.declared.decl.Program.{Program}
 use Rattle.cov_expr.specs.Words.{IsMemory, IsSchedule}
 use Rattle.cov_expr.specs.declared.limits.TheConstants.{MOST_ENTRIES}
 
@@ -34,3 +35,9 @@ pub record IsPairInput (i : PairInput) : Type 0 where
   pub right : IsMemory (length i.parsed.vars) i.right
   pub threads : IsSchedule (length i.parsed.threads) i.entries
   pub few : length i.entries ≤ MOST_ENTRIES
+
+-- A memory and a schedule are of a program.
+pub record IsRunOf (p : Program) (memory schedule : List ℕ) : Type 0 where
+  pub fits : IsMemory (length p.vars) memory
+  pub threads : IsSchedule (length p.threads) schedule
+  pub few : length schedule ≤ MOST_ENTRIES

@@ -1,5 +1,5 @@
 -- Laws of runs, also of those that stop where an expression holds: the obligations of declarations, and what is replied.
-use Rattle.std.proofs.Common.{◌≡◌, ℕ, ◌<◌, List, [], ◌++◌, Bool, Option, Some, None, Result, cond, length, take, inl, inr, refl, sym, ap, ◌∙◌, subst, arith}
+use Rattle.std.proofs.Common.{◌≡◌, ℕ, ◌<◌, ◌≤◌, List, [], ◌++◌, Bool, Option, Some, None, Result, cond, length, take, inl, inr, refl, sym, ap, ◌∙◌, subst, arith}
 use Rattle.std.proofs.lemmas.List.{length-map}
 use Rattle.std.specs.Cmp.{both_ways}
 use Rattle.cov_ast.specs.Obligations.{first_false, Decides}
@@ -13,6 +13,7 @@ use Rattle.cov_ast.proofs.ObligationLaws.{append_decided, none_refused}
 use Rattle.cov_expr.specs.Entailment.{Holds}
 use Rattle.cov_expr.specs.Term.{Term}
 use Rattle.cov_expr.specs.Words.{IsMemory, IsSchedule}
+use Rattle.cov_expr.specs.declared.limits.TheConstants.{MOST_ENTRIES}
 use Rattle.flow_model.specs.Source.{Run, begin, stayed_from}
 use Rattle.mode_compat.specs.Declared.{declaration_obligations}
 use Rattle.policy_class.specs.Resolved.{lock_id, name_obligations, resolved, resolved_thread, resolved_variable, var_id}
@@ -20,6 +21,7 @@ use Rattle.refute.proofs.FirstLaws.{same_number}
 use Rattle.schedule_replay.specs.Replays.{StopsAt, after_steps}
 use Rattle.schedule_replay.specs.declared.replays.Until.{Until}
 use Rattle.call_inputs.specs.Inputs.{RunInput}
+use Rattle.call_inputs.specs.InputViews.{IsRunOf}
 use Rattle.call_inputs.specs.Rejections.{UnlessRejected}
 use Rattle.call_inputs.proofs.PlanLaws.{IsSoundReply, one_sound}
 use Rattle.call_reports.specs.Replies.{Reply, ran, status_of}
@@ -97,10 +99,10 @@ module _ (parsed : read.Parsed) (program : code.Program) (is : view.program prog
       ∙ length-map program.threads view.thread
 
   -- what is of a text is of its program
-  pub fits_program : (m : List ℕ) → IsMemory (length parsed.vars) m → length m ≡ length program.vars
-  fits_program m h = h.complete ∙ same_vars
-
-  pub schedules_program : (schedule entries : List ℕ) → schedule ≡ entries → IsSchedule (length parsed.threads) entries → IsSchedule (length program.threads) schedule
-  schedules_program schedule entries same h =
-      subst (λ k. IsSchedule (length program.threads) k) (sym same)
-      (subst (λ n. IsSchedule n entries) same_threads h)
+  pub is_run_of : (memory schedule entries : List ℕ) → schedule ≡ entries → IsMemory (length parsed.vars) memory → IsSchedule (length parsed.threads) entries
+      → length entries ≤ MOST_ENTRIES → IsRunOf program memory schedule
+  is_run_of memory schedule entries same m threads few = subst (IsRunOf program memory) (sym same) (record {
+    fits = subst (λ n. IsMemory n memory) same_vars m;
+    threads = subst (λ n. IsSchedule n entries) same_threads threads;
+    few = few;
+  })

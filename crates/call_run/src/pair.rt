@@ -1,7 +1,7 @@
 //! `pair`: two runs of a program from two starts under one schedule, side by side.
 
 ghost use Rattle.std.specs.Prelude.{◌≡◌, ◌≤◌, IfOk, length};
-ghost use Rattle.call_inputs.specs.InputViews.{IsPairInput, pair_input};
+ghost use Rattle.call_inputs.specs.InputViews.{IsPairInput, IsRunOf, pair_input};
 ghost use Rattle.call_inputs.specs.Plans.{CarriesOut};
 ghost use Rattle.call_inputs.specs.Rejections.{UnlessRejected};
 ghost use Rattle.call_judge.specs.Starts.{unfit_by, unfit_starts};
@@ -14,8 +14,7 @@ ghost use Rattle.call_run.specs.Runs.{declared_rejection};
 ghost use Rattle.cov_ast.specs.Plain.{plain};
 ghost use Rattle.cov_ast.specs.View as view;
 ghost use Rattle.cov_ast.specs.WellFormed.{IsWellFormed};
-ghost use Rattle.cov_expr.specs.Words.{IsSchedule};
-ghost use Rattle.cov_expr.specs.declared.limits.TheConstants.{MOST_ENTRIES, MOST_THREADS};
+ghost use Rattle.cov_expr.specs.declared.limits.TheConstants.{MOST_THREADS};
 ghost use Rattle.flow_model.specs.FirstDifference.{first_bad_start};
 ghost use Rattle.source_machine.specs.SourceMachine.{run_of};
 
@@ -72,10 +71,8 @@ fn run_both<'w>(
     schedule: &[u32],
 ) -> Result<Answer<'w>, NoMemory>
     requires formed { IsWellFormed (view.program program.now) }
-    requires left { length left ≡ length program.now.vars }
-    requires right { length right ≡ length program.now.vars }
-    requires threads { IsSchedule (length program.now.threads) schedule.now }
-    requires entries { length schedule.now ≤ MOST_ENTRIES }
+    requires left { IsRunOf program.now left schedule.now }
+    requires right { IsRunOf program.now right schedule.now }
     ensures { let p = view.program program.now in IfOk result (λ answer.
         UnlessRejected (unfit_by p (first_bad_start (plain p) left right)) (RunsFit p left right schedule.now) (seen answer)) }
 {
@@ -94,10 +91,8 @@ fn run_fit<'w>(
     schedule: &[u32],
 ) -> Result<Answer<'w>, NoMemory>
     requires formed { IsWellFormed (view.program program.now) }
-    requires left { length left ≡ length program.now.vars }
-    requires right { length right ≡ length program.now.vars }
-    requires threads { IsSchedule (length program.now.threads) schedule.now }
-    requires entries { length schedule.now ≤ MOST_ENTRIES }
+    requires left { IsRunOf program.now left schedule.now }
+    requires right { IsRunOf program.now right schedule.now }
     ensures { IfOk result (λ answer. RunsFit (view.program program.now) left right schedule.now (seen answer)) }
 {
     let mut first = Source::start(alloc, program, left, schedule.len())?;

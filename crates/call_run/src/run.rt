@@ -1,7 +1,7 @@
 //! `run`: one run of a program whose declarations are in order, from a start under a schedule.
 
-ghost use Rattle.std.specs.Prelude.{◌≡◌, ◌≤◌, IfOk, MatchResult, length};
-ghost use Rattle.call_inputs.specs.InputViews.{IsRunInput, run_input};
+ghost use Rattle.std.specs.Prelude.{◌≡◌, IfOk, MatchResult};
+ghost use Rattle.call_inputs.specs.InputViews.{IsRunInput, IsRunOf, run_input};
 ghost use Rattle.call_inputs.specs.Plans.{CarriesOut};
 ghost use Rattle.call_inputs.specs.Rejections.{UnlessRejected};
 ghost use Rattle.call_reports.specs.AnswerViews.{Gets, Stops};
@@ -11,8 +11,6 @@ ghost use Rattle.cov_ast.specs.Obligations.{Decides};
 ghost use Rattle.cov_ast.specs.Ready.{IsReady};
 ghost use Rattle.cov_ast.specs.View as view;
 ghost use Rattle.cov_ast.specs.WellFormed.{IsWellFormed};
-ghost use Rattle.cov_expr.specs.Words.{IsSchedule};
-ghost use Rattle.cov_expr.specs.declared.limits.TheConstants.{MOST_ENTRIES};
 ghost use Rattle.policy_class.specs.Resolved.{resolved, without_value};
 
 use call_inputs::{RunInput, read_run};
@@ -85,9 +83,7 @@ fn ran(
     schedule: &[u32],
 ) -> Result<Blob, NoMemory>
     requires formed { IsWellFormed (view.program program.now) }
-    requires memory { length memory ≡ length program.now.vars }
-    requires threads { IsSchedule (length program.now.threads) schedule.now }
-    requires entries { length schedule.now ≤ MOST_ENTRIES }
+    requires run { IsRunOf program.now memory schedule.now }
     ensures { IfOk result (λ text. text ≡ report_on_run (view.program program.now) memory schedule.now) }
 {
     let mut source = Source::start(alloc, program, memory, schedule.len())?;

@@ -1,7 +1,7 @@
 //! `run-until`: one run of a program up to the first step after which an expression holds.
 
 ghost use Rattle.std.specs.Prelude.{◌≡◌, ◌↔◌, ◌+◌, ◌≤◌, IfOk, IsTrue, length};
-ghost use Rattle.call_inputs.specs.InputViews.{IsRunInput, run_input};
+ghost use Rattle.call_inputs.specs.InputViews.{IsRunInput, IsRunOf, run_input};
 ghost use Rattle.call_inputs.specs.Plans.{CarriesOut};
 ghost use Rattle.call_inputs.specs.Rejections.{UnlessRejected};
 ghost use Rattle.call_reports.specs.AnswerViews.{Gets};
@@ -80,9 +80,7 @@ fn ran(
     expr: Expr,
 ) -> Result<Blob, NoMemory>
     requires formed { IsWellFormed (view.program program.now) }
-    requires memory { length memory ≡ length program.now.vars }
-    requires threads { IsSchedule (length program.now.threads) schedule.now }
-    requires entries { length schedule.now ≤ MOST_ENTRIES }
+    requires run { IsRunOf program.now memory schedule.now }
     requires below { HasVarsBelow (term expr) (length program.now.vars) }
     ensures { IfOk result (λ text. RunsTo (view.program program.now) memory schedule.now (term expr) (replies.ran text)) }
 {

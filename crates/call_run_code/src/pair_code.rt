@@ -2,8 +2,8 @@
 
 ghost use Rattle.std.specs.Prelude.{IfOk};
 ghost use Rattle.call_run_code.specs.CodeRuns.{CodeRunsTogether, PairsCode, pair_code_plan};
-ghost use Rattle.call_code.specs.Inside.{IsAcceptedCode, IsRunOf};
-ghost use Rattle.call_inputs.specs.InputViews.{IsPairInput, pair_input};
+ghost use Rattle.call_code.specs.Inside.{IsAcceptedCode};
+ghost use Rattle.call_inputs.specs.InputViews.{IsPairInput, IsRunOf, pair_input};
 ghost use Rattle.call_inputs.specs.Plans.{CarriesOut};
 ghost use Rattle.call_inputs.specs.Rejections.{UnlessRejected};
 ghost use Rattle.call_judge.specs.Check.{rejection};

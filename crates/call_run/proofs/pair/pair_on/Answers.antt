@@ -8,7 +8,7 @@ use Rattle.cov_ast.specs.View as view
 use Rattle.flow_model.specs.FirstDifference.{first_bad_start}
 use Rattle.policy_class.specs.Resolved.{resolved}
 use Rattle.call_run.proofs.PairLaws.{program_pairs}
-use Rattle.call_run.proofs.RunLaws.{declared_replied, fits_program, schedules_program}
+use Rattle.call_run.proofs.RunLaws.{declared_replied, is_run_of}
 use Rattle.call_run.proofs.pair.pair_on.Goals as goal
 
 pub returns : goal.returns
@@ -26,13 +26,12 @@ returns c =
 
 pub run_both-requires-clause-left : goal.run_both-requires-clause-left
 run_both-requires-clause-left c =
-    fits_program c.args.input.parsed c.in_ok-program.program c.in_ok-program.ensures.is c.args.input.left c.requires.left
+    let i = c.args.input in
+    is_run_of i.parsed c.in_ok-program.program c.in_ok-program.ensures.is i.left c.as_slice.result.now i.entries c.as_slice.ensures
+    c.requires.left c.requires.threads c.requires.few
 
 pub run_both-requires-clause-right : goal.run_both-requires-clause-right
 run_both-requires-clause-right c =
-    fits_program c.args.input.parsed c.in_ok-program.program c.in_ok-program.ensures.is c.args.input.right c.requires.right
-
-pub run_both-requires-clause-threads : goal.run_both-requires-clause-threads
-run_both-requires-clause-threads c =
-    schedules_program c.args.input.parsed c.in_ok-program.program c.in_ok-program.ensures.is c.as_slice.result.now c.args.input.entries c.as_slice.ensures
-    c.requires.threads
+    let i = c.args.input in
+    is_run_of i.parsed c.in_ok-program.program c.in_ok-program.ensures.is i.right c.as_slice.result.now i.entries c.as_slice.ensures
+    c.requires.right c.requires.threads c.requires.few

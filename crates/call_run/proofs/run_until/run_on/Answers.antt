@@ -1,11 +1,8 @@
-use Rattle.call_run.proofs.RunLaws.{fits_program, schedules_program}
+use Rattle.call_run.proofs.RunLaws.{is_run_of}
 use Rattle.call_run.proofs.run_until.run_on.Goals as goal
 
-pub ran-requires-clause-memory : goal.ran-requires-clause-memory
-ran-requires-clause-memory c =
-    fits_program c.args.input.parsed c.in_ok-program.program c.in_ok-program.ensures.is c.args.input.memory c.requires.fits.memory
-
-pub ran-requires-clause-threads : goal.ran-requires-clause-threads
-ran-requires-clause-threads c =
-    schedules_program c.args.input.parsed c.in_ok-program.program c.in_ok-program.ensures.is c.as_slice.result.now c.args.input.entries c.as_slice.ensures
-    c.requires.fits.threads
+pub ran-requires-clause-run : goal.ran-requires-clause-run
+ran-requires-clause-run c =
+    let i = c.args.input in
+    is_run_of i.parsed c.in_ok-program.program c.in_ok-program.ensures.is i.memory c.as_slice.result.now i.entries c.as_slice.ensures
+    c.requires.fits.memory c.requires.fits.threads c.requires.fits.few
