@@ -4,6 +4,6 @@
 #![tactic(auto)]
 
 pub mod pair;
-pub mod refute;
 pub mod run;
 pub mod run_until;
+pub mod trials;

@@ -7,7 +7,7 @@ use Rattle.cov_ast.specs.Syntax.{Parsed}
 use Rattle.cov_ast.specs.View as view
 use Rattle.call_run.specs.Refutes.{Refutes, refute_plan}
 use Rattle.call_run.specs.Runs.{declared_rejection}
-use Rattle.call_run.proofs.refute.refute.Goals as goal
+use Rattle.call_run.proofs.trials.refute.Goals as goal
 
 -- what rejects the program, behind its file
 abbrev pub tried : Parsed → Reading Parsed

@@ -3,7 +3,7 @@ use Rattle.call_reports.specs.AnswerViews.{seen}
 use Rattle.cov_ast.specs.View as view
 use Rattle.call_run.specs.Refutes.{Refutes, RefutesWith}
 use Rattle.call_run.proofs.RunLaws.{declared_replied}
-use Rattle.call_run.proofs.refute.refute_text.Goals as goal
+use Rattle.call_run.proofs.trials.refute_text.Goals as goal
 
 pub returns : goal.returns
 returns c =

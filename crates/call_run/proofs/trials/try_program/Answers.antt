@@ -3,7 +3,7 @@ use Rattle.std.proofs.lemmas.Result.{IfOk-weaker}
 use Rattle.call_reports.specs.AnswerViews.{seen}
 use Rattle.cov_ast.specs.View as view
 use Rattle.call_run.specs.Refutes.{RefutesWith, reply_to_trials}
-use Rattle.call_run.proofs.refute.try_program.Goals as goal
+use Rattle.call_run.proofs.trials.try_program.Goals as goal
 
 pub returns : goal.returns
 returns c =
