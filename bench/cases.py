@@ -263,7 +263,7 @@ def reports_of_c(files):
     return [("check p", "p", "accepted: 2 threads, 6 statements, 2 entailments\n"), ("compile p", "p", LISTING_OF_C), ("fmt p", "p", SPELLING_OF_C),
             ("migrate p", "p", "version 2;\n" + SPELLING_OF_C), ("run p s k", "psk", worked("run", "p", "s", "k")), ("run-code p s e", "pse", code),
             ("run-until p s k 'n == 1'", "psk", worked("run-until", "p", "s", "k", "n == 1")), ("pair p s t k", "pstk", worked("pair", "p", "s", "t", "k")),
-            ("pair-code p s t e", "pste", pair)]
+            ("pair-code p s t e", "pste", pair), ("refute p 9", "p", worked("refute", "p", "9"))]
 
 
 def fails_each(cases, words, names, report, status=0, step=7):
@@ -301,13 +301,17 @@ def failures():
     puts_each(cases, "run p s k", dict((words, report) for words, _, report in reports)["run p s k"], 0, 1)
     cases.close()
     leak = "var a: low; var s: high; thread t { a := s; }"
-    cases.case("each put of another answer fails", leak, s=start(a=0, s=0), t=start(a=0, s=1), u=start(a=1, s=0), k="[0,0]", q="thread", r="var a: low; var a: low;")
+    cases.case("each put of another answer fails", leak, s=start(a=0, s=0), t=start(a=0, s=1), u=start(a=1, s=0), k="[0,0]", q="thread", r="var a: low; var a: low;",
+               o="COVO")
     for words, due, status in (("check", "usage: covern COMMAND WORDS\n", 2), ("check p p", "usage: covern COMMAND WORDS\n", 2),
                                ("check x", "read fault: x\n", 4), ("run p x k", "read fault: x\n", 4), ("check q", "malformed q: token at 7\n", 3),
                                ("run p k k", "malformed k: object\n", 3), ("run p s s", "malformed s: list\n", 3),
                                ("run-until p s k s+", "malformed expression: token at 2\n", 3), ("run-until p s k x", "malformed expression: unknown at 0\n", 3),
                                ("check r", "refused W1 at 16: a\n", 1), ("check p", "refused V9 in t at 36 entailment 1\n", 1),
-                               ("pair p s u k", "bad starts: a\n", 9), ("pair p s t k", "differ at step 2: a\n", 8)):
+                               ("pair p s u k", "bad starts: a\n", 9), ("pair p s t k", "differ at step 2: a\n", 8),
+                               ("refute p 0", "usage: covern COMMAND WORDS\n", 2), ("refute x 1", "read fault: x\n", 4), ("refute r 1", "refused W1 at 16: a\n", 1),
+                               ("refute p 1", "trial 1\ndiffer at step 2: a\nvar a 1 1\nvar s 1 2\nschedule 0 0\n", 8),
+                               ("object p", "refused V9 in t at 36 entailment 1\n", 1), ("unobject o", "malformed o: object at 4\n", 3)):
         puts_each(cases, words, due, status, 7)
         cases.pieces.append(f"$ room={len(due) - 1} {words}\n{due[:-1]}[5]\n")
     cases.close()

@@ -31,7 +31,7 @@ impl<'p> Verdict<'p> {
         requires formed { IsWellFormed (view.program program.now) }
         requires accepted { IsAccepted (view.program program.now) }
         requires counted { count ≡ counts (view.program program.now) }
-        ensures { (result.program ≡ program) × (result.count ≡ count) }
+        ensures { (result.program.now ≡ program.now) × (result.count ≡ count) }
     {
         accepted_is_secure();
         accepted_is_disciplined();

@@ -114,7 +114,7 @@ ArePairWords words = (name first second schedule : List ℕ) × (words ≡ codes
 
 -- The words are those of `refute`, with a number of trials.
 abbrev pub AreTrialWords : List (List ℕ) → Type 0
-AreTrialWords words = (name number : List ℕ) (trials : ℕ) × (number_of MOST_TRIALS number ≡ Some trials) × (words ≡ codes "refute" ∷ name ∷ number ∷ [])
+AreTrialWords words = (name number : List ℕ) × (trials : ℕ) × (number_of MOST_TRIALS number ≡ Some trials) × (words ≡ codes "refute" ∷ name ∷ number ∷ [])
 
 -- words that ask for runs of a program that may be found apart are those of `pair` and of `refute`
 pub differing_words : (words : List (List ℕ)) → may_differ (command_of words) ≡ true → ArePairWords words ⊎ AreTrialWords words
