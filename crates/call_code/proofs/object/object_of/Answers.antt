@@ -5,6 +5,6 @@ use Rattle.call_code.proofs.object.object_of.Goals as goal
 pub returns : goal.returns
 returns c = record {
   is_code = c.requires;
-  whole = c.in_ok-written.ensures.whole;
-  is = ap spelled c.in_ok-written.ensures.bytes;
+  whole = c.in_ok-object.ensures.whole;
+  is = ap spelled c.in_ok-object.ensures.bytes;
 }
