@@ -68,6 +68,10 @@ module _ (p : Plain) (r q : Run) (schedule : List ℕ) where
 
 -- Trials -------------------------------------------------------------------------------------------------------
 
+-- the trial with this number is found, and this of it
+abbrev found_at : ℕ → Found → Option (ℕ × Found)
+found_at i f = Some (i, f)
+
 module _ (p : Plain) where
   -- where a trial is apart, it doesn't agree
   agrees_or_apart : (i : ℕ) (found : Found) → AgreesIfFit p i → IsApart p i found → ⊥
@@ -82,11 +86,10 @@ module _ (p : Plain) where
   trial_found : (i : ℕ) (f g : Found) → IsApart p i f → IsApart p i g → f ≡ g
   trial_found i f g h k = found_one p (begin p (trials.first_memory p i)) (begin p (trials.second_memory p i)) (trials.schedule p i) f g h.1 k.1
 
-  trials_one : (n i j : ℕ) (f g : Found) → trials.IsFirstApart p n i f → trials.IsFirstApart p n j g → Some (i, f) ≡ Some (j, g)
+  trials_one : (n i j : ℕ) (f g : Found) → trials.IsFirstApart p n i f → trials.IsFirstApart p n j g → found_at i f ≡ found_at j g
   trials_one n i j f g h k =
       let number : i ≡ j = same_number i j (no_sooner_trial n i j f g h k) (no_sooner_trial n j i g f k h) in
-      let made : ℕ → Found → Option (ℕ × Found) = λ m found. Some (m, found) in
-      ap₂ made number (trial_found j f g (subst (λ m. IsApart p m f) number h.apart) k.apart)
+      ap₂ found_at number (trial_found j f g (subst (λ m. IsApart p m f) number h.apart) k.apart)
 
   -- where all trials agree, none is apart
   none_apart : (n i : ℕ) (f : Found) → AgreeBefore p (n + 1) → trials.IsFirstApart p n i f → ⊥
@@ -94,6 +97,6 @@ module _ (p : Plain) where
 
   pub first_trial_one : (n : ℕ) (found other : Option (ℕ × Found)) → IsFirstTrial p n found → IsFirstTrial p n other → found ≡ other
   first_trial_one n None None h k = refl
-  first_trial_one n None (Some s) h k = absurd (none_apart n s.0 s.1 h k)
-  first_trial_one n (Some r) None h k = absurd (none_apart n r.0 r.1 k h)
-  first_trial_one n (Some r) (Some s) h k = trials_one n r.0 s.0 r.1 s.1 h k
+  first_trial_one n None (Some (j, g)) h k = absurd (none_apart n j g h k)
+  first_trial_one n (Some (i, f)) None h k = absurd (none_apart n i f k h)
+  first_trial_one n (Some (i, f)) (Some (j, g)) h k = trials_one n i j f g h k
