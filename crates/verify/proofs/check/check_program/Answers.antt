@@ -35,3 +35,10 @@ returns-in-Ok-clause-secure c =
     let none : first_false (program_obligations p) ≡ None =
     append_held (declaration_obligations p) (flat_map (thread_obligations p) (threads_of p)) c.in_default.ensures ∙ c.in-Ok.ensures.0 in
     c.accepted_is_secure.ensures p c.requires (none_refused (program_obligations p) none)
+
+pub returns-in-Ok-clause-disciplined : goal.returns-in-Ok-clause-disciplined
+returns-in-Ok-clause-disciplined c =
+    let p = view.program c.args.p.now in
+    let none : first_false (program_obligations p) ≡ None =
+    append_held (declaration_obligations p) (flat_map (thread_obligations p) (threads_of p)) c.in_default.ensures ∙ c.in-Ok.ensures.0 in
+    c.accepted_is_disciplined.ensures p c.requires (none_refused (program_obligations p) none)
