@@ -11,7 +11,7 @@ ghost use Rattle.typing_law.specs.Entailments as spec;
 ghost use Rattle.typing_state.specs.KeptPoints.{AtPoint};
 ghost use Rattle.entail_rules.specs.Listed.{AreListed, entailments_of};
 
-use crate::entailments_of_assignments::{add_controlled, add_retypes, add_shown, add_written};
+use crate::entailments_of_assignments::{add_controlled, add_retypes, add_written};
 use crate::entailments_of_states::{add_freed, add_inv, add_preds, add_types};
 use crate::sizes::MOST_PARTS;
 use cov_ast::{Program, Retype, State};
@@ -81,38 +81,6 @@ pub fn written_entailments<'a>(
 {
     let mut entailments = List::new(alloc);
     if !add_written(alloc, p, point, e, written, q, &mut entailments)? {
-        return Ok(None);
-    }
-    Ok(Some(entailments))
-}
-
-/// What is asked of an assignment of a value of a type, which is the written one, if there is one.
-pub fn assignment_entailments<'a>(
-    alloc: Global,
-    p: &'a Program,
-    point: &'a Point,
-    x: u32,
-    e: &Expr,
-    written: &Option<Expr>,
-    q: &'a Expr,
-    retypes: &[Retype],
-) -> Result<Option<List<Entailment<'a>>>, NoMemory>
-    requires formed { IsWellFormed (view.program p.now) }
-    requires variable { x < length p.now.vars }
-    requires value { HasVarsBelow (term e.now) (length p.now.vars) }
-    ensures { IfOk result (λ made. (t : ℕ) → AtPoint (plain (view.program p.now)) t point.now (λ a.
-        term q.now ≡ value_type (plain (view.program p.now)) t a (option_map term written.now) (term e.now)
-        → AreListed a.preds (spec.assign_entailments (plain (view.program p.now)) t a x (term e.now) (option_map term written.now) (map view.retype retypes.now)) made)) }
-{
-    let mut entailments = List::new(alloc);
-    if !add_written(alloc, p, point, e, written, q, &mut entailments)? {
-        return Ok(None);
-    }
-    add_shown(p, point, x, q, &mut entailments)?;
-    if !add_controlled(alloc, p, point, x, e, &mut entailments)? {
-        return Ok(None);
-    }
-    if !add_retypes(alloc, point, x, e, retypes, &mut entailments)? {
         return Ok(None);
     }
     Ok(Some(entailments))

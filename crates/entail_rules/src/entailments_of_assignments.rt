@@ -2,7 +2,7 @@
 //!
 //! A function that answers a truth value answers `false` only where an entailment is too large to be built.
 
-ghost use Rattle.std.specs.Prelude.{◌≡◌, ◌<◌, ◌||◌, ◌++◌, ℕ, [], ◌∷◌, not, length, map, option_map, option_to_list, IfOk, OnOk, if◌then◌else◌};
+ghost use Rattle.std.specs.Prelude.{◌≡◌, ◌<◌, ◌||◌, ◌++◌, ℕ, [], ◌∷◌, not, length, map, option_map, option_to_list, IfOk, if◌then◌else◌};
 ghost use Rattle.cov_expr.specs.View.{term};
 ghost use Rattle.cov_expr.specs.Words.{HasVarsBelow};
 ghost use Rattle.cov_ast.specs.Declarations as declared;
@@ -72,24 +72,6 @@ pub fn shown_entailment<'a>(
         more: Some(class_held(p, x)),
         goal: Held::Lent(q),
     })
-}
-
-/// The same, added to others.
-pub fn add_shown<'a>(
-    p: &'a Program,
-    point: &Point,
-    x: u32,
-    q: &'a Expr,
-    entailments: &mut List<Entailment<'a>>,
-) -> Result<(), NoMemory>
-    requires { x < length p.now.vars }
-    ensures { OnOk result ((t : ℕ) → AtPoint (plain (view.program p.now)) t point.now (λ a.
-        entailments_of a.preds entailments.new ≡ entailments_of a.preds entailments.old ++ spec.shown_value (plain (view.program p.now)) t a x (term q.now))) }
-{
-    match shown_entailment(p, point, x, q) {
-        Some(shown) => entailments.push(shown),
-        None => Ok(()),
-    }
 }
 
 /// Whether another thread may read a variable, or it is a control.
