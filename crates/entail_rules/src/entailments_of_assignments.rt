@@ -2,7 +2,7 @@
 //!
 //! A function that answers a truth value answers `false` only where an entailment is too large to be built.
 
-ghost use Rattle.std.specs.Prelude.{◌≡◌, ◌<◌, ◌||◌, ◌++◌, ℕ, [], ◌∷◌, not, length, map, option_map, option_to_list, IfOk, if◌then◌else◌};
+ghost use Rattle.std.specs.Prelude.{◌≡◌, ◌<◌, ◌||◌, ℕ, [], ◌∷◌, not, length, map, option_map, option_to_list, IfOk, if◌then◌else◌};
 ghost use Rattle.cov_expr.specs.View.{term};
 ghost use Rattle.cov_expr.specs.Words.{HasVarsBelow};
 ghost use Rattle.cov_ast.specs.Declarations as declared;
