@@ -1,0 +1,11 @@
+mod SwapLaws
+mod AloneLaws
+mod JudgeLaws
+mod ReplaceLaws
+mod NamedLaws
+mod Replacing
+mod NameLaws
+mod OverLaws
+mod BoundLaws
+mod BindLaws
+mod Examples
