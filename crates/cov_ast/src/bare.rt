@@ -1,6 +1,6 @@
 //! Programs without their annotations: neither notes, states nor proofs, of which the semantics speaks.
 
-ghost use Rattle.std.specs.Prelude.{◌≡◌, [], ◌++◌, IfOk, OnOk, map, option_map};
+ghost use Rattle.std.specs.Prelude.{◌≡◌, [], ◌++◌, IfOk, None, OnOk, Some, map, option_map};
 ghost use Rattle.cov_expr.specs.View.{term};
 ghost use Rattle.cov_ast.specs.Plain as spec;
 ghost use Rattle.cov_ast.specs.Syntax as syntax;
@@ -178,26 +178,45 @@ fn plain_kind(alloc: Global, kind: &StmtKind) -> Result<Option<StmtKind>, NoMemo
 {
     match kind {
         StmtKind::Skip => Ok(Some(StmtKind::Skip)),
-        StmtKind::Assign(x, e, _, _) => {
-            let value = copy(alloc, e)?;
-            Ok(Some(StmtKind::Assign(*x, value, None, List::new(alloc))))
-        }
+        StmtKind::Assign(x, e, _, _) => assigned(alloc, *x, e),
         StmtKind::Lock(l) => Ok(Some(StmtKind::Lock(*l))),
         StmtKind::Unlock(l) => Ok(Some(StmtKind::Unlock(*l))),
         StmtKind::If(e, a, b, _) => {
-            let guard = copy(alloc, e)?;
             let yes = plain_block(alloc, a.as_slice())?;
-            let no = plain_block(alloc, b.as_slice())?;
-            Ok(Some(StmtKind::If(guard, yes, no, no_state(alloc))))
+            branched(alloc, e, yes, plain_block(alloc, b.as_slice())?)
         }
-        StmtKind::While(e, _, b) => {
-            let guard = copy(alloc, e)?;
-            let turn = plain_block(alloc, b.as_slice())?;
-            Ok(Some(StmtKind::While(guard, no_state(alloc), turn)))
-        }
+        StmtKind::While(e, _, b) => looped(alloc, e, plain_block(alloc, b.as_slice())?),
         StmtKind::Note(_) => Ok(None),
         StmtKind::Output(e) => Ok(Some(StmtKind::Output(copy(alloc, e)?))),
     }
+}
+
+/// An assignment, which gives the variable no type and changes none.
+fn assigned(alloc: Global, x: u32, e: &Expr) -> Result<Option<StmtKind>, NoMemory>
+    ensures { IfOk result (λ bare. option_map view.kind bare ≡ Some (syntax.assign x (term e.now) None [])) }
+{
+    let value = copy(alloc, e)?;
+    Ok(Some(StmtKind::Assign(x, value, None, List::new(alloc))))
+}
+
+/// A branch on a guard between two blocks, without a state behind it.
+fn branched(
+    alloc: Global,
+    e: &Expr,
+    yes: List<Stmt>,
+    no: List<Stmt>,
+) -> Result<Option<StmtKind>, NoMemory>
+    ensures { IfOk result (λ bare. option_map view.kind bare
+        ≡ Some (syntax.branch (term e.now) (view.block yes) (view.block no) spec.no_state)) }
+{
+    Ok(Some(StmtKind::If(copy(alloc, e)?, yes, no, no_state(alloc))))
+}
+
+/// A loop of a block, without a state at its head.
+fn looped(alloc: Global, e: &Expr, turn: List<Stmt>) -> Result<Option<StmtKind>, NoMemory>
+    ensures { IfOk result (λ bare. option_map view.kind bare ≡ Some (syntax.loop (term e.now) spec.no_state (view.block turn))) }
+{
+    Ok(Some(StmtKind::While(copy(alloc, e)?, no_state(alloc), turn)))
 }
 
 fn no_state(alloc: Global) -> State

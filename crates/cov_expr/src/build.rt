@@ -1,11 +1,12 @@
 //! Expressions made from others: copies, and what a substitution gives.
 
 ghost use Rattle.std.specs.Prelude.{◌≡◌, IfOk, OnOk};
+ghost use Rattle.cov_expr.specs.Term.{bin, neg};
 ghost use Rattle.cov_expr.specs.Trees as tree;
 ghost use Rattle.cov_expr.specs.View.{term};
 ghost use Rattle.cov_expr.specs.Words.{HasWords};
 
-use crate::expr::Expr;
+use crate::expr::{Expr, Op};
 use crate::list::NoMemory;
 use std::alloc::Global;
 
@@ -17,11 +18,10 @@ pub fn copy(alloc: Global, e: &Expr) -> Result<Expr, NoMemory>
     match e {
         Expr::Const(k) => Ok(Expr::Const(*k)),
         Expr::Var(x) => Ok(Expr::Var(*x)),
-        Expr::Not(a) => Ok(Expr::Not(boxed(alloc, copy(alloc, a)?)?)),
+        Expr::Not(a) => negation(alloc, copy(alloc, a)?),
         Expr::Bin(op, a, b) => {
-            let left = boxed(alloc, copy(alloc, a)?)?;
-            let right = boxed(alloc, copy(alloc, b)?)?;
-            Ok(Expr::Bin(*op, left, right))
+            let left = copy(alloc, a)?;
+            operation(alloc, *op, left, copy(alloc, b)?)
         }
     }
 }
@@ -34,13 +34,28 @@ pub fn subst(alloc: Global, e: &Expr, x: u32, part: &Expr) -> Result<Expr, NoMem
         Expr::Const(k) => Ok(Expr::Const(*k)),
         Expr::Var(y) if *y == x => copy(alloc, part),
         Expr::Var(y) => Ok(Expr::Var(*y)),
-        Expr::Not(a) => Ok(Expr::Not(boxed(alloc, subst(alloc, a, x, part)?)?)),
+        Expr::Not(a) => negation(alloc, subst(alloc, a, x, part)?),
         Expr::Bin(op, a, b) => {
-            let left = boxed(alloc, subst(alloc, a, x, part)?)?;
-            let right = boxed(alloc, subst(alloc, b, x, part)?)?;
-            Ok(Expr::Bin(*op, left, right))
+            let left = subst(alloc, a, x, part)?;
+            operation(alloc, *op, left, subst(alloc, b, x, part)?)
         }
     }
+}
+
+/// The negation of an expression.
+fn negation(alloc: Global, a: Expr) -> Result<Expr, NoMemory>
+    ensures { IfOk result (λ made. term made ≡ neg (term a)) }
+{
+    Ok(Expr::Not(boxed(alloc, a)?))
+}
+
+/// An operation of two expressions.
+fn operation(alloc: Global, op: Op, a: Expr, b: Expr) -> Result<Expr, NoMemory>
+    ensures { IfOk result (λ made. term made ≡ bin op (term a) (term b)) }
+{
+    let left = boxed(alloc, a)?;
+    let right = boxed(alloc, b)?;
+    Ok(Expr::Bin(op, left, right))
 }
 
 /// An expression in memory of its own, as a part of another.

@@ -76,29 +76,40 @@ fn find_within<'p>(
         StmtKind::Skip | StmtKind::Lock(_) | StmtKind::Unlock(_) => Ok(None),
         StmtKind::Assign(_, _, _, _) | StmtKind::Note(_) | StmtKind::Output(_) => Ok(None),
         StmtKind::If(e, a, b, _) => {
-            steps.push(Step::Yes(at, e))?;
-            if let Some(stmt) = find_in(a.as_slice(), place, steps)? {
+            if let Some(stmt) = find_behind(Step::Yes(at, e), a.as_slice(), place, steps)? {
                 return Ok(Some(stmt));
             }
-            let _ = steps.pop();
-            steps.push(Step::No(at, e))?;
-            if let Some(stmt) = find_in(b.as_slice(), place, steps)? {
-                return Ok(Some(stmt));
-            }
-            let _ = steps.pop();
-            Ok(None)
+            find_behind(Step::No(at, e), b.as_slice(), place, steps)
         }
         StmtKind::While(e, inv, b) => {
             steps.push(Step::Head(at, inv))?;
-            steps.push(Step::Yes(at, e))?;
-            if let Some(stmt) = find_in(b.as_slice(), place, steps)? {
+            if let Some(stmt) = find_behind(Step::Yes(at, e), b.as_slice(), place, steps)? {
                 return Ok(Some(stmt));
             }
-            let _ = steps.pop();
             let _ = steps.pop();
             Ok(None)
         }
     }
+}
+
+/// Looks for the statement at a place in a block behind a step.
+#[cycle(blocks)]
+fn find_behind<'p>(
+    step: Step<'p>,
+    body: &'p [Stmt],
+    place: u32,
+    steps: &mut List<Step<'p>>,
+) -> Result<Option<&'p Stmt>, NoMemory>
+    ensures way { IfOk result (λ stmt. found steps.new (option_map (λ s. s.now) stmt) ≡ option_map (spec.with_steps_in_front (map spec.step steps.old))
+        (option_map (spec.with_steps_in_front (spec.step step.entry ∷ [])) (spec.way_to (view.block body.now) place))) }
+    ensures kept { IfOk result (λ stmt. kept stmt steps.old steps.new) }
+{
+    steps.push(step)?;
+    if let Some(stmt) = find_in(body, place, steps)? {
+        return Ok(Some(stmt));
+    }
+    let _ = steps.pop();
+    Ok(None)
 }
 
 /// Takes off the last steps, so that so many are left.
