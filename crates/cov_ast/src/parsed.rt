@@ -5,7 +5,7 @@ use crate::names::NameTable;
 use cov_expr::List;
 
 /// A name that is used in a text: its number in the name table, whether it is used as a lock, and its byte offset.
-#[derive(Clone, Copy, Debug, PartialEq, Eq)]
+#[derive(Clone, Copy, PartialEq, Eq)]
 pub struct NameUse {
     pub name: u32,
     pub lock: bool,

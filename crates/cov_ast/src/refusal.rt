@@ -7,7 +7,7 @@ ghost use Rattle.cov_ast.specs.declared.refusal.CheckFault.TheVariants as faults
 use cov_expr::{Name, NoMemory};
 
 /// A rule that a program has to keep: `W1` to `W9` of its declarations, `V1` to `V16` of its statements.
-#[derive(Clone, Copy, Debug, PartialEq, Eq)]
+#[derive(Clone, Copy, PartialEq, Eq)]
 pub enum Rule {
     W1,
     W2,
@@ -37,7 +37,7 @@ pub enum Rule {
 }
 
 /// What a refusal shows beside its place: names, or the number of an entailment.
-#[derive(Clone, Copy, Debug, PartialEq, Eq)]
+#[derive(Clone, Copy, PartialEq, Eq)]
 pub enum Detail {
     Nothing,
     One(Name),
@@ -47,7 +47,7 @@ pub enum Detail {
 }
 
 /// The first rule that a program breaks, the thread (for a rule of statements), and the byte offset.
-#[derive(Clone, Copy, Debug, PartialEq, Eq)]
+#[derive(Clone, Copy, PartialEq, Eq)]
 pub struct Refusal {
     pub rule: Rule,
     pub thread: Option<u32>,
@@ -56,7 +56,7 @@ pub struct Refusal {
 }
 
 /// Why a check gives no verdict that accepts.
-#[derive(Clone, Copy, Debug, PartialEq, Eq)]
+#[derive(Clone, Copy, PartialEq, Eq)]
 pub enum CheckFault {
     Refused(Refusal),
     NoMemory,

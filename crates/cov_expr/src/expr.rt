@@ -7,7 +7,7 @@ ghost use Rattle.cov_expr.specs.Words.{HasVarsBelow};
 ghost use Rattle.cov_expr.specs.View.{term};
 
 /// An operator on two words.
-#[derive(Clone, Copy, Debug, PartialEq, Eq)]
+#[derive(Clone, Copy, PartialEq, Eq)]
 pub enum Op {
     /// `+`, modulo 2^32.
     Add,

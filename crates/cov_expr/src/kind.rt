@@ -1,7 +1,7 @@
 //! Kinds of tokens: a name, a number, each keyword and each sign.
 
 /// What a token is: a name, a number, one of the 45 keywords, one of the 24 signs, or foreign to its text.
-#[derive(Clone, Copy, Debug, PartialEq, Eq)]
+#[derive(Clone, Copy, PartialEq, Eq)]
 pub enum Kind {
     /// A name of a variable, a lock or a thread.
     Name,

@@ -6,7 +6,7 @@ ghost use Rattle.cov_grammar.specs.declared.stop.Stop.TheVariants as stops;
 use cov_expr::NoMemory;
 
 /// Why a reader of a part of a text stops.
-#[derive(Clone, Copy, Debug, PartialEq, Eq)]
+#[derive(Clone, Copy, PartialEq, Eq)]
 pub enum Stop {
     /// At a token that can't stand there, or at the end of the text. It has no place: the reader is in front of the token.
     Unexpected,

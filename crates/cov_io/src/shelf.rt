@@ -36,7 +36,7 @@ pub enum Fetched {
 }
 
 /// Why nothing was fetched.
-#[derive(Clone, Copy, Debug, PartialEq, Eq)]
+#[derive(Clone, Copy, PartialEq, Eq)]
 pub enum ShelfFault {
     /// The name isn't there, or it couldn't be read. The shelf has counted it.
     Failed,

@@ -22,7 +22,7 @@ pub trait Sink {
 }
 
 /// A put failed. The sink has counted it.
-#[derive(Clone, Copy, Debug, PartialEq, Eq)]
+#[derive(Clone, Copy, PartialEq, Eq)]
 pub struct Failed;
 
 /// Puts all of a text, piece by piece. Where a put fails, what was put before it is a proper prefix of the text. It

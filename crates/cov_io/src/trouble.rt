@@ -10,7 +10,7 @@ use std::io::ErrorKind;
 use std::marker::Model;
 
 /// Why a call of the system did nothing.
-#[derive(Clone, Copy, Debug, PartialEq, Eq)]
+#[derive(Clone, Copy, PartialEq, Eq)]
 pub enum CallError {
     /// A signal interrupted it: it may be made again.
     Interrupted,
@@ -19,7 +19,7 @@ pub enum CallError {
 }
 
 /// How often calls of the system were interrupted, and how often they failed for another cause.
-#[derive(Clone, Copy, Debug)]
+#[derive(Clone, Copy)]
 pub(crate) struct Trouble {
     interrupts: u64,
     errors: u64,

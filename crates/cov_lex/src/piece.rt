@@ -20,14 +20,14 @@ const LONGEST_KEYWORD: usize = 9;
 
 /// What stands at the front of a text: a blank or a comment of so many bytes, or a token of a kind, with the value of a number, of so
 /// many bytes.
-#[derive(Clone, Copy, Debug)]
+#[derive(Clone, Copy)]
 pub enum Piece {
     Gap(usize),
     Part(Kind, u32, usize),
 }
 
 /// The bytes that a run goes on over.
-#[derive(Clone, Copy, Debug)]
+#[derive(Clone, Copy)]
 pub enum Class {
     Word,
     Digit,

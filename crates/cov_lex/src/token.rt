@@ -11,7 +11,7 @@ pub enum TokenKind {
 }
 
 /// A token: the bytes of a text from the offset `at` up to, but without, the offset `end`.
-#[derive(Clone, Copy, Debug, PartialEq, Eq)]
+#[derive(Clone, Copy, PartialEq, Eq)]
 pub struct Token {
     pub kind: TokenKind,
     pub at: u32,

@@ -7,7 +7,7 @@ use cov_expr::{MOST_BRACKETS, MOST_MARKS};
 use cov_grammar::{Kind, Token, is};
 
 /// What a token does to the count of open brackets and of marks in a row.
-#[derive(Clone, Copy, Debug)]
+#[derive(Clone, Copy)]
 enum Effect {
     Opens,
     Closes,

@@ -1,7 +1,7 @@
 //! The kinds of questions that entailments ask.
 
 /// What an entailment asks. A variable and a lock are named by id, a predicate by its number in the list of the state, counted from 1.
-#[derive(Clone, Copy, Debug, PartialEq, Eq)]
+#[derive(Clone, Copy, PartialEq, Eq)]
 pub enum Question {
     /// The type that is written behind `as` gives that of the value.
     Written,
@@ -28,7 +28,7 @@ pub enum Question {
 }
 
 /// Where a state is to be met.
-#[derive(Clone, Copy, Debug, PartialEq, Eq)]
+#[derive(Clone, Copy, PartialEq, Eq)]
 pub enum End {
     /// At the note that states it.
     Here,
@@ -43,7 +43,7 @@ pub enum End {
 }
 
 /// A question, and of how many of the same statement it is one.
-#[derive(Clone, Copy, Debug, PartialEq, Eq)]
+#[derive(Clone, Copy, PartialEq, Eq)]
 pub struct Asked {
     pub question: Question,
     pub of: usize,

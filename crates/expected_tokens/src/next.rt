@@ -3,7 +3,7 @@
 use cov_expr::Kind;
 
 /// What could stand at a place of a text.
-#[derive(Clone, Copy, Debug, PartialEq, Eq)]
+#[derive(Clone, Copy, PartialEq, Eq)]
 pub enum Next {
     /// A token of this kind.
     Token(Kind),

@@ -16,7 +16,7 @@ use cov_ast::{Class, Program};
 use cov_expr::{MOST_VARIABLES, eval};
 
 /// What two states don't agree on.
-#[derive(Clone, Copy, Debug, PartialEq, Eq)]
+#[derive(Clone, Copy, PartialEq, Eq)]
 pub enum Differ {
     /// The holders of this lock.
     Lock(u32),

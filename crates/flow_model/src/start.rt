@@ -14,7 +14,7 @@ use cov_ast::{LockDecl, Program};
 use cov_expr::eval;
 
 /// What makes two memories unfit to start from.
-#[derive(Clone, Copy, Debug, PartialEq, Eq)]
+#[derive(Clone, Copy, PartialEq, Eq)]
 pub enum BadStart {
     /// This variable is low, hidden or not, and its words differ.
     Var(u32),

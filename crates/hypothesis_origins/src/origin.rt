@@ -15,7 +15,7 @@ use statement_paths::Step;
 use std::alloc::Global;
 
 /// What gives a hypothesis.
-#[derive(Clone, Copy, Debug, PartialEq, Eq)]
+#[derive(Clone, Copy, PartialEq, Eq)]
 pub enum HypothesisSource {
     /// An assignment: the variable equals the value that it is given.
     Assigned,
@@ -36,7 +36,7 @@ pub enum HypothesisSource {
 }
 
 /// Where a hypothesis comes from: what gives it, and the byte offset of the statement that does.
-#[derive(Clone, Copy, Debug, PartialEq, Eq)]
+#[derive(Clone, Copy, PartialEq, Eq)]
 pub struct Origin {
     pub source: HypothesisSource,
     pub at: u32,

@@ -3,7 +3,7 @@
 use cov_expr::Name;
 
 /// What is warned of.
-#[derive(Clone, Copy, Debug, PartialEq, Eq)]
+#[derive(Clone, Copy, PartialEq, Eq)]
 pub enum Cause {
     /// The invariant of this lock has no variable and is 0, so it holds in no memory.
     FalseInvariant(Name),
@@ -27,7 +27,7 @@ pub enum Cause {
 
 /// A warning, with the byte offset of what it is about. Of a lock or a variable that is the offset of the name where it is
 /// declared, of a statement that of its first token.
-#[derive(Clone, Copy, Debug, PartialEq, Eq)]
+#[derive(Clone, Copy, PartialEq, Eq)]
 pub struct Warning {
     pub place: u32,
     pub cause: Cause,

@@ -21,7 +21,7 @@ use std::alloc::Global;
 use watch::Maker;
 
 /// What trials show.
-#[derive(Clone, Copy, Debug, PartialEq, Eq)]
+#[derive(Clone, Copy, PartialEq, Eq)]
 pub struct Trials {
     /// How many of those that were looked at are fit to start from.
     pub fit: u32,

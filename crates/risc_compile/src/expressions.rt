@@ -18,7 +18,7 @@ use risc_machine::Instr;
 const UNSTABLE: u8 = 7;
 
 /// The register that has the value of an expression, and for how many steps of the source the instruction stands that uses it.
-#[derive(Clone, Copy, Debug, PartialEq, Eq)]
+#[derive(Clone, Copy, PartialEq, Eq)]
 pub struct Value {
     pub register: u8,
     pub weight: u8,

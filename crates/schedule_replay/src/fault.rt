@@ -8,7 +8,7 @@ use cov_expr::{Name, NoMemory};
 use thiserror::Error;
 
 /// Why bytes are no start, the first that applies.
-#[derive(Clone, Copy, Debug, PartialEq, Eq)]
+#[derive(Clone, Copy, PartialEq, Eq)]
 pub enum StartFault {
     /// They have no reading as JSON.
     Json,

@@ -23,7 +23,7 @@ use source_machine::{Change, Source};
 use watch::Watch;
 
 /// Where a run until an expression holds stopped.
-#[derive(Clone, Copy, Debug, PartialEq, Eq)]
+#[derive(Clone, Copy, PartialEq, Eq)]
 pub struct Until {
     /// How many steps were run.
     pub steps: u32,
@@ -34,7 +34,7 @@ pub struct Until {
 }
 
 /// Where two runs don't agree.
-#[derive(Clone, Copy, Debug, PartialEq, Eq)]
+#[derive(Clone, Copy, PartialEq, Eq)]
 pub struct Found {
     /// The first step after which they don't agree, counted from 1.
     pub step: u32,

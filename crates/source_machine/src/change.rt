@@ -1,7 +1,7 @@
 //! What a step of a thread changes beside the thread itself.
 
 /// What a step of a thread changes beside what remains of the thread.
-#[derive(Clone, Copy, Debug, PartialEq, Eq)]
+#[derive(Clone, Copy, PartialEq, Eq)]
 pub enum Change {
     /// Nothing: it evaluates, tests or skips, or the thread is finished.
     Nothing,

@@ -7,7 +7,7 @@ ghost use Rattle.text_lines.specs.Lines as spec;
 const FEED: u8 = b'\n';
 
 /// Where a place stands in its text: its line and its column, both counted from 1. A column counts bytes; a tab is one.
-#[derive(Clone, Copy, Debug, PartialEq, Eq)]
+#[derive(Clone, Copy, PartialEq, Eq)]
 pub struct LineColumn {
     pub line: usize,
     pub column: usize,

@@ -4,7 +4,7 @@ use cov_ast::Refusal;
 use typing_law::Count;
 
 /// The verdict on a program.
-#[derive(Clone, Copy, Debug, PartialEq, Eq)]
+#[derive(Clone, Copy, PartialEq, Eq)]
 pub enum Judged {
     /// Every obligation holds; so much was checked.
     Accepted(Count),

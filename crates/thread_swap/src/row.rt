@@ -3,7 +3,7 @@
 use crate::judge::Said;
 
 /// What a table says of the threads that are declared at a place.
-#[derive(Clone, Copy, Debug, PartialEq, Eq)]
+#[derive(Clone, Copy, PartialEq, Eq)]
 pub struct Row {
     pub at: u32,
     pub said: Said,

@@ -6,7 +6,7 @@ ghost use Rattle.thread_swap.specs.declared.swap_fault.SwapFault.TheVariants as 
 use cov_expr::NoMemory;
 
 /// Why the threads of a text can't stand in the place of those of a program.
-#[derive(Clone, Copy, Debug, PartialEq, Eq)]
+#[derive(Clone, Copy, PartialEq, Eq)]
 pub enum SwapFault {
     /// The text has version 2, and the program version 1.
     Version,

@@ -1,7 +1,7 @@
 //! What a type comes from, and what may have forgotten it since.
 
 /// What lists a type of a variable, or doesn't.
-#[derive(Clone, Copy, Debug, PartialEq, Eq)]
+#[derive(Clone, Copy, PartialEq, Eq)]
 pub enum By {
     /// The join of a branch that is passed.
     Join,
@@ -14,7 +14,7 @@ pub enum By {
 }
 
 /// What sets the type of a variable.
-#[derive(Clone, Copy, Debug, PartialEq, Eq)]
+#[derive(Clone, Copy, PartialEq, Eq)]
 pub enum TypeSource {
     /// An assignment to the variable: the type of the value.
     Stored,
@@ -27,14 +27,14 @@ pub enum TypeSource {
 }
 
 /// Where a type comes from: what sets it, and the byte offset of the statement that does.
-#[derive(Clone, Copy, Debug, PartialEq, Eq)]
+#[derive(Clone, Copy, PartialEq, Eq)]
 pub struct TypeOrigin {
     pub source: TypeSource,
     pub at: u32,
 }
 
 /// What may forget a type.
-#[derive(Clone, Copy, Debug, PartialEq, Eq)]
+#[derive(Clone, Copy, PartialEq, Eq)]
 pub enum TypeChange {
     /// This control is stored to: a type that mentions it is forgotten.
     ControlStored(u32),
@@ -43,7 +43,7 @@ pub enum TypeChange {
 }
 
 /// What may have forgotten a type since it was set, and the byte offset of the statement.
-#[derive(Clone, Copy, Debug, PartialEq, Eq)]
+#[derive(Clone, Copy, PartialEq, Eq)]
 pub struct Later {
     pub change: TypeChange,
     pub at: u32,
@@ -51,7 +51,7 @@ pub struct Later {
 
 /// Where the type of a variable comes from, and the last that may have forgotten it since. A type without an origin is from the start of
 /// the thread.
-#[derive(Clone, Copy, Debug, PartialEq, Eq)]
+#[derive(Clone, Copy, PartialEq, Eq)]
 pub struct History {
     pub origin: Option<TypeOrigin>,
     pub later: Option<Later>,

@@ -8,7 +8,7 @@ ghost use Rattle.typing_law.specs.ThreadObligations.{thread_obligation};
 use cov_ast::{CheckFault, Detail, Refusal, Rule};
 
 /// Where an obligation of a thread stands: which thread it is, and the byte offset of the statement.
-#[derive(Clone, Copy, Debug, PartialEq, Eq)]
+#[derive(Clone, Copy, PartialEq, Eq)]
 pub struct Site {
     pub thread: u32,
     pub place: u32,
