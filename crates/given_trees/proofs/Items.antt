@@ -7,16 +7,21 @@ next_item : {X A : Type 0} (f : X → A) (rest left : List X) (x : X) → rest �
 next_item f rest left x e = ap (λ xs. map f (reverse xs)) e ∙ ap (map f) (reverse-append left (x ∷ []))
 
 module _ {X Y A B : Type 0} (g : A → B) (f : X → A) (h : Y → B) where
+  -- one item is added
+  pub item_added : (made more : List Y) (rest left : List X) (x : X) (all : List B) → rest ≡ left ++ x ∷ [] → map h more ≡ map h made ++ g (f x) ∷ [] → map h made ++ map g (map f (reverse rest)) ≡ all
+      → map h more ++ map g (map f (reverse left)) ≡ all
+  item_added made more rest left x all e added before =
+      let tail = map g (map f (reverse left)) in
+      ap (λ ys. ys ++ tail) added
+      ∙ append_assoc (map h made) (g (f x) ∷ []) tail
+      ∙ ap (λ xs. map h made ++ map g xs) (sym (next_item f rest left x e))
+      ∙ before
+
   -- one item is moved
   pub item_moved : (made more : List Y) (y : Y) (rest left : List X) (x : X) (all : List B) → rest ≡ left ++ x ∷ [] → more ≡ made ++ y ∷ [] → h y ≡ g (f x)
       → map h made ++ map g (map f (reverse rest)) ≡ all → map h more ++ map g (map f (reverse left)) ≡ all
-  item_moved made more y rest left x all e pushed same before =
-      let tail = map g (map f (reverse left)) in
-      ap (λ ys. ys ++ tail) (ap (map h) pushed ∙ map-append h made (y ∷ []))
-      ∙ append_assoc (map h made) (h y ∷ []) tail
-      ∙ ap (λ b. map h made ++ b ∷ tail) same
-      ∙ ap (λ xs. map h made ++ map g xs) (sym (next_item f rest left x e))
-      ∙ before
+  item_moved made more y rest left x all e pushed same =
+      item_added made more rest left x all e (ap (map h) pushed ∙ map-append h made (y ∷ []) ∙ ap (λ b. map h made ++ b ∷ []) same)
 
   -- all are moved
   pub items_moved : (made : List Y) (rest : List X) (all : List B) → rest ≡ [] → map h made ++ map g (map f (reverse rest)) ≡ all → map h made ≡ all

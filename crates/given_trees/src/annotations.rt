@@ -1,89 +1,16 @@
-//! Certificates, proofs, types and states as callers get them, without places.
+//! Proofs, types and states as callers get them, without places.
 
-ghost use Rattle.std.specs.Prelude.{◌≡◌, map, option_map, IfOk};
+ghost use Rattle.std.specs.Prelude.{◌≡◌, [], ◌∷◌, ◌++◌, map, option_map, IfOk, OnOk};
 ghost use Rattle.cov_ast.specs.View as ast;
 ghost use Rattle.cov_text.specs.GivenTrees as spec;
-ghost use Rattle.placed_trees.specs.CertViews as certs;
 ghost use Rattle.placed_trees.specs.StateViews as states;
 
+use crate::certs::cert_of;
 use crate::exprs::{expr_of, exprs_of};
 use crate::turned::turned;
 use cov_expr::{Expr, List, NoMemory};
-use placed_trees::{PlacedCert, PlacedProof, PlacedState, Typed};
+use placed_trees::{PlacedProof, PlacedState, Typed};
 use std::alloc::Global;
-
-fn boxed(alloc: Global, cert: cov_ast::Cert) -> Result<Box<cov_ast::Cert>, NoMemory>
-    ensures { IfOk result (λ made. made.value ≡ cert) }
-{
-    Ok(Box::new(alloc, cert)?)
-}
-
-/// A certificate without places.
-#[cycle(made)]
-fn cert_of(alloc: Global, cert: PlacedCert) -> Result<cov_ast::Cert, NoMemory>
-    ensures { IfOk result (λ made. ast.cert made ≡ spec.cert_of (certs.cert cert)) }
-{
-    Ok(match cert {
-        PlacedCert::Auto => cov_ast::Cert::Auto,
-        PlacedCert::Calc => cov_ast::Cert::Calc,
-        PlacedCert::Refl => cov_ast::Cert::Refl,
-        PlacedCert::Ring => cov_ast::Cert::Ring,
-        PlacedCert::Range => cov_ast::Cert::Range,
-        PlacedCert::Hyp(i) => cov_ast::Cert::Hyp(i),
-        PlacedCert::Clash(i) => cov_ast::Cert::Clash(i),
-        PlacedCert::Absurd(i, j) => cov_ast::Cert::Absurd(i, j),
-        PlacedCert::And(c, d) => {
-            let (c, d) = parts_of(alloc, c, d)?;
-            cov_ast::Cert::And(c, d)
-        }
-        PlacedCert::Left(c) => cov_ast::Cert::Left(part_of(alloc, c)?),
-        PlacedCert::Right(c) => cov_ast::Cert::Right(part_of(alloc, c)?),
-        PlacedCert::Unpack(i, c) => cov_ast::Cert::Unpack(i, part_of(alloc, c)?),
-        PlacedCert::Cases(i, c, d) => {
-            let (c, d) = parts_of(alloc, c, d)?;
-            cov_ast::Cert::Cases(i, c, d)
-        }
-        PlacedCert::Split(e, c, d) => {
-            let (c, d) = parts_of(alloc, c, d)?;
-            cov_ast::Cert::Split(expr_of(e), c, d)
-        }
-        PlacedCert::Have(e, c, d) => {
-            let (c, d) = parts_of(alloc, c, d)?;
-            cov_ast::Cert::Have(expr_of(e), c, d)
-        }
-        PlacedCert::Not(c) => cov_ast::Cert::Not(part_of(alloc, c)?),
-        PlacedCert::Contra(c) => cov_ast::Cert::Contra(part_of(alloc, c)?),
-        PlacedCert::Fwd(i, e, c) => cov_ast::Cert::Fwd(i, expr_of(e), part_of(alloc, c)?),
-        PlacedCert::Rev(i, e, c) => cov_ast::Cert::Rev(i, expr_of(e), part_of(alloc, c)?),
-        PlacedCert::Axiom(k, es, c) => {
-            cov_ast::Cert::Axiom(k, exprs_of(alloc, es)?, part_of(alloc, c)?)
-        }
-    })
-}
-
-/// A part of a certificate.
-#[cycle(made)]
-fn part_of(alloc: Global, part: Box<PlacedCert>) -> Result<Box<cov_ast::Cert>, NoMemory>
-    ensures { IfOk result (λ made. ast.cert made.value ≡ spec.cert_of (certs.cert part.value)) }
-{
-    let cert = cert_of(alloc, Box::into_inner(part))?;
-    boxed(alloc, cert)
-}
-
-/// Two parts of a certificate.
-#[cycle(made)]
-fn parts_of(
-    alloc: Global,
-    first: Box<PlacedCert>,
-    second: Box<PlacedCert>,
-) -> Result<(Box<cov_ast::Cert>, Box<cov_ast::Cert>), NoMemory>
-    ensures first { IfOk result (λ made. ast.cert made.0.value ≡ spec.cert_of (certs.cert first.value)) }
-    ensures second { IfOk result (λ made. ast.cert made.1.value ≡ spec.cert_of (certs.cert second.value)) }
-{
-    let first = part_of(alloc, first)?;
-    let second = part_of(alloc, second)?;
-    Ok((first, second))
-}
 
 /// A proof without its place.
 fn proof_of(alloc: Global, proof: PlacedProof) -> Result<cov_ast::Proof, NoMemory>
@@ -98,6 +25,17 @@ fn proof_of(alloc: Global, proof: PlacedProof) -> Result<cov_ast::Proof, NoMemor
     Ok(cov_ast::Proof { number, cert })
 }
 
+fn add_proof(
+    alloc: Global,
+    proof: PlacedProof,
+    made: &mut List<cov_ast::Proof>,
+) -> Result<(), NoMemory>
+    ensures { OnOk result (map ast.proof made.new ≡ map ast.proof made.old ++ spec.proof_of (states.proof proof) ∷ []) }
+{
+    let proof = proof_of(alloc, proof)?;
+    made.push(proof)
+}
+
 /// The proofs of a statement.
 pub fn proofs_of(alloc: Global, proofs: List<PlacedProof>) -> Result<List<cov_ast::Proof>, NoMemory>
     ensures { IfOk result (λ made. map ast.proof made ≡ map spec.proof_of (map states.proof proofs)) }
@@ -105,7 +43,7 @@ pub fn proofs_of(alloc: Global, proofs: List<PlacedProof>) -> Result<List<cov_as
     let mut rest = turned(proofs);
     let mut made = List::with_capacity(alloc, rest.len())?;
     while let Some(proof) = rest.pop() {
-        made.push(proof_of(alloc, proof)?)?;
+        add_proof(alloc, proof, &mut made)?;
     }
     Ok(made)
 }
@@ -121,7 +59,7 @@ fn retype_of(pair: Typed) -> cov_ast::Retype
 }
 
 /// New types of variables.
-pub fn retypes_of(alloc: Global, pairs: List<Typed>) -> Result<List<cov_ast::Retype>, NoMemory>
+fn retypes_of(alloc: Global, pairs: List<Typed>) -> Result<List<cov_ast::Retype>, NoMemory>
     ensures { IfOk result (λ made. map ast.retype made ≡ map spec.pair_of (map states.typed pairs)) }
 {
     let mut rest = turned(pairs);
@@ -167,10 +105,7 @@ pub fn state_of(alloc: Global, state: PlacedState) -> Result<cov_ast::State, NoM
 }
 
 /// A state, or one that says nothing.
-pub fn state_or_none(
-    alloc: Global,
-    state: Option<Box<PlacedState>>,
-) -> Result<cov_ast::State, NoMemory>
+fn state_or_none(alloc: Global, state: Option<Box<PlacedState>>) -> Result<cov_ast::State, NoMemory>
     ensures { IfOk result (λ made. ast.state made ≡ spec.state_or_none (option_map (λ j. states.state j.value) state)) }
 {
     match state {
@@ -180,4 +115,32 @@ pub fn state_or_none(
             types: List::new(alloc),
         }),
     }
+}
+
+/// What is stated behind a statement, and its proofs.
+pub fn stated_of(
+    alloc: Global,
+    state: Option<Box<PlacedState>>,
+    proofs: List<PlacedProof>,
+) -> Result<(cov_ast::State, List<cov_ast::Proof>), NoMemory>
+    ensures state { IfOk result (λ made. ast.state made.0 ≡ spec.state_or_none (option_map (λ j. states.state j.value) state)) }
+    ensures proofs { IfOk result (λ made. map ast.proof made.1 ≡ map spec.proof_of (map states.proof proofs)) }
+{
+    let state = state_or_none(alloc, state)?;
+    let proofs = proofs_of(alloc, proofs)?;
+    Ok((state, proofs))
+}
+
+/// New types of variables behind a statement, and its proofs.
+pub fn retyped_of(
+    alloc: Global,
+    pairs: List<Typed>,
+    proofs: List<PlacedProof>,
+) -> Result<(List<cov_ast::Retype>, List<cov_ast::Proof>), NoMemory>
+    ensures retypes { IfOk result (λ made. map ast.retype made.0 ≡ map spec.pair_of (map states.typed pairs)) }
+    ensures proofs { IfOk result (λ made. map ast.proof made.1 ≡ map spec.proof_of (map states.proof proofs)) }
+{
+    let retypes = retypes_of(alloc, pairs)?;
+    let proofs = proofs_of(alloc, proofs)?;
+    Ok((retypes, proofs))
 }

@@ -5,8 +5,10 @@
 #![tactic(auto)]
 
 mod annotations;
+mod certs;
 mod exprs;
 mod programs;
+mod stmts;
 mod turned;
 
 pub use exprs::expr_of;

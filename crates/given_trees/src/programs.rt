@@ -1,131 +1,18 @@
-//! Programs as callers get them, made of what was read.
+//! Programs and their declarations as callers get them, made of what was read.
 
-ghost use Rattle.std.specs.Prelude.{◌≡◌, [], ◌∷◌, ◌++◌, ◌<◌, length, map, option_map, All, IfOk, OnOk};
-ghost use Rattle.cov_ast.specs.Syntax as syntax;
+ghost use Rattle.std.specs.Prelude.{◌≡◌, [], ◌∷◌, ◌++◌, ◌<◌, length, map, All, IfOk, OnOk};
 ghost use Rattle.cov_ast.specs.View as ast;
-ghost use Rattle.cov_grammar.specs.PlacedTrees.{stms};
 ghost use Rattle.cov_text.specs.Named.{AreNamed};
 ghost use Rattle.cov_text.specs.GivenTrees as spec;
-ghost use Rattle.placed_trees.specs.CertViews as certs;
-ghost use Rattle.placed_trees.specs.StateViews as states;
-ghost use Rattle.placed_trees.specs.StmtViews as stmts;
 ghost use Rattle.placed_trees.specs.DeclViews as decls;
 
-use crate::annotations::{proofs_of, retypes_of, state_of, state_or_none};
 use crate::exprs::{expr_of, option_of};
+use crate::stmts::stmts_of;
 use crate::turned::turned;
 use cov_ast::{Class, LockDecl, Modes, NameTable, NameUse, Parsed, ThreadDecl, VarDecl};
 use cov_expr::{List, Name, NoMemory};
-use placed_trees::{
-    ClassDecl, Pair, PlacedLock, PlacedProgram, PlacedProof, PlacedState, PlacedStmt,
-    PlacedStmtKind, PlacedThread, PlacedVariable, Whole,
-};
+use placed_trees::{ClassDecl, Pair, PlacedLock, PlacedProgram, PlacedThread, PlacedVariable};
 use std::alloc::Global;
-
-/// Statements without the places of their braces.
-#[cycle(made)]
-fn stmts_of(alloc: Global, body: List<PlacedStmt>) -> Result<List<cov_ast::Stmt>, NoMemory>
-    ensures { IfOk result (λ made. ast.block made ≡ spec.stms_of (stms (map stmts.stmt body))) }
-{
-    let mut rest = turned(body);
-    let mut made = List::with_capacity(alloc, rest.len())?;
-    while let Some(stmt) = rest.pop() {
-        add_stmt(alloc, stmt, &mut made)?;
-    }
-    Ok(made)
-}
-
-/// Adds a statement, and its proofs.
-#[cycle(made)]
-fn add_stmt(alloc: Global, stmt: PlacedStmt, made: &mut List<cov_ast::Stmt>) -> Result<(), NoMemory>
-    ensures { OnOk result (map ast.stmt made.new ≡ map ast.stmt made.old ++ spec.stmt_of (stmts.stmt stmt) ∷ []) }
-{
-    let PlacedStmt { at, kind } = stmt;
-    match kind {
-        PlacedStmtKind::Skip => add_made(
-            alloc,
-            made,
-            at,
-            cov_ast::StmtKind::Skip,
-            List::new(alloc),
-        ),
-        PlacedStmtKind::Assign(x, e, class, retypes, proofs) => {
-            let retypes = retypes_of(alloc, retypes)?;
-            let kind = cov_ast::StmtKind::Assign(x, expr_of(e), option_of(class), retypes);
-            add_made(alloc, made, at, kind, proofs)
-        }
-        PlacedStmtKind::Lock(lock) => {
-            let kind = cov_ast::StmtKind::Lock(lock);
-            add_made(alloc, made, at, kind, List::new(alloc))
-        }
-        PlacedStmtKind::Unlock(lock, proofs) => {
-            let kind = cov_ast::StmtKind::Unlock(lock);
-            add_made(alloc, made, at, kind, proofs)
-        }
-        PlacedStmtKind::If(e, _, first, _, second, join, proofs) => {
-            let kind = branched_of(alloc, e, first, second, join)?;
-            add_made(alloc, made, at, kind, proofs)
-        }
-        PlacedStmtKind::While(e, inv, _, body, proofs) => {
-            let kind = looped_of(alloc, e, inv, body)?;
-            add_made(alloc, made, at, kind, proofs)
-        }
-        PlacedStmtKind::Note(state, proofs) => {
-            let kind = cov_ast::StmtKind::Note(state_of(alloc, state)?);
-            add_made(alloc, made, at, kind, proofs)
-        }
-        PlacedStmtKind::Output(e, proofs) => {
-            let kind = cov_ast::StmtKind::Output(expr_of(e));
-            add_made(alloc, made, at, kind, proofs)
-        }
-    }
-}
-
-/// An `if`, without its places.
-#[cycle(made)]
-fn branched_of(
-    alloc: Global,
-    e: Whole,
-    first: List<PlacedStmt>,
-    second: List<PlacedStmt>,
-    join: Option<Box<PlacedState>>,
-) -> Result<cov_ast::StmtKind, NoMemory>
-    ensures { IfOk result (λ made. ast.kind made ≡ syntax.branch (spec.expr_of (certs.whole e)) (spec.stms_of (stms (map stmts.stmt first))) (spec.stms_of (stms (map stmts.stmt second))) (spec.state_or_none (option_map (λ j. states.state j.value) join))) }
-{
-    let first = stmts_of(alloc, first)?;
-    let second = stmts_of(alloc, second)?;
-    let join = state_or_none(alloc, join)?;
-    Ok(cov_ast::StmtKind::If(expr_of(e), first, second, join))
-}
-
-/// A loop, without its places.
-#[cycle(made)]
-fn looped_of(
-    alloc: Global,
-    e: Whole,
-    inv: Option<Box<PlacedState>>,
-    body: List<PlacedStmt>,
-) -> Result<cov_ast::StmtKind, NoMemory>
-    ensures { IfOk result (λ made. ast.kind made ≡ syntax.loop (spec.expr_of (certs.whole e)) (spec.state_or_none (option_map (λ j. states.state j.value) inv)) (spec.stms_of (stms (map stmts.stmt body)))) }
-{
-    let body = stmts_of(alloc, body)?;
-    let inv = state_or_none(alloc, inv)?;
-    Ok(cov_ast::StmtKind::While(expr_of(e), inv, body))
-}
-
-/// Adds a statement that is made, with its proofs.
-fn add_made(
-    alloc: Global,
-    made: &mut List<cov_ast::Stmt>,
-    at: u32,
-    kind: cov_ast::StmtKind,
-    proofs: List<PlacedProof>,
-) -> Result<(), NoMemory>
-    ensures { OnOk result (map ast.stmt made.new ≡ map ast.stmt made.old ++ (record { at = at; stm = ast.kind kind; proofs = map spec.proof_of (map states.proof proofs) }) ∷ []) }
-{
-    let proofs = proofs_of(alloc, proofs)?;
-    made.push(cov_ast::Stmt { at, kind, proofs })
-}
 
 /// The name of a number.
 #[tactic(auto, using(crate::proofs::BlockLaws::stands_at))]
@@ -228,6 +115,19 @@ fn thread_of(alloc: Global, names: &NameTable, thread: PlacedThread) -> Result<T
     })
 }
 
+fn add_thread(
+    alloc: Global,
+    names: &NameTable,
+    thread: PlacedThread,
+    made: &mut List<ThreadDecl>,
+) -> Result<(), NoMemory>
+    requires { (decls.thread thread).name.0 < length names.now }
+    ensures { OnOk result (map ast.thread made.new ≡ map ast.thread made.old ++ spec.thread_of names.now (decls.thread thread) ∷ []) }
+{
+    let thread = thread_of(alloc, names, thread)?;
+    made.push(thread)
+}
+
 fn threads_of(
     alloc: Global,
     names: &NameTable,
@@ -239,7 +139,7 @@ fn threads_of(
     let mut rest = turned(threads);
     let mut made = List::with_capacity(alloc, rest.len())?;
     while let Some(thread) = rest.pop() {
-        made.push(thread_of(alloc, names, thread)?)?;
+        add_thread(alloc, names, thread, &mut made)?;
     }
     Ok(made)
 }

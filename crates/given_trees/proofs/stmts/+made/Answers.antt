@@ -4,7 +4,7 @@ use Rattle.placed_trees.specs.StmtViews as stmts
 use Rattle.cov_text.specs.GivenTrees as spec
 use Rattle.given_trees.proofs.Items.{items_moved}
 use Rattle.given_trees.proofs.BlockLaws.{block_is}
-use Rattle.given_trees.proofs.programs.+made.Goals as goal
+use Rattle.given_trees.proofs.stmts.+made.Goals as goal
 
 pub stmts_of-returns : goal.stmts_of-returns
 stmts_of-returns t c =
