@@ -1,5 +1,4 @@
 pub mod Axioms
-pub mod Finds
 pub mod Hypotheses
 pub mod Instances
 pub mod Conditions

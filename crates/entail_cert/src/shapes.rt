@@ -13,14 +13,14 @@ use std::alloc::Global;
 pub fn irreflexive(alloc: Global, a: &Expr) -> Result<Expr, NoMemory>
     ensures { Makes (spec.neg (spec.bin Lt (term a.now) (term a.now))) result }
 {
-    not(alloc, pair(alloc, Op::Lt, a, a)?)
+    not_pair(alloc, Op::Lt, a, a)
 }
 
 /// `0 <= a`.
 pub fn least(alloc: Global, a: &Expr) -> Result<Expr, NoMemory>
     ensures { Makes (spec.bin Le (spec.const 0) (term a.now)) result }
 {
-    join(alloc, Op::Le, Expr::Const(0), copy(alloc, a)?)
+    from_zero(alloc, Op::Le, a)
 }
 
 /// `a <= 4294967295`.
@@ -41,25 +41,22 @@ pub fn annihilates(alloc: Global, op: Op, a: &Expr) -> Result<Expr, NoMemory>
 pub fn zero_or_positive(alloc: Global, a: &Expr) -> Result<Expr, NoMemory>
     ensures { Makes (spec.bin Either (spec.bin Eq (term a.now) (spec.const 0)) (spec.bin Lt (spec.const 0) (term a.now))) result }
 {
-    let zero = join(alloc, Op::Eq, copy(alloc, a)?, Expr::Const(0))?;
-    let positive = join(alloc, Op::Lt, Expr::Const(0), copy(alloc, a)?)?;
-    join(alloc, Op::Either, zero, positive)
+    let zero = to_zero(alloc, Op::Eq, a)?;
+    join(alloc, Op::Either, zero, from_zero(alloc, Op::Lt, a)?)
 }
 
 /// `!a || a != 0`.
 pub fn false_or_nonzero(alloc: Global, a: &Expr) -> Result<Expr, NoMemory>
     ensures { Makes (spec.bin Either (spec.neg (term a.now)) (spec.bin Ne (term a.now) (spec.const 0))) result }
 {
-    let nonzero = join(alloc, Op::Ne, copy(alloc, a)?, Expr::Const(0))?;
-    unless(alloc, copy(alloc, a)?, nonzero)
+    unless(alloc, copy(alloc, a)?, to_zero(alloc, Op::Ne, a)?)
 }
 
 /// `a == b || a != b`.
 pub fn decided(alloc: Global, a: &Expr, b: &Expr) -> Result<Expr, NoMemory>
     ensures { Makes (spec.bin Either (spec.bin Eq (term a.now) (term b.now)) (spec.bin Ne (term a.now) (term b.now))) result }
 {
-    let equal = pair(alloc, Op::Eq, a, b)?;
-    join(alloc, Op::Either, equal, pair(alloc, Op::Ne, a, b)?)
+    either(alloc, Op::Eq, Op::Ne, a, b)
 }
 
 /// `!(a op b) || b op a`.
@@ -75,15 +72,14 @@ pub fn exclusive(alloc: Global, a: &Expr, b: &Expr) -> Result<Expr, NoMemory>
     ensures { Makes (spec.bin Either (spec.neg (spec.bin Eq (term a.now) (term b.now))) (spec.neg (spec.bin Ne (term a.now) (term b.now)))) result }
 {
     let equal = pair(alloc, Op::Eq, a, b)?;
-    unless(alloc, equal, not(alloc, pair(alloc, Op::Ne, a, b)?)?)
+    unless(alloc, equal, not_pair(alloc, Op::Ne, a, b)?)
 }
 
 /// `a < b || a == b || b < a`.
 pub fn total(alloc: Global, a: &Expr, b: &Expr) -> Result<Expr, NoMemory>
     ensures { Makes (spec.bin Either (spec.bin Either (spec.bin Lt (term a.now) (term b.now)) (spec.bin Eq (term a.now) (term b.now))) (spec.bin Lt (term b.now) (term a.now))) result }
 {
-    let less = pair(alloc, Op::Lt, a, b)?;
-    let most = join(alloc, Op::Either, less, pair(alloc, Op::Eq, a, b)?)?;
+    let most = either(alloc, Op::Lt, Op::Eq, a, b)?;
     join(alloc, Op::Either, most, pair(alloc, Op::Lt, b, a)?)
 }
 
@@ -107,8 +103,7 @@ pub fn less_or_equal(alloc: Global, a: &Expr, b: &Expr) -> Result<Expr, NoMemory
 pub fn antisymmetric(alloc: Global, a: &Expr, b: &Expr) -> Result<Expr, NoMemory>
     ensures { Makes (spec.bin Either (spec.neg (spec.bin Both (spec.bin Le (term a.now) (term b.now)) (spec.bin Le (term b.now) (term a.now)))) (spec.bin Eq (term a.now) (term b.now))) result }
 {
-    let most = pair(alloc, Op::Le, a, b)?;
-    let both = join(alloc, Op::Both, most, pair(alloc, Op::Le, b, a)?)?;
+    let both = chained(alloc, Op::Le, a, b, a)?;
     unless(alloc, both, pair(alloc, Op::Eq, a, b)?)
 }
 
@@ -124,8 +119,7 @@ pub fn commutative(alloc: Global, op: Op, a: &Expr, b: &Expr) -> Result<Expr, No
 pub fn cancelled(alloc: Global, a: &Expr, b: &Expr) -> Result<Expr, NoMemory>
     ensures { Makes (spec.bin Eq (spec.bin Sub (spec.bin Add (term a.now) (term b.now)) (term b.now)) (term a.now)) result }
 {
-    let sum = pair(alloc, Op::Add, a, b)?;
-    let back = join(alloc, Op::Sub, sum, copy(alloc, b)?)?;
+    let back = added_and_taken(alloc, a, b)?;
     join(alloc, Op::Eq, back, copy(alloc, a)?)
 }
 
@@ -147,9 +141,53 @@ pub fn or_above(alloc: Global, a: &Expr, b: &Expr) -> Result<Expr, NoMemory>
 pub fn transitive(alloc: Global, op: Op, a: &Expr, b: &Expr, c: &Expr) -> Result<Expr, NoMemory>
     ensures { Makes (spec.bin Either (spec.neg (spec.bin Both (spec.bin op (term a.now) (term b.now)) (spec.bin op (term b.now) (term c.now)))) (spec.bin op (term a.now) (term c.now))) result }
 {
-    let first = pair(alloc, op, a, b)?;
-    let both = join(alloc, Op::Both, first, pair(alloc, op, b, c)?)?;
+    let both = chained(alloc, op, a, b, c)?;
     unless(alloc, both, pair(alloc, op, a, c)?)
+}
+
+/// `a op b && b op c`.
+fn chained(alloc: Global, op: Op, a: &Expr, b: &Expr, c: &Expr) -> Result<Expr, NoMemory>
+    ensures { Makes (spec.bin Both (spec.bin op (term a.now) (term b.now)) (spec.bin op (term b.now) (term c.now))) result }
+{
+    let first = pair(alloc, op, a, b)?;
+    join(alloc, Op::Both, first, pair(alloc, op, b, c)?)
+}
+
+/// `a first b || a second b`.
+fn either(alloc: Global, first: Op, second: Op, a: &Expr, b: &Expr) -> Result<Expr, NoMemory>
+    ensures { Makes (spec.bin Either (spec.bin first (term a.now) (term b.now)) (spec.bin second (term a.now) (term b.now))) result }
+{
+    let left = pair(alloc, first, a, b)?;
+    join(alloc, Op::Either, left, pair(alloc, second, a, b)?)
+}
+
+/// `(a + b) - b`.
+fn added_and_taken(alloc: Global, a: &Expr, b: &Expr) -> Result<Expr, NoMemory>
+    ensures { Makes (spec.bin Sub (spec.bin Add (term a.now) (term b.now)) (term b.now)) result }
+{
+    let sum = pair(alloc, Op::Add, a, b)?;
+    join(alloc, Op::Sub, sum, copy(alloc, b)?)
+}
+
+/// `!(a op b)`.
+fn not_pair(alloc: Global, op: Op, a: &Expr, b: &Expr) -> Result<Expr, NoMemory>
+    ensures { Makes (spec.neg (spec.bin op (term a.now) (term b.now))) result }
+{
+    not(alloc, pair(alloc, op, a, b)?)
+}
+
+/// `0 op a`.
+fn from_zero(alloc: Global, op: Op, a: &Expr) -> Result<Expr, NoMemory>
+    ensures { Makes (spec.bin op (spec.const 0) (term a.now)) result }
+{
+    join(alloc, op, Expr::Const(0), copy(alloc, a)?)
+}
+
+/// `a op 0`.
+fn to_zero(alloc: Global, op: Op, a: &Expr) -> Result<Expr, NoMemory>
+    ensures { Makes (spec.bin op (term a.now) (spec.const 0)) result }
+{
+    join(alloc, op, copy(alloc, a)?, Expr::Const(0))
 }
 
 /// An operator between copies.

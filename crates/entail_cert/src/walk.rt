@@ -12,7 +12,7 @@ ghost use Rattle.entail_cert.specs.Axioms.{numbered};
 ghost use Rattle.entail_cert.specs.HeldTerms.{held_term};
 ghost use Rattle.entail_cert.specs.Valid.{filled, first_bad, in_child, is_negation, is_plain, is_some_and, two};
 ghost use Rattle.entail_cert.specs.Valid as spec;
-ghost use Rattle.entail_cert.specs.Inside.Findings.{Halves, Finds, Parts, InstancesHaveWords, Replaces, Rewrites, hypotheses};
+ghost use Rattle.entail_cert.specs.Inside.Findings.{Halves, Finds, Parts, InstancesHaveWords, Replaces, Rewrites, children, hypotheses};
 
 use crate::arithmetic::{is_range, is_ring, lent_facts};
 use crate::held::Held;
@@ -58,6 +58,13 @@ fn negation_of<'a>(alloc: Global, e: &Expr) -> Result<Held<'a>, NoMemory>
     Ok(Held::Made(Expr::Not(boxed(alloc, copy(alloc, e)?)?)))
 }
 
+/// A copy, held.
+fn made<'a>(alloc: Global, e: &Expr) -> Result<Held<'a>, NoMemory>
+    ensures { IfOk result (λ made. held_term made ≡ term e.now) }
+{
+    Ok(Held::Made(copy(alloc, e)?))
+}
+
 /// The operands, where the expression has this operator.
 fn parts<'a>(op: Op, e: &'a Expr) -> Result<(&'a Expr, &'a Expr), Stop>
     ensures { Parts (spec.operands op (term e.now)) result }
@@ -101,6 +108,15 @@ fn lent_halves<'a>(op: Op, e: &'a Expr) -> Result<(Held<'a>, Held<'a>), Stop>
 {
     let (a, b) = parts(op, e)?;
     Ok((Held::Lent(a), Held::Lent(b)))
+}
+
+/// Copies of the operands of an expression that has this operator.
+fn made_halves<'a>(alloc: Global, op: Op, e: &Expr) -> Result<(Held<'a>, Held<'a>), Stop>
+    ensures { Halves (spec.operands op (term e.now)) result }
+{
+    let (a, b) = parts(op, e)?;
+    let left = made(alloc, a)?;
+    Ok((left, made(alloc, b)?))
 }
 
 impl<'a> Walk<'a> {
@@ -213,11 +229,10 @@ impl<'a> Walk<'a> {
     fn copies(&self, given: &[Expr], number: u32, op: Op) -> Result<(Held<'a>, Held<'a>), Stop>
         ensures { Halves (spec.operands_of op (numbered (hypotheses given.now self.now) number)) result }
     {
-        let (a, b) = self.operands_of(given, number, op).ok_or(Stop::Bad)?;
-        Ok((
-            Held::Made(copy(self.alloc, a)?),
-            Held::Made(copy(self.alloc, b)?),
-        ))
+        match self.hypothesis(given, number) {
+            Some(e) => made_halves(self.alloc, op, e),
+            None => Err(Stop::Bad),
+        }
     }
 
     /// The goal after a replacement of the sides of a hypothesis, from left to right or from right to left.
@@ -247,6 +262,43 @@ impl<'a> Walk<'a> {
         is_range(self.alloc, given, added.as_slice(), goal)
     }
 
+    /// Whether the own condition of a node without children holds.
+    fn holds(&self, cert: &Cert, given: &[Expr], goal: &Expr) -> Result<bool, NoMemory>
+        requires { children (view.cert cert.now) ≡ 0 }
+        ensures { IfOk result (λ holds. first_bad (hypotheses given.now self.now) (term goal.now) (view.cert cert.now) ≡ spec.only_if holds None) }
+    {
+        match cert {
+            Cert::Auto => Ok(self.is_plain(given, goal)),
+            Cert::Hyp(i) => Ok(self.is_hypothesis(given, *i, goal)),
+            Cert::Calc => Ok(is_true(goal)),
+            Cert::Clash(i) => Ok(self.is_false_hypothesis(given, *i)),
+            Cert::Absurd(i, j) => Ok(self.is_contradiction(given, *i, *j)),
+            Cert::Refl => Ok(is_reflexive(goal)),
+            Cert::Ring => is_ring(self.alloc, goal),
+            Cert::Range => self.is_bounded(given, goal),
+            Cert::Left(_)
+            | Cert::Right(_)
+            | Cert::Unpack(..)
+            | Cert::Not(_)
+            | Cert::Contra(_)
+            | Cert::Fwd(..)
+            | Cert::Rev(..)
+            | Cert::Axiom(..)
+            | Cert::And(..)
+            | Cert::Cases(..)
+            | Cert::Split(..)
+            | Cert::Have(..) => unreachable!(),
+        }
+    }
+
+    /// Stops at a node without children where its own condition fails.
+    fn leaf(&self, cert: &Cert, given: &[Expr], goal: &Expr) -> Result<(), Stop>
+        requires { children (view.cert cert.now) ≡ 0 }
+        ensures finds { Finds self.now self.now (first_bad (hypotheses given.now self.now) (term goal.now) (view.cert cert.now)) result }
+    {
+        accept(self.holds(cert, given, goal)?)
+    }
+
     /// Looks for the first node that fails below a certificate, its own node first.
     #[cycle(check)]
     pub fn node(&mut self, cert: &'a Cert, given: &'a [Expr], goal: &Expr) -> Result<(), Stop>
@@ -254,41 +306,123 @@ impl<'a> Walk<'a> {
         ensures words { OnOk result (InstancesHaveWords (view.cert cert.now)) }
     {
         match cert {
-            Cert::Auto => accept(self.is_plain(given, goal)),
-            Cert::Hyp(i) => accept(self.is_hypothesis(given, *i, goal)),
-            Cert::Calc => accept(is_true(goal)),
-            Cert::Clash(i) => accept(self.is_false_hypothesis(given, *i)),
-            Cert::And(c, d) => {
-                let (a, b) = parts(Op::Both, goal)?;
-                self.child(c, 1, given, a)?;
-                self.child(d, 2, given, b)
-            }
+            Cert::Auto
+            | Cert::Hyp(_)
+            | Cert::Calc
+            | Cert::Clash(_)
+            | Cert::Absurd(..)
+            | Cert::Refl
+            | Cert::Ring
+            | Cert::Range => self.leaf(cert, given, goal),
+            Cert::Left(_)
+            | Cert::Right(_)
+            | Cert::Unpack(..)
+            | Cert::Not(_)
+            | Cert::Contra(_)
+            | Cert::Fwd(..)
+            | Cert::Rev(..)
+            | Cert::Axiom(..) => self.with_one_child(cert, given, goal),
+            Cert::And(c, d) => self.conjunction(c, d, given, goal),
+            Cert::Cases(i, c, d) => self.cases(c, d, *i, given, goal),
+            Cert::Split(e, c, d) => self.split(c, d, e, given, goal),
+            Cert::Have(e, c, d) => self.have(c, d, e, given, goal),
+        }
+    }
+
+    /// Looks below a node that has one child.
+    #[cycle(check)]
+    fn with_one_child(&mut self, cert: &'a Cert, given: &'a [Expr], goal: &Expr) -> Result<(), Stop>
+        requires { children (view.cert cert.now) ≡ 1 }
+        ensures finds { Finds self.old self.new (first_bad (hypotheses given.now self.old) (term goal.now) (view.cert cert.now)) result }
+        ensures words { OnOk result (InstancesHaveWords (view.cert cert.now)) }
+    {
+        match cert {
             Cert::Left(c) => self.left(c, given, goal),
             Cert::Right(c) => self.right(c, given, goal),
             Cert::Unpack(i, c) => self.unpack(c, *i, given, goal),
-            Cert::Cases(i, c, d) => {
-                let (a, b) = self.halves(given, *i, Op::Either)?;
-                self.under(c, 1, a, given, goal)?;
-                self.under(d, 2, b, given, goal)
-            }
-            Cert::Split(e, c, d) => {
-                self.under(c, 1, Held::Lent(e), given, goal)?;
-                self.under(d, 2, negation_of(self.alloc, e)?, given, goal)
-            }
-            Cert::Have(e, c, d) => {
-                self.child(c, 1, given, e)?;
-                self.under(d, 2, Held::Lent(e), given, goal)
-            }
-            Cert::Absurd(i, j) => accept(self.is_contradiction(given, *i, *j)),
             Cert::Not(c) => self.negation(c, given, goal),
             Cert::Contra(c) => self.contra(c, given, goal),
-            Cert::Refl => accept(is_reflexive(goal)),
             Cert::Fwd(i, t, c) => self.forward(c, *i, t, given, goal),
             Cert::Rev(i, t, c) => self.backward(c, *i, t, given, goal),
             Cert::Axiom(k, args, c) => self.axiom(c, *k, args, given, goal),
-            Cert::Ring => accept(is_ring(self.alloc, goal)?),
-            Cert::Range => accept(self.is_bounded(given, goal)?),
+            Cert::Auto
+            | Cert::Hyp(_)
+            | Cert::Calc
+            | Cert::Clash(_)
+            | Cert::Absurd(..)
+            | Cert::Refl
+            | Cert::Ring
+            | Cert::Range
+            | Cert::And(..)
+            | Cert::Cases(..)
+            | Cert::Split(..)
+            | Cert::Have(..) => unreachable!(),
         }
+    }
+
+    #[cycle(check)]
+    fn conjunction(
+        &mut self,
+        c: &'a Cert,
+        d: &'a Cert,
+        given: &'a [Expr],
+        goal: &Expr,
+    ) -> Result<(), Stop>
+        ensures finds { Finds self.old self.new (first_bad (hypotheses given.now self.old) (term goal.now) (by.and (view.cert c.now) (view.cert d.now))) result }
+        ensures words { OnOk result (InstancesHaveWords (by.and (view.cert c.now) (view.cert d.now))) }
+    {
+        let (a, b) = parts(Op::Both, goal)?;
+        self.child(c, 1, given, a)?;
+        self.child(d, 2, given, b)
+    }
+
+    #[cycle(check)]
+    fn cases(
+        &mut self,
+        c: &'a Cert,
+        d: &'a Cert,
+        i: u32,
+        given: &'a [Expr],
+        goal: &Expr,
+    ) -> Result<(), Stop>
+        ensures finds { Finds self.old self.new (first_bad (hypotheses given.now self.old) (term goal.now) (by.cases i (view.cert c.now) (view.cert d.now))) result }
+        ensures words { OnOk result (InstancesHaveWords (by.cases i (view.cert c.now) (view.cert d.now))) }
+    {
+        let (a, b) = self.halves(given, i, Op::Either)?;
+        self.under(c, 1, a, given, goal)?;
+        self.under(d, 2, b, given, goal)
+    }
+
+    #[cycle(check)]
+    fn split(
+        &mut self,
+        c: &'a Cert,
+        d: &'a Cert,
+        e: &'a Expr,
+        given: &'a [Expr],
+        goal: &Expr,
+    ) -> Result<(), Stop>
+        ensures finds { Finds self.old self.new (first_bad (hypotheses given.now self.old) (term goal.now) (by.split (term e.now) (view.cert c.now) (view.cert d.now))) result }
+        ensures words { OnOk result (InstancesHaveWords (by.split (term e.now) (view.cert c.now) (view.cert d.now))) }
+    {
+        self.under(c, 1, Held::Lent(e), given, goal)?;
+        self.under(d, 2, negation_of(self.alloc, e)?, given, goal)
+    }
+
+    #[cycle(check)]
+    fn have(
+        &mut self,
+        c: &'a Cert,
+        d: &'a Cert,
+        e: &'a Expr,
+        given: &'a [Expr],
+        goal: &Expr,
+    ) -> Result<(), Stop>
+        ensures finds { Finds self.old self.new (first_bad (hypotheses given.now self.old) (term goal.now) (by.have (term e.now) (view.cert c.now) (view.cert d.now))) result }
+        ensures words { OnOk result (InstancesHaveWords (by.have (term e.now) (view.cert c.now) (view.cert d.now))) }
+    {
+        self.child(c, 1, given, e)?;
+        self.under(d, 2, Held::Lent(e), given, goal)
     }
 
     #[cycle(check)]
@@ -327,7 +461,7 @@ impl<'a> Walk<'a> {
         ensures words { OnOk result (InstancesHaveWords (view.cert c.now)) }
     {
         let a = negated(goal).ok_or(Stop::Bad)?;
-        let fact = Held::Made(copy(self.alloc, a)?);
+        let fact = made(self.alloc, a)?;
         self.under(c, 1, fact, given, &Expr::Const(0))
     }
 

@@ -1,5 +1,5 @@
 -- What a walk over a certificate has found.
-use Rattle.std.specs.Prelude.{◌≡◌, ℕ, List, ◌++◌, map, Option, Some, None, Result, Ok, Err, option_map, IfSome, Bool, true, false}
+use Rattle.std.specs.Prelude.{◌≡◌, ℕ, ◌+◌, List, ◌++◌, map, Option, Some, None, Result, Ok, Err, option_map, IfSome, Bool, true, false}
 use Rattle.std.specs.Borrow.{Bor}
 use Rattle.cov_expr.specs.declared.expr.Expr.{Expr}
 use Rattle.cov_expr.specs.Term.{Term}
@@ -52,6 +52,52 @@ abbrev pub Finds : Walk → Walk → Option (List ℕ) → Result (Unit {0}) Sto
 Finds before after bad (Ok _) = (bad ≡ None) × ((map held_term after.added ≡ map held_term before.added) × (after.path ≡ before.path))
 Finds before after bad (Err stop.Bad) = option_map (λ path. before.path ++ path) bad ≡ Some after.path
 Finds before after bad (Err stop.NoMemory) = Unit {0}
+
+-- how many children a node has
+abbrev pub children : Cert → ℕ
+children by.auto = 0
+children (by.hyp i) = 0
+children by.calc = 0
+children (by.clash i) = 0
+children (by.and c d) = 2
+children (by.left c) = 1
+children (by.right c) = 1
+children (by.unpack i c) = 1
+children (by.cases i c d) = 2
+children (by.split e c d) = 2
+children (by.have e c d) = 2
+children (by.absurdity i j) = 0
+children (by.negation c) = 1
+children (by.contra c) = 1
+children by.reflexive = 0
+children (by.fwd i t c) = 1
+children (by.rev i t c) = 1
+children (by.instance k es c) = 1
+children by.ring = 0
+children by.range = 0
+
+-- how many nodes a certificate has
+abbrev pub nodes : Cert → ℕ
+nodes by.auto = 1
+nodes (by.hyp i) = 1
+nodes by.calc = 1
+nodes (by.clash i) = 1
+nodes (by.and c d) = nodes c + nodes d + 1
+nodes (by.left c) = nodes c + 1
+nodes (by.right c) = nodes c + 1
+nodes (by.unpack i c) = nodes c + 1
+nodes (by.cases i c d) = nodes c + nodes d + 1
+nodes (by.split e c d) = nodes c + nodes d + 1
+nodes (by.have e c d) = nodes c + nodes d + 1
+nodes (by.absurdity i j) = 1
+nodes (by.negation c) = nodes c + 1
+nodes (by.contra c) = nodes c + 1
+nodes by.reflexive = 1
+nodes (by.fwd i t c) = nodes c + 1
+nodes (by.rev i t c) = nodes c + 1
+nodes (by.instance k es c) = nodes c + 1
+nodes by.ring = 1
+nodes by.range = 1
 
 -- each instance of an axiom in a certificate is made of words
 abbrev pub InstancesHaveWords : Cert → Type 0
