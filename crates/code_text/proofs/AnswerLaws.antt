@@ -5,6 +5,7 @@ use Rattle.risc_machine.specs.declared.parts.CodeBad.{CodeBad}
 use Rattle.risc_machine.specs.declared.parts.CodeBad.TheVariants as bad
 use Rattle.risc_machine.specs.declared.parts.Parts.{Parts}
 use Rattle.code_text.specs.Inside.Drafts.{Agrees}
+use Rattle.code_text.specs.declared.read.Found.{Found}
 use Rattle.code_text.specs.Inside.ListingReading.{pieces, row_of, with_row, read_lines, read_text, begun, version_of}
 use Rattle.code_text.specs.Listing.{IsListed, IsListingOf}
 use Rattle.code_text.specs.ListingAnswers.{IsReading, IsAnswerTo}
@@ -44,12 +45,12 @@ module _ (bs : List ℕ) where
   pub listing_read : (p : Parts) → read_text (pieces 10 bs) ≡ Ok p → IsListingOf p bs
   listing_read p h = record { listed = read_listed (pieces 10 bs) p h; spelling = text_sound bs p h }
 
-  pub fault_read : (e : CodeFault) → Agrees (Err e) (read_text (pieces 10 bs)) → IsReading bs (Err e)
+  pub fault_read : (e : CodeFault) → Agrees {A = Found} (λ found. found.parts) (Err e) (read_text (pieces 10 bs)) → IsReading bs (Err e)
   fault_read (Line n) h = faulty_line bs n h
   fault_read (Bad f) h = absurd h
   fault_read NoMemory h = tt
 
-  pub fault_answers : (e : CodeFault) → Agrees (Err e) (read_text (pieces 10 bs)) → (p : Parts) → IsListingOf p bs → IsAnswerTo p (Err e)
+  pub fault_answers : (e : CodeFault) → Agrees {A = Found} (λ found. found.parts) (Err e) (read_text (pieces 10 bs)) → (p : Parts) → IsListingOf p bs → IsAnswerTo p (Err e)
   fault_answers (Line n) h p g = absurd (unlisted bs n h p g)
   fault_answers (Bad f) h p g = absurd h
   fault_answers NoMemory h p g = tt

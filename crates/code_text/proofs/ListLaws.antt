@@ -49,6 +49,9 @@ code_listed p good vars locks words = record {
 regroup : (h a b c : List ℕ) → ((h ++ a) ++ b) ++ c ≡ h ++ ((a ++ b) ++ c)
 regroup h a b c = simp append_assoc
 
+behind : (old h a b c : List ℕ) → (((old ++ h) ++ a) ++ b) ++ c ≡ old ++ (((h ++ a) ++ b) ++ c)
+behind old h a b c = simp append_assoc
+
 names_are : (word : List ℕ) (names : List (List ℕ)) → flat_map (λ n. spelled (declared word n)) names ≡ flat_map spelled (map (declared word) names)
 names_are word names = sym (flat_map-map spelled (declared word) names)
 
@@ -62,10 +65,16 @@ module _ (p : Parts) where
   abbrev locks : List (List (List ℕ))
   locks = map (declared (codes "lock")) p.locks
 
-  pub list_is : ((spelled (head p.version) ++ flat_map (λ n. (codes "var " ++ n) ++ codes "\n") p.vars) ++ flat_map (λ n. (codes "lock " ++ n) ++ codes "\n") p.locks)
+  list_is : ((spelled (head p.version) ++ flat_map (λ n. (codes "var " ++ n) ++ codes "\n") p.vars) ++ flat_map (λ n. (codes "lock " ++ n) ++ codes "\n") p.locks)
       ++ flat_map spelled all_threads ≡ listing p
   list_is =
       ap (λ x. ((spelled (head p.version) ++ x) ++ flat_map (λ n. (codes "lock " ++ n) ++ codes "\n") p.locks) ++ flat_map spelled all_threads) (names_are (codes "var") p.vars)
       ∙ ap (λ x. ((spelled (head p.version) ++ flat_map spelled vars) ++ x) ++ flat_map spelled all_threads) (names_are (codes "lock") p.locks)
       ∙ regroup (spelled (head p.version)) (flat_map spelled vars) (flat_map spelled locks) (flat_map spelled all_threads)
       ∙ ap (λ x. spelled (head p.version) ++ x) (sym (flat_map-append spelled (vars ++ locks) all_threads ∙ ap (λ x. x ++ flat_map spelled all_threads) (flat_map-append spelled vars locks)))
+
+  pub list_added : (old : List ℕ) → (((old ++ spelled (head p.version)) ++ flat_map (λ n. (codes "var " ++ n) ++ codes "\n") p.vars) ++ flat_map (λ n. (codes "lock " ++ n) ++ codes "\n") p.locks)
+      ++ flat_map spelled all_threads ≡ old ++ listing p
+  list_added old =
+      behind old (spelled (head p.version)) (flat_map (λ n. (codes "var " ++ n) ++ codes "\n") p.vars) (flat_map (λ n. (codes "lock " ++ n) ++ codes "\n") p.locks) (flat_map spelled all_threads)
+      ∙ ap (λ x. old ++ x) list_is

@@ -5,7 +5,7 @@ use Rattle.std.proofs.lemmas.List.{append-nil}
 use Rattle.risc_machine.specs.Faults.{AreCounted}
 use Rattle.risc_machine.specs.declared.parts.Parts.{Parts}
 use Rattle.risc_machine.specs.declared.parts.ThreadCode.{ThreadCode}
-use Rattle.code_text.specs.Inside.Drafts.{AddsLine, Agrees, AreShort, Ends, IsSmall}
+use Rattle.code_text.specs.Inside.Drafts.{AddsLine, AreShort, Ends, IsSmall}
 use Rattle.code_text.specs.Listing.{onto}
 use Rattle.code_text.specs.Inside.ListingReading.{pieces, both, weight_of, line_with, line_of, ended, head_of, instr_of, row_of, with_row, read_lines, go_on, read_text, begin_with, begun, version_of}
 use Rattle.code_text.specs.Inside.ListingReading.{Draft}
@@ -105,11 +105,6 @@ pub line_ends : (fault : CodeFault) (n : ℕ) (d e now : Draft) (o : Option Row)
 line_ends (Line m) n d e now o r h stops = stops (sym h.1) ∙ ap Err (sym h.0)
 line_ends (Bad b) n d e now o r h stops = absurd h
 line_ends NoMemory n d e now o r h stops = tt
-
-pub ends_agree : (fault : CodeFault) (d : Draft) (r : Result Parts ℕ) → Ends (Err fault) d r → Agrees (Err fault) r
-ends_agree (Line m) d r h = h
-ends_agree (Bad b) d r h = absurd h
-ends_agree NoMemory d r h = tt
 
 short_at : (n : ℕ) (ts : List ThreadCode) (k : ℕ) (d : ThreadCode) → AreShort n ts → n < 4294967296 → k < length ts → length (get_or ts k d).lines < 4294967296
 short_at n [] k d h small inside = absurd (omega (arith, inside))

@@ -1,6 +1,6 @@
 //! Fields of a row: what names, numbers, registers, weights and operators they are.
 
-ghost use Rattle.std.specs.Prelude.{◌≡◌, ◌<◌};
+ghost use Rattle.std.specs.Prelude.{◌≡◌, ◌∷◌, ◌<◌, []};
 ghost use Rattle.std.specs.List.{list_all};
 ghost use Rattle.std.specs.Str.{bytes_eq};
 ghost use Rattle.cov_expr.specs.Bytes as class;
@@ -94,31 +94,39 @@ fn is_digit_below(n: u8, byte: u8) -> bool
 pub fn op_of(field: &[u8]) -> Option<Op>
     ensures { result ≡ spec.op_of field.now }
 {
-    if is(field, b"+") {
-        Some(Op::Add)
-    } else if is(field, b"-") {
-        Some(Op::Sub)
-    } else if is(field, b"*") {
-        Some(Op::Mul)
-    } else if is(field, b"&") {
-        Some(Op::And)
-    } else if is(field, b"|") {
-        Some(Op::Or)
-    } else if is(field, b"^") {
-        Some(Op::Xor)
-    } else if is(field, b"==") {
-        Some(Op::Eq)
-    } else if is(field, b"!=") {
-        Some(Op::Ne)
-    } else if is(field, b"<") {
-        Some(Op::Lt)
-    } else if is(field, b"<=") {
-        Some(Op::Le)
-    } else if is(field, b"&&") {
-        Some(Op::Both)
-    } else if is(field, b"||") {
-        Some(Op::Either)
-    } else {
-        None
+    match field {
+        [byte] => op_of_byte(*byte),
+        [first, second] => op_of_bytes(*first, *second),
+        _ => None,
+    }
+}
+
+/// The operator whose sign is this byte.
+fn op_of_byte(byte: u8) -> Option<Op>
+    ensures { result ≡ spec.op_of (byte ∷ []) }
+{
+    match byte {
+        b'+' => Some(Op::Add),
+        b'-' => Some(Op::Sub),
+        b'*' => Some(Op::Mul),
+        b'&' => Some(Op::And),
+        b'|' => Some(Op::Or),
+        b'^' => Some(Op::Xor),
+        b'<' => Some(Op::Lt),
+        _ => None,
+    }
+}
+
+/// The operator whose sign is these two bytes.
+fn op_of_bytes(first: u8, second: u8) -> Option<Op>
+    ensures { result ≡ spec.op_of (first ∷ second ∷ []) }
+{
+    match (first, second) {
+        (b'=', b'=') => Some(Op::Eq),
+        (b'!', b'=') => Some(Op::Ne),
+        (b'<', b'=') => Some(Op::Le),
+        (b'&', b'&') => Some(Op::Both),
+        (b'|', b'|') => Some(Op::Either),
+        _ => None,
     }
 }

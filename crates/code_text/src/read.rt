@@ -48,7 +48,7 @@ pub fn read_code(alloc: Global, bytes: &[u8]) -> Result<Code, CodeFault>
 /// The parts of which a text is the listing, or the number of the first line with which no listing begins.
 fn read_parts(alloc: Global, bytes: &[u8]) -> Result<Found, CodeFault>
     requires { length bytes.now ≤ MOST_LISTING_BYTES }
-    ensures agrees { Agrees result (spec.read_text (spec.pieces 10 bytes.now)) }
+    ensures agrees { Agrees (λ found. found.parts) result (spec.read_text (spec.pieces 10 bytes.now)) }
     ensures counted { IfOk result (λ found. AreCounted found.parts) }
     ensures repeated { IfOk result (λ found. found.repeated ≡ repeated [] (names_of found.parts)) }
 {
@@ -64,17 +64,34 @@ fn read_parts(alloc: Global, bytes: &[u8]) -> Result<Found, CodeFault>
 /// The parts of a listing of a version, from its second line on.
 fn read_lines(alloc: Global, version: u8, text: &[u8]) -> Result<Found, CodeFault>
     requires { length text.now ≤ MOST_LISTING_BYTES }
-    ensures agrees { Agrees result (spec.read_lines (spec.pieces 10 text.now) (spec.begun version) 2) }
+    ensures agrees { Agrees (λ found. found.parts) result (spec.read_lines (spec.pieces 10 text.now) (spec.begun version) 2) }
     ensures counted { IfOk result (λ found. AreCounted found.parts) }
     ensures repeated { IfOk result (λ found. found.repeated ≡ repeated [] (names_of found.parts)) }
 {
-    let mut draft = Draft::begin(alloc, version);
     let mut register = Register::new(alloc);
-    add_lines(alloc, text, &mut draft, &mut register)?;
+    let parts = parts_of(alloc, version, text, &mut register)?;
     Ok(Found {
-        parts: draft.into_parts(),
+        parts,
         repeated: register.repeated(),
     })
+}
+
+/// These parts, whose names are registered.
+fn parts_of(
+    alloc: Global,
+    version: u8,
+    text: &[u8],
+    register: &mut Register,
+) -> Result<Parts, CodeFault>
+    requires short { length text.now ≤ MOST_LISTING_BYTES }
+    requires none { IsRegisterOf register.old [] }
+    ensures agrees { Agrees (λ parts. parts) result (spec.read_lines (spec.pieces 10 text.now) (spec.begun version) 2) }
+    ensures counted { IfOk result (λ parts. AreCounted parts) }
+    ensures known { IfOk result (λ parts. IsRegisterOf register.new (names_of parts)) }
+{
+    let mut draft = Draft::begin(alloc, version);
+    add_lines(alloc, text, &mut draft, register)?;
+    Ok(draft.into_parts())
 }
 
 /// Adds the lines of a text, from the second of a listing on. Where it answers a fault the draft is to be dropped.

@@ -1,15 +1,17 @@
 //! What a row of a listing is, by its fields and by what was read before it.
 
-ghost use Rattle.std.specs.Prelude.{◌≡◌, map};
+ghost use Rattle.std.specs.Prelude.{◌≡◌, ◌∷◌, map};
 ghost use Rattle.code_text.specs.Inside.ListingReading as spec;
+ghost use Rattle.risc_machine.specs.declared.parts.Instr.TheVariants as instr;
 
 use crate::draft::Draft;
 use crate::field::{is, name_of, number_of, op_of, register_of, weight_of};
+use crate::names::Names;
 use cov_expr::Name;
 use risc_machine::{Instr, Line};
 
 /// A row of a listing behind the first.
-#[derive(Clone, Copy, Debug)]
+#[derive(Clone, Copy)]
 pub enum Row {
     /// A variable.
     Var(Name),
@@ -83,10 +85,20 @@ fn instr_of(draft: &Draft, fields: &[&[u8]]) -> Option<Instr>
     ensures { result ≡ spec.instr_of (draft.now).parts (map (λ f. f.now) fields.now) }
 {
     match fields {
-        [word] => no_fields(word),
-        [word, a] => one_field(draft, word, a),
-        [word, a, b] => two_fields(draft, word, a, b),
-        [word, a, b, c] => three_fields(word, a, b, c),
+        [] => None,
+        [word, operands @ ..] => instr_with(draft, word, operands),
+    }
+}
+
+/// The instruction of a word and of the fields behind it.
+fn instr_with(draft: &Draft, word: &[u8], operands: &[&[u8]]) -> Option<Instr>
+    ensures { result ≡ spec.instr_of (draft.now).parts (word.now ∷ map (λ f. f.now) operands.now) }
+{
+    match operands {
+        [] => no_fields(word),
+        [a] => one_field(draft, word, a),
+        [a, b] => two_fields(draft, word, a, b),
+        [a, b, c] => three_fields(word, a, b, c),
         _ => None,
     }
 }
@@ -105,13 +117,13 @@ fn one_field(draft: &Draft, word: &[u8], a: &[u8]) -> Option<Instr>
     ensures { result ≡ spec.one_field (draft.now).parts.version (draft.now).parts.vars (draft.now).parts.locks word.now a.now }
 {
     if is(word, b"jump") {
-        Some(Instr::Jump(number_of(a)?))
+        number_of(a).map(Instr::Jump)
     } else if is(word, b"acquire") {
-        Some(Instr::Acquire(draft.locks().find(a)?))
+        draft.locks().find(a).map(Instr::Acquire)
     } else if is(word, b"release") {
-        Some(Instr::Release(draft.locks().find(a)?))
+        draft.locks().find(a).map(Instr::Release)
     } else if is(word, b"out") && 2 <= draft.version() {
-        Some(Instr::Out(register_of(a)?))
+        register_of(a).map(Instr::Out)
     } else {
         None
     }
@@ -121,18 +133,48 @@ fn two_fields(draft: &Draft, word: &[u8], a: &[u8], b: &[u8]) -> Option<Instr>
     ensures { result ≡ spec.two_fields (draft.now).parts.vars word.now a.now b.now }
 {
     if is(word, b"load") {
-        Some(Instr::Load(register_of(a)?, draft.vars().find(b)?))
+        load_of(draft.vars(), a, b)
     } else if is(word, b"store") {
-        Some(Instr::Store(draft.vars().find(a)?, register_of(b)?))
+        store_of(draft.vars(), a, b)
     } else if is(word, b"jz") {
-        Some(Instr::Jz(register_of(a)?, number_of(b)?))
+        jz_of(a, b)
     } else if is(word, b"movc") {
-        Some(Instr::MovC(register_of(a)?, number_of(b)?))
+        movc_of(a, b)
     } else if is(word, b"movr") {
-        Some(Instr::MovR(register_of(a)?, register_of(b)?))
+        movr_of(a, b)
     } else {
         None
     }
+}
+
+fn load_of(vars: &Names, a: &[u8], b: &[u8]) -> Option<Instr>
+    ensures { result ≡ spec.both instr.Load (spec.register_of a.now) (spec.id_of vars.now b.now) }
+{
+    Some(Instr::Load(register_of(a)?, vars.find(b)?))
+}
+
+fn store_of(vars: &Names, a: &[u8], b: &[u8]) -> Option<Instr>
+    ensures { result ≡ spec.both instr.Store (spec.id_of vars.now a.now) (spec.register_of b.now) }
+{
+    Some(Instr::Store(vars.find(a)?, register_of(b)?))
+}
+
+fn jz_of(a: &[u8], b: &[u8]) -> Option<Instr>
+    ensures { result ≡ spec.both instr.Jz (spec.register_of a.now) (spec.number_of b.now) }
+{
+    Some(Instr::Jz(register_of(a)?, number_of(b)?))
+}
+
+fn movc_of(a: &[u8], b: &[u8]) -> Option<Instr>
+    ensures { result ≡ spec.both instr.MovC (spec.register_of a.now) (spec.number_of b.now) }
+{
+    Some(Instr::MovC(register_of(a)?, number_of(b)?))
+}
+
+fn movr_of(a: &[u8], b: &[u8]) -> Option<Instr>
+    ensures { result ≡ spec.both instr.MovR (spec.register_of a.now) (spec.register_of b.now) }
+{
+    Some(Instr::MovR(register_of(a)?, register_of(b)?))
 }
 
 fn three_fields(word: &[u8], a: &[u8], b: &[u8], c: &[u8]) -> Option<Instr>

@@ -3,6 +3,7 @@
 ghost use Rattle.std.specs.Prelude.{◌≡◌, ◌++◌, ◌∷◌, ◌+◌, ◌<◌, [], IfOk, OnOk, map, flat_map, decimal, codes, length, IsTrue, All};
 ghost use Rattle.risc_machine.specs.Faults.{has_registers, has_variable, has_lock};
 ghost use Rattle.cov_expr.specs.Names.{IsName};
+ghost use Rattle.code_text.specs.Inside.SpelledLines as inside;
 ghost use Rattle.code_text.specs.Inside.SpelledLines.{IsSpelled, AreOfWords, IsOfWords};
 ghost use Rattle.code_text.specs.Listing as spec;
 ghost use Rattle.code_text.specs.Listing.{HasWords, IsListed};
@@ -17,13 +18,21 @@ pub fn list(alloc: Global, code: &Code) -> Result<List<u8>, NoMemory>
     ensures text { IfOk result (λ text. text ≡ spec.listing code.now) }
     ensures listed { OnOk result (IsListed code.now) }
 {
-    let parts = code.parts();
     let mut out = List::new(alloc);
-    add_head(parts.version, &mut out)?;
-    add_names(b"var ", parts.vars.as_slice(), &mut out)?;
-    add_names(b"lock ", parts.locks.as_slice(), &mut out)?;
-    add_threads(parts, parts.threads.as_slice(), &mut out)?;
+    add_parts(code.parts(), &mut out)?;
     Ok(out)
+}
+
+fn add_parts(parts: &Parts, out: &mut List<u8>) -> Result<(), NoMemory>
+    requires { All (λ t. All (IsSpelled (parts.now).vars (parts.now).locks) t.lines) (parts.now).threads }
+    ensures text { OnOk result (out.new ≡ out.old ++ spec.listing parts.now) }
+    ensures names { OnOk result (All IsName (parts.now).vars × All IsName (parts.now).locks) }
+    ensures words { OnOk result (All IsOfWords (parts.now).threads) }
+{
+    add_head(parts.version, out)?;
+    add_names(b"var ", parts.vars.as_slice(), out)?;
+    add_names(b"lock ", parts.locks.as_slice(), out)?;
+    add_threads(parts, parts.threads.as_slice(), out)
 }
 
 fn add_head(version: u8, out: &mut List<u8>) -> Result<(), NoMemory>
@@ -115,66 +124,107 @@ fn add_instr(
     ensures text { OnOk result (out.new ≡ out.old ++ flat_map (λ f. 32 ∷ f) (spec.instr vars.now locks.now instr)) }
     ensures words { OnOk result (HasWords instr) }
 {
+    out.extend_from_slice(word(instr))?;
+    add_operands(vars, locks, instr, out)
+}
+
+/// The word of an instruction, with a blank before it.
+fn word(instr: Instr) -> &'static [u8]
+    ensures { result.now ≡ 32 ∷ inside.word instr }
+{
     match instr {
-        Instr::Load(r, x) => {
-            out.extend_from_slice(b" load")?;
-            add_register(r, out)?;
-            add_name(vars, x, out)
-        }
-        Instr::Store(x, r) => {
-            add_with_name(b" store", vars, x, out)?;
-            add_register(r, out)
-        }
-        Instr::Jump(i) => {
-            out.extend_from_slice(b" jump ")?;
-            add_number(i as u64, out)
-        }
-        Instr::Jz(r, i) => add_with_number(b" jz", r, i, out),
-        Instr::Nop => out.extend_from_slice(b" nop"),
-        Instr::MovC(r, k) => add_with_number(b" movc", r, k, out),
-        Instr::MovR(r, s) => add_with_registers(b" movr", r, s, out),
-        Instr::Bin(op, r, s) => {
-            out.extend_from_slice(b" op ")?;
-            add_with_registers(sign(op), r, s, out)
-        }
-        Instr::Acquire(l) => add_with_name(b" acquire", locks, l, out),
-        Instr::Release(l) => add_with_name(b" release", locks, l, out),
-        Instr::Out(r) => {
-            out.extend_from_slice(b" out")?;
-            add_register(r, out)
-        }
+        Instr::Load(_, _) => b" load",
+        Instr::Store(_, _) => b" store",
+        Instr::Jump(_) => b" jump",
+        Instr::Jz(_, _) => b" jz",
+        Instr::Nop => b" nop",
+        Instr::MovC(_, _) => b" movc",
+        Instr::MovR(_, _) => b" movr",
+        Instr::Bin(_, _, _) => b" op",
+        Instr::Acquire(_) => b" acquire",
+        Instr::Release(_) => b" release",
+        Instr::Out(_) => b" out",
     }
 }
 
-/// Adds a word, and a register and a number behind it.
-fn add_with_number(word: &[u8], r: u8, n: u32, out: &mut List<u8>) -> Result<(), NoMemory>
-    requires { r < 8 }
-    ensures { OnOk result (out.new ≡ out.old ++ ((word.now ++ 32 ∷ spec.register r) ++ 32 ∷ decimal n)) }
+/// Adds what an instruction has behind its word, with a blank before each field.
+fn add_operands(
+    vars: &[Name],
+    locks: &[Name],
+    instr: Instr,
+    out: &mut List<u8>,
+) -> Result<(), NoMemory>
+    requires registers { IsTrue (has_registers instr) }
+    requires variable { IsTrue (has_variable (length vars.now) instr) }
+    requires lock { IsTrue (has_lock (length locks.now) instr) }
+    ensures text { OnOk result (out.new ≡ out.old ++ flat_map (λ f. 32 ∷ f) (inside.operands vars.now locks.now instr)) }
+    ensures words { OnOk result (HasWords instr) }
 {
-    out.extend_from_slice(word)?;
-    add_register(r, out)?;
-    out.extend_from_slice(b" ")?;
-    add_number(n as u64, out)
+    match instr {
+        Instr::Load(r, x) => add_register_name(r, vars, x, out),
+        Instr::Store(x, r) => add_name_register(vars, x, r, out),
+        Instr::Jump(n) => add_operand(n, out),
+        Instr::Jz(r, n) | Instr::MovC(r, n) => add_register_number(r, n, out),
+        Instr::Nop => Ok(()),
+        Instr::MovR(r, s) => add_registers(r, s, out),
+        Instr::Bin(op, r, s) => add_operation(op, r, s, out),
+        Instr::Acquire(l) | Instr::Release(l) => add_name(locks, l, out),
+        Instr::Out(r) => add_register(r, out),
+    }
 }
 
-/// Adds a word, and two registers behind it.
-fn add_with_registers(word: &[u8], r: u8, s: u8, out: &mut List<u8>) -> Result<(), NoMemory>
+fn add_register_name(r: u8, names: &[Name], x: u32, out: &mut List<u8>) -> Result<(), NoMemory>
+    requires register { r < 8 }
+    requires name { x < length names.now }
+    ensures { OnOk result (out.new ≡ out.old ++ (32 ∷ spec.register r ++ 32 ∷ spec.name names.now x)) }
+{
+    add_register(r, out)?;
+    add_name(names, x, out)
+}
+
+fn add_name_register(names: &[Name], x: u32, r: u8, out: &mut List<u8>) -> Result<(), NoMemory>
+    requires name { x < length names.now }
+    requires register { r < 8 }
+    ensures { OnOk result (out.new ≡ out.old ++ (32 ∷ spec.name names.now x ++ 32 ∷ spec.register r)) }
+{
+    add_name(names, x, out)?;
+    add_register(r, out)
+}
+
+fn add_register_number(r: u8, n: u32, out: &mut List<u8>) -> Result<(), NoMemory>
+    requires { r < 8 }
+    ensures { OnOk result (out.new ≡ out.old ++ (32 ∷ spec.register r ++ 32 ∷ decimal n)) }
+{
+    add_register(r, out)?;
+    add_operand(n, out)
+}
+
+fn add_registers(r: u8, s: u8, out: &mut List<u8>) -> Result<(), NoMemory>
     requires first { r < 8 }
     requires second { s < 8 }
-    ensures { OnOk result (out.new ≡ out.old ++ ((word.now ++ 32 ∷ spec.register r) ++ 32 ∷ spec.register s)) }
+    ensures { OnOk result (out.new ≡ out.old ++ (32 ∷ spec.register r ++ 32 ∷ spec.register s)) }
 {
-    out.extend_from_slice(word)?;
     add_register(r, out)?;
     add_register(s, out)
 }
 
-/// Adds a word, and the name of a number behind it.
-fn add_with_name(word: &[u8], names: &[Name], x: u32, out: &mut List<u8>) -> Result<(), NoMemory>
-    requires { x < length names.now }
-    ensures { OnOk result (out.new ≡ out.old ++ (word.now ++ 32 ∷ spec.name names.now x)) }
+/// Adds an operator and its registers.
+fn add_operation(op: Op, r: u8, s: u8, out: &mut List<u8>) -> Result<(), NoMemory>
+    requires first { r < 8 }
+    requires second { s < 8 }
+    ensures { OnOk result (out.new ≡ out.old ++ (32 ∷ spec.sign op ++ (32 ∷ spec.register r ++ 32 ∷ spec.register s))) }
 {
-    out.extend_from_slice(word)?;
-    add_name(names, x, out)
+    out.extend_from_slice(b" ")?;
+    out.extend_from_slice(sign(op))?;
+    add_registers(r, s, out)
+}
+
+/// Adds a number, with a blank before it.
+fn add_operand(n: u32, out: &mut List<u8>) -> Result<(), NoMemory>
+    ensures { OnOk result (out.new ≡ out.old ++ 32 ∷ decimal n) }
+{
+    out.extend_from_slice(b" ")?;
+    add_number(n as u64, out)
 }
 
 fn add_number(n: u64, out: &mut List<u8>) -> Result<(), NoMemory>

@@ -4,7 +4,7 @@ use cov_expr::{List, Name, Op};
 
 /// An instruction. Registers are numbered from 0 to 7, variables and locks in order of declaration, and the positions of a
 /// thread from 0.
-#[derive(Clone, Copy, Debug, PartialEq, Eq)]
+#[derive(Clone, Copy)]
 pub enum Instr {
     /// The register becomes the word of the variable.
     Load(u8, u32),
@@ -31,7 +31,7 @@ pub enum Instr {
 }
 
 /// An instruction, and for how many source steps of its thread it stands: 0, 1 or 2.
-#[derive(Clone, Copy, Debug, PartialEq, Eq)]
+#[derive(Clone, Copy)]
 pub struct Line {
     pub weight: u8,
     pub instr: Instr,
@@ -54,7 +54,7 @@ pub struct Parts {
 }
 
 /// A fault of parts. Where there are two numbers, these are the thread and the position of a line.
-#[derive(Clone, Copy, Debug, PartialEq, Eq)]
+#[derive(Clone, Copy, Debug)]
 pub enum CodeBad {
     /// The version is neither 1 nor 2.
     BadVersion(u8),

@@ -4,18 +4,17 @@ use Rattle.cov_expr.specs.Names.{IsName}
 use Rattle.risc_machine.specs.declared.parts.Parts.{Parts}
 use Rattle.risc_machine.specs.declared.parts.ThreadCode.{ThreadCode}
 use Rattle.code_text.specs.Inside.ListingReading.{Draft, with_row}
-use Rattle.code_text.specs.declared.read.Found.{Found}
 use Rattle.code_text.specs.declared.fault.CodeFault.{CodeFault}
 use Rattle.code_text.specs.declared.fault.CodeFault.TheVariants.{Line, Bad, NoMemory}
 use Rattle.code_text.specs.declared.row.Row.{Row}
 use Rattle.code_text.specs.declared.row.Row.TheVariants as row
 
--- The code reads what the definition reads, unless memory runs out.
-abbrev pub Agrees : Result Found CodeFault → Result Parts ℕ → Type 0
-Agrees (Ok found) r = r ≡ Ok found.parts
-Agrees (Err (Line n)) r = r ≡ Err n
-Agrees (Err (Bad f)) r = ⊥
-Agrees (Err NoMemory) r = Unit {0}
+-- What the code reads, seen by `view`, is what the definition reads, unless memory runs out.
+abbrev pub Agrees : {A : Type 0} → (A → Parts) → Result A CodeFault → Result Parts ℕ → Type 0
+Agrees view (Ok a) r = r ≡ Ok (view a)
+Agrees view (Err (Line n)) r = r ≡ Err n
+Agrees view (Err (Bad f)) r = ⊥
+Agrees view (Err NoMemory) r = Unit {0}
 
 -- Lines that were added end as the definition does, with the parts of the draft, unless memory runs out.
 abbrev pub Ends : Result (Unit {0}) CodeFault → Draft → Result Parts ℕ → Type 0

@@ -1,10 +1,12 @@
--- Which lines are written, and what is known of them behind that.
-use Rattle.std.specs.Prelude.{ℕ, List, length, IsTrue, All}
+-- Which lines are written, in which parts, and what is known of them behind that.
+use Rattle.std.specs.Prelude.{ℕ, List, [], ◌∷◌, codes, decimal, length, IsTrue, All}
 use Rattle.cov_expr.specs.Names.{IsName}
 use Rattle.risc_machine.specs.Faults.{has_registers, has_variable, has_lock}
+use Rattle.risc_machine.specs.declared.parts.Instr.{Instr}
+use Rattle.risc_machine.specs.declared.parts.Instr.TheVariants.{Load, Store, Jump, Jz, Nop, MovC, MovR, Bin, Acquire, Release, Out}
 use Rattle.risc_machine.specs.declared.parts.Line.{Line}
 use Rattle.risc_machine.specs.declared.parts.ThreadCode.{ThreadCode}
-use Rattle.code_text.specs.Listing.{HasWords}
+use Rattle.code_text.specs.Listing.{register, name, sign, HasWords}
 
 -- A line has registers, and names of its variable and its lock.
 pub record IsSpelled (vars locks : List (List ℕ)) (l : Line) : Type 0 where
@@ -17,3 +19,31 @@ AreOfWords ls = All (λ l. HasWords l.instr) ls
 
 abbrev pub IsOfWords : ThreadCode → Type 0
 IsOfWords t = IsName t.name × AreOfWords t.lines
+
+-- the word of an instruction
+abbrev pub word : Instr → List ℕ
+word (Load r x) = codes "load"
+word (Store x r) = codes "store"
+word (Jump i) = codes "jump"
+word (Jz r i) = codes "jz"
+word Nop = codes "nop"
+word (MovC r k) = codes "movc"
+word (MovR r q) = codes "movr"
+word (Bin op r q) = codes "op"
+word (Acquire l) = codes "acquire"
+word (Release l) = codes "release"
+word (Out r) = codes "out"
+
+-- the fields behind it
+abbrev pub operands : (vars locks : List (List ℕ)) → Instr → List (List ℕ)
+operands vars locks (Load r x) = register r ∷ name vars x ∷ []
+operands vars locks (Store x r) = name vars x ∷ register r ∷ []
+operands vars locks (Jump i) = decimal i ∷ []
+operands vars locks (Jz r i) = register r ∷ decimal i ∷ []
+operands vars locks Nop = []
+operands vars locks (MovC r k) = register r ∷ decimal k ∷ []
+operands vars locks (MovR r q) = register r ∷ register q ∷ []
+operands vars locks (Bin op r q) = sign op ∷ register r ∷ register q ∷ []
+operands vars locks (Acquire l) = name locks l ∷ []
+operands vars locks (Release l) = name locks l ∷ []
+operands vars locks (Out r) = register r ∷ []
