@@ -1,5 +1,5 @@
 -- Laws of what bytes are: the object of one code, or bytes with one first faulty byte, and never both.
-use Rattle.std.proofs.Common.{◌≡◌, ℕ, ◌+◌, ◌<◌, ◌≤◌, nat_lt, List, ◌++◌, length, take, drop, refl, ap, sym, ◌∙◌, append_assoc, arith, Bool, true, false}
+use Rattle.std.proofs.Common.{◌≡◌, ℕ, ◌+◌, ◌<◌, ◌≤◌, nat_lt, List, ◌++◌, take, drop, refl, ap, sym, ◌∙◌, append_assoc, arith, Bool, true, false}
 use Rattle.std.proofs.lemmas.Bool.{ltb-true}
 use Rattle.std.proofs.lemmas.Bool.Decides.{nat_tests}
 use Rattle.std.proofs.lemmas.List.{take-append-drop, take-take}

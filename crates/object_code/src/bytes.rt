@@ -3,6 +3,7 @@
 ghost use Rattle.std.specs.Prelude.{◌≡◌, ◌++◌, ◌∷◌, [], ◌<◌, ◌^◌, ◌≤◌, IfOk, OnOk, length, flat_map, All};
 ghost use Rattle.cov_expr.specs.Names.{IsName};
 ghost use Rattle.cov_expr.specs.Words.{IsWord};
+ghost use Rattle.risc_machine.specs.Faults.{AreCounted};
 ghost use Rattle.object_code.specs.Object as spec;
 ghost use Rattle.code_text.specs.Listing.{HasWords};
 ghost use Rattle.object_code.specs.Object.{HasObject};
@@ -10,7 +11,7 @@ ghost use Rattle.object_code.specs.Inside.Given.{AreWritten, AreOfWords, IsOfWor
 
 use crate::opcode::{opcode_number, place};
 use cov_expr::{List, Name, NoMemory};
-use risc_machine::{Code, Instr, Line, ThreadCode};
+use risc_machine::{Code, Instr, Line, Parts, ThreadCode};
 use std::alloc::Global;
 
 /// The object of a code.
@@ -18,14 +19,23 @@ pub fn object(alloc: Global, code: &Code) -> Result<List<u8>, NoMemory>
     ensures bytes { IfOk result (λ bytes. bytes ≡ spec.object code.now) }
     ensures whole { OnOk result (HasObject code.now) }
 {
-    let parts = code.parts();
     let mut out = List::new(alloc);
+    add_parts(code.parts(), &mut out)?;
+    Ok(out)
+}
+
+fn add_parts(parts: &Parts, out: &mut List<u8>) -> Result<(), NoMemory>
+    requires counted { AreCounted parts.now }
+    requires weights { All (λ t. AreWritten t.lines) (parts.now).threads }
+    ensures bytes { OnOk result (out.new ≡ out.old ++ spec.object parts.now) }
+    ensures names { OnOk result (All IsName (parts.now).vars × All IsName (parts.now).locks) }
+    ensures words { OnOk result (All IsOfWords (parts.now).threads) }
+{
     out.extend_from_slice(b"COVO")?;
     out.push(parts.version)?;
-    add_names(parts.vars.as_slice(), &mut out)?;
-    add_names(parts.locks.as_slice(), &mut out)?;
-    add_threads(parts.threads.as_slice(), &mut out)?;
-    Ok(out)
+    add_names(parts.vars.as_slice(), out)?;
+    add_names(parts.locks.as_slice(), out)?;
+    add_threads(parts.threads.as_slice(), out)
 }
 
 /// Adds how many names there are, and each of them.

@@ -7,7 +7,7 @@ use cov_expr::NoMemory;
 use risc_machine::CodeBad;
 
 /// Why bytes are no object of a code.
-#[derive(Clone, Copy, Debug, PartialEq, Eq)]
+#[derive(Clone, Copy)]
 pub enum ObjectFault {
     /// Behind so many bytes stands the first with which no object goes on, or the bytes end there too early.
     Bad(u32),

@@ -3,6 +3,7 @@
 ghost use Rattle.std.specs.Prelude.{◌≡◌, ◌≤◌, ◌^◌};
 ghost use Rattle.object_code.specs.Inside.Given.{Gives};
 ghost use Rattle.object_code.specs.Inside.ObjectReading as spec;
+ghost use Rattle.risc_machine.specs.declared.parts.Instr.TheVariants as instr;
 
 use crate::field::{WORDS, byte_within, number_at};
 use crate::opcode::{Declared, Head, Opcode, head_of, op_of};
@@ -39,51 +40,90 @@ fn head_at(declared: Declared, bytes: &[u8]) -> Result<(Head, &[u8]), Stop>
 fn operands_at(declared: Declared, opcode: Opcode, bytes: &[u8]) -> Result<(Instr, &[u8]), Stop>
     ensures { Gives (λ x. (x.0, x.1.now)) result (spec.operands_at declared opcode bytes.now) }
 {
-    let (vars, locks) = (declared.vars as u64, declared.locks as u64);
     match opcode {
-        Opcode::Load => {
-            let ((r, x), rest) = register_number_at(vars, bytes)?;
-            Ok((Instr::Load(r, x), rest))
-        }
-        Opcode::Store => {
-            let ((r, x), rest) = register_number_at(vars, bytes)?;
-            Ok((Instr::Store(x, r), rest))
-        }
-        Opcode::Jump => {
-            let (i, rest) = number_at(WORDS, bytes)?;
-            Ok((Instr::Jump(i), rest))
-        }
-        Opcode::Jz => {
-            let ((r, i), rest) = register_number_at(WORDS, bytes)?;
-            Ok((Instr::Jz(r, i), rest))
-        }
+        Opcode::Load => load_at(declared, bytes),
+        Opcode::Store => store_at(declared, bytes),
+        Opcode::Jump => jump_at(bytes),
+        Opcode::Jz => jz_at(bytes),
         Opcode::Nop => Ok((Instr::Nop, bytes)),
-        Opcode::MovC => {
-            let ((r, k), rest) = register_number_at(WORDS, bytes)?;
-            Ok((Instr::MovC(r, k), rest))
-        }
-        Opcode::MovR => {
-            let ((r, s), rest) = registers_at(bytes)?;
-            Ok((Instr::MovR(r, s), rest))
-        }
-        Opcode::Bin => {
-            let (op, rest) = operator_at(bytes)?;
-            let ((r, s), rest) = registers_at(rest)?;
-            Ok((Instr::Bin(op, r, s), rest))
-        }
-        Opcode::Acquire => {
-            let (l, rest) = number_at(locks, bytes)?;
-            Ok((Instr::Acquire(l), rest))
-        }
-        Opcode::Release => {
-            let (l, rest) = number_at(locks, bytes)?;
-            Ok((Instr::Release(l), rest))
-        }
-        Opcode::Out => {
-            let (r, rest) = register_at(bytes)?;
-            Ok((Instr::Out(r), rest))
-        }
+        Opcode::MovC => movc_at(bytes),
+        Opcode::MovR => movr_at(bytes),
+        Opcode::Bin => bin_at(bytes),
+        Opcode::Acquire => acquire_at(declared, bytes),
+        Opcode::Release => release_at(declared, bytes),
+        Opcode::Out => out_at(bytes),
     }
+}
+
+fn load_at(declared: Declared, bytes: &[u8]) -> Result<(Instr, &[u8]), Stop>
+    ensures { Gives (λ x. (x.0, x.1.now)) result (spec.map_at (λ a. instr.Load a.0 a.1) (spec.register_number_at declared.vars) bytes.now) }
+{
+    let ((r, x), rest) = register_number_at(declared.vars as u64, bytes)?;
+    Ok((Instr::Load(r, x), rest))
+}
+
+fn store_at(declared: Declared, bytes: &[u8]) -> Result<(Instr, &[u8]), Stop>
+    ensures { Gives (λ x. (x.0, x.1.now)) result (spec.map_at (λ a. instr.Store a.1 a.0) (spec.register_number_at declared.vars) bytes.now) }
+{
+    let ((r, x), rest) = register_number_at(declared.vars as u64, bytes)?;
+    Ok((Instr::Store(x, r), rest))
+}
+
+fn jump_at(bytes: &[u8]) -> Result<(Instr, &[u8]), Stop>
+    ensures { Gives (λ x. (x.0, x.1.now)) result (spec.map_at instr.Jump (spec.number_at spec.words) bytes.now) }
+{
+    let (i, rest) = number_at(WORDS, bytes)?;
+    Ok((Instr::Jump(i), rest))
+}
+
+fn jz_at(bytes: &[u8]) -> Result<(Instr, &[u8]), Stop>
+    ensures { Gives (λ x. (x.0, x.1.now)) result (spec.map_at (λ a. instr.Jz a.0 a.1) (spec.register_number_at spec.words) bytes.now) }
+{
+    let ((r, i), rest) = register_number_at(WORDS, bytes)?;
+    Ok((Instr::Jz(r, i), rest))
+}
+
+fn movc_at(bytes: &[u8]) -> Result<(Instr, &[u8]), Stop>
+    ensures { Gives (λ x. (x.0, x.1.now)) result (spec.map_at (λ a. instr.MovC a.0 a.1) (spec.register_number_at spec.words) bytes.now) }
+{
+    let ((r, k), rest) = register_number_at(WORDS, bytes)?;
+    Ok((Instr::MovC(r, k), rest))
+}
+
+fn movr_at(bytes: &[u8]) -> Result<(Instr, &[u8]), Stop>
+    ensures { Gives (λ x. (x.0, x.1.now)) result (spec.map_at (λ a. instr.MovR a.0 a.1) spec.registers_at bytes.now) }
+{
+    let ((r, s), rest) = registers_at(bytes)?;
+    Ok((Instr::MovR(r, s), rest))
+}
+
+fn bin_at(bytes: &[u8]) -> Result<(Instr, &[u8]), Stop>
+    ensures { Gives (λ x. (x.0, x.1.now)) result (spec.then_at spec.operator_at (λ _. spec.registers_at) (λ o a. instr.Bin o a.0 a.1) bytes.now) }
+{
+    let (op, rest) = operator_at(bytes)?;
+    let ((r, s), rest) = registers_at(rest)?;
+    Ok((Instr::Bin(op, r, s), rest))
+}
+
+fn acquire_at(declared: Declared, bytes: &[u8]) -> Result<(Instr, &[u8]), Stop>
+    ensures { Gives (λ x. (x.0, x.1.now)) result (spec.map_at instr.Acquire (spec.number_at declared.locks) bytes.now) }
+{
+    let (l, rest) = number_at(declared.locks as u64, bytes)?;
+    Ok((Instr::Acquire(l), rest))
+}
+
+fn release_at(declared: Declared, bytes: &[u8]) -> Result<(Instr, &[u8]), Stop>
+    ensures { Gives (λ x. (x.0, x.1.now)) result (spec.map_at instr.Release (spec.number_at declared.locks) bytes.now) }
+{
+    let (l, rest) = number_at(declared.locks as u64, bytes)?;
+    Ok((Instr::Release(l), rest))
+}
+
+fn out_at(bytes: &[u8]) -> Result<(Instr, &[u8]), Stop>
+    ensures { Gives (λ x. (x.0, x.1.now)) result (spec.map_at instr.Out spec.register_at bytes.now) }
+{
+    let (r, rest) = register_at(bytes)?;
+    Ok((Instr::Out(r), rest))
 }
 
 #[tactic(auto, unfolding(crate::specs::Inside::ObjectReading::register_at))]

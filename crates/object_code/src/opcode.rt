@@ -8,7 +8,7 @@ use cov_expr::Op;
 use risc_machine::Instr;
 
 /// A kind of instruction.
-#[derive(Clone, Copy, Debug)]
+#[derive(Clone, Copy)]
 pub enum Opcode {
     Load,
     Store,
@@ -24,14 +24,14 @@ pub enum Opcode {
 }
 
 /// The first byte of a line: the weight and the kind.
-#[derive(Clone, Copy, Debug)]
+#[derive(Clone, Copy)]
 pub struct Head {
     pub weight: u8,
     pub opcode: Opcode,
 }
 
 /// What stands before threads: the version, and how many variables and locks there are.
-#[derive(Clone, Copy, Debug)]
+#[derive(Clone, Copy)]
 pub struct Declared {
     pub version: u8,
     pub vars: u32,

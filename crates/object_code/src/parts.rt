@@ -1,5 +1,7 @@
 //! Parts of an object: what is declared, threads and their lines, read from the front.
 
+ghost use Rattle.std.specs.Prelude.{length, IfOk};
+ghost use Rattle.cov_expr.specs.Words.{IsWord};
 ghost use Rattle.object_code.specs.Inside.Given.{Gives};
 ghost use Rattle.object_code.specs.Inside.ObjectReading as spec;
 
@@ -11,27 +13,50 @@ use cov_expr::{List, Name};
 use risc_machine::{Line, Parts, ThreadCode};
 use std::alloc::Global;
 
+/// What stands before the threads.
+#[derive(Drop)]
+struct Front {
+    version: u8,
+    vars: List<Name>,
+    locks: List<Name>,
+}
+
 /// The parts at the front.
-#[tactic(auto, unfolding(crate::specs::Inside::ObjectReading::parts_at, crate::specs::Inside::ObjectReading::front_at))]
+#[tactic(auto, unfolding(crate::specs::Inside::ObjectReading::parts_at))]
 pub fn parts_at(alloc: Global, bytes: &[u8]) -> Result<(Parts, &[u8]), Stop>
     ensures { Gives (λ x. (x.0, x.1.now)) result (spec.parts_at bytes.now) }
+{
+    let (front, rest) = front_at(alloc, bytes)?;
+    let declared = Declared {
+        version: front.version,
+        vars: front.vars.len() as u32,
+        locks: front.locks.len() as u32,
+    };
+    let (threads, rest) = threads_at(alloc, declared, rest)?;
+    let parts = Parts {
+        version: front.version,
+        vars: front.vars,
+        locks: front.locks,
+        threads,
+    };
+    Ok((parts, rest))
+}
+
+#[tactic(auto, unfolding(crate::specs::Inside::ObjectReading::front_at))]
+fn front_at(alloc: Global, bytes: &[u8]) -> Result<(Front, &[u8]), Stop>
+    ensures front { Gives (λ x. (((x.0.version, x.0.vars), x.0.locks), x.1.now)) result (spec.front_at bytes.now) }
+    ensures vars { IfOk result (λ x. IsWord (length x.0.vars)) }
+    ensures locks { IfOk result (λ x. IsWord (length x.0.locks)) }
 {
     let (version, rest) = version_at(bytes)?;
     let (vars, rest) = names_at(alloc, rest)?;
     let (locks, rest) = names_at(alloc, rest)?;
-    let declared = Declared {
-        version,
-        vars: vars.len() as u32,
-        locks: locks.len() as u32,
-    };
-    let (threads, rest) = threads_at(alloc, declared, rest)?;
-    let parts = Parts {
+    let front = Front {
         version,
         vars,
         locks,
-        threads,
     };
-    Ok((parts, rest))
+    Ok((front, rest))
 }
 
 #[tactic(auto, unfolding(crate::specs::Inside::ObjectReading::version_at, crate::specs::Inside::ObjectReading::magic_at))]

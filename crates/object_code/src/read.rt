@@ -1,11 +1,12 @@
 //! The code of an object.
 
-ghost use Rattle.std.specs.Prelude.{◌≡◌, ◌≤◌, length};
+ghost use Rattle.std.specs.Prelude.{◌≡◌, ◌≤◌, [], length, Err, MatchResult, None};
 ghost use Rattle.object_code.specs.Inside.Given.{Gives, Judges};
 ghost use Rattle.object_code.specs.Inside.ObjectReading as spec;
 ghost use Rattle.object_code.specs.Object.{HasObject, IsObjectOf};
 ghost use Rattle.object_code.specs.ObjectAnswers.{IsReading, IsAnswerTo};
 ghost use Rattle.cov_expr.specs.declared.limits.TheConstants.{MOST_OBJECT_BYTES};
+ghost use Rattle.risc_machine.specs.Faults.{names_of, repeated};
 ghost use Rattle.risc_machine.specs.declared.parts.Parts.{Parts};
 
 use crate::fault::ObjectFault;
@@ -46,12 +47,20 @@ fn code_of(alloc: Global, parts: Parts) -> Result<Code, ObjectFault>
     requires { HasObject parts }
     ensures { Judges parts result }
 {
-    let repeated = first_repeated(alloc, &parts)?;
-    if let Some(name) = repeated {
-        return Err(ObjectFault::Code(CodeBad::SameName(name)));
-    }
+    test_names(alloc, &parts)?;
     match Code::with_distinct_names(parts) {
         Ok(code) => Ok(code),
         Err(rejected) => Err(ObjectFault::Code(rejected.fault)),
+    }
+}
+
+/// Whether no name of parts that have an object equals an earlier one.
+fn test_names(alloc: Global, parts: &Parts) -> Result<(), ObjectFault>
+    requires { HasObject parts.now }
+    ensures { MatchResult result (λ _. repeated [] (names_of parts.now) ≡ None) (λ fault. Judges parts.now (Err fault)) }
+{
+    match first_repeated(alloc, parts)? {
+        None => Ok(()),
+        Some(name) => Err(ObjectFault::Code(CodeBad::SameName(name))),
     }
 }

@@ -14,16 +14,23 @@ pub fn first_repeated(alloc: Global, parts: &Parts) -> Result<Option<Name>, NoMe
     ensures { IfOk result (λ found. found ≡ faults.repeated [] (faults.names_of parts.now)) }
 {
     let mut known = IndexSet::new(alloc);
-    let of_vars = add_names(&mut known, parts.vars.as_slice())?;
+    repeated_in(&mut known, parts)
+}
+
+/// The same, where no name is known yet.
+fn repeated_in(known: &mut IndexSet<Name>, parts: &Parts) -> Result<Option<Name>, NoMemory>
+    requires { AreKnown known.old [] }
+    ensures { IfOk result (λ found. found ≡ faults.repeated [] (faults.names_of parts.now)) }
+{
+    let of_vars = add_names(known, parts.vars.as_slice())?;
     if let Some(name) = of_vars {
         return Ok(Some(name));
     }
-    let of_locks = add_names(&mut known, parts.locks.as_slice())?;
+    let of_locks = add_names(known, parts.locks.as_slice())?;
     if let Some(name) = of_locks {
         return Ok(Some(name));
     }
-    let of_threads = add_threads(&mut known, parts.threads.as_slice())?;
-    Ok(of_threads)
+    add_threads(known, parts.threads.as_slice())
 }
 
 /// Adds names to those that are known, up to the first that is known already.

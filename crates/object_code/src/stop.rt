@@ -6,7 +6,7 @@ ghost use Rattle.object_code.specs.declared.stop.Stop.TheVariants as stops;
 use cov_expr::NoMemory;
 
 /// Why reading stops.
-#[derive(Clone, Copy, Debug, PartialEq, Eq)]
+#[derive(Clone, Copy)]
 pub enum Stop {
     /// So many bytes are left, with the first of which no object goes on. With 0 the bytes end too early.
     Left(usize),
