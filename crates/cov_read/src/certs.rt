@@ -1,13 +1,14 @@
 //! Tokens as certificates, and as expressions with their places.
 
-ghost use Rattle.std.specs.Prelude.{◌≡◌, ◌≤◌, length, map, IfOk};
+ghost use Rattle.std.specs.Prelude.{◌≡◌, ◌≤◌, length, map, IfOk, MatchOption};
 ghost use Rattle.cov_expr.specs.View.{term};
 ghost use Rattle.cov_expr.specs.declared.kind.Kind.TheVariants as kinds;
 ghost use Rattle.cov_grammar.specs.PlacedTrees as trees;
 ghost use Rattle.cov_grammar.specs.Shapes.{seq, rule, placed};
 ghost use Rattle.cov_grammar.specs.Grammar as grammar;
-ghost use Rattle.cov_grammar.specs.Reading.{reading};
+ghost use Rattle.cov_grammar.specs.Reading.{reading, got};
 ghost use Rattle.cov_grammar.specs.ReaderAnswers.{Gives, Shorter};
+ghost use Rattle.cov_read.specs.Inside.Behind as behind;
 ghost use Rattle.cov_read.specs.Templates.{rule_for};
 ghost use Rattle.placed_trees.specs.CertViews as views;
 
@@ -52,26 +53,37 @@ fn read_in_brackets(reader: &mut TokenReader<'_>, alloc: Global, holes: bool) ->
     Ok(whole)
 }
 
-#[cycle(cert)]
+/// A certificate of one word, if one is next.
 #[tactic(auto, unfolding(cov_grammar::specs::Grammar::part))]
+fn take_word(reader: &mut TokenReader<'_>) -> Option<PlacedCert>
+    ensures reads { MatchOption result (reading grammar.part reader.old ≡ reading (grammar.bracketed trees.cert) reader.old) (λ word. reading grammar.part reader.old ≡ got (views.cert word) reader.new) }
+    ensures left { MatchOption result (reader.new ≡ reader.old) (λ word. length reader.new ≤ length reader.old) }
+{
+    if let Some(_) = reader.take(Kind::Auto) {
+        return Some(PlacedCert::Auto);
+    }
+    if let Some(_) = reader.take(Kind::Calc) {
+        return Some(PlacedCert::Calc);
+    }
+    if let Some(_) = reader.take(Kind::Refl) {
+        return Some(PlacedCert::Refl);
+    }
+    if let Some(_) = reader.take(Kind::Ring) {
+        return Some(PlacedCert::Ring);
+    }
+    if let Some(_) = reader.take(Kind::Range) {
+        return Some(PlacedCert::Range);
+    }
+    None
+}
+
+#[cycle(cert)]
 fn read_part(reader: &mut TokenReader<'_>, alloc: Global) -> Result<PlacedCert, Stop>
     ensures reads { Gives views.cert reader.new result (reading grammar.part reader.old) }
     ensures shorter { length reader.new ≤ length reader.old }
 {
-    if let Some(_) = reader.take(Kind::Auto) {
-        return Ok(PlacedCert::Auto);
-    }
-    if let Some(_) = reader.take(Kind::Calc) {
-        return Ok(PlacedCert::Calc);
-    }
-    if let Some(_) = reader.take(Kind::Refl) {
-        return Ok(PlacedCert::Refl);
-    }
-    if let Some(_) = reader.take(Kind::Ring) {
-        return Ok(PlacedCert::Ring);
-    }
-    if let Some(_) = reader.take(Kind::Range) {
-        return Ok(PlacedCert::Range);
+    if let Some(word) = take_word(reader) {
+        return Ok(word);
     }
     reader.expect(Kind::OpenParen)?;
     let inside = read_cert(reader, alloc)?;
@@ -123,13 +135,10 @@ fn read_certificate(reader: &mut TokenReader<'_>, alloc: Global) -> Result<Place
         return Ok(PlacedCert::Clash(read_number(reader)?));
     }
     if let Some(_) = reader.take(Kind::Absurd) {
-        let first = read_number(reader)?;
-        let second = read_number(reader)?;
-        return Ok(PlacedCert::Absurd(first, second));
+        return read_absurd(reader);
     }
     if let Some(_) = reader.take(Kind::And) {
-        let (first, second) = read_two_parts(reader, alloc)?;
-        return Ok(PlacedCert::And(first, second));
+        return read_and(reader, alloc);
     }
     read_more_certs(reader, alloc)
 }
@@ -147,18 +156,13 @@ fn read_more_certs(reader: &mut TokenReader<'_>, alloc: Global) -> Result<Placed
         return Ok(PlacedCert::Right(read_one_part(reader, alloc)?));
     }
     if let Some(_) = reader.take(Kind::Use) {
-        let number = read_number(reader)?;
-        return Ok(PlacedCert::Unpack(number, read_one_part(reader, alloc)?));
+        return read_use(reader, alloc);
     }
     if let Some(_) = reader.take(Kind::Cases) {
-        let number = read_number(reader)?;
-        let (first, second) = read_two_parts(reader, alloc)?;
-        return Ok(PlacedCert::Cases(number, first, second));
+        return read_cases(reader, alloc);
     }
     if let Some(_) = reader.take(Kind::Split) {
-        let whole = read_in_brackets(reader, alloc, false)?;
-        let (first, second) = read_two_parts(reader, alloc)?;
-        return Ok(PlacedCert::Split(whole, first, second));
+        return read_split(reader, alloc);
     }
     read_last_certs(reader, alloc)
 }
@@ -170,9 +174,7 @@ fn read_last_certs(reader: &mut TokenReader<'_>, alloc: Global) -> Result<Placed
     ensures shorter { length reader.new ≤ length reader.old }
 {
     if let Some(_) = reader.take(Kind::Have) {
-        let whole = read_in_brackets(reader, alloc, false)?;
-        let (first, second) = read_two_parts(reader, alloc)?;
-        return Ok(PlacedCert::Have(whole, first, second));
+        return read_have(reader, alloc);
     }
     if let Some(_) = reader.take(Kind::Not) {
         return Ok(PlacedCert::Not(read_one_part(reader, alloc)?));
@@ -181,21 +183,104 @@ fn read_last_certs(reader: &mut TokenReader<'_>, alloc: Global) -> Result<Placed
         return Ok(PlacedCert::Contra(read_one_part(reader, alloc)?));
     }
     if let Some(_) = reader.take(Kind::Fwd) {
-        let number = read_number(reader)?;
-        let template = read_in_brackets(reader, alloc, true)?;
-        return Ok(PlacedCert::Fwd(number, template, read_one_part(reader, alloc)?));
+        return read_fwd(reader, alloc);
     }
     if let Some(_) = reader.take(Kind::Rev) {
-        let number = read_number(reader)?;
-        let template = read_in_brackets(reader, alloc, true)?;
-        return Ok(PlacedCert::Rev(number, template, read_one_part(reader, alloc)?));
+        return read_rev(reader, alloc);
     }
     if let Some(_) = reader.take(Kind::Axiom) {
-        let number = read_number(reader)?;
-        let arguments = read_arguments(reader, alloc)?;
-        return Ok(PlacedCert::Axiom(number, arguments, read_one_part(reader, alloc)?));
+        return read_axiom(reader, alloc);
     }
     read_part(reader, alloc)
+}
+
+// What stands behind the word of a certificate.
+
+fn read_absurd(reader: &mut TokenReader<'_>) -> Result<PlacedCert, Stop>
+    ensures reads { Gives views.cert reader.new result (reading behind.absurd reader.old) }
+    ensures shorter { length reader.new ≤ length reader.old }
+{
+    let first = read_number(reader)?;
+    let second = read_number(reader)?;
+    Ok(PlacedCert::Absurd(first, second))
+}
+
+#[cycle(cert)]
+fn read_and(reader: &mut TokenReader<'_>, alloc: Global) -> Result<PlacedCert, Stop>
+    ensures reads { Gives views.cert reader.new result (reading behind.both reader.old) }
+    ensures shorter { length reader.new ≤ length reader.old }
+{
+    let (first, second) = read_two_parts(reader, alloc)?;
+    Ok(PlacedCert::And(first, second))
+}
+
+#[cycle(cert)]
+fn read_use(reader: &mut TokenReader<'_>, alloc: Global) -> Result<PlacedCert, Stop>
+    ensures reads { Gives views.cert reader.new result (reading behind.unpack reader.old) }
+    ensures shorter { length reader.new ≤ length reader.old }
+{
+    let number = read_number(reader)?;
+    Ok(PlacedCert::Unpack(number, read_one_part(reader, alloc)?))
+}
+
+#[cycle(cert)]
+fn read_cases(reader: &mut TokenReader<'_>, alloc: Global) -> Result<PlacedCert, Stop>
+    ensures reads { Gives views.cert reader.new result (reading behind.cases reader.old) }
+    ensures shorter { length reader.new ≤ length reader.old }
+{
+    let number = read_number(reader)?;
+    let (first, second) = read_two_parts(reader, alloc)?;
+    Ok(PlacedCert::Cases(number, first, second))
+}
+
+#[cycle(cert)]
+fn read_split(reader: &mut TokenReader<'_>, alloc: Global) -> Result<PlacedCert, Stop>
+    ensures reads { Gives views.cert reader.new result (reading behind.split reader.old) }
+    ensures shorter { length reader.new ≤ length reader.old }
+{
+    let whole = read_in_brackets(reader, alloc, false)?;
+    let (first, second) = read_two_parts(reader, alloc)?;
+    Ok(PlacedCert::Split(whole, first, second))
+}
+
+#[cycle(cert)]
+fn read_have(reader: &mut TokenReader<'_>, alloc: Global) -> Result<PlacedCert, Stop>
+    ensures reads { Gives views.cert reader.new result (reading behind.have reader.old) }
+    ensures shorter { length reader.new ≤ length reader.old }
+{
+    let whole = read_in_brackets(reader, alloc, false)?;
+    let (first, second) = read_two_parts(reader, alloc)?;
+    Ok(PlacedCert::Have(whole, first, second))
+}
+
+#[cycle(cert)]
+fn read_fwd(reader: &mut TokenReader<'_>, alloc: Global) -> Result<PlacedCert, Stop>
+    ensures reads { Gives views.cert reader.new result (reading behind.fwd reader.old) }
+    ensures shorter { length reader.new ≤ length reader.old }
+{
+    let number = read_number(reader)?;
+    let template = read_in_brackets(reader, alloc, true)?;
+    Ok(PlacedCert::Fwd(number, template, read_one_part(reader, alloc)?))
+}
+
+#[cycle(cert)]
+fn read_rev(reader: &mut TokenReader<'_>, alloc: Global) -> Result<PlacedCert, Stop>
+    ensures reads { Gives views.cert reader.new result (reading behind.rev reader.old) }
+    ensures shorter { length reader.new ≤ length reader.old }
+{
+    let number = read_number(reader)?;
+    let template = read_in_brackets(reader, alloc, true)?;
+    Ok(PlacedCert::Rev(number, template, read_one_part(reader, alloc)?))
+}
+
+#[cycle(cert)]
+fn read_axiom(reader: &mut TokenReader<'_>, alloc: Global) -> Result<PlacedCert, Stop>
+    ensures reads { Gives views.cert reader.new result (reading behind.instance reader.old) }
+    ensures shorter { length reader.new ≤ length reader.old }
+{
+    let number = read_number(reader)?;
+    let arguments = read_arguments(reader, alloc)?;
+    Ok(PlacedCert::Axiom(number, arguments, read_one_part(reader, alloc)?))
 }
 
 /// Expressions in round brackets.

@@ -6,12 +6,16 @@ ghost use Rattle.cov_grammar.specs.Shapes.{opt, many};
 ghost use Rattle.cov_grammar.specs.Grammar as grammar;
 ghost use Rattle.cov_grammar.specs.Reading.{reading};
 ghost use Rattle.cov_grammar.specs.ReaderAnswers.{Gives, Shorter};
+ghost use Rattle.cov_read.specs.Inside.Behind as behind;
+ghost use Rattle.cov_read.specs.Inside.PartViews.{lock_parts, thread_parts};
 ghost use Rattle.placed_trees.specs.DeclViews as decls;
 
 use crate::stmts::{read_block, read_whole_behind};
 use cov_expr::List;
 use cov_grammar::{Kind, Stop, TokenReader};
-use placed_trees::{ClassDecl, Pair, PlacedLock, PlacedProgram, PlacedThread, PlacedVariable};
+use placed_trees::{
+    Braces, ClassDecl, Pair, PlacedLock, PlacedProgram, PlacedStmt, PlacedThread, PlacedVariable,
+};
 use std::alloc::Global;
 
 #[tactic(auto, unfolding(cov_grammar::specs::Grammar::class))]
@@ -109,17 +113,15 @@ fn read_hidden_behind(
     }
 }
 
-#[tactic(auto, unfolding(cov_grammar::specs::Grammar::lock_decl))]
-fn read_lock(reader: &mut TokenReader<'_>, alloc: Global) -> Result<PlacedLock, Stop>
-    ensures reads { Gives decls.lock reader.new result (reading grammar.lock_decl reader.old) }
-    ensures shorter { Shorter reader.old reader.new result }
+/// A lock without its word and its semicolon.
+fn read_lock_parts(reader: &mut TokenReader<'_>, alloc: Global) -> Result<PlacedLock, Stop>
+    ensures reads { Gives lock_parts reader.new result (reading behind.lock_parts reader.old) }
+    ensures shorter { length reader.new ≤ length reader.old }
 {
-    reader.expect(Kind::Lock)?;
     let name = reader.expect(Kind::Name)?;
     let nowrite = read_names_behind(reader, alloc, Kind::Nowrite)?;
     let hide = read_names_behind(reader, alloc, Kind::Hide)?;
     let inv = read_whole_behind(reader, alloc, Kind::Inv)?;
-    reader.expect(Kind::Semicolon)?;
     Ok(PlacedLock {
         name: name.value,
         at: name.at,
@@ -127,6 +129,17 @@ fn read_lock(reader: &mut TokenReader<'_>, alloc: Global) -> Result<PlacedLock, 
         hide,
         inv,
     })
+}
+
+#[tactic(auto, unfolding(cov_grammar::specs::Grammar::lock_decl))]
+fn read_lock(reader: &mut TokenReader<'_>, alloc: Global) -> Result<PlacedLock, Stop>
+    ensures reads { Gives decls.lock reader.new result (reading grammar.lock_decl reader.old) }
+    ensures shorter { Shorter reader.old reader.new result }
+{
+    reader.expect(Kind::Lock)?;
+    let lock = read_lock_parts(reader, alloc)?;
+    reader.expect(Kind::Semicolon)?;
+    Ok(lock)
 }
 
 #[tactic(auto, unfolding(cov_grammar::specs::Grammar::modes_behind))]
@@ -162,6 +175,20 @@ fn read_two_modes(reader: &mut TokenReader<'_>, alloc: Global, word: Kind) -> Re
     }
 }
 
+/// What stands behind the name of a thread: what it assumes, what it guarantees, and its block.
+fn read_thread_parts(
+    reader: &mut TokenReader<'_>,
+    alloc: Global,
+) -> Result<(Pair, Pair, (Braces, List<PlacedStmt>)), Stop>
+    ensures reads { Gives thread_parts reader.new result (reading behind.thread_parts reader.old) }
+    ensures shorter { length reader.new ≤ length reader.old }
+{
+    let assumes = read_two_modes(reader, alloc, Kind::Assume)?;
+    let guarantees = read_two_modes(reader, alloc, Kind::Guarantee)?;
+    let block = read_block(reader, alloc)?;
+    Ok((assumes, guarantees, block))
+}
+
 #[tactic(auto, unfolding(cov_grammar::specs::Grammar::thread_decl))]
 fn read_thread(reader: &mut TokenReader<'_>, alloc: Global) -> Result<PlacedThread, Stop>
     ensures reads { Gives decls.thread reader.new result (reading grammar.thread_decl reader.old) }
@@ -169,9 +196,7 @@ fn read_thread(reader: &mut TokenReader<'_>, alloc: Global) -> Result<PlacedThre
 {
     reader.expect(Kind::Thread)?;
     let name = reader.expect(Kind::Name)?;
-    let assumes = read_two_modes(reader, alloc, Kind::Assume)?;
-    let guarantees = read_two_modes(reader, alloc, Kind::Guarantee)?;
-    let (braces, body) = read_block(reader, alloc)?;
+    let (assumes, guarantees, (braces, body)) = read_thread_parts(reader, alloc)?;
     Ok(PlacedThread {
         name: name.value,
         at: name.at,

@@ -7,6 +7,8 @@ ghost use Rattle.cov_grammar.specs.Shapes.{opt, many, rule, placed};
 ghost use Rattle.cov_grammar.specs.Grammar as grammar;
 ghost use Rattle.cov_grammar.specs.Reading.{reading};
 ghost use Rattle.cov_grammar.specs.ReaderAnswers.{Gives, Shorter};
+ghost use Rattle.cov_read.specs.Inside.Behind as behind;
+ghost use Rattle.cov_read.specs.Inside.PartViews.{retyped, joined, otherwise};
 ghost use Rattle.placed_trees.specs.CertViews as views;
 ghost use Rattle.placed_trees.specs.StateViews as states;
 ghost use Rattle.placed_trees.specs.StmtViews as stmts;
@@ -15,7 +17,7 @@ use crate::certs::read_whole;
 use crate::states::{read_proofs, read_state, read_state_behind};
 use cov_expr::List;
 use cov_grammar::{Kind, Stop, TokenReader};
-use placed_trees::{Braces, PlacedProof, PlacedStmt, PlacedStmtKind, Typed, Whole};
+use placed_trees::{Braces, PlacedProof, PlacedState, PlacedStmt, PlacedStmtKind, Typed, Whole};
 use std::alloc::Global;
 
 /// An expression behind a word, if the word is next.
@@ -34,6 +36,19 @@ pub fn read_whole_behind(
     }
 }
 
+/// An expression behind a word, which has to be next.
+pub fn read_word_and_whole(
+    reader: &mut TokenReader<'_>,
+    alloc: Global,
+    word: Kind,
+) -> Result<Whole, Stop>
+    ensures reads { Gives views.whole reader.new result (reading (grammar.◌▸◌ word grammar.whole) reader.old) }
+    ensures shorter { Shorter reader.old reader.new result }
+{
+    reader.expect(word)?;
+    read_whole(reader, alloc, false)
+}
+
 #[tactic(auto, unfolding(cov_grammar::specs::Grammar::retype))]
 fn read_retype(reader: &mut TokenReader<'_>, alloc: Global) -> Result<Typed, Stop>
     ensures reads { Gives states.typed reader.new result (reading grammar.retype reader.old) }
@@ -41,8 +56,7 @@ fn read_retype(reader: &mut TokenReader<'_>, alloc: Global) -> Result<Typed, Sto
 {
     reader.expect(Kind::Retype)?;
     let name = reader.expect(Kind::Name)?;
-    reader.expect(Kind::As)?;
-    let class = read_whole(reader, alloc, false)?;
+    let class = read_word_and_whole(reader, alloc, Kind::As)?;
     Ok(Typed {
         name: name.value,
         class,
@@ -61,6 +75,20 @@ fn read_retypes(reader: &mut TokenReader<'_>, alloc: Global) -> Result<List<Type
     Ok(list)
 }
 
+/// What stands behind the class of an assignment.
+fn read_retyped(
+    reader: &mut TokenReader<'_>,
+    alloc: Global,
+) -> Result<(List<Typed>, List<PlacedProof>), Stop>
+    ensures reads { Gives retyped reader.new result (reading behind.retyped reader.old) }
+    ensures shorter { length reader.new ≤ length reader.old }
+{
+    let retypes = read_retypes(reader, alloc)?;
+    let proofs = read_proofs(reader, alloc)?;
+    reader.expect(Kind::Semicolon)?;
+    Ok((retypes, proofs))
+}
+
 /// What stands behind the name of an assignment.
 #[tactic(auto, unfolding(cov_grammar::specs::Grammar::assigned))]
 fn read_assigned(
@@ -70,13 +98,76 @@ fn read_assigned(
     ensures reads { Gives stmts.assigned reader.new result (reading grammar.assigned reader.old) }
     ensures shorter { length reader.new ≤ length reader.old }
 {
-    reader.expect(Kind::Assign)?;
-    let value = read_whole(reader, alloc, false)?;
+    let value = read_word_and_whole(reader, alloc, Kind::Assign)?;
     let class = read_whole_behind(reader, alloc, Kind::As)?;
-    let retypes = read_retypes(reader, alloc)?;
+    let (retypes, proofs) = read_retyped(reader, alloc)?;
+    Ok((value, class, retypes, proofs))
+}
+
+/// An assignment, from its name on.
+fn read_assignment(reader: &mut TokenReader<'_>, alloc: Global) -> Result<PlacedStmtKind, Stop>
+    ensures reads { Gives stmts.kind reader.new result (reading behind.assign reader.old) }
+    ensures shorter { Shorter reader.old reader.new result }
+{
+    let name = reader.expect(Kind::Name)?;
+    let (value, class, retypes, proofs) = read_assigned(reader, alloc)?;
+    Ok(PlacedStmtKind::Assign(name.value, value, class, retypes, proofs))
+}
+
+/// What stands behind `lock`.
+fn read_locking(reader: &mut TokenReader<'_>) -> Result<PlacedStmtKind, Stop>
+    ensures reads { Gives stmts.kind reader.new result (reading behind.lock reader.old) }
+    ensures shorter { length reader.new ≤ length reader.old }
+{
+    let lock = reader.expect(Kind::Name)?;
+    reader.expect(Kind::Semicolon)?;
+    Ok(PlacedStmtKind::Lock(lock.value))
+}
+
+/// What stands behind `unlock`.
+fn read_unlocking(reader: &mut TokenReader<'_>, alloc: Global) -> Result<PlacedStmtKind, Stop>
+    ensures reads { Gives stmts.kind reader.new result (reading behind.unlock reader.old) }
+    ensures shorter { length reader.new ≤ length reader.old }
+{
+    let lock = reader.expect(Kind::Name)?;
     let proofs = read_proofs(reader, alloc)?;
     reader.expect(Kind::Semicolon)?;
-    Ok((value, class, retypes, proofs))
+    Ok(PlacedStmtKind::Unlock(lock.value, proofs))
+}
+
+/// What stands behind `note`.
+fn read_note(reader: &mut TokenReader<'_>, alloc: Global) -> Result<PlacedStmtKind, Stop>
+    ensures reads { Gives stmts.kind reader.new result (reading behind.note reader.old) }
+    ensures shorter { length reader.new ≤ length reader.old }
+{
+    let state = read_state(reader, alloc)?;
+    let proofs = read_proofs(reader, alloc)?;
+    reader.expect(Kind::Semicolon)?;
+    Ok(PlacedStmtKind::Note(state, proofs))
+}
+
+/// What stands behind `output`.
+fn read_output(reader: &mut TokenReader<'_>, alloc: Global) -> Result<PlacedStmtKind, Stop>
+    ensures reads { Gives stmts.kind reader.new result (reading behind.output reader.old) }
+    ensures shorter { length reader.new ≤ length reader.old }
+{
+    let value = read_whole(reader, alloc, false)?;
+    let proofs = read_proofs(reader, alloc)?;
+    reader.expect(Kind::Semicolon)?;
+    Ok(PlacedStmtKind::Output(value, proofs))
+}
+
+/// What stands behind both blocks of a branch.
+fn read_joined(
+    reader: &mut TokenReader<'_>,
+    alloc: Global,
+) -> Result<(Option<Box<PlacedState>>, List<PlacedProof>), Stop>
+    ensures reads { Gives joined reader.new result (reading behind.joined reader.old) }
+    ensures shorter { length reader.new ≤ length reader.old }
+{
+    let state = read_state_behind(reader, alloc, Kind::Join)?;
+    let proofs = read_proofs(reader, alloc)?;
+    Ok((state, proofs))
 }
 
 /// A block in braces.
@@ -153,20 +244,14 @@ fn read_statement(reader: &mut TokenReader<'_>, alloc: Global) -> Result<PlacedS
         reader.expect(Kind::Semicolon)?;
         return Ok(PlacedStmtKind::Skip);
     }
-    if let Some(name) = reader.take(Kind::Name) {
-        let (value, class, retypes, proofs) = read_assigned(reader, alloc)?;
-        return Ok(PlacedStmtKind::Assign(name.value, value, class, retypes, proofs));
+    if reader.at(Kind::Name) {
+        return read_assignment(reader, alloc);
     }
     if let Some(_) = reader.take(Kind::Lock) {
-        let lock = reader.expect(Kind::Name)?;
-        reader.expect(Kind::Semicolon)?;
-        return Ok(PlacedStmtKind::Lock(lock.value));
+        return read_locking(reader);
     }
     if let Some(_) = reader.take(Kind::Unlock) {
-        let lock = reader.expect(Kind::Name)?;
-        let proofs = read_proofs(reader, alloc)?;
-        reader.expect(Kind::Semicolon)?;
-        return Ok(PlacedStmtKind::Unlock(lock.value, proofs));
+        return read_unlocking(reader, alloc);
     }
     if let Some(_) = reader.take(Kind::If) {
         return read_branched(reader, alloc);
@@ -175,16 +260,10 @@ fn read_statement(reader: &mut TokenReader<'_>, alloc: Global) -> Result<PlacedS
         return read_looped(reader, alloc);
     }
     if let Some(_) = reader.take(Kind::Note) {
-        let state = read_state(reader, alloc)?;
-        let proofs = read_proofs(reader, alloc)?;
-        reader.expect(Kind::Semicolon)?;
-        return Ok(PlacedStmtKind::Note(state, proofs));
+        return read_note(reader, alloc);
     }
     reader.expect(Kind::Output)?;
-    let value = read_whole(reader, alloc, false)?;
-    let proofs = read_proofs(reader, alloc)?;
-    reader.expect(Kind::Semicolon)?;
-    Ok(PlacedStmtKind::Output(value, proofs))
+    read_output(reader, alloc)
 }
 
 #[cycle(block)]
@@ -195,11 +274,30 @@ fn read_branched(reader: &mut TokenReader<'_>, alloc: Global) -> Result<PlacedSt
 {
     let guard = read_whole(reader, alloc, false)?;
     let (first, first_body) = read_block(reader, alloc)?;
-    reader.expect(Kind::Else)?;
-    let (second, second_body) = read_block(reader, alloc)?;
-    let state = read_state_behind(reader, alloc, Kind::Join)?;
-    let proofs = read_proofs(reader, alloc)?;
+    let ((second, second_body), state, proofs) = read_otherwise(reader, alloc)?;
     Ok(PlacedStmtKind::If(guard, first, first_body, second, second_body, state, proofs))
+}
+
+/// What stands behind the first block of a branch.
+#[cycle(block)]
+fn read_otherwise(
+    reader: &mut TokenReader<'_>,
+    alloc: Global,
+) -> Result<
+    (
+        (Braces, List<PlacedStmt>),
+        Option<Box<PlacedState>>,
+        List<PlacedProof>,
+    ),
+    Stop,
+>
+    ensures reads { Gives otherwise reader.new result (reading behind.otherwise reader.old) }
+    ensures shorter { length reader.new ≤ length reader.old }
+{
+    reader.expect(Kind::Else)?;
+    let other = read_block(reader, alloc)?;
+    let (state, proofs) = read_joined(reader, alloc)?;
+    Ok((other, state, proofs))
 }
 
 #[cycle(block)]

@@ -32,7 +32,10 @@ abbrev pub decreases-read_statement : goal.decreases-read_statement
 decreases-read_statement l = 10 * length l.reader.now + 4
 
 abbrev pub decreases-read_branched : goal.decreases-read_branched
-decreases-read_branched l = 10 * length l.reader.now + 3
+decreases-read_branched l = 10 * length l.reader.now + 4
+
+abbrev pub decreases-read_otherwise : goal.decreases-read_otherwise
+decreases-read_otherwise l = 10 * length l.reader.now + 3
 
 abbrev pub decreases-read_looped : goal.decreases-read_looped
 decreases-read_looped l = 10 * length l.reader.now + 3
