@@ -4,7 +4,7 @@ ghost use Rattle.std.specs.Prelude.{◌≡◌, ◌≤◌, length, map, IfOk, Mat
 ghost use Rattle.cov_expr.specs.View.{term};
 ghost use Rattle.cov_expr.specs.declared.kind.Kind.TheVariants as kinds;
 ghost use Rattle.cov_grammar.specs.PlacedTrees as trees;
-ghost use Rattle.cov_grammar.specs.Shapes.{seq, rule, act, placed};
+ghost use Rattle.cov_grammar.specs.Shapes.{seq, rule, placed};
 ghost use Rattle.cov_grammar.specs.Grammar as grammar;
 ghost use Rattle.cov_grammar.specs.Reading.{reading, got};
 ghost use Rattle.cov_grammar.specs.ReaderAnswers.{Gives, Shorter};
@@ -150,10 +150,10 @@ fn read_more_certs(reader: &mut TokenReader<'_>, alloc: Global) -> Result<Placed
     ensures shorter { length reader.new ≤ length reader.old }
 {
     if let Some(_) = reader.take(Kind::Left) {
-        return read_left(reader, alloc);
+        return Ok(PlacedCert::Left(read_one_part(reader, alloc)?));
     }
     if let Some(_) = reader.take(Kind::Right) {
-        return read_right(reader, alloc);
+        return Ok(PlacedCert::Right(read_one_part(reader, alloc)?));
     }
     if let Some(_) = reader.take(Kind::Use) {
         return read_use(reader, alloc);
@@ -177,10 +177,10 @@ fn read_last_certs(reader: &mut TokenReader<'_>, alloc: Global) -> Result<Placed
         return read_have(reader, alloc);
     }
     if let Some(_) = reader.take(Kind::Not) {
-        return read_not(reader, alloc);
+        return Ok(PlacedCert::Not(read_one_part(reader, alloc)?));
     }
     if let Some(_) = reader.take(Kind::Contra) {
-        return read_contra(reader, alloc);
+        return Ok(PlacedCert::Contra(read_one_part(reader, alloc)?));
     }
     if let Some(_) = reader.take(Kind::Fwd) {
         return read_fwd(reader, alloc);
@@ -212,38 +212,6 @@ fn read_and(reader: &mut TokenReader<'_>, alloc: Global) -> Result<PlacedCert, S
 {
     let (first, second) = read_two_parts(reader, alloc)?;
     Ok(PlacedCert::And(first, second))
-}
-
-#[cycle(cert)]
-fn read_left(reader: &mut TokenReader<'_>, alloc: Global) -> Result<PlacedCert, Stop>
-    ensures reads { Gives views.cert reader.new result (reading (act trees.left grammar.part) reader.old) }
-    ensures shorter { length reader.new ≤ length reader.old }
-{
-    Ok(PlacedCert::Left(read_one_part(reader, alloc)?))
-}
-
-#[cycle(cert)]
-fn read_right(reader: &mut TokenReader<'_>, alloc: Global) -> Result<PlacedCert, Stop>
-    ensures reads { Gives views.cert reader.new result (reading (act trees.right grammar.part) reader.old) }
-    ensures shorter { length reader.new ≤ length reader.old }
-{
-    Ok(PlacedCert::Right(read_one_part(reader, alloc)?))
-}
-
-#[cycle(cert)]
-fn read_not(reader: &mut TokenReader<'_>, alloc: Global) -> Result<PlacedCert, Stop>
-    ensures reads { Gives views.cert reader.new result (reading (act trees.negation grammar.part) reader.old) }
-    ensures shorter { length reader.new ≤ length reader.old }
-{
-    Ok(PlacedCert::Not(read_one_part(reader, alloc)?))
-}
-
-#[cycle(cert)]
-fn read_contra(reader: &mut TokenReader<'_>, alloc: Global) -> Result<PlacedCert, Stop>
-    ensures reads { Gives views.cert reader.new result (reading (act trees.contra grammar.part) reader.old) }
-    ensures shorter { length reader.new ≤ length reader.old }
-{
-    Ok(PlacedCert::Contra(read_one_part(reader, alloc)?))
 }
 
 #[cycle(cert)]

@@ -13,18 +13,6 @@ decreases-read_two_parts l = 10 * length l.reader.now + 2
 abbrev pub decreases-read_and : goal.decreases-read_and
 decreases-read_and l = 10 * length l.reader.now + 3
 
-abbrev pub decreases-read_left : goal.decreases-read_left
-decreases-read_left l = 10 * length l.reader.now + 2
-
-abbrev pub decreases-read_right : goal.decreases-read_right
-decreases-read_right l = 10 * length l.reader.now + 2
-
-abbrev pub decreases-read_not : goal.decreases-read_not
-decreases-read_not l = 10 * length l.reader.now + 2
-
-abbrev pub decreases-read_contra : goal.decreases-read_contra
-decreases-read_contra l = 10 * length l.reader.now + 2
-
 abbrev pub decreases-read_use : goal.decreases-read_use
 decreases-read_use l = 10 * length l.reader.now + 2
 
