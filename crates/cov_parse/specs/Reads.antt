@@ -1,6 +1,7 @@
 -- What parts of the code answer. These are words of the code's contracts.
 use Rattle.std.specs.Prelude.{◌≡◌, ℕ, List, None, Result, Ok, Err}
 use Rattle.cov_expr.specs.View.{term}
+use Rattle.cov_expr.specs.declared.expr.Expr.{Expr}
 use Rattle.cov_lex.specs.Lexing.{tokens_of}
 use Rattle.cov_text.specs.declared.fault.ParseFault.{ParseFault}
 use Rattle.cov_text.specs.declared.fault.ParseFault.TheVariants as faults
@@ -26,6 +27,10 @@ abbrev pub Finds : (text : List ℕ) → Result (PlacedProgram × List NameUse) 
 Finds text (Ok found) = Is program (decls.program found.0) (words_of text) × (in_program (decls.program found.0) ≡ None) × (found.1 ≡ uses_of (words_of text))
 Finds text (Err faults.NoMemory) = Unit {0}
 Finds text (Err fault) = IsFault program in_program text fault
+
+-- what callers get of one expression of the text, and of where it uses names
+abbrev pub found_expr : (text : List ℕ) → Expr × List NameUse → Expression
+found_expr text found = record { names = names_of text; uses = found.1; expr = term found.0 }
 
 -- what callers get of one expression
 abbrev pub parsed_expr : ParsedExpr → Expression

@@ -14,7 +14,7 @@ ghost use Rattle.placed_trees.specs.CertViews as certs;
 ghost use Rattle.placed_trees.specs.DeclViews as decls;
 ghost use Rattle.cov_text.specs.Limits as limits;
 ghost use Rattle.cov_text.specs.Text.{IsShallow, IsText, Answers, Only, program_of, expression_of, words_of};
-ghost use Rattle.cov_parse.specs.Reads.{Finds, Reads, parsed_expr};
+ghost use Rattle.cov_parse.specs.Reads.{Finds, Reads, found_expr, parsed_expr};
 ghost use Rattle.cov_text.specs.Uses.{AreUsesOf};
 
 use cov_ast::{NameTable, NameUse, Parsed};
@@ -59,10 +59,22 @@ fn read_program_text(alloc: Global, bytes: &[u8]) -> Result<Parsed, ParseFault>
     ensures { Answers grammar.program limits.in_program bytes.now ast.parsed (program_of bytes.now) result }
 {
     let Tokens { names, tokens } = read_text(alloc, bytes)?;
-    let (program, uses) = tree_of(alloc, tokens.as_slice(), bytes)?;
-    // (the tree takes their memory)
-    drop(tokens);
+    let (program, uses) = tree_in(alloc, tokens, bytes)?;
     Ok(parsed_of(alloc, names, uses, program)?)
+}
+
+/// The same, and the memory of the tokens is given back: the tree that callers get takes it.
+fn tree_in(
+    alloc: Global,
+    tokens: List<Token>,
+    bytes: &[u8],
+) -> Result<(PlacedProgram, List<NameUse>), ParseFault>
+    requires short { length bytes.now ≤ MOST_BYTES }
+    requires shallow { IsShallow bytes.now }
+    requires tokens { tokens ≡ words_of bytes.now }
+    ensures { Finds bytes.now result }
+{
+    tree_of(alloc, tokens.as_slice(), bytes)
 }
 
 /// The program that the tokens of a text are, within the limits, and where it uses names.
@@ -103,13 +115,27 @@ fn read_expr_text(alloc: Global, bytes: &[u8]) -> Result<ParsedExpr, ParseFault>
     ensures { Answers grammar.whole limits.in_expr bytes.now parsed_expr (expression_of bytes.now) result }
 {
     let Tokens { names, tokens } = read_text(alloc, bytes)?;
-    let whole = tokens_as_expr(alloc, tokens.as_slice(), bytes.len() as u32)?;
+    let (expr, uses) = expr_in(alloc, tokens.as_slice(), bytes)?;
+    Ok(ParsedExpr { names, uses, expr })
+}
+
+/// The expression that the tokens of a text are, within the limits, and where it uses names.
+fn expr_in(
+    alloc: Global,
+    tokens: &[Token],
+    bytes: &[u8],
+) -> Result<(Expr, List<NameUse>), ParseFault>
+    requires short { length bytes.now ≤ MOST_BYTES }
+    requires shallow { IsShallow bytes.now }
+    requires tokens { tokens.now ≡ words_of bytes.now }
+    ensures { Answers grammar.whole limits.in_expr bytes.now (found_expr bytes.now) (expression_of bytes.now) result }
+{
+    let whole = tokens_as_expr(alloc, tokens, bytes.len() as u32)?;
     if let Some(excess) = in_expr(&whole) {
         return Err(ParseFault::from(excess));
     }
-    let uses = uses(alloc, tokens.as_slice())?;
-    let expr = expr_of(whole);
-    Ok(ParsedExpr { names, uses, expr })
+    let uses = uses(alloc, tokens)?;
+    Ok((expr_of(whole), uses))
 }
 
 /// The tokens of a text and its names, or the first fault of its bytes or its brackets.

@@ -15,7 +15,6 @@ use placed_trees::{ClassDecl, Pair, PlacedLock, PlacedProgram, PlacedThread, Pla
 use std::alloc::Global;
 
 /// The name of a number.
-#[tactic(auto, using(crate::proofs::BlockLaws::stands_at))]
 fn name_of(names: &NameTable, id: u32) -> Name
     requires { id < length names.now }
     ensures { result ≡ spec.name_of names.now id }
@@ -90,7 +89,6 @@ fn locks_of(
     Ok(made)
 }
 
-#[tactic(auto, using(crate::proofs::BlockLaws::numbers_same))]
 fn modes_of(assumes: Pair, guarantees: Pair) -> Modes
     ensures { ast.modes result ≡ spec.modes_of (decls.modes assumes guarantees) }
 {

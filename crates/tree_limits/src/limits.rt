@@ -187,27 +187,38 @@ fn in_state_option(state: &Option<Box<PlacedState>>) -> Option<Excess>
     }
 }
 
+/// The fault of least place of the parts of an assignment.
+fn in_assigned(
+    e: &Whole,
+    class: &Option<Whole>,
+    retypes: &[Typed],
+    proofs: &[PlacedProof],
+) -> Option<Excess>
+    ensures { result ≡ spec.sooner (spec.in_expr (certs.whole e.now)) (spec.sooner (spec.in_option (option_map certs.whole class.now)) (spec.sooner (spec.least spec.in_pair (map states.typed retypes.now)) (spec.least spec.in_proof (map states.proof proofs.now)))) }
+{
+    let behind = sooner(in_pairs(retypes), in_proofs(proofs));
+    sooner(in_expr(e), sooner(in_option(class), behind))
+}
+
 /// The fault of least place of a statement, in which so many blocks more may be nested.
 #[cycle(block)]
 fn in_stm(room: u32, kind: &PlacedStmtKind) -> Option<Excess>
     ensures { result ≡ spec.in_stm room (stmts.kind kind.now) }
 {
+    let inner = room.saturating_sub(1);
     match kind {
         PlacedStmtKind::Skip | PlacedStmtKind::Lock(_) => None,
         PlacedStmtKind::Assign(_, e, class, retypes, proofs) => {
-            let behind = sooner(in_pairs(retypes.as_slice()), in_proofs(proofs.as_slice()));
-            sooner(in_expr(e), sooner(in_option(class), behind))
+            in_assigned(e, class, retypes.as_slice(), proofs.as_slice())
         }
         PlacedStmtKind::Unlock(_, proofs) => in_proofs(proofs.as_slice()),
         PlacedStmtKind::If(e, first, first_body, second, second_body, state, proofs) => {
-            let inner = room.saturating_sub(1);
             let behind = sooner(in_state_option(state), in_proofs(proofs.as_slice()));
             let second = in_block(inner, *second, second_body.as_slice());
             let first = in_block(inner, *first, first_body.as_slice());
             sooner(in_expr(e), sooner(first, sooner(second, behind)))
         }
         PlacedStmtKind::While(e, state, braces, body, proofs) => {
-            let inner = room.saturating_sub(1);
             let body = in_block(inner, *braces, body.as_slice());
             let behind = sooner(body, in_proofs(proofs.as_slice()));
             sooner(in_expr(e), sooner(in_state_option(state), behind))
