@@ -9,7 +9,7 @@ use cov_ast::Refusal;
 use cov_expr::{Blob, Name, NoMemory};
 
 /// How a call ends.
-#[derive(Clone, Copy, Debug, PartialEq, Eq)]
+#[derive(Clone, Copy)]
 pub enum Status {
     /// The command did all its work.
     Done,
@@ -54,7 +54,7 @@ impl Status {
 }
 
 /// How much an accepted program has.
-#[derive(Clone, Copy, Debug, PartialEq, Eq)]
+#[derive(Clone, Copy)]
 pub struct Totals {
     pub threads: u64,
     pub statements: u64,
@@ -62,7 +62,7 @@ pub struct Totals {
 }
 
 /// What is wrong with a text.
-#[derive(Clone, Copy, Debug, PartialEq, Eq)]
+#[derive(Clone, Copy)]
 pub enum FaultKind {
     Byte,
     Number,
@@ -75,7 +75,7 @@ pub enum FaultKind {
 }
 
 /// A fault of a file, as reports show it.
-#[derive(Clone, Copy, Debug, PartialEq, Eq)]
+#[derive(Clone, Copy)]
 pub enum Fault {
     /// Of a text, at the offset of a byte.
     Text(FaultKind, u32),

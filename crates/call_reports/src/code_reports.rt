@@ -7,8 +7,8 @@ ghost use Rattle.schedule_replay.specs.CodeReplays.{DeclaresAsMany};
 ghost use Rattle.call_reports.specs.CodeReports as spec;
 ghost use Rattle.call_reports.specs.RunReports.{declaration_line, lines_from};
 
-use crate::lines::{add_name, add_number, add_numbered};
-use crate::run_reports::{add_locks, add_outputs, add_pairs, add_vars};
+use crate::lines::{add_name, add_numbered};
+use crate::run_reports::{add_agreement, add_locks, add_outputs, add_pairs, add_vars};
 use cov_ast::{Program, ThreadDecl};
 use cov_expr::{Blob, List, NoMemory};
 use risc_machine::Risc;
@@ -48,9 +48,7 @@ pub fn code_pair_report(
     ensures { IfOk result (λ text. text ≡ spec.code_pair_report (view.program p.now) (left.now).parts steps (left.now).state (right.now).state) }
 {
     let mut text = List::new(alloc);
-    text.extend_from_slice(b"agree: ")?;
-    add_number(steps, &mut text)?;
-    text.extend_from_slice(b" steps\n")?;
+    add_agreement(steps, &mut text)?;
     add_pairs(p.vars.as_slice(), left.memory(), right.memory(), &mut text)?;
     add_code_state(p, left, &mut text)?;
     Ok(text)

@@ -1,39 +1,25 @@
-//! The lines on two starts that are unfit and on two runs that differ, and the names that they tell.
+//! The line on two runs that differ, and the names that reports on such runs and on unfit starts tell.
 
 ghost use Rattle.std.specs.Prelude.{◌≡◌, ◌++◌, IfOk, OnOk, get_or, map, []};
 ghost use Rattle.cov_ast.specs.View as view;
 ghost use Rattle.call_reports.specs.Differences as names;
-ghost use Rattle.call_reports.specs.Replies.{bad_starts, differ};
+ghost use Rattle.call_reports.specs.Replies.{differ};
 ghost use Rattle.call_reports.specs.Reports as spec;
 
-use crate::lines::add_number;
+use crate::lines::{add_between, add_number_behind};
 use crate::run_reports::add_thread_name;
 use cov_ast::{LockDecl, Program, VarDecl};
 use cov_expr::{Blob, List, NoMemory};
 use flow_model::{BadStart, Differ};
 use std::alloc::Global;
 
-/// The line that says which variable or lock makes two memories unfit to start from.
-pub fn bad_starts_line(alloc: Global, name: &Blob) -> Result<Blob, NoMemory>
-    ensures { IfOk result (λ line. line ≡ spec.report_of (bad_starts name.now)) }
-{
-    let mut line = List::new(alloc);
-    line.extend_from_slice(b"bad starts: ")?;
-    line.extend_from_slice(name.as_slice())?;
-    line.extend_from_slice(b"\n")?;
-    Ok(line)
-}
-
 /// The line that says after which step two runs differ, and in what.
 pub fn differ_line(alloc: Global, step: u32, what: &Blob) -> Result<Blob, NoMemory>
     ensures { IfOk result (λ line. line ≡ spec.report_of (differ step what.now)) }
 {
     let mut line = List::new(alloc);
-    line.extend_from_slice(b"differ at step ")?;
-    add_number(step, &mut line)?;
-    line.extend_from_slice(b": ")?;
-    line.extend_from_slice(what.as_slice())?;
-    line.extend_from_slice(b"\n")?;
+    add_number_behind(b"differ at step ", step, &mut line)?;
+    add_between(b": ", what.as_slice(), b"\n", &mut line)?;
     Ok(line)
 }
 
@@ -54,13 +40,19 @@ pub fn differ_text(alloc: Global, p: &Program, differ: &Differ) -> Result<Blob, 
     ensures { IfOk result (λ text. text ≡ names.differ_text (view.program p.now) differ.now) }
 {
     let mut text = List::new(alloc);
-    match differ {
-        Differ::Lock(l) => add_lock_name(p.locks.as_slice(), *l, &mut text)?,
-        Differ::Var(x) => add_var_name(p.vars.as_slice(), *x, &mut text)?,
-        Differ::Output => text.extend_from_slice(b"output")?,
-        Differ::Thread(t) => add_thread_name(p.threads.as_slice(), *t, &mut text)?,
-    }
+    add_difference(p, differ, &mut text)?;
     Ok(text)
+}
+
+fn add_difference(p: &Program, differ: &Differ, text: &mut Blob) -> Result<(), NoMemory>
+    ensures { OnOk result (text.new ≡ text.old ++ names.differ_text (view.program p.now) differ.now) }
+{
+    match differ {
+        Differ::Lock(l) => add_lock_name(p.locks.as_slice(), *l, text),
+        Differ::Var(x) => add_var_name(p.vars.as_slice(), *x, text),
+        Differ::Output => text.extend_from_slice(b"output"),
+        Differ::Thread(t) => add_thread_name(p.threads.as_slice(), *t, text),
+    }
 }
 
 /// Adds the name of a variable, by its place.

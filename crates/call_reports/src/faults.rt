@@ -1,11 +1,12 @@
 //! The line of a malformed file or word, by its fault.
 
 ghost use Rattle.std.specs.Prelude.{◌≡◌, ◌++◌, IfOk, OnOk};
+ghost use Rattle.call_reports.specs.Inside as inside;
 ghost use Rattle.call_reports.specs.Replies.{malformed};
 ghost use Rattle.call_reports.specs.Reports as spec;
 
 use crate::answers::{Fault, FaultKind};
-use crate::lines::{add_name, add_number};
+use crate::lines::{add_between, add_number, add_number_behind};
 use cov_expr::{Blob, List, NoMemory};
 use std::alloc::Global;
 
@@ -14,39 +15,42 @@ pub fn malformed_line(alloc: Global, name: &str, fault: &Fault) -> Result<Blob, 
     ensures { IfOk result (λ line. line ≡ spec.report_of (malformed name.now fault.now)) }
 {
     let mut line = List::new(alloc);
-    line.extend_from_slice(b"malformed ")?;
-    line.extend_from_slice(name.as_bytes())?;
-    line.extend_from_slice(b": ")?;
+    add_between(b"malformed ", name.as_bytes(), b": ", &mut line)?;
     add_fault(fault, &mut line)?;
     line.extend_from_slice(b"\n")?;
     Ok(line)
 }
 
+/// Adds what a fault is, and where or at which name.
 fn add_fault(fault: &Fault, line: &mut Blob) -> Result<(), NoMemory>
     ensures { OnOk result (line.new ≡ line.old ++ spec.fault_text fault.now) }
 {
+    line.extend_from_slice(fault_word(fault).as_bytes())?;
     match fault {
-        Fault::Text(kind, at) => {
-            line.extend_from_slice(kind_text(*kind).as_bytes())?;
-            line.extend_from_slice(b" at ")?;
-            add_number(*at, line)
-        }
-        Fault::Json => line.extend_from_slice(b"json"),
-        Fault::NotObject => line.extend_from_slice(b"object"),
-        Fault::Missing(name) => add_name(b"missing ", name, line),
-        Fault::UnknownKey => line.extend_from_slice(b"unknown"),
-        Fault::NotWord(name) => add_name(b"word ", name, line),
-        Fault::NotList => line.extend_from_slice(b"list"),
-        Fault::TooMany => line.extend_from_slice(b"many"),
-        Fault::BadEntry(i) => {
-            line.extend_from_slice(b"entry ")?;
-            add_number(*i, line)
-        }
-        Fault::Object(at) => {
-            line.extend_from_slice(b"object at ")?;
-            add_number(*at, line)
-        }
-        Fault::Code => line.extend_from_slice(b"code"),
+        Fault::Json | Fault::NotObject | Fault::UnknownKey => Ok(()),
+        Fault::NotList | Fault::TooMany | Fault::Code => Ok(()),
+        Fault::Missing(name) | Fault::NotWord(name) => line.extend_from_slice(name.text()),
+        Fault::Text(_, at) => add_number_behind(b" at ", *at, line),
+        Fault::BadEntry(n) | Fault::Object(n) => add_number(*n, line),
+    }
+}
+
+/// What the text of a fault begins with, up to a name or a number.
+fn fault_word(fault: &Fault) -> &'static str
+    ensures { result.now ≡ inside.fault_word fault.now }
+{
+    match fault {
+        Fault::Text(kind, _) => kind_text(*kind),
+        Fault::Json => "json",
+        Fault::NotObject => "object",
+        Fault::Missing(_) => "missing ",
+        Fault::UnknownKey => "unknown",
+        Fault::NotWord(_) => "word ",
+        Fault::NotList => "list",
+        Fault::TooMany => "many",
+        Fault::BadEntry(_) => "entry ",
+        Fault::Object(_) => "object at ",
+        Fault::Code => "code",
     }
 }
 

@@ -9,7 +9,7 @@
 //! | `differences` | `Differences` | what makes two starts unfit, and what two runs differ in |
 //! | `ends` | `Ends` | the report is made and written |
 //!
-//! `specs/Inside` has a word of private contracts, which no promise cites.
+//! `specs/Inside` has words of private contracts, which no promise cites.
 #![tactic(auto)]
 
 mod answers;

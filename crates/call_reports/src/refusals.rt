@@ -1,9 +1,9 @@
 //! The line of a refusal, by its rule and what the rule shows.
 
-ghost use Rattle.std.specs.Prelude.{◌≡◌, ◌++◌, IfOk, OnOk};
+ghost use Rattle.std.specs.Prelude.{◌≡◌, ◌++◌, IfOk, OnOk, codes};
 ghost use Rattle.call_reports.specs.Reports as spec;
 
-use crate::lines::{add_name, add_number};
+use crate::lines::{add_name, add_number_behind};
 use cov_ast::{Detail, Refusal, Rule};
 use cov_expr::{Blob, List, Name, NoMemory};
 use std::alloc::Global;
@@ -17,14 +17,26 @@ pub fn refusal_line(
     ensures { IfOk result (λ line. line ≡ spec.refusal_text refusal.now thread) }
 {
     let mut line = List::new(alloc);
-    line.extend_from_slice(b"refused ")?;
-    line.extend_from_slice(rule_text(refusal.rule).as_bytes())?;
-    add_thread(thread, &mut line)?;
-    line.extend_from_slice(b" at ")?;
-    add_number(refusal.place, &mut line)?;
-    add_detail(&refusal.detail, &mut line)?;
-    line.extend_from_slice(b"\n")?;
+    add_refusal(refusal, thread, &mut line)?;
     Ok(line)
+}
+
+fn add_refusal(refusal: &Refusal, thread: Option<Name>, line: &mut Blob) -> Result<(), NoMemory>
+    ensures { OnOk result (line.new ≡ line.old ++ spec.refusal_text refusal.now thread) }
+{
+    add_rule(refusal.rule, line)?;
+    add_thread(thread, line)?;
+    add_number_behind(b" at ", refusal.place, line)?;
+    add_detail(&refusal.detail, line)?;
+    line.extend_from_slice(b"\n")
+}
+
+/// Adds what a refusal begins with: a word, and the rule.
+fn add_rule(rule: Rule, line: &mut Blob) -> Result<(), NoMemory>
+    ensures { OnOk result (line.new ≡ line.old ++ (codes "refused " ++ spec.rule_text rule)) }
+{
+    line.extend_from_slice(b"refused ")?;
+    line.extend_from_slice(rule_text(rule).as_bytes())
 }
 
 fn rule_text(rule: Rule) -> &'static str
@@ -78,18 +90,19 @@ fn add_detail(detail: &Detail, line: &mut Blob) -> Result<(), NoMemory>
     match detail {
         Detail::Nothing => Ok(()),
         Detail::One(x) => add_name(b": ", x, line),
-        Detail::Two(x, y) => {
-            add_name(b": ", x, line)?;
-            add_name(b" ", y, line)
-        }
+        Detail::Two(x, y) => add_two_names(x, y, line),
         Detail::Three(x, y, z) => {
-            add_name(b": ", x, line)?;
-            add_name(b" ", y, line)?;
+            add_two_names(x, y, line)?;
             add_name(b" ", z, line)
         }
-        Detail::Number(n) => {
-            line.extend_from_slice(b" entailment ")?;
-            add_number(*n, line)
-        }
+        Detail::Number(n) => add_number_behind(b" entailment ", *n, line),
     }
+}
+
+/// Adds a colon and two names behind it.
+fn add_two_names(x: &Name, y: &Name, line: &mut Blob) -> Result<(), NoMemory>
+    ensures { OnOk result (line.new ≡ line.old ++ (codes ": " ++ x.now ++ codes " " ++ y.now)) }
+{
+    add_name(b": ", x, line)?;
+    add_name(b" ", y, line)
 }

@@ -7,7 +7,7 @@ ghost use Rattle.flow_model.specs.FirstDifference.{held_by, holders_of};
 ghost use Rattle.source_machine.specs.SourceMachine.{run_of};
 ghost use Rattle.call_reports.specs.RunReports as spec;
 
-use crate::lines::{add_name, add_number, add_numbered};
+use crate::lines::{add_name, add_number_behind, add_numbered};
 use cov_ast::{LockDecl, Program, ThreadDecl, VarDecl};
 use cov_expr::{Blob, List, NoMemory};
 use flow_model::Holder;
@@ -64,12 +64,18 @@ pub fn pair_report<'p>(
     ensures { IfOk result (λ text. text ≡ spec.pair_report (view.program p.now) steps (run_of left.now) (run_of right.now)) }
 {
     let mut text = List::new(alloc);
-    text.extend_from_slice(b"agree: ")?;
-    add_number(steps, &mut text)?;
-    text.extend_from_slice(b" steps\n")?;
+    add_agreement(steps, &mut text)?;
     add_pairs(p.vars.as_slice(), left.memory(), right.memory(), &mut text)?;
     add_state(p, left, &mut text)?;
     Ok(text)
+}
+
+/// Adds the line that says that two runs agree after each of so many steps.
+pub fn add_agreement(steps: u32, text: &mut Blob) -> Result<(), NoMemory>
+    ensures { OnOk result (text.new ≡ text.old ++ (codes "agree: " ++ decimal steps ++ codes " steps\n")) }
+{
+    add_number_behind(b"agree: ", steps, text)?;
+    text.extend_from_slice(b" steps\n")
 }
 
 /// Adds how a run ended that was to stop where an expression holds.
@@ -156,8 +162,7 @@ fn add_pair(left: u32, right: u32, var: &VarDecl, text: &mut Blob) -> Result<(),
     ensures { OnOk result (text.new ≡ text.old ++ spec.declaration_line (codes "var ") (view.var var.now).name (decimal left ++ codes " " ++ decimal right)) }
 {
     add_name(b"var ", &var.name, text)?;
-    text.extend_from_slice(b" ")?;
-    add_number(left, text)?;
+    add_number_behind(b" ", left, text)?;
     add_numbered(b" ", right, text)
 }
 

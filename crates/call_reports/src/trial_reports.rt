@@ -8,7 +8,7 @@ ghost use Rattle.call_reports.specs.Reports.{report_of};
 ghost use Rattle.call_reports.specs.TrialReports as spec;
 
 use crate::differences::{differ_line, differ_text};
-use crate::lines::{add_number, add_numbered};
+use crate::lines::{add_number_behind, add_numbered};
 use crate::run_reports::add_pairs;
 use cov_ast::Program;
 use cov_expr::{Blob, List, NoMemory};
@@ -42,10 +42,8 @@ pub fn none_report(alloc: Global, trials: u32, fit: u32) -> Result<Blob, NoMemor
     ensures { IfOk result (λ text. text ≡ spec.none_report trials fit) }
 {
     let mut text = List::new(alloc);
-    text.extend_from_slice(b"none of ")?;
-    add_number(trials, &mut text)?;
-    text.extend_from_slice(b" trials, ")?;
-    add_number(fit, &mut text)?;
+    add_number_behind(b"none of ", trials, &mut text)?;
+    add_number_behind(b" trials, ", fit, &mut text)?;
     text.extend_from_slice(b" fit\n")?;
     Ok(text)
 }
@@ -86,6 +84,5 @@ fn add_entries(entries: &[u32], text: &mut Blob) -> Result<(), NoMemory>
 fn add_entry(t: u32, text: &mut Blob) -> Result<(), NoMemory>
     ensures { OnOk result (text.new ≡ text.old ++ spec.entry_text t) }
 {
-    text.extend_from_slice(b" ")?;
-    add_number(t, text)
+    add_number_behind(b" ", t, text)
 }

@@ -4,6 +4,7 @@ ghost use Rattle.std.specs.Prelude.{◌≡◌, ◌++◌, OnOk, map, codes, decim
 ghost use Rattle.cov_expr.specs.View.{term};
 ghost use Rattle.cov_ast.specs.View as view;
 ghost use Rattle.cov_print.specs.Fronts.{front};
+ghost use Rattle.cov_print.specs.Inside as inside;
 ghost use Rattle.cov_print.specs.Spelling as spec;
 
 use crate::expr::{add_expr, add_exprs};
@@ -11,27 +12,68 @@ use crate::text::add_number;
 use cov_ast::{Cert, NameTable, Proof};
 use cov_expr::{Expr, List, NoMemory};
 
-/// Adds a word and a number behind it.
-fn add_numbered(word: &[u8], n: u32, out: &mut List<u8>) -> Result<(), NoMemory>
-    ensures { OnOk result (out.new ≡ out.old ++ word.now ++ decimal n) }
+/// The word of a certificate, with the blank behind it where a number follows.
+fn word(c: &Cert) -> &'static [u8]
+    ensures { result.now ≡ inside.word (view.cert c.now) }
 {
-    out.extend_from_slice(word)?;
-    add_number(n, out)
+    match c {
+        Cert::Auto => b"auto",
+        Cert::Calc => b"calc",
+        Cert::Refl => b"refl",
+        Cert::Ring => b"ring",
+        Cert::Range => b"range",
+        Cert::Hyp(_) => b"hyp ",
+        Cert::Clash(_) => b"clash ",
+        Cert::Absurd(..) => b"absurd ",
+        Cert::And(..) => b"and",
+        Cert::Left(_) => b"left",
+        Cert::Right(_) => b"right",
+        Cert::Unpack(..) => b"use ",
+        Cert::Cases(..) => b"cases ",
+        Cert::Split(..) => b"split",
+        Cert::Have(..) => b"have",
+        Cert::Not(_) => b"not",
+        Cert::Contra(_) => b"contra",
+        Cert::Fwd(..) => b"fwd ",
+        Cert::Rev(..) => b"rev ",
+        Cert::Axiom(..) => b"axiom ",
+    }
 }
 
-/// Adds a word and an expression in brackets behind it.
-fn add_bracketed(
-    names: &NameTable,
-    word: &[u8],
-    e: &Expr,
-    out: &mut List<u8>,
-) -> Result<(), NoMemory>
-    ensures { OnOk result (out.new ≡ out.old ++ word.now ++ codes " [" ++ spec.whole names.now (term e.now) ++ codes "]") }
+/// Adds two numbers with a blank between.
+fn add_two_numbers(i: u32, j: u32, out: &mut List<u8>) -> Result<(), NoMemory>
+    ensures { OnOk result (out.new ≡ out.old ++ (decimal i ++ codes " " ++ decimal j)) }
 {
-    out.extend_from_slice(word)?;
+    add_number(i, out)?;
+    out.extend_from_slice(b" ")?;
+    add_number(j, out)
+}
+
+/// Adds a blank and an expression in brackets.
+fn add_bracketed(names: &NameTable, e: &Expr, out: &mut List<u8>) -> Result<(), NoMemory>
+    ensures { OnOk result (out.new ≡ out.old ++ (codes " [" ++ spec.whole names.now (term e.now) ++ codes "]")) }
+{
     out.extend_from_slice(b" [")?;
     add_expr(names, false, e, out)?;
     out.extend_from_slice(b"]")
+}
+
+/// Adds the number of an equation and the template in which it rewrites.
+fn add_rewrite(names: &NameTable, i: u32, e: &Expr, out: &mut List<u8>) -> Result<(), NoMemory>
+    ensures { OnOk result (out.new ≡ out.old ++ (decimal i ++ codes " [" ++ spec.whole names.now (term e.now) ++ codes "]")) }
+{
+    add_number(i, out)?;
+    add_bracketed(names, e, out)
+}
+
+/// Adds the number of an axiom and the expressions for its letters.
+fn add_instance(names: &NameTable, k: u32, es: &[Expr], out: &mut List<u8>) -> Result<(), NoMemory>
+    ensures { OnOk result (out.new ≡ out.old ++ (decimal k ++ codes " (" ++ spec.listed (spec.whole names.now) (map term es.now) ++ codes ")")) }
+{
+    add_number(k, out)?;
+    out.extend_from_slice(b" (")?;
+    add_exprs(names, es, out)?;
+    out.extend_from_slice(b")")
 }
 
 /// Whether a certificate is a lone word.
@@ -56,41 +98,17 @@ fn is_word(c: &Cert) -> bool
 pub fn add_front(names: &NameTable, c: &Cert, out: &mut List<u8>) -> Result<(), NoMemory>
     ensures { OnOk result (out.new ≡ out.old ++ front names.now (view.cert c.now)) }
 {
+    out.extend_from_slice(word(c))?;
     match c {
-        Cert::Auto => out.extend_from_slice(b"auto"),
-        Cert::Calc => out.extend_from_slice(b"calc"),
-        Cert::Refl => out.extend_from_slice(b"refl"),
-        Cert::Ring => out.extend_from_slice(b"ring"),
-        Cert::Range => out.extend_from_slice(b"range"),
-        Cert::Hyp(i) => add_numbered(b"hyp ", *i, out),
-        Cert::Clash(i) => add_numbered(b"clash ", *i, out),
-        Cert::Absurd(i, j) => {
-            add_numbered(b"absurd ", *i, out)?;
-            add_numbered(b" ", *j, out)
+        Cert::Auto | Cert::Calc | Cert::Refl | Cert::Ring | Cert::Range => Ok(()),
+        Cert::And(..) | Cert::Left(_) | Cert::Right(_) | Cert::Not(_) | Cert::Contra(_) => Ok(()),
+        Cert::Hyp(i) | Cert::Clash(i) | Cert::Unpack(i, _) | Cert::Cases(i, ..) => {
+            add_number(*i, out)
         }
-        Cert::And(..) => out.extend_from_slice(b"and"),
-        Cert::Left(_) => out.extend_from_slice(b"left"),
-        Cert::Right(_) => out.extend_from_slice(b"right"),
-        Cert::Unpack(i, _) => add_numbered(b"use ", *i, out),
-        Cert::Cases(i, ..) => add_numbered(b"cases ", *i, out),
-        Cert::Split(e, ..) => add_bracketed(names, b"split", e, out),
-        Cert::Have(e, ..) => add_bracketed(names, b"have", e, out),
-        Cert::Not(_) => out.extend_from_slice(b"not"),
-        Cert::Contra(_) => out.extend_from_slice(b"contra"),
-        Cert::Fwd(i, e, _) => {
-            add_numbered(b"fwd ", *i, out)?;
-            add_bracketed(names, b"", e, out)
-        }
-        Cert::Rev(i, e, _) => {
-            add_numbered(b"rev ", *i, out)?;
-            add_bracketed(names, b"", e, out)
-        }
-        Cert::Axiom(k, es, _) => {
-            add_numbered(b"axiom ", *k, out)?;
-            out.extend_from_slice(b" (")?;
-            add_exprs(names, es.as_slice(), out)?;
-            out.extend_from_slice(b")")
-        }
+        Cert::Absurd(i, j) => add_two_numbers(*i, *j, out),
+        Cert::Split(e, ..) | Cert::Have(e, ..) => add_bracketed(names, e, out),
+        Cert::Fwd(i, e, _) | Cert::Rev(i, e, _) => add_rewrite(names, *i, e, out),
+        Cert::Axiom(k, es, _) => add_instance(names, *k, es.as_slice(), out),
     }
 }
 
@@ -141,19 +159,32 @@ fn add_proof(names: &NameTable, p: &Proof, out: &mut List<u8>) -> Result<(), NoM
     add_cert(names, &p.cert, out)
 }
 
+/// Adds proofs with commas between.
+fn add_listed_proofs(names: &NameTable, ps: &[Proof], out: &mut List<u8>) -> Result<(), NoMemory>
+    ensures { OnOk result (out.new ≡ out.old ++ spec.listed (spec.proof names.now) (map view.proof ps.now)) }
+{
+    match ps {
+        [] => Ok(()),
+        [first, rest @ ..] => {
+            add_proof(names, first, out)?;
+            for p in rest {
+                out.extend_from_slice(b", ")?;
+                add_proof(names, p, out)?;
+            }
+            Ok(())
+        }
+    }
+}
+
 /// Adds the proofs of a statement, with the blank before them, or nothing where there are none.
 pub fn add_proofs(names: &NameTable, ps: &[Proof], out: &mut List<u8>) -> Result<(), NoMemory>
     ensures { OnOk result (out.new ≡ out.old ++ spec.by names.now (map view.proof ps.now)) }
 {
     match ps {
         [] => Ok(()),
-        [first, rest @ ..] => {
+        [_, ..] => {
             out.extend_from_slice(b" by { ")?;
-            add_proof(names, first, out)?;
-            for p in rest {
-                out.extend_from_slice(b", ")?;
-                add_proof(names, p, out)?;
-            }
+            add_listed_proofs(names, ps, out)?;
             out.extend_from_slice(b" }")
         }
     }

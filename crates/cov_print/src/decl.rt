@@ -8,7 +8,7 @@ use crate::expr::{add_expr, add_option};
 use crate::stmt::add_block;
 use crate::text::add_names;
 use cov_ast::{Class, LockDecl, Modes, NameTable, ThreadDecl, VarDecl};
-use cov_expr::{List, NoMemory};
+use cov_expr::{List, Name, NoMemory};
 use std::alloc::Global;
 
 fn add_class(names: &NameTable, class: &Class, out: &mut List<u8>) -> Result<(), NoMemory>
@@ -24,12 +24,19 @@ fn add_class(names: &NameTable, class: &Class, out: &mut List<u8>) -> Result<(),
     }
 }
 
+/// Adds the word of a declaration and the name behind it.
+fn begin_line(word: &[u8], name: &Name, out: &mut List<u8>) -> Result<(), NoMemory>
+    ensures { OnOk result (out.new ≡ out.old ++ word.now ++ name.now) }
+{
+    out.extend_from_slice(word)?;
+    out.extend_from_slice(name.text())
+}
+
 /// Adds the line of a variable.
 pub fn add_var(names: &NameTable, v: &VarDecl, out: &mut List<u8>) -> Result<(), NoMemory>
     ensures { OnOk result (out.new ≡ out.old ++ spec.var_line names.now (view.var v.now)) }
 {
-    out.extend_from_slice(b"var ")?;
-    out.extend_from_slice(v.name.text())?;
+    begin_line(b"var ", &v.name, out)?;
     out.extend_from_slice(b": ")?;
     add_class(names, &v.class, out)?;
     out.extend_from_slice(b";\n")
@@ -57,8 +64,7 @@ fn add_named(
 pub fn add_lock(names: &NameTable, l: &LockDecl, out: &mut List<u8>) -> Result<(), NoMemory>
     ensures { OnOk result (out.new ≡ out.old ++ spec.lock_line names.now (view.lock l.now)) }
 {
-    out.extend_from_slice(b"lock ")?;
-    out.extend_from_slice(l.name.text())?;
+    begin_line(b"lock ", &l.name, out)?;
     add_named(names, b" nowrite ", l.nowrite.as_slice(), out)?;
     add_named(names, b" hide ", l.hide.as_slice(), out)?;
     add_option(names, b" inv ", &l.inv, out)?;
@@ -88,8 +94,7 @@ pub fn add_thread(
 ) -> Result<(), NoMemory>
     ensures { OnOk result (out.new ≡ out.old ++ spec.thread_lines names.now (view.thread t.now)) }
 {
-    out.extend_from_slice(b"thread ")?;
-    out.extend_from_slice(t.name.text())?;
+    begin_line(b"thread ", &t.name, out)?;
     add_modes(names, &t.modes, out)?;
     out.extend_from_slice(b" {\n")?;
     add_block(alloc, names, b"  ", t.body.as_slice(), out)?;

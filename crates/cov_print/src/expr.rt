@@ -1,6 +1,6 @@
 //! Expressions as they are spelled, with the parentheses that they need.
 
-ghost use Rattle.std.specs.Prelude.{◌≡◌, ◌++◌, OnOk, map, option_map, codes};
+ghost use Rattle.std.specs.Prelude.{◌≡◌, ◌++◌, OnOk, map, option_map, codes, true};
 ghost use Rattle.cov_expr.specs.View.{term};
 ghost use Rattle.cov_print.specs.Spelling as spec;
 
@@ -50,7 +50,24 @@ fn close(operand: bool, out: &mut List<u8>) -> Result<(), NoMemory>
     }
 }
 
+/// Adds the operator of a binary operation, and what stands behind it.
+#[cycle(expressions)]
+fn add_right(
+    names: &NameTable,
+    operand: bool,
+    op: Op,
+    b: &Expr,
+    out: &mut List<u8>,
+) -> Result<(), NoMemory>
+    ensures { OnOk result (out.new ≡ out.old ++ (spec.operator op ++ spec.expr names.now true (term b.now) ++ spec.given operand (codes ")"))) }
+{
+    out.extend_from_slice(operator(op))?;
+    add_expr(names, true, b, out)?;
+    close(operand, out)
+}
+
 /// Adds an expression. A binary operation is in parentheses where it is an operand. A variable that has no name is spelled `_`.
+#[cycle(expressions)]
 pub fn add_expr(
     names: &NameTable,
     operand: bool,
@@ -69,9 +86,7 @@ pub fn add_expr(
         Expr::Bin(op, a, b) => {
             open(operand, out)?;
             add_expr(names, true, a, out)?;
-            out.extend_from_slice(operator(*op))?;
-            add_expr(names, true, b, out)?;
-            close(operand, out)
+            add_right(names, operand, *op, b, out)
         }
     }
 }

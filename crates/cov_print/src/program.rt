@@ -42,6 +42,26 @@ fn add_threads(
     Ok(())
 }
 
+/// Adds the line of the version, or nothing for the first one.
+fn add_version(version: u8, out: &mut List<u8>) -> Result<(), NoMemory>
+    ensures { OnOk result (out.new ≡ out.old ++ spec.version_line version) }
+{
+    if version == 2 {
+        out.extend_from_slice(b"version 2;\n")
+    } else {
+        Ok(())
+    }
+}
+
+fn add_program(alloc: Global, p: &Parsed, out: &mut List<u8>) -> Result<(), NoMemory>
+    ensures { OnOk result (out.new ≡ out.old ++ spec.spelling (view.parsed p.now)) }
+{
+    add_version(p.version, out)?;
+    add_vars(&p.names, p.vars.as_slice(), out)?;
+    add_locks(&p.names, p.locks.as_slice(), out)?;
+    add_threads(alloc, &p.names, p.threads.as_slice(), out)
+}
+
 /// The canonical spelling of a program: a text of lines that end with a line feed, without comments. One of version 2
 /// begins with the line `version 2;`. A number that has no name is spelled `_`, as the hole of a template. It takes memory
 /// in proportion to the text, and recurses as deep as blocks, certificates or expressions nest.
@@ -52,11 +72,6 @@ pub fn print(alloc: Global, p: &Parsed) -> Result<List<u8>, NoMemory>
     ensures read_back { IfOk result (λ text. SpellsAgain text (view.parsed p.now)) }
 {
     let mut out = List::new(alloc);
-    if p.version == 2 {
-        out.extend_from_slice(b"version 2;\n")?;
-    }
-    add_vars(&p.names, p.vars.as_slice(), &mut out)?;
-    add_locks(&p.names, p.locks.as_slice(), &mut out)?;
-    add_threads(alloc, &p.names, p.threads.as_slice(), &mut out)?;
+    add_program(alloc, p, &mut out)?;
     Ok(out)
 }

@@ -1,6 +1,7 @@
 //! States and types as they are spelled.
 
-ghost use Rattle.std.specs.Prelude.{◌≡◌, ◌++◌, ◌&&◌, OnOk, map};
+ghost use Rattle.std.specs.Prelude.{◌≡◌, ◌++◌, ◌&&◌, OnOk, map, codes};
+ghost use Rattle.cov_expr.specs.View.{term};
 ghost use Rattle.cov_ast.specs.View as view;
 ghost use Rattle.cov_print.specs.Spelling as spec;
 
@@ -34,6 +35,49 @@ fn add_types(names: &NameTable, types: &[(u32, Expr)], out: &mut List<u8>) -> Re
     }
 }
 
+/// Adds a state that has predicates alone.
+fn add_lone_predicates(
+    names: &NameTable,
+    preds: &[Expr],
+    out: &mut List<u8>,
+) -> Result<(), NoMemory>
+    ensures { OnOk result (out.new ≡ out.old ++ (codes "{ " ++ spec.listed (spec.whole names.now) (map term preds.now) ++ codes " }")) }
+{
+    out.extend_from_slice(b"{ ")?;
+    add_exprs(names, preds, out)?;
+    out.extend_from_slice(b" }")
+}
+
+/// Adds a state that has types alone.
+fn add_lone_types(
+    names: &NameTable,
+    types: &[(u32, Expr)],
+    out: &mut List<u8>,
+) -> Result<(), NoMemory>
+    ensures { OnOk result (out.new ≡ out.old ++ (codes "{ ; " ++ spec.listed (spec.typed names.now) (map view.typed types.now) ++ codes " }")) }
+{
+    out.extend_from_slice(b"{ ; ")?;
+    add_types(names, types, out)?;
+    out.extend_from_slice(b" }")
+}
+
+/// Adds a state that has predicates and types.
+fn add_both(
+    names: &NameTable,
+    preds: &[Expr],
+    types: &[(u32, Expr)],
+    out: &mut List<u8>,
+) -> Result<(), NoMemory>
+    ensures { OnOk result (out.new ≡ out.old
+        ++ (codes "{ " ++ spec.listed (spec.whole names.now) (map term preds.now) ++ codes " ; " ++ spec.listed (spec.typed names.now) (map view.typed types.now) ++ codes " }")) }
+{
+    out.extend_from_slice(b"{ ")?;
+    add_exprs(names, preds, out)?;
+    out.extend_from_slice(b" ; ")?;
+    add_types(names, types, out)?;
+    out.extend_from_slice(b" }")
+}
+
 /// Adds a state, of which nothing is left out.
 #[tactic(auto, unfolding(crate::specs::Spelling::state_of))]
 pub fn add_state(names: &NameTable, j: &State, out: &mut List<u8>) -> Result<(), NoMemory>
@@ -41,23 +85,9 @@ pub fn add_state(names: &NameTable, j: &State, out: &mut List<u8>) -> Result<(),
 {
     match (j.preds.as_slice(), j.types.as_slice()) {
         ([], []) => out.extend_from_slice(b"{}"),
-        (preds @ [_, ..], []) => {
-            out.extend_from_slice(b"{ ")?;
-            add_exprs(names, preds, out)?;
-            out.extend_from_slice(b" }")
-        }
-        ([], types @ [_, ..]) => {
-            out.extend_from_slice(b"{ ; ")?;
-            add_types(names, types, out)?;
-            out.extend_from_slice(b" }")
-        }
-        (preds @ [_, ..], types @ [_, ..]) => {
-            out.extend_from_slice(b"{ ")?;
-            add_exprs(names, preds, out)?;
-            out.extend_from_slice(b" ; ")?;
-            add_types(names, types, out)?;
-            out.extend_from_slice(b" }")
-        }
+        (preds @ [_, ..], []) => add_lone_predicates(names, preds, out),
+        ([], types @ [_, ..]) => add_lone_types(names, types, out),
+        (preds @ [_, ..], types @ [_, ..]) => add_both(names, preds, types, out),
     }
 }
 
