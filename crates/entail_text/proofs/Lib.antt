@@ -1,3 +1,4 @@
 pub mod Examples
 pub mod FailingNodes
 pub mod Pieces
+pub mod TwoMore

@@ -1,6 +1,6 @@
 //! Hypotheses that a state drops.
 
-ghost use Rattle.std.specs.Prelude.{◌≡◌, ◌||◌, ◌++◌, map, IfOk, OnOk};
+ghost use Rattle.std.specs.Prelude.{◌≡◌, ◌||◌, ◌∷◌, ◌++◌, codes, decimal, map, IfOk, OnOk};
 ghost use Rattle.cov_expr.specs.Trees.{has_term, is_closed};
 ghost use Rattle.cov_expr.specs.View.{term};
 ghost use Rattle.entail_text.specs.Dropped as spec;
@@ -79,13 +79,25 @@ fn add_numbers(numbers: &[usize], text: &mut Blob) -> Result<(), NoMemory>
 {
     match numbers {
         [] => Ok(()),
-        [first, rest @ ..] => {
-            add_number(*first, text)?;
-            for number in rest {
-                text.extend_from_slice(b", ")?;
-                add_number(*number, text)?;
-            }
-            Ok(())
-        }
+        [first, rest @ ..] => add_listed(*first, rest, text),
     }
+}
+
+/// Adds a number and others behind it.
+fn add_listed(first: usize, rest: &[usize], text: &mut Blob) -> Result<(), NoMemory>
+    ensures { OnOk result (text.new ≡ text.old ++ spec.numbers_text (first ∷ rest.now)) }
+{
+    add_number(first, text)?;
+    for number in rest {
+        add_further(*number, text)?;
+    }
+    Ok(())
+}
+
+/// Adds a number behind another.
+fn add_further(number: usize, text: &mut Blob) -> Result<(), NoMemory>
+    ensures { OnOk result (text.new ≡ text.old ++ (codes ", " ++ decimal number)) }
+{
+    text.extend_from_slice(b", ")?;
+    add_number(number, text)
 }

@@ -1,8 +1,9 @@
 //! What is told of an entailment.
 
-ghost use Rattle.std.specs.Prelude.{◌≡◌, [], ◌++◌, OnOk, Some, codes, decimal, flat_map, get_or, map, option_map};
+ghost use Rattle.std.specs.Prelude.{◌≡◌, [], ◌∷◌, ◌++◌, OnOk, Some, codes, decimal, flat_map, get_or, map, option_map};
 ghost use Rattle.cov_expr.specs.View.{term};
 ghost use Rattle.cov_ast.specs.View as view;
+ghost use Rattle.cov_print.specs.Fronts.{front};
 ghost use Rattle.cov_print.specs.Spelling.{whole};
 ghost use Rattle.entail_cert.specs.Axioms.{numbered};
 ghost use Rattle.entail_cert.specs.Valid.{first_bad};
@@ -197,10 +198,17 @@ fn add_failure(
 ) -> Result<(), NoMemory>
     ensures { OnOk result (text.new ≡ text.old ++ spec.verdict names.now (seen root.entry) (Some path.now)) }
 {
-    text.extend_from_slice(b"given; fails at ")?;
-    add_path(path, text)?;
+    add_place(path, text)?;
     let node = node_at(alloc, root, path)?;
     add_any_node(names, &node, text)
+}
+
+/// Adds that a certificate fails at a node, by its path.
+fn add_place(path: &[u8], text: &mut Blob) -> Result<(), NoMemory>
+    ensures { OnOk result (text.new ≡ text.old ++ (codes "given; fails at " ++ spec.place_of path.now)) }
+{
+    text.extend_from_slice(b"given; fails at ")?;
+    add_path(path, text)
 }
 
 /// Adds a node that is there.
@@ -219,28 +227,61 @@ fn add_path(path: &[u8], text: &mut Blob) -> Result<(), NoMemory>
 {
     match path {
         [] => text.extend_from_slice(b"the root"),
-        [first, rest @ ..] => {
-            text.extend_from_slice(b"node ")?;
-            add_number(*first as usize, text)?;
-            for step in rest {
-                text.extend_from_slice(b".")?;
-                add_number(*step as usize, text)?;
-            }
-            Ok(())
-        }
+        [first, rest @ ..] => add_steps(*first, rest, text),
     }
+}
+
+/// Adds the path of a node that isn't the root: its first number, and the others.
+fn add_steps(first: u8, rest: &[u8], text: &mut Blob) -> Result<(), NoMemory>
+    ensures { OnOk result (text.new ≡ text.old ++ spec.place_of (first ∷ rest.now)) }
+{
+    add_first_step(first, text)?;
+    for step in rest {
+        add_next_step(*step, text)?;
+    }
+    Ok(())
+}
+
+/// Adds the first number of a path.
+fn add_first_step(step: u8, text: &mut Blob) -> Result<(), NoMemory>
+    ensures { OnOk result (text.new ≡ text.old ++ (codes "node " ++ decimal step)) }
+{
+    text.extend_from_slice(b"node ")?;
+    add_number(step as usize, text)
+}
+
+/// Adds a further number of a path.
+fn add_next_step(step: u8, text: &mut Blob) -> Result<(), NoMemory>
+    ensures { OnOk result (text.new ≡ text.old ++ (codes "." ++ decimal step)) }
+{
+    text.extend_from_slice(b".")?;
+    add_number(step as usize, text)
 }
 
 /// Adds the front of the certificate of a node, and what its own condition is asked of.
 fn add_node(names: &NameTable, node: &Node<'_>, text: &mut Blob) -> Result<(), NoMemory>
     ensures { OnOk result (text.new ≡ text.old ++ spec.node_text names.now (seen node.now)) }
 {
-    text.extend_from_slice(b": ")?;
-    add_front(names, node.cert, text)?;
-    text.extend_from_slice(b" (the goal there is ")?;
-    add_expr(names, false, node.goal.expr(), text)?;
+    add_rule(names, node.cert, text)?;
+    add_goal_there(names, node.goal.expr(), text)?;
     add_spoken_of(names, node, text)?;
     text.extend_from_slice(b")")
+}
+
+/// Adds the front of a certificate.
+fn add_rule(names: &NameTable, cert: &Cert, text: &mut Blob) -> Result<(), NoMemory>
+    ensures { OnOk result (text.new ≡ text.old ++ (codes ": " ++ front names.now (view.cert cert.now))) }
+{
+    text.extend_from_slice(b": ")?;
+    add_front(names, cert, text)
+}
+
+/// Adds the goal of a node.
+fn add_goal_there(names: &NameTable, goal: &Expr, text: &mut Blob) -> Result<(), NoMemory>
+    ensures { OnOk result (text.new ≡ text.old ++ (codes " (the goal there is " ++ whole names.now (term goal.now))) }
+{
+    text.extend_from_slice(b" (the goal there is ")?;
+    add_expr(names, false, goal, text)
 }
 
 /// Adds the hypotheses that the own condition of a node speaks of.
@@ -252,14 +293,25 @@ fn add_spoken_of(names: &NameTable, node: &Node<'_>, text: &mut Blob) -> Result<
         Cert::Unpack(i, _) => add_named(names, node, *i, text),
         Cert::Cases(i, _, _) => add_named(names, node, *i, text),
         Cert::Fwd(i, _, _) | Cert::Rev(i, _, _) => add_named(names, node, *i, text),
-        Cert::Absurd(i, j) => {
-            add_named(names, node, *i, text)?;
-            add_named(names, node, *j, text)
-        }
+        Cert::Absurd(i, j) => add_named_pair(names, node, *i, *j, text),
         Cert::Auto | Cert::Calc | Cert::Refl | Cert::Ring | Cert::Range => Ok(()),
         Cert::And(..) | Cert::Left(_) | Cert::Right(_) | Cert::Split(..) | Cert::Have(..) => Ok(()),
         Cert::Not(_) | Cert::Contra(_) | Cert::Axiom(..) => Ok(()),
     }
+}
+
+/// Adds two hypotheses that a certificate names by their numbers.
+fn add_named_pair(
+    names: &NameTable,
+    node: &Node<'_>,
+    first: u32,
+    second: u32,
+    text: &mut Blob,
+) -> Result<(), NoMemory>
+    ensures { OnOk result (text.new ≡ text.old ++ (spec.hypothesis_phrase names.now first (numbered (seen node.now).hyps first) ++ spec.hypothesis_phrase names.now second (numbered (seen node.now).hyps second))) }
+{
+    add_named(names, node, first, text)?;
+    add_named(names, node, second, text)
 }
 
 /// Adds a hypothesis that a certificate names by its number, or that there is none.
