@@ -22,7 +22,7 @@ use Rattle.risc_machine.specs.declared.parts.Parts.{Parts}
 use Rattle.risc_machine.specs.declared.parts.ThreadCode.{ThreadCode}
 use Rattle.schedule_replay.specs.CodeReplays.{CodeAgreesThroughout, DeclaresAsMany, IsFirstCodeStepApart}
 use Rattle.schedule_replay.specs.declared.replays.Found.{Found}
-use Rattle.program_law.specs.Accepted.{IsAccepted}
+use Rattle.typing_law.specs.Accepted.{IsAccepted}
 use Rattle.call_code.specs.Codes.{Compiles, cleared, code_of, code_start}
 use Rattle.call_code.specs.Inside.{IsCodeOf, IsOfText, Rejects}
 use Rattle.call_code.specs.declared.codes.Coded.{Coded}

@@ -1,2 +1,4 @@
 pub mod CodeLaws
 pub mod ObjectLaws
+pub mod CodeRunLaws
+pub mod BigLaws

@@ -15,7 +15,7 @@ use Rattle.flow_model.specs.Secure.{IsSecure}
 use Rattle.policy_class.specs.Resolved.{resolved}
 use Rattle.risc_machine.specs.declared.parts.Parts.{Parts}
 use Rattle.schedule_replay.specs.CodeReplays.{DeclaresAsMany}
-use Rattle.program_law.specs.Accepted.{IsAccepted}
+use Rattle.typing_law.specs.Accepted.{IsAccepted}
 use Rattle.call_code.specs.declared.codes.Coded.{Coded}
 
 -- The reply is that of a rejection, which there is.

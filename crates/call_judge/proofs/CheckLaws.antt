@@ -8,7 +8,7 @@ use Rattle.cov_ast.specs.declared.refusal.CheckFault.TheVariants.{Refused}
 use Rattle.cov_ast.specs.declared.refusal.Refusal.{Refusal}
 use Rattle.cov_ast.proofs.ObligationLaws.{append_refused, append_held, both_hold, none_refused}
 use Rattle.policy_class.specs.Resolved.{Named, declared_names, lock_id, name_obligations, resolved, resolved_thread, use_obligation, var_id, w1_from}
-use Rattle.program_law.specs.Accepted.{program_obligations, IsAccepted}
+use Rattle.typing_law.specs.Accepted.{program_obligations, IsAccepted}
 use Rattle.call_inputs.specs.Rejections.{UnlessRejected, by_rule}
 use Rattle.call_judge.specs.Check.{accepted_with, obligations, thread_name, name_in, rejection, rejection_by, totals, verdict, Judges, IsAcceptedText}
 use Rattle.call_judge.specs.Inside.{IsProgramRejected, IsRejected}

@@ -10,8 +10,8 @@ use Rattle.cov_ast.specs.Obligations.{Obligation, all_hold, first_false}
 use Rattle.cov_ast.specs.Syntax.{Parsed, Program, Thread}
 use Rattle.cov_ast.specs.declared.refusal.Refusal.{Refusal}
 use Rattle.policy_class.specs.Resolved.{name_obligations, resolved}
-use Rattle.program_law.specs.Accepted.{program_obligations}
-use Rattle.program_law.specs.Verdicts.{counts}
+use Rattle.typing_law.specs.Accepted.{program_obligations}
+use Rattle.typing_law.specs.Verdicts.{counts}
 
 -- the obligations of what a text spells: those of its names (W1, W2), and, where these hold, those of the program that it
 -- stands for (W3 to W9, V1 to V16)

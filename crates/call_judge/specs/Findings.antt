@@ -10,7 +10,7 @@ use Rattle.cov_ast.specs.Obligations.{first_false}
 use Rattle.cov_ast.specs.Syntax.{Parsed}
 use Rattle.cov_ast.specs.View as view
 use Rattle.policy_class.specs.Resolved.{name_obligations}
-use Rattle.program_law.specs.Accepted.{IsAccepted, program_obligations}
+use Rattle.typing_law.specs.Accepted.{IsAccepted, program_obligations}
 
 -- What was found of a text: the first obligation of its names that doesn't hold; or the program that it stands for, and the first
 -- obligation of that which doesn't hold; or the program, of which all hold, and how much it has.

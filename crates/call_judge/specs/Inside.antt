@@ -8,7 +8,7 @@ use Rattle.cov_ast.specs.Syntax.{Parsed, Program}
 use Rattle.cov_ast.specs.WellFormed.{IsWellFormed}
 use Rattle.cov_ast.specs.declared.refusal.Refusal.{Refusal}
 use Rattle.policy_class.specs.Resolved.{name_obligations, resolved}
-use Rattle.program_law.specs.Accepted.{program_obligations}
+use Rattle.typing_law.specs.Accepted.{program_obligations}
 
 -- The program that a text stands for, whose names are in order.
 pub record IsNamed (p : Parsed) (program : Program) : Type 0 where

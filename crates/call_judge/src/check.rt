@@ -10,7 +10,7 @@ ghost use Rattle.cov_ast.specs.Ready.{IsReady};
 ghost use Rattle.cov_ast.specs.View as view;
 ghost use Rattle.cov_ast.specs.WellFormed.{IsWellFormed};
 ghost use Rattle.flow_model.specs.Secure.{IsSecure};
-ghost use Rattle.program_law.specs.Accepted.{IsAccepted};
+ghost use Rattle.typing_law.specs.Accepted.{IsAccepted};
 
 use call_inputs::read_program;
 use call_reports::{Answer, Stop, Totals};

@@ -12,7 +12,7 @@ ghost use Rattle.cov_ast.specs.Syntax as syntax;
 ghost use Rattle.cov_ast.specs.View as view;
 ghost use Rattle.cov_ast.specs.WellFormed.{IsWellFormed};
 ghost use Rattle.cov_expr.specs.declared.limits.TheConstants.{MOST_BYTES};
-ghost use Rattle.program_law.specs.Accepted.{IsAccepted, program_obligations};
+ghost use Rattle.typing_law.specs.Accepted.{IsAccepted, program_obligations};
 
 use crate::check::{thread_name, totals_of};
 use call_inputs::parse_text;

@@ -7,7 +7,7 @@ use Rattle.cov_print.specs.ReadBack.{SpellsInSecond, in_second}
 use Rattle.cov_print.specs.Spelling.{spelling}
 use Rattle.flow_model.specs.Source.{after, stayed}
 use Rattle.policy_class.specs.Resolved.{resolved}
-use Rattle.program_law.specs.Verdicts.{counts}
+use Rattle.typing_law.specs.Verdicts.{counts}
 
 -- In version 2 a program does what it did, and is judged as it was: it has the same run from every memory under every
 -- schedule, and the same obligations, statements and entailments. Where a text spells it, its spelling in version 2 is read as

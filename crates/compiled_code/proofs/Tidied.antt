@@ -26,7 +26,7 @@ use Rattle.typing_law.specs.ThreadObligations.{flat, agree, same_held, reads, on
 use Rattle.typing_law.proofs.Soundness.Sound.{agreed}
 use Rattle.point_law.specs.After.{start, with_guard, meet}
 use Rattle.point_law.specs.Point.{Point}
-use Rattle.program_law.specs.Accepted.{IsAccepted}
+use Rattle.typing_law.specs.Accepted.{IsAccepted}
 use Rattle.compiled_code.proofs.LaidOut.{IsTidyExpr, IsTidy}
 
 -- At most one that passes a test ----------------------------------------------------------------------------------

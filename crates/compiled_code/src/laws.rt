@@ -10,11 +10,10 @@ ghost use Rattle.compiled_code.specs.Matches.{Matches};
 ghost use Rattle.compiled_code.specs.Records.{KeepsRecords};
 ghost use Rattle.compiled_code.specs.SecureCode.{IsSecureCode};
 ghost use Rattle.risc_machine.specs.Faults.{AreGood};
-ghost use Rattle.program_law.specs.Accepted.{IsAccepted};
+ghost use Rattle.typing_law.specs.Accepted.{IsAccepted};
 
 use mode_compat::{sets_are_holdings, writable_and_stable_are_disjoint};
-use program_law::accepted_is_secure;
-use typing_law::true_declarations_are_declared;
+use typing_law::{accepted_is_secure, true_declarations_are_declared};
 
 /// The code of an accepted program matches it: from every memory, whatever the registers have at the start, each run of the
 /// code is the run of the program under the lifted schedule; a thread ends in the code where it ends in the program, and

@@ -21,13 +21,13 @@ use Rattle.cov_text.specs.declared.fault.Limit.{Limit}
 use Rattle.cov_text.specs.declared.fault.Limit.TheVariants.{TooMany, TooDeep}
 use Rattle.cov_text.specs.declared.fault.Excess.{Excess}
 use Rattle.cov_text.specs.Depth.{deep}
-use Rattle.text_tokens.specs.declared.tokens.Tokens.{Tokens}
-use Rattle.placed_trees.specs.declared.decl.PlacedProgram.{PlacedProgram}
-use Rattle.placed_trees.specs.declared.cert.Whole.{Whole}
-use Rattle.placed_trees.specs.CertViews as certs
-use Rattle.placed_trees.specs.DeclViews as decls
+use Rattle.cov_parse.specs.declared.tokens.Tokens.{Tokens}
+use Rattle.cov_read.specs.declared.decl.PlacedProgram.{PlacedProgram}
+use Rattle.cov_read.specs.declared.cert.Whole.{Whole}
+use Rattle.cov_read.specs.CertViews as certs
+use Rattle.cov_read.specs.DeclViews as decls
 use Rattle.cov_text.specs.Text.{words_of, lexical, unexpected, fault_at, IsFirstFault, IsShallow, Answers}
-use Rattle.text_tokens.specs.ReadTokens.{AreRead}
+use Rattle.cov_parse.specs.ReadTokens.{AreRead}
 use Rattle.cov_parse.specs.Reads.{Reads}
 
 -- All tokens ---------------------------------------------------------------------------------------------------

@@ -1,1 +1,3 @@
 pub mod Reads
+pub mod ReadTokens
+pub mod Inside

@@ -5,13 +5,13 @@ use Rattle.cov_expr.specs.declared.expr.Expr.{Expr}
 use Rattle.cov_lex.specs.Lexing.{tokens_of}
 use Rattle.cov_text.specs.declared.fault.ParseFault.{ParseFault}
 use Rattle.cov_text.specs.declared.fault.ParseFault.TheVariants as faults
-use Rattle.text_tokens.specs.declared.tokens.Tokens.{Tokens}
+use Rattle.cov_parse.specs.declared.tokens.Tokens.{Tokens}
 use Rattle.cov_parse.specs.declared.text.ParsedExpr.{ParsedExpr}
 use Rattle.cov_ast.specs.declared.parsed.NameUse.{NameUse}
 use Rattle.cov_grammar.specs.Grammar.{program}
 use Rattle.cov_grammar.specs.Spells.{Is}
-use Rattle.placed_trees.specs.DeclViews as decls
-use Rattle.placed_trees.specs.declared.decl.PlacedProgram.{PlacedProgram}
+use Rattle.cov_read.specs.DeclViews as decls
+use Rattle.cov_read.specs.declared.decl.PlacedProgram.{PlacedProgram}
 use Rattle.cov_text.specs.Limits.{in_program}
 use Rattle.cov_text.specs.Text.{words_of, names_of, IsShallow, IsFirstFault, IsFault, Expression}
 use Rattle.cov_text.specs.Uses.{uses_of}

@@ -10,23 +10,24 @@ ghost use Rattle.cov_grammar.specs.ReaderAnswers as answers;
 ghost use Rattle.cov_expr.specs.Term.{Term};
 ghost use Rattle.cov_expr.specs.View.{term};
 ghost use Rattle.cov_expr.specs.Words.{HasVarsBelow};
-ghost use Rattle.placed_trees.specs.CertViews as certs;
-ghost use Rattle.placed_trees.specs.DeclViews as decls;
+ghost use Rattle.cov_read.specs.CertViews as certs;
+ghost use Rattle.cov_read.specs.DeclViews as decls;
 ghost use Rattle.cov_text.specs.Limits as limits;
 ghost use Rattle.cov_text.specs.Text.{IsShallow, IsText, Answers, Only, program_of, expression_of, words_of};
 ghost use Rattle.cov_parse.specs.Reads.{Finds, Reads, found_expr, parsed_expr};
 ghost use Rattle.cov_text.specs.Uses.{AreUsesOf};
 
+use crate::exprs::expr_of;
+use crate::limits::{in_expr, in_program};
+use crate::name_uses::uses;
+use crate::programs::parsed_of;
+use crate::tokens::{Tokens, read_tokens};
 use cov_ast::{NameTable, NameUse, Parsed};
 use cov_expr::{Expr, List};
 use cov_grammar::{Token, TokenFault, TokenReader};
-use cov_read::{read_program, read_whole};
+use cov_read::{PlacedProgram, Whole, read_program, read_whole};
 use cov_text::{ParseFault, deep};
-use given_trees::{expr_of, parsed_of};
-use placed_trees::{PlacedProgram, Whole};
 use std::alloc::Global;
-use text_tokens::{Tokens, read_tokens, uses};
-use tree_limits::{in_expr, in_program};
 
 /// What a text spells that is one expression.
 #[derive(Drop)]

@@ -1,2 +1,7 @@
 pub mod Templates
 pub mod Inside
+pub mod WrittenViews
+pub mod CertViews
+pub mod StateViews
+pub mod StmtViews
+pub mod DeclViews

@@ -10,12 +10,12 @@ ghost use Rattle.cov_grammar.specs.Reading.{reading, got};
 ghost use Rattle.cov_grammar.specs.ReaderAnswers.{Gives, Shorter};
 ghost use Rattle.cov_read.specs.Inside.Behind as behind;
 ghost use Rattle.cov_read.specs.Templates.{rule_for};
-ghost use Rattle.placed_trees.specs.CertViews as views;
+ghost use Rattle.cov_read.specs.CertViews as views;
 
+use crate::cert::{PlacedCert, Whole};
 use crate::expressions::read_expr;
 use cov_expr::{List, NoMemory};
 use cov_grammar::{Kind, Stop, TokenReader};
-use placed_trees::{PlacedCert, Whole};
 use std::alloc::Global;
 
 fn boxed_cert(alloc: Global, cert: PlacedCert) -> Result<Box<PlacedCert>, NoMemory>

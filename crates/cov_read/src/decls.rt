@@ -8,14 +8,13 @@ ghost use Rattle.cov_grammar.specs.Reading.{reading};
 ghost use Rattle.cov_grammar.specs.ReaderAnswers.{Gives, Shorter};
 ghost use Rattle.cov_read.specs.Inside.Behind as behind;
 ghost use Rattle.cov_read.specs.Inside.PartViews.{lock_parts, thread_parts};
-ghost use Rattle.placed_trees.specs.DeclViews as decls;
+ghost use Rattle.cov_read.specs.DeclViews as decls;
 
+use crate::decl::{ClassDecl, Pair, PlacedLock, PlacedProgram, PlacedThread, PlacedVariable};
+use crate::stmt::{Braces, PlacedStmt};
 use crate::stmts::{read_block, read_whole_behind};
 use cov_expr::List;
 use cov_grammar::{Kind, Stop, TokenReader};
-use placed_trees::{
-    Braces, ClassDecl, Pair, PlacedLock, PlacedProgram, PlacedStmt, PlacedThread, PlacedVariable,
-};
 use std::alloc::Global;
 
 #[tactic(auto, unfolding(cov_grammar::specs::Grammar::class))]

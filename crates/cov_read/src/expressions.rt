@@ -8,12 +8,12 @@ ghost use Rattle.cov_read.specs.declared.level.Level.TheVariants as levels;
 ghost use Rattle.cov_read.specs.Inside.Levels as spec;
 ghost use Rattle.cov_read.specs.Templates.{rule_for};
 ghost use Rattle.cov_read.specs.Inside.Levels.{atom_of, SignOf, SignAt, Finds, Ends, levelled};
-ghost use Rattle.placed_trees.specs.WrittenViews.{written};
+ghost use Rattle.cov_read.specs.WrittenViews.{written};
 
 use crate::level::{LEVELS, Level, repeats};
+use crate::written::{Written, binary, negations, number, variable};
 use cov_expr::{HOLE, Op};
 use cov_grammar::{Kind, Stop, TokenReader};
-use placed_trees::{Written, binary, negations, number, variable};
 use std::alloc::Global;
 
 /// An expression, or a template, in which holes may stand.

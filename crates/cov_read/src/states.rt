@@ -6,13 +6,14 @@ ghost use Rattle.cov_grammar.specs.Shapes.{seq, opt};
 ghost use Rattle.cov_grammar.specs.Grammar as grammar;
 ghost use Rattle.cov_grammar.specs.Reading.{reading};
 ghost use Rattle.cov_grammar.specs.ReaderAnswers.{Gives, Shorter};
-ghost use Rattle.placed_trees.specs.CertViews as views;
-ghost use Rattle.placed_trees.specs.StateViews as states;
+ghost use Rattle.cov_read.specs.CertViews as views;
+ghost use Rattle.cov_read.specs.StateViews as states;
 
+use crate::cert::Whole;
 use crate::certs::{read_cert, read_number, read_whole, read_wholes};
+use crate::state::{PlacedProof, PlacedState, Typed};
 use cov_expr::{List, NoMemory};
 use cov_grammar::{Kind, Stop, TokenReader};
-use placed_trees::{PlacedProof, PlacedState, Typed, Whole};
 use std::alloc::Global;
 
 /// Predicates, if an expression is next.

@@ -9,15 +9,17 @@ ghost use Rattle.cov_grammar.specs.Reading.{reading};
 ghost use Rattle.cov_grammar.specs.ReaderAnswers.{Gives, Shorter};
 ghost use Rattle.cov_read.specs.Inside.Behind as behind;
 ghost use Rattle.cov_read.specs.Inside.PartViews.{retyped, joined, otherwise};
-ghost use Rattle.placed_trees.specs.CertViews as views;
-ghost use Rattle.placed_trees.specs.StateViews as states;
-ghost use Rattle.placed_trees.specs.StmtViews as stmts;
+ghost use Rattle.cov_read.specs.CertViews as views;
+ghost use Rattle.cov_read.specs.StateViews as states;
+ghost use Rattle.cov_read.specs.StmtViews as stmts;
 
+use crate::cert::Whole;
 use crate::certs::read_whole;
+use crate::state::{PlacedProof, PlacedState, Typed};
 use crate::states::{read_proofs, read_state, read_state_behind};
+use crate::stmt::{Braces, PlacedStmt, PlacedStmtKind};
 use cov_expr::List;
 use cov_grammar::{Kind, Stop, TokenReader};
-use placed_trees::{Braces, PlacedProof, PlacedState, PlacedStmt, PlacedStmtKind, Typed, Whole};
 use std::alloc::Global;
 
 /// An expression behind a word, if the word is next.

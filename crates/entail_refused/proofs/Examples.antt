@@ -9,7 +9,7 @@ use Rattle.cov_ast.specs.declared.refusal.Detail.TheVariants.{Nothing, Number}
 use Rattle.cov_ast.specs.declared.refusal.Refusal.{Refusal}
 use Rattle.cov_ast.specs.declared.refusal.Rule.TheVariants.{V8, V9}
 use Rattle.typing_law.specs.ThreadEntailments.{PlacedEntailment, thread_entailments}
-use Rattle.program_law.specs.Accepted.{program_obligations}
+use Rattle.typing_law.specs.Accepted.{program_obligations}
 use Rattle.entail_refused.specs.Asked.{asked}
 use Rattle.entail_refused.specs.GivenCertificates.{cert_of}
 use Rattle.entail_refused.specs.GivenElsewhere.{line_without}

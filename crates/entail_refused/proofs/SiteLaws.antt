@@ -21,19 +21,19 @@ use Rattle.typing_law.specs.ThreadObligations.{thread_obligations}
 use Rattle.point_law.specs.After.{meet, start, with_guard}
 use Rattle.point_law.specs.Point.{Point}
 use Rattle.cov_ast.specs.LocksAlong.{no_locks}
-use Rattle.held_locks.specs.LocksHeld.{held_along}
-use Rattle.entail_questions.specs.OwnEntailments.{own_entailments}
-use Rattle.entail_questions.specs.Questions.{asked_among, asked_of_way, of_controlled, of_preds, of_shown, of_state, of_unlock, of_written, questions}
-use Rattle.entail_questions.specs.declared.kinds.Asked.{Asked}
-use Rattle.entail_questions.specs.declared.kinds.End.{End}
-use Rattle.entail_questions.specs.declared.kinds.End.TheVariants as ends
-use Rattle.entail_questions.specs.declared.kinds.Question.{Question}
-use Rattle.entail_questions.specs.declared.kinds.Question.TheVariants as q
-use Rattle.entail_questions.proofs.EachAsked.{Differ, In, There, apart, differ, differ_left, differ_right, in_left, in_right, no_way, no_way_from, no_way_within, stands_in, way_from}
-use Rattle.held_locks.proofs.HeldAtPoints.{after_held}
-use Rattle.hypothesis_origins.specs.Points.{after_steps, point_after_steps}
-use Rattle.type_origins.proofs.GoalLaws.{as_asked}
-use Rattle.type_origins.specs.GoalTypes.{asked_point, goal_of}
+use Rattle.statement_paths.specs.LocksHeld.{held_along}
+use Rattle.entail_origins.specs.OwnEntailments.{own_entailments}
+use Rattle.entail_origins.specs.Questions.{asked_among, asked_of_way, of_controlled, of_preds, of_shown, of_state, of_unlock, of_written, questions}
+use Rattle.entail_origins.specs.declared.kinds.Asked.{Asked}
+use Rattle.entail_origins.specs.declared.kinds.End.{End}
+use Rattle.entail_origins.specs.declared.kinds.End.TheVariants as ends
+use Rattle.entail_origins.specs.declared.kinds.Question.{Question}
+use Rattle.entail_origins.specs.declared.kinds.Question.TheVariants as q
+use Rattle.entail_origins.proofs.EachAsked.{Differ, In, There, apart, differ, differ_left, differ_right, in_left, in_right, no_way, no_way_from, no_way_within, stands_in, way_from}
+use Rattle.statement_paths.proofs.HeldAtPoints.{after_held}
+use Rattle.entail_origins.specs.Points.{after_steps, point_after_steps}
+use Rattle.entail_origins.proofs.GoalLaws.{as_asked}
+use Rattle.entail_origins.specs.GoalTypes.{asked_point, goal_of}
 use Rattle.entail_refused.proofs.SitePoints.{past_block, to_the_point}
 use Rattle.entail_refused.specs.Remarked.{asks_more}
 use Rattle.entail_refused.specs.SiteHypotheses.{AreOf, IsOfSite}

@@ -18,7 +18,7 @@ use Rattle.policy_class.specs.Policy.{control_obligation, control_obligations, p
 use Rattle.typing_law.specs.Counts.{is_entailment}
 use Rattle.typing_law.specs.ThreadEntailments.{entailment_among, thread_entailments}
 use Rattle.typing_law.specs.ThreadObligations.{thread_obligations}
-use Rattle.program_law.specs.Accepted.{program_obligations}
+use Rattle.typing_law.specs.Accepted.{program_obligations}
 use Rattle.entail_refused.specs.Asked.{asked, asked_in, lines_of_entailment}
 use Rattle.entail_refused.specs.RefusedEntailment.{IsToldOf, NamesUnproved}
 use Rattle.entail_refused.proofs.Asks.{Ask, ask, asks, asks-append}

@@ -8,7 +8,7 @@ use Rattle.cov_ast.specs.declared.refusal.Rule.{Rule}
 use Rattle.cov_ast.specs.declared.refusal.Rule.TheVariants.{V9}
 use Rattle.cov_ast.specs.declared.refusal.Detail.{Detail}
 use Rattle.cov_ast.specs.declared.refusal.Detail.TheVariants.{Number}
-use Rattle.entail_questions.specs.QuestionLines.{question_line}
+use Rattle.entail_origins.specs.QuestionLines.{question_line}
 use Rattle.entail_text.specs.EntailmentLines.{entailment_text}
 use Rattle.text_parts.specs.VariableNames.{variable_names}
 use Rattle.entail_text.specs.ZeroGoals.{zero_line}

@@ -3,11 +3,11 @@ use Rattle.std.specs.Prelude.{ℕ, ◌-◌, List, [], ◌++◌, length, take, co
 use Rattle.cov_expr.specs.Term.{Term}
 use Rattle.cov_ast.specs.Plain.{plain}
 use Rattle.cov_ast.specs.Syntax.{Program, Stm, branch, loop, note}
-use Rattle.entail_questions.specs.declared.kinds.Question.{Question}
-use Rattle.entail_questions.specs.declared.kinds.Question.TheVariants as q
+use Rattle.entail_origins.specs.declared.kinds.Question.{Question}
+use Rattle.entail_origins.specs.declared.kinds.Question.TheVariants as q
 use Rattle.entail_text.specs.Dropped.{dropped_line}
-use Rattle.left_out_predicates.specs.LeftOutLines.{left_out_lines}
-use Rattle.type_origins.specs.TypeLines.{type_lines}
+use Rattle.entail_origins.specs.LeftOutLines.{left_out_lines}
+use Rattle.entail_origins.specs.TypeLines.{type_lines}
 use Rattle.entail_refused.specs.Sites.{Site}
 
 -- What the state drops that is asked of -------------------------------------------------------------------------

@@ -2,9 +2,9 @@
 use Rattle.std.specs.Prelude.{ℕ, List, [], Bool, true, false, Option, Some, None}
 use Rattle.cov_expr.specs.Term.{Term}
 use Rattle.cov_ast.specs.Plain.{Plain}
-use Rattle.entail_questions.specs.declared.kinds.Question.{Question}
-use Rattle.entail_questions.specs.declared.kinds.Question.TheVariants as q
-use Rattle.hypothesis_origins.specs.Remarks.{remarks}
+use Rattle.entail_origins.specs.declared.kinds.Question.{Question}
+use Rattle.entail_origins.specs.declared.kinds.Question.TheVariants as q
+use Rattle.entail_origins.specs.Remarks.{remarks}
 use Rattle.entail_refused.specs.Sites.{Site}
 
 -- whether an entailment follows from one expression more than the predicates, which is its last hypothesis

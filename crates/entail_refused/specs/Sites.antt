@@ -2,12 +2,12 @@
 use Rattle.std.specs.Prelude.{ℕ, List, [], ◌++◌, map, Option, Some, None}
 use Rattle.cov_ast.specs.Syntax.{Stm, Program}
 use Rattle.cov_ast.specs.View as view
-use Rattle.entail_questions.specs.Questions.{asked}
-use Rattle.entail_questions.specs.declared.kinds.Asked.{Asked}
-use Rattle.entail_questions.specs.declared.kinds.End.{End}
-use Rattle.entail_questions.specs.declared.kinds.End.TheVariants as e
-use Rattle.entail_questions.specs.declared.kinds.Question.{Question}
-use Rattle.entail_questions.specs.declared.kinds.Question.TheVariants as q
+use Rattle.entail_origins.specs.Questions.{asked}
+use Rattle.entail_origins.specs.declared.kinds.Asked.{Asked}
+use Rattle.entail_origins.specs.declared.kinds.End.{End}
+use Rattle.entail_origins.specs.declared.kinds.End.TheVariants as e
+use Rattle.entail_origins.specs.declared.kinds.Question.{Question}
+use Rattle.entail_origins.specs.declared.kinds.Question.TheVariants as q
 use Rattle.mode_compat.specs.Compatible.{numbered}
 use Rattle.statement_paths.specs.Paths.{Step, Way, step, to_body_end, to_first_end, to_head, to_second_end, way_to}
 use Rattle.entail_refused.specs.declared.site.Site as declared

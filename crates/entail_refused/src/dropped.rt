@@ -7,7 +7,7 @@ ghost use Rattle.entail_refused.specs.Further as spec;
 
 use cov_ast::StmtKind;
 use cov_expr::{Blob, Expr, NoMemory};
-use entail_questions::Question;
+use entail_origins::Question;
 use entail_text::add_dropped;
 use std::alloc::Global;
 

@@ -15,7 +15,7 @@ use crate::remarked::remarks_on;
 use crate::site::{Site, site_of};
 use cov_ast::{CheckFault, Detail, Program, Refusal, Rule};
 use cov_expr::{Blob, NoMemory};
-use entail_questions::add_question;
+use entail_origins::add_question;
 use entail_text::{add_told, add_zero};
 use std::alloc::Global;
 use text_parts::variable_names;

@@ -11,9 +11,8 @@ use crate::dropped::add_dropped_at;
 use crate::site::Site;
 use cov_ast::Program;
 use cov_expr::{Blob, Expr, NoMemory};
-use left_out_predicates::add_left_out;
+use entail_origins::{add_left_out, add_type_lines};
 use std::alloc::Global;
-use type_origins::add_type_lines;
 
 /// Adds where the types come from that make up the goal of an entailment of a thread, which hypotheses the state drops that is asked of, and
 /// which predicates would be among them, had a state listed them. Nothing is added where it isn't known where the entailment is asked. `bytes` are the text of the program.

@@ -8,7 +8,7 @@ ghost use Rattle.cov_ast.specs.declared.refusal.Refusal as refusal;
 ghost use Rattle.cov_ast.specs.declared.refusal.Rule.TheVariants as rules;
 ghost use Rattle.mode_compat.specs.Compatible.{numbered};
 ghost use Rattle.typing_law.specs.ThreadObligations.{thread_obligations};
-ghost use Rattle.program_law.specs.Accepted.{program_obligations};
+ghost use Rattle.typing_law.specs.Accepted.{program_obligations};
 ghost use Rattle.entail_refused.specs.RefusedEntailment.{IsToldOf, NamesUnproved};
 
 /// A law: where the first obligation of a thread that doesn't hold is that an entailment has a valid certificate, the refusal names

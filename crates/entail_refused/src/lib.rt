@@ -1,8 +1,8 @@
 //! What a refusal for want of a valid certificate asked (V9), in plain text.
 //!
-//! - [`add_asked`]: of the entailment for which a program is refused what it asks (`entail_questions`), its goal, its hypotheses, each with
-//!   where it comes from (`hypothesis_origins`), and its certificate (`entail_text`); then where the types come from that make up the goal
-//!   (`type_origins`), which hypotheses the state drops that is asked of, and what would be a hypothesis, had a state listed it (`left_out_predicates`).
+//! - [`add_asked`]: of the entailment for which a program is refused what it asks, its goal, its hypotheses, each with
+//!   where it comes from (`entail_origins`), and its certificate (`entail_text`); then where the types come from that make up the goal
+//!   (there too), which hypotheses the state drops that is asked of, and what would be a hypothesis, had a state listed it.
 //! - [`refused_entailment_is_listed`] and [`refusal_is_told`], which are laws: there is always such an entailment, and it is the one
 //!   whose certificate isn't valid. `specs/RefusedEntailment.antt` says so.
 //! - [`hypotheses_are_of_the_site`], a law too: the hypotheses of an entailment are what is known at the point of its site, with one

@@ -10,7 +10,7 @@ ghost use Rattle.entail_refused.specs.Sites as sites;
 use crate::site::Site;
 use cov_ast::Program;
 use cov_expr::{Blob, Expr, List, NoMemory};
-use entail_questions::Question;
+use entail_origins::Question;
 use std::alloc::Global;
 
 /// A remark on each hypothesis of an entailment: where it comes from. `bytes` are the text of the program. There are no remarks where it
@@ -40,7 +40,7 @@ fn remarks_at(
 ) -> Result<List<Blob>, NoMemory>
     ensures { IfOk result (λ made. made ≡ spec.remarks_at (plain (view.program p.now)) bytes.now (sites.site site.now) (map term hypotheses.now)) }
 {
-    hypothesis_origins::remarks(
+    entail_origins::remarks(
         alloc,
         p,
         bytes,

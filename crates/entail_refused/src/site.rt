@@ -8,7 +8,7 @@ ghost use Rattle.entail_refused.specs.Sites as spec;
 
 use cov_ast::{Program, StmtKind};
 use cov_expr::{List, NoMemory};
-use entail_questions::{End, Question, question};
+use entail_origins::{End, Question, question};
 use statement_paths::{
     Step, Way, add_to_body_end, add_to_first_end, add_to_head, add_to_second_end, way_to,
 };

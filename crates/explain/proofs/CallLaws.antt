@@ -27,7 +27,7 @@ use Rattle.explain.specs.Explanations.{explanation_at, where_is, sentence_of, pl
 use Rattle.explain.specs.FileCalls.{Answers, EndsAt, Explains, FollowsFile, IsChecked, Outcome, Tells, TellsAll, first_status, out_of_memory, told, usage_line}
 use Rattle.explain.specs.Inside.{AddsTold, IsLeft}
 use Rattle.explain.specs.Tellings.{IsTold}
-use Rattle.text_lines.specs.Excerpts.{excerpt}
+use Rattle.text_parts.specs.Excerpts.{excerpt}
 
 -- One file -----------------------------------------------------------------------------------------------------
 

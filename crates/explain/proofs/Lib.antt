@@ -1,2 +1,15 @@
 pub mod CallLaws
 pub mod TellingLaws
+pub mod UseLaws
+pub mod Marking
+pub mod UnreachedLaws
+pub mod Missed
+pub mod CutOff
+pub mod ClosedLaws
+pub mod HiddenLaws
+pub mod VariableLaws
+mod WarningExamples
+pub mod FrontLaws
+pub mod FollowLaws
+pub mod LanguageLaws
+mod ExpectedExamples

@@ -14,8 +14,8 @@ use Rattle.cov_ast.specs.declared.decl.Program as declared
 use Rattle.cov_ast.specs.declared.refusal.Refusal.{Refusal}
 use Rattle.cov_ast.proofs.ObligationLaws.{none_refused}
 use Rattle.policy_class.specs.Resolved.{name_obligations, resolved}
-use Rattle.program_warnings.specs.HiddenText.{text_warnings}
-use Rattle.program_warnings.specs.Warnings.{warnings}
+use Rattle.explain.specs.HiddenText.{text_warnings}
+use Rattle.explain.specs.Warnings.{warnings}
 use Rattle.explain.specs.Tellings.{Adds, asked_lines, refusal_lines}
 use Rattle.explain.specs.WarningSentences.{warning_lines}
 

@@ -2,8 +2,8 @@
 use Rattle.std.specs.Prelude.{ℕ, List, [], ◌++◌, Option, Some, None, codes, decimal, drop}
 use Rattle.explain.specs.FaultSentences.{fault_sentence}
 use Rattle.explain.specs.RuleSentences.{sentence}
-use Rattle.text_lines.specs.Excerpts.{excerpt}
-use Rattle.text_lines.specs.Lines.{line, column}
+use Rattle.text_parts.specs.Excerpts.{excerpt}
+use Rattle.text_parts.specs.Lines.{line, column}
 use Rattle.call_reports.specs.Replies.{Reply, malformed, refused}
 use Rattle.call_reports.specs.Reports.{report_of}
 use Rattle.call_reports.specs.declared.answers.Fault.TheVariants as f

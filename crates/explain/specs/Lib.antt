@@ -6,3 +6,10 @@ pub mod WarningSentences
 pub mod Tellings
 pub mod FileCalls
 pub mod Inside
+pub mod StatementUses
+pub mod Unused
+pub mod NeverReached
+pub mod HiddenText
+pub mod Warnings
+pub mod ExpectedTokens
+pub mod ExpectedLines

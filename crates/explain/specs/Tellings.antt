@@ -6,10 +6,10 @@ use Rattle.cov_ast.specs.Obligations.{all_hold}
 use Rattle.cov_ast.specs.Syntax.{Parsed, Program}
 use Rattle.cov_ast.specs.declared.refusal.Refusal.{Refusal}
 use Rattle.entail_refused.specs.Asked.{asked}
-use Rattle.expected_tokens.specs.ExpectedLines.{expected_line}
+use Rattle.explain.specs.ExpectedLines.{expected_line}
 use Rattle.policy_class.specs.Resolved.{name_obligations, resolved}
-use Rattle.program_warnings.specs.HiddenText.{text_warnings}
-use Rattle.program_warnings.specs.Warnings.{warnings}
+use Rattle.explain.specs.HiddenText.{text_warnings}
+use Rattle.explain.specs.Warnings.{warnings}
 use Rattle.refusal_names.specs.RefusalNames.{refusal_names}
 use Rattle.explain.specs.Explanations.{explanation}
 use Rattle.explain.specs.WarningSentences.{warning_lines}

@@ -1,8 +1,8 @@
 -- What is warned of, in plain words: a line for each warning.
 use Rattle.std.specs.Prelude.{ℕ, List, [], ◌++◌, flat_map, codes, decimal}
-use Rattle.program_warnings.specs.declared.warning.Warning.{Warning}
-use Rattle.program_warnings.specs.declared.warning.Cause.{Cause}
-use Rattle.program_warnings.specs.declared.warning.Cause.TheVariants as c
+use Rattle.explain.specs.declared.warning.Warning.{Warning}
+use Rattle.explain.specs.declared.warning.Cause.{Cause}
+use Rattle.explain.specs.declared.warning.Cause.TheVariants as c
 use Rattle.explain.specs.Explanations.{where_is}
 
 -- what stands in front of the name, or of the number; all of it where there is none

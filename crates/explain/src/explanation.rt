@@ -10,8 +10,7 @@ use crate::rules::add_sentence;
 use call_reports::{Answer, Fault, report};
 use cov_expr::{Blob, List, NoMemory};
 use std::alloc::Global;
-use text_lines::{add_excerpt, halves, position};
-use text_parts::add_number;
+use text_parts::{add_excerpt, add_number, halves, position};
 
 /// Adds what is told of the bytes of a file that are answered so by `check`.
 pub fn add_explanation(

@@ -2,34 +2,54 @@
 //!
 //! [`explain`] takes the names of files, the files (a shelf) and the output (a sink), and ends with a status of `call_reports`. Of each
 //! file it tells what `check` reports; where that names a place, also the line and the column of the place, its line in
-//! the text with a caret, and what is wrong, in one sentence. Where no program goes on with a token, it tells what could stand there
-//! (`expected_tokens`), where a file is refused, what that is about (`refusal_names`, `entail_refused`) and what is warned of in its text, and
-//! where it is accepted, what is warned of in it (`program_warnings`), a line each. [`told_as_checked`] has no body: what is told of a file has the report that `check`
-//! gives of it.
+//! the text with a caret, and what is wrong, in one sentence. Where no program goes on with a token, it tells what could stand there,
+//! where a file is refused, what that is about (`refusal_names`, `entail_refused`) and what is warned of in its text, and
+//! where it is accepted, what is warned of in it, a line each.
+//!
+//! Laws have no body: [`told_as_checked`], what is told of a file has the report that `check` gives of it; [`answers_are_of_the_language`],
+//! what is looked at for what could stand at a place is what the grammar says, whatever reads by it; [`no_start_meets`], where the invariant of
+//! a lock is warned of, no two memories are fit to start from; [`no_run_comes_to`], where a statement is warned of as never
+//! reached, its thread comes to it in no run; [`few_are_shown`], how many warnings of a text alone are shown.
 //!
 //! | `src/` | `specs/` | what it has |
 //! |---|---|---|
 //! | `call`, `files` | `FileCalls` | the words of a command line; what is told of each file, and the status |
 //! | `explanation` | `Explanations` | what is told of the bytes of a file |
 //! | `more` | `Tellings` | what is told beside it: what could stand at the place of a token, and what a refusal is about |
-//! | `warnings`, `sentences` | `WarningSentences` | what is warned of in a file |
+//! | `next`, `fronts`, `line` | `ExpectedTokens`, `ExpectedLines` | what could stand at a place, in the order of the table of spellings, and the line that says so |
+//! | `warnings`, `sentences` | `WarningSentences` | what is warned of in a file, as text |
+//! | `warning`, `merged`, `uses`, `unused`, `unreached`, `hidden`, `places` | `Warnings`, `StatementUses`, `Unused`, `NeverReached`, `HiddenText` | what is warned of, each at its place: in declarations, statements and bytes |
 //! | `rules` | `RuleSentences` | the sentence of each rule |
 //! | `faults`, `words` | `FaultSentences`, `TokenSentences` | the sentence of each fault of a text; reserved words |
-//! | `laws` | | the report is that of `check` |
+//! | `laws`, `expected_laws`, `warning_laws` | | the laws |
 //!
 //! `specs/Inside` has the words of private contracts, which no promise cites.
 #![tactic(auto)]
 
 mod call;
+mod expected_laws;
 mod explanation;
 mod faults;
 mod files;
+mod fronts;
+mod hidden;
 mod laws;
+mod line;
+mod merged;
 mod more;
+mod next;
+mod places;
 mod rules;
 mod sentences;
+mod unreached;
+mod unused;
+mod uses;
+mod warning;
+mod warning_laws;
 mod warnings;
 mod words;
 
 pub use call::explain;
+pub use expected_laws::answers_are_of_the_language;
 pub use laws::told_as_checked;
+pub use warning_laws::{few_are_shown, no_run_comes_to, no_start_meets};

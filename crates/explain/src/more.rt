@@ -8,14 +8,14 @@ ghost use Rattle.cov_expr.specs.declared.limits.TheConstants.{MOST_BYTES};
 ghost use Rattle.explain.specs.Tellings as spec;
 ghost use Rattle.explain.specs.Tellings.{Adds, stand_lines};
 ghost use Rattle.explain.specs.WarningSentences.{warning_lines};
-ghost use Rattle.program_warnings.specs.HiddenText.{text_warnings};
+ghost use Rattle.explain.specs.HiddenText.{text_warnings};
 
+use crate::line::add_expected;
 use crate::warnings::{add_text_warnings, add_warnings};
 use call_judge::judge::Judged;
 use call_reports::{Fault, FaultKind};
 use cov_ast::{Program, Refusal};
 use cov_expr::{Blob, NoMemory};
-use expected_tokens::add_expected;
 use refusal_names::add_names;
 use std::alloc::Global;
 

@@ -3,8 +3,8 @@
 ghost use Rattle.std.specs.Prelude.{◌≡◌, ◌++◌, OnOk};
 ghost use Rattle.explain.specs.WarningSentences as spec;
 
+use crate::warning::Cause;
 use cov_expr::{Blob, NoMemory};
-use program_warnings::Cause;
 use text_parts::add_number;
 
 /// Adds the sentence of a warning.

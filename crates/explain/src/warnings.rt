@@ -5,14 +5,16 @@ ghost use Rattle.cov_ast.specs.Plain.{plain};
 ghost use Rattle.cov_ast.specs.View as view;
 ghost use Rattle.cov_expr.specs.declared.limits.TheConstants.{MOST_BYTES};
 ghost use Rattle.explain.specs.WarningSentences as spec;
-ghost use Rattle.program_warnings.specs.HiddenText as hidden;
-ghost use Rattle.program_warnings.specs.Warnings as found;
+ghost use Rattle.explain.specs.HiddenText as hidden;
+ghost use Rattle.explain.specs.Warnings as found;
 
 use crate::explanation::add_where;
+use crate::hidden::text_warnings;
+use crate::merged::warnings;
 use crate::sentences::add_cause_sentence;
+use crate::warning::Warning;
 use cov_ast::Program;
 use cov_expr::{Blob, NoMemory};
-use program_warnings::{Warning, text_warnings, warnings};
 use std::alloc::Global;
 
 /// Adds what is warned of in a program, and in the bytes of its text.

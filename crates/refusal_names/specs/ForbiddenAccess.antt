@@ -11,7 +11,7 @@ use Rattle.cov_ast.specs.declared.refusal.Detail.TheVariants.{One}
 use Rattle.cov_print.specs.Spelling.{Names, name}
 use Rattle.text_parts.specs.VariableNames.{variable_names}
 use Rattle.mode_compat.specs.Compatible.{numbered}
-use Rattle.text_lines.specs.Lines.{line}
+use Rattle.text_parts.specs.Lines.{line}
 use Rattle.refusal_names.specs.NameLines.{held_text}
 
 -- Which declaration forbids it ---------------------------------------------------------------------------------

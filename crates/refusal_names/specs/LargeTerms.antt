@@ -13,7 +13,7 @@ use Rattle.cov_ast.specs.Syntax.{Var, Stm, skip, assign, lock, unlock, branch, l
 use Rattle.cov_ast.specs.Tables.{has}
 use Rattle.cov_print.specs.Spelling.{Names, name}
 use Rattle.statement_paths.specs.Paths.{Step, passed, yes, no, head}
-use Rattle.text_lines.specs.Lines.{line}
+use Rattle.text_parts.specs.Lines.{line}
 
 abbrev pub is_large : Term → Bool
 is_large e = nat_lt MOST_NODES (nodes e)

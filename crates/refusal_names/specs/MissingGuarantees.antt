@@ -7,7 +7,7 @@ use Rattle.cov_ast.specs.NameTables.{find_name}
 use Rattle.cov_ast.specs.Syntax.{Modes, Thread, Program}
 use Rattle.cov_print.specs.Spelling.{Names, name}
 use Rattle.text_parts.specs.VariableNames.{variable_names}
-use Rattle.text_lines.specs.Lines.{line}
+use Rattle.text_parts.specs.Lines.{line}
 
 -- the first thread of a name
 abbrev pub thread_named : (wanted : List ℕ) → List Thread → Option Thread

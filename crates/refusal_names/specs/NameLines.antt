@@ -8,7 +8,7 @@ use Rattle.cov_ast.specs.Plain.{Plain}
 use Rattle.cov_ast.specs.Syntax.{Lock, Stm, skip, assign, lock, unlock, branch, loop, note, output}
 use Rattle.cov_ast.specs.Tables.{has}
 use Rattle.cov_print.specs.Spelling.{Names, name, whole, expr}
-use Rattle.held_locks.specs.LocksHeld.{held_at_end}
+use Rattle.statement_paths.specs.LocksHeld.{held_at_end}
 use Rattle.refusal_names.specs.OutsideVariables.{all_outside, first_with_outside, first_unstable_class}
 use Rattle.refusal_names.specs.SpokenParts.{stated_predicates, stated_types, untyped_value}
 

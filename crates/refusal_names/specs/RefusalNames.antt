@@ -9,8 +9,8 @@ use Rattle.cov_ast.specs.declared.refusal.Detail.TheVariants.{Three}
 use Rattle.point_law.specs.Point.{controls_of}
 use Rattle.text_parts.specs.VariableNames.{variable_names}
 use Rattle.cov_ast.specs.LocksAlong.{no_locks}
-use Rattle.held_locks.specs.LocksHeld.{held_along}
-use Rattle.held_locks.specs.VariableSets.{hidden, stable}
+use Rattle.statement_paths.specs.LocksHeld.{held_along}
+use Rattle.statement_paths.specs.VariableSets.{hidden, stable}
 use Rattle.mode_compat.specs.Compatible.{numbered}
 use Rattle.refusal_names.specs.ForbiddenAccess.{shown_access}
 use Rattle.refusal_names.specs.LargeTerms.{large_line}

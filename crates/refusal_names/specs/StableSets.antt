@@ -4,7 +4,7 @@ use Rattle.cov_ast.specs.Declarations.{is_control}
 use Rattle.cov_ast.specs.Plain.{Plain}
 use Rattle.cov_ast.specs.Syntax.{Stm, skip, assign, lock, unlock, branch, loop, note, output}
 use Rattle.cov_ast.specs.Tables.{table}
-use Rattle.held_locks.specs.LocksHeld.{held_at_end}
+use Rattle.statement_paths.specs.LocksHeld.{held_at_end}
 use Rattle.mode_state.specs.Sets.{is_stable}
 
 -- for a thread that holds these locks: the controls that no other thread writes

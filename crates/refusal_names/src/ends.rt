@@ -7,8 +7,8 @@ ghost use Rattle.refusal_names.specs.NameLines as spec;
 
 use cov_ast::{LockDecl, StmtKind};
 use cov_expr::{Blob, List, Name, NoMemory};
-use held_locks::pass_block;
 use mode_state::ModeState;
+use statement_paths::pass_block;
 use std::alloc::Global;
 
 /// Adds which locks are held at the two ends of a branch, or at the start and the end of the block of a loop, by those that are held in

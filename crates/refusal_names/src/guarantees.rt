@@ -5,14 +5,13 @@ ghost use Rattle.std.specs.Str.{bytes_eq};
 ghost use Rattle.cov_ast.specs.View as view;
 ghost use Rattle.cov_ast.specs.WellFormed.{IsWellFormed};
 ghost use Rattle.refusal_names.specs.MissingGuarantees as spec;
-ghost use Rattle.text_lines.specs.Lines.{line};
+ghost use Rattle.text_parts.specs.Lines.{line};
 
 use crate::reads::add_variable;
 use cov_ast::{Modes, NameTable, Program, ThreadDecl};
 use cov_expr::{Blob, Name, NoMemory, has_number};
 use std::alloc::Global;
-use text_lines::position;
-use text_parts::{add_number, variable_names};
+use text_parts::{add_number, position, variable_names};
 
 /// Adds where the thread stands that doesn't guarantee what another assumes of a variable, and which guarantee it lacks, by their names.
 pub fn add_guarantee(

@@ -12,8 +12,8 @@ use crate::guarantees::add_line_of;
 use crate::reads::add_variable;
 use cov_ast::{Class, NameTable, NumberSet, Retype, Stmt, StmtKind, VarDecl};
 use cov_expr::{Blob, Expr, MOST_NODES, NoMemory, mentions, nodes_at_most};
-use entail_rules::subst_nodes_left;
 use statement_paths::Step;
+use typing_rules::subst_nodes_left;
 
 /// What is made on the way: its place, and words for it.
 type Made = (u32, &'static [u8]);

@@ -6,16 +6,16 @@ ghost use Rattle.cov_ast.specs.Plain.{Plain, plain};
 ghost use Rattle.cov_ast.specs.View as view;
 ghost use Rattle.cov_ast.specs.WellFormed.{IsWellFormed};
 ghost use Rattle.point_law.specs.Point.{controls_of};
-ghost use Rattle.held_locks.specs.VariableSets as variables;
+ghost use Rattle.statement_paths.specs.VariableSets as variables;
 ghost use Rattle.mode_state.specs.Sets.{is_stable, modes_at};
 ghost use Rattle.refusal_names.specs.StableSets as spec;
 
 use cov_ast::{NumberSet, Program, StmtKind};
 use cov_expr::{List, NoMemory};
-use held_locks::{pass_block, stable_set};
 use mode_state::{Mask, ModeState};
+use statement_paths::{pass_block, stable_set};
 use std::alloc::Global;
-use variable_types::control_set;
+use typing_state::control_set;
 
 /// The variables that are asked for where types are judged.
 #[derive(Drop)]

@@ -13,9 +13,9 @@ use compiled_code::{compiled_is_code, compiled_is_good};
 use cov_ast::{LockDecl, Program, VarDecl};
 use cov_expr::{List, Name, NoMemory};
 use mode_state::ModeState;
-use program_law::Verdict;
 use risc_machine::{Code, Parts, ThreadCode};
 use std::alloc::Global;
+use typing_law::Verdict;
 
 /// The code of an accepted program: it matches the program step for step, is as secure, and loads no variable more often
 /// than it has to (`compiled_code` has the laws). It takes linear time, and memory for the lines.

@@ -1,2 +1,4 @@
 pub mod Paths
 pub mod Inside
+pub mod LocksHeld
+pub mod VariableSets

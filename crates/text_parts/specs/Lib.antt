@@ -1,2 +1,4 @@
 pub mod VariableNames
 pub mod Inside
+pub mod Lines
+pub mod Excerpts

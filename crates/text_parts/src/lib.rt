@@ -1,10 +1,21 @@
-//! Parts of a text: names of a program's variables and locks, and numbers.
+//! Parts of a text: names of a program's variables and locks, and numbers; and lines and columns of a text, and what it looks like
+//! around a place.
 //!
 //! - [`add_variable_name`], [`add_lock_name`], [`add_number`]: each adds its part to a text and leaves what stands there. A number that no
 //!   declaration has adds nothing.
 //! - [`variable_names`]: the names of all variables, with which expressions of the program are spelled (`specs/VariableNames.antt`).
+//! - [`position`]: the line and the column of a place, both counted from 1 ([`LineColumn`]).
+//! - [`add_excerpt`]: the line of a place and, below it, a caret under the place.
+//! - [`excerpts_have_their_lengths`] has no body: how much of a line is shown.
+//! - [`halves`]: the bytes before a place, and those from it on.
+//!
+//! A place is the offset of a byte, or the length of the text; what is past it is taken as that. `specs/Lines.antt` says what
+//! its line and its column are, and `specs/Excerpts.antt` what an excerpt shows.
 #![tactic(auto)]
 
+mod excerpt;
+mod laws;
+mod lines;
 mod names;
 
 ghost use Rattle.std.specs.Prelude.{◌≡◌, ◌++◌, OnOk, decimal};
@@ -14,7 +25,10 @@ ghost use Rattle.cov_ast.specs.View as view;
 
 use cov_ast::Program;
 use cov_expr::{Blob, NoMemory};
+pub use excerpt::add_excerpt;
 use itoa::Buffer;
+pub use laws::excerpts_have_their_lengths;
+pub use lines::{LineColumn, halves, position};
 pub use names::variable_names;
 
 /// Adds the name of a variable.

@@ -21,7 +21,7 @@ use Rattle.mode_compat.specs.Declared.{declaration_obligations}
 use Rattle.typing_law.specs.Counts as thread
 use Rattle.typing_law.specs.ThreadObligations.{thread_obligations}
 use Rattle.typing_law.specs.declared.count.Count.{Count}
-use Rattle.program_law.specs.Accepted.{program_obligations}
+use Rattle.typing_law.specs.Accepted.{program_obligations}
 use Rattle.thread_swap.specs.Judges.{Judging, IsSound, Passes, Said, risen, said_by, says_of, thread_part}
 use Rattle.thread_swap.specs.Swaps.{AreSaid, IsRight, IsStanding, IsVerdictOf, all_open, all_said, entailments_said, first_refusal, judged_by, judged_together, kept, settled, settled_by, statements_said, swapped, total_said, unless_refused, verdict_on}
 use Rattle.thread_swap.specs.declared.judged.Judged.{Judged}

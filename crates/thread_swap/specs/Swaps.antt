@@ -10,8 +10,8 @@ use Rattle.mode_compat.specs.Compatible.{threads_of}
 use Rattle.mode_compat.specs.Declared.{declaration_obligations}
 use Rattle.typing_law.specs.Counts.{counts}
 use Rattle.typing_law.specs.declared.count.Count.{Count}
-use Rattle.program_law.specs.Accepted.{IsAccepted, program_obligations}
-use Rattle.program_law.specs.Verdicts.{counts as program_counts}
+use Rattle.typing_law.specs.Accepted.{IsAccepted, program_obligations}
+use Rattle.typing_law.specs.Verdicts.{counts as program_counts}
 use Rattle.thread_swap.specs.Judges.{Judging, Said, says_of, risen}
 use Rattle.thread_swap.specs.declared.judged.Judged.{Judged}
 use Rattle.thread_swap.specs.declared.judged.Judged.TheVariants.{Accepted, Refused}

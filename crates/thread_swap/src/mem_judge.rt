@@ -8,9 +8,9 @@ use crate::judge::{Judge, Said};
 use crate::row::Row;
 use cov_ast::{Program, Refusal};
 use cov_expr::{List, NoMemory};
-use statement_rules::statements;
 use std::alloc::Global;
 use typing_law::Count;
+use typing_rules::statements;
 
 /// A judge in memory: a table of what it says, by the places of threads, and what it says of each other thread. It isn't exact.
 #[derive(Drop)]

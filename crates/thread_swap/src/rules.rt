@@ -9,9 +9,8 @@ ghost use Rattle.thread_swap.specs.RulesSay.{by_rules};
 use crate::judge::{Judge, Said};
 use cov_ast::{CheckFault, Program};
 use cov_expr::NoMemory;
-use statement_rules::statements;
 use std::alloc::Global;
-use typing_rules::check_thread;
+use typing_rules::{check_thread, statements};
 
 /// Judges threads by the rules.
 #[derive(Drop)]

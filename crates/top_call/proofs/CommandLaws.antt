@@ -5,7 +5,7 @@ use Rattle.std.proofs.Common.{◌≡◌, ◌⊎◌, ℕ, List, [], ◌∷◌, Bo
 use Rattle.std.proofs.lemmas.Slice.Eq.{bytes_eq-Decides}
 use Rattle.cov_expr.specs.declared.limits.TheConstants.{MOST_EXPRESSION_BYTES, MOST_ROUNDS, MOST_TRIALS}
 use Rattle.top_call.specs.Commands.{Command, command_of, plan_of, number_of, of_four, of_one, of_rounds, of_three, of_trials, of_two, check, compile, fmt, migrate, object, unobject, refute, run, run_code, run_until, pair, pair_code, big, nothing}
-use Rattle.call_big.proofs.BigLaws.{sum_sound}
+use Rattle.call_code.proofs.BigLaws.{sum_sound}
 use Rattle.call_code.proofs.CodeLaws.{compile_sound}
 use Rattle.call_code.proofs.ObjectLaws.{code_reading, object_sound, unobject_sound}
 use Rattle.call_inputs.proofs.ExpressionLaws.{expression_reading}
@@ -19,7 +19,7 @@ use Rattle.call_reports.specs.declared.answers.Status.TheVariants as s
 use Rattle.call_run.proofs.PairLaws.{pair_sound}
 use Rattle.call_run.proofs.RefuteLaws.{refute_sound}
 use Rattle.call_run.proofs.RunLaws.{run_sound, until_sound}
-use Rattle.call_run_code.proofs.CodeRunLaws.{pair_code_sound, run_code_sound}
+use Rattle.call_code.proofs.CodeRunLaws.{pair_code_sound, run_code_sound}
 use Rattle.cov_print.specs.ReadBack.{in_second}
 use Rattle.cov_print.specs.Spelling.{spelling}
 

@@ -2,7 +2,7 @@
 use Rattle.std.specs.Prelude.{ℕ, List, [], ◌∷◌, length, nat_le, Bool, ◌&&◌, Option, Some, None, codes, decimal, if◌then◌else◌}
 use Rattle.std.specs.Str.{bytes_eq}
 use Rattle.std.specs.Str.Parse.{digits_value}
-use Rattle.call_big.specs.BigReplies.{big_plan}
+use Rattle.call_code.specs.BigReplies.{big_plan}
 use Rattle.call_code.specs.Codes.{compile_plan}
 use Rattle.call_code.specs.Objects.{object_plan, unobject_plan}
 use Rattle.call_inputs.specs.Plans.{Plan, does}
@@ -12,7 +12,7 @@ use Rattle.call_judge.specs.Check.{check_plan}
 use Rattle.call_run.specs.Pairs.{pair_plan}
 use Rattle.call_run.specs.Refutes.{refute_plan}
 use Rattle.call_run.specs.Runs.{run_plan, run_until_plan}
-use Rattle.call_run_code.specs.CodeRuns.{pair_code_plan, run_code_plan}
+use Rattle.call_code.specs.CodeRuns.{pair_code_plan, run_code_plan}
 use Rattle.call_text.specs.Format.{fmt_plan, migrate_plan}
 use Rattle.cov_expr.specs.declared.limits.TheConstants.{MOST_EXPRESSION_BYTES, MOST_ROUNDS, MOST_TRIALS}
 

@@ -11,7 +11,7 @@
 //! | `commands` | `Commands`, `Outcome` | the plan of each command, in one row, and which command the words are; what is replied to the words |
 //! | `laws` | `Laws` | one reply; no two runs of an accepted program that differ |
 //!
-//! What a command does stands in the crates below: `call_judge`, `call_text`, `call_run`, `call_code`, `call_run_code` and `call_big`, over what it takes (`call_inputs`) and
+//! What a command does stands in the crates below: `call_judge`, `call_text`, `call_run` and `call_code`, over what it takes (`call_inputs`) and
 //! what it answers (`call_reports`). There a command is a module with its step, and its plan and replies; here it is a row in each of `Command`
 //! and `plan_of`, an arm in `commands`, and rows of `sound` and `may_differ` in `proofs`. Definitions by command have no row for the rest, so that none is
 //! forgotten; `HoldsSecure`, `PutsCode`, `PutsObject` and `RunsAccepted` speak of the words of one or two commands each, and what is promised of another is a

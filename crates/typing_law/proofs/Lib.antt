@@ -7,3 +7,8 @@ pub mod Reached
 mod CertificateLaws
 pub mod Bounds
 pub mod VerdictLaws
+mod Parts
+mod Placed
+mod Places
+mod Discipline
+mod ProgramExamples

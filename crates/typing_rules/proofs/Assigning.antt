@@ -12,10 +12,10 @@ use Rattle.typing_law.specs.Entailments.{Entailment, assign_entailments}
 use Rattle.typing_law.specs.ThreadEntailments.{PlacedEntailment, stm_entailments}
 use Rattle.typing_law.specs.ThreadObligations.{few_preds, flat, numbers, proved, small_terms, stm_parts}
 use Rattle.typing_law.specs.declared.entail.Entail.{Entail}
-use Rattle.entail_rules.specs.Keeping.{are_others}
+use Rattle.typing_rules.specs.Keeping.{are_others}
 use Rattle.typing_rules.specs.Inside.Passing.{Stops}
 use Rattle.typing_rules.specs.Inside.Walking.{Walks, last_parts, value_parts}
-use Rattle.entail_rules.specs.declared.purpose.Purpose.{Purpose}
+use Rattle.typing_rules.specs.declared.purpose.Purpose.{Purpose}
 use Rattle.typing_rules.specs.declared.walk.Walked.{Walked}
 use Rattle.typing_rules.proofs.Others.{others_value}
 use Rattle.typing_rules.proofs.Parts.{flat-append}

@@ -17,14 +17,14 @@ use Rattle.typing_law.specs.ThreadEntailments.{PlacedEntailment, placed_from, re
 use Rattle.typing_law.specs.ThreadObligations.{is_number, numbers, obligation, proved, small_terms}
 use Rattle.typing_law.specs.declared.entail.Entail.{Entail}
 use Rattle.typing_law.proofs.Counting.{count_append, count_numbers, count_proved, placed_length}
-use Rattle.entail_rules.specs.Keeping.{are_others, kept_for, looked_at, wanted_among}
+use Rattle.typing_rules.specs.Keeping.{are_others, kept_for, looked_at, wanted_among}
 use Rattle.typing_rules.specs.Inside.Passing.{Passes, Stops}
 use Rattle.typing_rules.specs.Inside.Walking.{Tries}
 use Rattle.typing_rules.specs.declared.entailments_tried.Tried.{Tried}
-use Rattle.entail_rules.specs.declared.purpose.Purpose.{Purpose}
-use Rattle.entail_rules.specs.declared.purpose.Purpose.TheVariants.{Judge, Collect}
-use Rattle.entail_rules.specs.declared.purpose.Wanted.{Wanted}
-use Rattle.entail_rules.proofs.UnprovedLaws.{proved_silent}
+use Rattle.typing_rules.specs.declared.purpose.Purpose.{Purpose}
+use Rattle.typing_rules.specs.declared.purpose.Purpose.TheVariants.{Judge, Collect}
+use Rattle.typing_rules.specs.declared.purpose.Wanted.{Wanted}
+use Rattle.typing_rules.proofs.UnprovedLaws.{proved_silent}
 use Rattle.typing_rules.proofs.Parts.{append_none, tried_decided}
 use Rattle.typing_rules.proofs.Reaching.{adds_all, adds_none, looked-append, no_entailments, others-append, others_counted, others_looked, others_stop}
 

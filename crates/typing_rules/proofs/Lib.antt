@@ -9,3 +9,11 @@ mod Reaching
 mod Others
 mod Concluding
 mod Assigning
+mod GuardLaws
+mod StateLaws
+pub mod StatementLaws
+pub mod KeptLaws
+pub mod LargeTypes
+mod ListedLaws
+mod SeenLaws
+pub mod UnprovedLaws

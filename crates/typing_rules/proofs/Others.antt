@@ -11,7 +11,7 @@ use Rattle.mode_state.specs.Sets.{is_stable}
 use Rattle.point_law.specs.Point.{Point, is_tracked}
 use Rattle.typing_law.specs.ThreadEntailments.{is_about_certificates}
 use Rattle.typing_law.specs.ThreadObligations.{flat, guard_obligations, narrow, of_var, one_unstable, over_stable, reads, state_obligations, type_obligations}
-use Rattle.entail_rules.specs.Keeping.{are_others}
+use Rattle.typing_rules.specs.Keeping.{are_others}
 use Rattle.typing_rules.specs.Inside.Walking.{value_parts}
 use Rattle.typing_rules.proofs.Reaching.{others-append}
 

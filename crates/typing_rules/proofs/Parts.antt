@@ -15,10 +15,10 @@ use Rattle.point_law.specs.Point.{Point, has_small_types}
 use Rattle.typing_law.specs.ThreadObligations.{obligation, flat, proved, small_terms}
 use Rattle.typing_law.specs.ThreadEntailments.{placed_from}
 use Rattle.typing_law.specs.declared.entail.Entail.{Entail}
-use Rattle.entail_rules.specs.Keeping.{kept_for}
+use Rattle.typing_rules.specs.Keeping.{kept_for}
 use Rattle.typing_rules.specs.Inside.Walking.{Tries}
-use Rattle.entail_rules.specs.Unproved.{unproved_for}
-use Rattle.entail_rules.specs.declared.purpose.Purpose.{Purpose}
+use Rattle.typing_rules.specs.Unproved.{unproved_for}
+use Rattle.typing_rules.specs.declared.purpose.Purpose.{Purpose}
 use Rattle.typing_rules.specs.declared.entailments_tried.Tried.{Tried}
 
 -- The verdict on parts --------------------------------------------------------------------------------------------

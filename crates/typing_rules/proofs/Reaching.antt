@@ -21,13 +21,13 @@ use Rattle.typing_law.specs.ThreadEntailments.{PlacedEntailment, is_about_certif
 use Rattle.typing_law.specs.declared.entail.Entail.{Entail}
 use Rattle.typing_law.proofs.Counting.{count_cons}
 use Rattle.typing_law.proofs.Reached.{all_reached, reached_no_more, reached_then}
-use Rattle.entail_rules.specs.Keeping.{are_others, are_passed, is_other, kept_for, looked_at, wanted_among}
+use Rattle.typing_rules.specs.Keeping.{are_others, are_passed, is_other, kept_for, looked_at, wanted_among}
 use Rattle.typing_rules.specs.Inside.Passing.{Adds, Passes, Stops}
 use Rattle.typing_rules.specs.Inside.Walking.{Walks}
-use Rattle.entail_rules.specs.declared.purpose.Purpose.{Purpose}
-use Rattle.entail_rules.specs.declared.purpose.Purpose.TheVariants.{Judge, Collect}
+use Rattle.typing_rules.specs.declared.purpose.Purpose.{Purpose}
+use Rattle.typing_rules.specs.declared.purpose.Purpose.TheVariants.{Judge, Collect}
 use Rattle.typing_rules.specs.declared.walk.Walked.{Walked}
-use Rattle.entail_rules.proofs.KeptLaws.{kept-append, kept_none}
+use Rattle.typing_rules.proofs.KeptLaws.{kept-append, kept_none}
 
 -- Obligations that are passed --------------------------------------------------------------------------------------
 

@@ -15,10 +15,10 @@ use Rattle.typing_law.specs.ThreadEntailments.{PlacedEntailment, block_entailmen
 use Rattle.typing_law.specs.ThreadObligations.{block_obligations, few_preds, flat, guard_obligations, proved, small_terms, state_obligations, stm_parts}
 use Rattle.typing_law.specs.declared.entail.Entail.{Entail}
 use Rattle.typing_law.proofs.Counting.{block_counted, count_append, placed_length}
-use Rattle.entail_rules.specs.Keeping.{are_others}
+use Rattle.typing_rules.specs.Keeping.{are_others}
 use Rattle.typing_rules.specs.Inside.Passing.{Passes, Stops}
 use Rattle.typing_rules.specs.Inside.Walking.{Walks, fork_parts, head_parts, join_parts, turn_parts}
-use Rattle.entail_rules.specs.declared.purpose.Purpose.{Purpose}
+use Rattle.typing_rules.specs.declared.purpose.Purpose.{Purpose}
 use Rattle.typing_rules.specs.declared.walk.Walked.{Walked}
 use Rattle.typing_rules.proofs.Concluding.{asked_counted}
 use Rattle.typing_rules.proofs.Others.{others_guard, others_state}

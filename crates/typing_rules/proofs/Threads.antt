@@ -24,10 +24,10 @@ use Rattle.typing_law.specs.ThreadObligations.{block_obligations, end_obligation
 use Rattle.typing_law.specs.declared.entail.Entail.{Entail}
 use Rattle.typing_law.proofs.Bounds.{few_entailments, few_places}
 use Rattle.typing_law.proofs.Counting.{block_counted, count_append}
-use Rattle.entail_rules.specs.Keeping.{wanted_among}
+use Rattle.typing_rules.specs.Keeping.{wanted_among}
 use Rattle.typing_rules.specs.Inside.Passing.{Adds, Passes, Stops}
-use Rattle.entail_rules.specs.declared.purpose.Purpose.TheVariants.{Collect}
-use Rattle.entail_rules.specs.declared.purpose.Wanted.{Wanted}
+use Rattle.typing_rules.specs.declared.purpose.Purpose.TheVariants.{Collect}
+use Rattle.typing_rules.specs.declared.purpose.Wanted.{Wanted}
 use Rattle.typing_rules.proofs.Reaching.{adds_none, adds_stop, adds_then, no_entailments}
 
 -- Obligations ----------------------------------------------------------------------------------------------------

@@ -7,20 +7,20 @@ use Rattle.cov_expr.specs.declared.list.NoMemory.{NoMemory}
 use Rattle.cov_ast.specs.Syntax.{Proof}
 use Rattle.point_law.specs.Point as spec
 use Rattle.typing_state.specs.declared.point.Point.{Point}
-use Rattle.entail_rules.specs.declared.asked.Entailment as rust
+use Rattle.typing_rules.specs.declared.asked.Entailment as rust
 use Rattle.typing_law.specs.declared.entail.Entail.{Entail}
 use Rattle.typing_rules.specs.declared.entailments_tried.Tried.{Tried}
 use Rattle.typing_rules.specs.declared.walk.Walk.{Walk}
 use Rattle.typing_law.specs.ThreadEntailments.{placed_from, view_entail}
-use Rattle.entail_rules.specs.Listed.{AreListed}
-use Rattle.entail_rules.specs.Keeping.{wanted_among}
-use Rattle.entail_rules.specs.declared.purpose.Wanted.{Wanted}
+use Rattle.typing_rules.specs.Listed.{AreListed}
+use Rattle.typing_rules.specs.Keeping.{wanted_among}
+use Rattle.typing_rules.specs.declared.purpose.Wanted.{Wanted}
 use Rattle.std.proofs.lemmas.Bool.{false≢true}
 use Rattle.typing_law.specs.Entailments.{Entailment, is_small_entailment}
 use Rattle.typing_rules.specs.Inside.Walking.{Tries, Wherever}
-use Rattle.entail_rules.specs.Unproved.{first_unproved}
-use Rattle.entail_rules.specs.declared.purpose.Purpose.{Purpose}
-use Rattle.entail_rules.specs.declared.purpose.Purpose.TheVariants.{Judge, Collect}
+use Rattle.typing_rules.specs.Unproved.{first_unproved}
+use Rattle.typing_rules.specs.declared.purpose.Purpose.{Purpose}
+use Rattle.typing_rules.specs.declared.purpose.Purpose.TheVariants.{Judge, Collect}
 
 -- what is tried of entailments is tried of the same in other words
 pub tried_same : (w : Walk) (at : ℕ) (kept : Point) (proofs : List Proof) (n : ℕ) (f g : spec.Point → List Entailment) (k0 k1 : List Entail) (result : Result Tried NoMemory)

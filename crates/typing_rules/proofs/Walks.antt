@@ -22,10 +22,10 @@ use Rattle.typing_law.specs.ThreadObligations.{block_obligations, flat, stm_part
 use Rattle.typing_law.proofs.Counting.{count_more, stm_counted}
 use Rattle.typing_rules.specs.Inside.Passing.{Stops}
 use Rattle.typing_rules.specs.Inside.Walking.{Walks}
-use Rattle.entail_rules.specs.declared.purpose.Purpose.{Purpose}
+use Rattle.typing_rules.specs.declared.purpose.Purpose.{Purpose}
 use Rattle.typing_rules.specs.declared.walk.Walked.{Walked}
 use Rattle.typing_rules.proofs.Reaching.{front_passes, stops_behind, walks_then}
-use Rattle.statement_rules.proofs.StatementLaws.{branch_is}
+use Rattle.typing_rules.proofs.StatementLaws.{branch_is}
 
 -- what is kept is kept of one point
 pub one_point : (p : Plain) (t : ℕ) (a b : Point) (kept : declared.Point) → Keeps p t a kept → Keeps p t b kept → a ≡ b

@@ -1,3 +1,5 @@
 -- Words of private contracts. What is promised doesn't rest on them.
 pub mod Passing
 pub mod Walking
+-- Words of private contracts. What is promised doesn't rest on them.
+pub mod Seen

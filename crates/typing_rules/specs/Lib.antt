@@ -1,1 +1,4 @@
 pub mod Inside
+pub mod Keeping
+pub mod Listed
+pub mod Unproved

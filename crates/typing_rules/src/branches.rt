@@ -13,17 +13,19 @@ ghost use Rattle.typing_state.specs.KeptPoints.{Keeps};
 ghost use Rattle.typing_law.specs.Entailments.{Entailment, guard_follows, state_follows};
 ghost use Rattle.typing_law.specs.ThreadEntailments.{placed_from};
 ghost use Rattle.typing_law.specs.ThreadObligations.{flat, same_locks, state_obligations};
-ghost use Rattle.entail_rules.specs.Keeping.{are_others};
+ghost use Rattle.typing_rules.specs.Keeping.{are_others};
 ghost use Rattle.typing_rules.specs.Inside.Walking.{Guards, GuardsAt, IsWalk, Stands, Tries, Walks, Wherever, first_parts, fork_parts, head_parts, join_parts, plain_of, starts_of, turn_parts};
 
+use crate::certificates::require_proved;
+use crate::entail::cut;
 use crate::entailments_tried::Tried;
+use crate::evaluation::check_guard;
+use crate::locks::check_same_locks;
+use crate::sizes::{check_both_few_preds, require_small};
+use crate::types::check_state;
 use crate::walk::{Guarded, Walk, Walked, both};
 use cov_ast::{CheckFault, Proof, State};
 use cov_expr::{Expr, List, NoMemory, boxed, copy};
-use entail_rules::{cut, require_proved};
-use statement_rules::{
-    check_both_few_preds, check_guard, check_same_locks, check_state, require_small,
-};
 use std::alloc::Global;
 use typing_law::Entail;
 use typing_state::Point;

@@ -13,21 +13,24 @@ ghost use Rattle.typing_law.specs.Blocks.{value_type};
 ghost use Rattle.typing_law.specs.Entailments as spec;
 ghost use Rattle.typing_law.specs.ThreadEntailments.{placed_from};
 ghost use Rattle.typing_law.specs.ThreadObligations.{flat, numbers};
-ghost use Rattle.entail_rules.specs.Listed.{AreListed, entailments_of};
-ghost use Rattle.entail_rules.specs.Keeping.{are_others, looked_at};
-ghost use Rattle.entail_rules.specs.declared.purpose.Purpose.{Purpose};
+ghost use Rattle.typing_rules.specs.Listed.{AreListed, entailments_of};
+ghost use Rattle.typing_rules.specs.Keeping.{are_others, looked_at};
+ghost use Rattle.typing_rules.specs.declared.purpose.Purpose.{Purpose};
 ghost use Rattle.point_law.specs.Point.{has_small_types};
 ghost use Rattle.typing_rules.specs.Inside.Walking.{IsWalk, Stands, Tries, Walks, Wherever, last_parts, plain_of};
 
+use crate::asked::{
+    Entailment, changed_entailments, guard_entailments, state_entailments, unlock_entailments,
+    written_entailments,
+};
+use crate::certificates::{are_small, check_numbers, first_unproved, require_proved};
+use crate::entail::{add_copies, cut};
+use crate::entailments_of_assignments::shown_entailment;
+use crate::purpose::Purpose;
+use crate::sizes::require_small;
 use crate::walk::{Walk, Walked, both};
 use cov_ast::{CheckFault, Proof, Retype, State};
 use cov_expr::{Expr, List, NoMemory};
-use entail_rules::{
-    Entailment, Purpose, add_copies, are_small, changed_entailments, check_numbers, cut,
-    first_unproved, guard_entailments, require_proved, shown_entailment, state_entailments,
-    unlock_entailments, written_entailments,
-};
-use statement_rules::require_small;
 use std::slice::from_ref;
 use typing_law::{Entail, Site};
 use typing_state::Point;

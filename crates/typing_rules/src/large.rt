@@ -16,14 +16,16 @@ ghost use Rattle.typing_law.specs.Entailments.{assign_entailments};
 ghost use Rattle.typing_law.specs.ThreadObligations.{few_preds, flat, small_terms};
 ghost use Rattle.typing_rules.specs.Inside.Walking.{IsWalk, Stands, Wherever, plain_of, type_parts, value_parts};
 
+use crate::entailment_parts::read_held;
+use crate::evaluation::check_evaluation;
+use crate::sizes::check_few_preds;
+use crate::subst_nodes::MOST_PARTS;
+use crate::types::check_retypes;
 use crate::walk::{Walk, both};
+use crate::writes::{check_access, check_stable_if};
 use cov_ast::{CheckFault, Detail, Retype, Rule};
 use cov_expr::{Expr, List, NoMemory, copy, vars};
 use entail_cert::Held;
-use entail_rules::{MOST_PARTS, read_held};
-use statement_rules::{
-    check_access, check_evaluation, check_few_preds, check_retypes, check_stable_if,
-};
 use typing_law::{refused_at, require_at};
 use typing_state::Point;
 

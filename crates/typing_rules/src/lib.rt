@@ -1,48 +1,68 @@
 //! The check of a thread: whether what has to hold of each of its statements does, and what has to follow at them.
 //!
 //! What has to hold, and that a thread of which all of it holds is secure, stands in `typing_law`: obligations (V1 to V16),
-//! entailments and laws. Here is the walk over the statements. `specs/Inside` has words of private contracts.
+//! entailments and laws. Here each is tried, and here is the walk over the statements. `specs/` has how the code keeps what has to
+//! follow (`Listed`), which of it has no certificate (`Unproved`), and what a walk looks at and keeps (`Keeping`); `specs/Inside` has words
+//! of private contracts.
 //!
 //! - [`check_thread`]: whether every obligation of a thread holds, else the first that doesn't; and then the thread is secure.
 //! - [`entailments`]: what has to follow at the statements of a thread, whatever certificates it has. [`entailment_at`]: one of
 //!   them alone, by its place and number.
-//! - [`subst_nodes_left`], of `entail_rules`: how many nodes an expression would have with a part in the place of a variable, counted
-//!   without making it.
+//! - [`subst_nodes_left`]: how many nodes an expression would have with a part in the place of a variable, counted
+//!   without making it. [`statements`]: how many statements a block has.
 //!
 //! `Walk` of `walk.rt` goes over the statements: those without blocks stand in `statements.rt`, branches and loops in
-//! `branches.rt`. There is one walk for two purposes (`Purpose` of `entail_rules`). To judge, it tries each obligation and keeps
+//! `branches.rt`. There is one walk for two purposes (`Purpose`). To judge, it tries each obligation and keeps
 //! nothing. To collect what has to follow, it looks at no certificate, and keeps copies of what is wanted of the entailments of
 //! each statement that holds but for its certificates. Where each rule is tried:
 //!
 //! | rule | function | file |
 //! | --- | --- | --- |
-//! | V1 | `check_reads` | `evaluation.rt` of `statement_rules` |
-//! | V2 | `check_write` | `writes.rt` of `statement_rules` |
-//! | V3 | `check_one_unstable` | `evaluation.rt` of `statement_rules` |
-//! | V4 | `check_over_controls` | `types.rt` of `statement_rules` |
-//! | V5 | `check_stable_if` | `writes.rt` of `statement_rules` |
+//! | V1 | `check_reads` | `evaluation.rt` |
+//! | V2 | `check_write` | `writes.rt` |
+//! | V3 | `check_one_unstable` | `evaluation.rt` |
+//! | V4 | `check_over_controls` | `types.rt` |
+//! | V5 | `check_stable_if` | `writes.rt` |
 //! | V6 | `Walk::lock` | `statements.rt` |
 //! | V7 | `Walk::unlock` | `statements.rt` |
-//! | V8 | `check_same_locks` | `locks.rt` of `statement_rules` |
-//! | V9 | `first_unproved`, `require_proved` | `certificates.rt` of `entail_rules` |
-//! | V10 | `check_narrow` | `evaluation.rt` of `statement_rules` |
-//! | V11 | `check_end` | `locks.rt` of `statement_rules` |
-//! | V12 | `check_preds` | `types.rt` of `statement_rules` |
-//! | V13 | `check_numbers` | `certificates.rt` of `entail_rules` |
-//! | V14 | `check_retypes`, `check_types` | `types.rt` of `statement_rules` |
-//! | V15 | `check_few_preds` | `sizes.rt` of `statement_rules` |
-//! | V16 | `require_small` | `sizes.rt` of `statement_rules` |
+//! | V8 | `check_same_locks` | `locks.rt` |
+//! | V9 | `first_unproved`, `require_proved` | `certificates.rt` |
+//! | V10 | `check_narrow` | `evaluation.rt` |
+//! | V11 | `check_end` | `locks.rt` |
+//! | V12 | `check_preds` | `types.rt` |
+//! | V13 | `check_numbers` | `certificates.rt` |
+//! | V14 | `check_retypes`, `check_types` | `types.rt` |
+//! | V15 | `check_few_preds` | `sizes.rt` |
+//! | V16 | `require_small` | `sizes.rt` |
 //!
-//! What a statement asks to follow is collected by `entail_rules` and tried by `entailments_tried.rt`. `large.rt` has assignments
+//! What a statement asks to follow is collected by `asked.rt` (its parts by
+//! `entailments_of_states.rt` and `entailments_of_assignments.rt`) and tried by `entailments_tried.rt`; `known.rt` sees at once which of it needs no
+//! walk over the predicates, and `entail.rt` keeps copies of it. `large.rt` has assignments
 //! whose type is too large to be built.
 #![tactic(auto)]
 
+mod asked;
 mod branches;
+mod certificates;
+mod count;
+mod entail;
+mod entailment_parts;
+mod entailments_of_assignments;
+mod entailments_of_states;
 mod entailments_tried;
+mod evaluation;
+mod known;
 mod large;
+mod locks;
+mod purpose;
+mod sizes;
 mod statements;
+mod subst_nodes;
 mod thread;
+mod types;
 mod walk;
+mod writes;
 
-pub use entail_rules::subst_nodes_left;
+pub use count::statements;
+pub use subst_nodes::subst_nodes_left;
 pub use thread::{check_thread, entailment_at, entailments};

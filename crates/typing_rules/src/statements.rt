@@ -13,10 +13,12 @@ ghost use Rattle.typing_law.specs.ThreadObligations.{flat};
 ghost use Rattle.typing_law.specs.declared.entail.Entail.{Entail};
 ghost use Rattle.typing_rules.specs.Inside.Walking.{IsWalk, Stands, WalksStm, Wherever, plain_of, value_parts};
 
+use crate::evaluation::check_guard;
+use crate::sizes::{check_few_preds, require_small};
+use crate::types::check_state;
 use crate::walk::{Walk, Walked, both, finish};
 use cov_ast::{CheckFault, Detail, Program, Proof, Retype, Rule, State};
 use cov_expr::{Expr, List, Name};
-use statement_rules::{check_few_preds, check_guard, check_state, require_small};
 use typing_law::{Entail, require_at};
 use typing_state::Point;
 

@@ -10,13 +10,14 @@ ghost use Rattle.mode_compat.specs.Declared.{declaration_obligations};
 ghost use Rattle.typing_law.specs.Counts.{DecidesWith, counts};
 ghost use Rattle.typing_law.specs.ThreadEntailments.{entailment_among, thread_entailments, view_entail};
 ghost use Rattle.typing_law.specs.ThreadObligations.{thread_obligations};
-ghost use Rattle.entail_rules.specs.Keeping.{wanted_among};
+ghost use Rattle.typing_rules.specs.Keeping.{wanted_among};
 
+use crate::count::statements;
+use crate::locks::check_end;
+use crate::purpose::{Purpose, Wanted};
 use crate::walk::Walk;
 use cov_ast::{CheckFault, Program};
 use cov_expr::{List, NoMemory};
-use entail_rules::{Purpose, Wanted};
-use statement_rules::{check_end, statements};
 use std::alloc::Global;
 use typing_law::{Count, Entail, Site, true_obligations_are_secure};
 use typing_state::Point;

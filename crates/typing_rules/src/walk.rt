@@ -10,13 +10,13 @@ ghost use Rattle.cov_ast.specs.WellFormed.{IsBlockInRange, IsStmInRange, block_s
 ghost use Rattle.typing_state.specs.KeptPoints.{Keeps};
 ghost use Rattle.point_law.specs.Point as typing;
 ghost use Rattle.typing_law.specs.declared.entail.Entail.{Entail};
-ghost use Rattle.entail_rules.specs.Keeping.{looked_at};
+ghost use Rattle.typing_rules.specs.Keeping.{looked_at};
 ghost use Rattle.typing_rules.specs.Inside.Walking.{IsWalk, Stands, Walks, WalksBlock, WalksStm};
-ghost use Rattle.entail_rules.specs.declared.purpose.Purpose.{Purpose};
+ghost use Rattle.typing_rules.specs.declared.purpose.Purpose.{Purpose};
 
+use crate::purpose::Purpose;
 use cov_ast::{CheckFault, Program, Proof, State, Stmt, StmtKind};
 use cov_expr::{Expr, List};
-use entail_rules::Purpose;
 use std::alloc::Global;
 use typing_law::{Entail, Site};
 use typing_state::Point;

@@ -4,7 +4,7 @@ use Rattle.cov_expr.specs.Term.{Term}
 use Rattle.cov_expr.specs.Trees.{mentions}
 use Rattle.cov_ast.specs.Plain.{Plain}
 use Rattle.point_law.specs.After.{forgotten_type}
-use Rattle.variable_types.specs.Groups.{is_free}
+use Rattle.typing_state.specs.Groups.{is_free}
 use Rattle.typing_state.specs.Inside.Tells.{passes}
 use Rattle.point_law.specs.Point.{default_type}
 

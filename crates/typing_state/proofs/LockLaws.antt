@@ -20,7 +20,7 @@ use Rattle.point_law.specs.Point.{IsPoint}
 use Rattle.typing_state.specs.Inside.Tells.{IsTrackedBeside}
 use Rattle.point_law.specs.Terms.{each_variable, is_closed_type}
 use Rattle.point_law.proofs.PointLaws.{updated_at, length-updated, some_mapped}
-use Rattle.variable_types.proofs.VariableLaws.{lists_is}
+use Rattle.typing_state.proofs.VariableLaws.{lists_is}
 
 pub lock_of : (locks : List LockDecl) (l : ℕ) (lock : LockDecl) → l < length locks → lock ≡ get_or locks l lock → view.lock lock ≡ get_or (map view.lock locks) l no_lock
 lock_of locks l lock inside is = ap view.lock is ∙ sym (get_or-map view.lock locks l lock no_lock inside)

@@ -4,7 +4,7 @@ use Rattle.std.specs.Prelude.{IfSome}
 use Rattle.std.proofs.lemmas.Bool.{ltb-true, ltb-false}
 use Rattle.cov_expr.specs.Term.{Term}
 use Rattle.point_law.specs.After.{updated}
-use Rattle.variable_types.specs.Next.{AreDone}
+use Rattle.typing_state.specs.Next.{AreDone}
 use Rattle.typing_state.specs.Inside.Least.{earlier, if_below}
 use Rattle.point_law.proofs.Steps.{upto, upto_pass, upto_end, upto_from}
 

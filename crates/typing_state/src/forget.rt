@@ -9,22 +9,24 @@ ghost use Rattle.cov_ast.specs.Tables.{has};
 ghost use Rattle.cov_ast.specs.View as view;
 ghost use Rattle.cov_ast.specs.WellFormed.{IsWellFormed};
 ghost use Rattle.point_law.specs.After as after;
-ghost use Rattle.variable_types.specs.Groups.{is_free};
+ghost use Rattle.typing_state.specs.Groups.{is_free};
 ghost use Rattle.typing_state.specs.Inside.Tells.{AtEach, IsTrackedBeside, passes};
 ghost use Rattle.point_law.specs.AtModes.{AtModes};
 ghost use Rattle.point_law.specs.Point as point;
 ghost use Rattle.point_law.specs.Terms.{is_closed_type};
 ghost use Rattle.typing_state.specs.Inside.Least as least;
-ghost use Rattle.variable_types.specs.Next.{AreDone};
+ghost use Rattle.typing_state.specs.Next.{AreDone};
 
+use crate::classes::var_count;
+use crate::retain::is_kept;
 use crate::start::is_tracked;
+use crate::types::{Type, Types, assign_type, put_retypes};
+use crate::variables::Variables;
 use cov_ast::{Program, Retype};
 use cov_expr::{Expr, NoMemory};
-use expression_lists::is_kept;
 use mode_state::ModeState;
 use std::alloc::Global;
 use std::rc::Rc;
-use variable_types::{Type, Types, Variables, assign_type, put_retypes, var_count};
 
 /// What is known of a variable without more.
 pub fn default_type(

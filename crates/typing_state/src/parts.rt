@@ -12,14 +12,16 @@ ghost use Rattle.typing_state.specs.Inside.Tells.{OfParts};
 
 use crate::forget::{assign_types, reset_types, unlock_types};
 use crate::locks::lock_types;
+use crate::predicates::Predicates;
+use crate::preds::{add_any, add_value, is_over_stable};
 use crate::start::start_types;
+use crate::types::{Types, put_types};
+use crate::variables::Variables;
 use cov_ast::{Program, Retype, State};
 use cov_expr::{Expr, List, NoMemory, copy};
-use expression_lists::{Predicates, add_any, add_value, is_over_stable};
 use mode_state::ModeState;
 use std::alloc::Global;
 use std::rc::Rc;
-use variable_types::{Types, Variables, put_types};
 
 /// What a point keeps. It is large, and a point has it behind a box: so it is changed where it stands, and moved as one address.
 #[derive(Drop)]

@@ -11,17 +11,16 @@ ghost use Rattle.mode_compat.specs.Compatible.{threads_of};
 ghost use Rattle.mode_compat.specs.Declared.{declaration_obligations};
 ghost use Rattle.typing_law.specs.Counts.{DecidesWith};
 ghost use Rattle.typing_law.specs.ThreadObligations.{thread_obligations};
-ghost use Rattle.program_law.specs.Accepted.{IsAccepted, program_obligations};
-ghost use Rattle.program_law.specs.Disciplined.{IsDisciplined};
-ghost use Rattle.program_law.specs.Verdicts.{counts};
+ghost use Rattle.typing_law.specs.Accepted.{IsAccepted, program_obligations};
+ghost use Rattle.typing_law.specs.Disciplined.{IsDisciplined};
+ghost use Rattle.typing_law.specs.Verdicts.{counts};
 
 use cov_ast::{CheckFault, Program};
 use lock_spec::check_locks;
 use mode_compat::check_modes;
 use policy_class::check_policy;
-use program_law::{Verdict, accepted_is_disciplined, accepted_is_secure};
 use std::alloc::Global;
-use typing_law::Count;
+use typing_law::{Count, Verdict, accepted_is_disciplined, accepted_is_secure};
 use typing_rules::check_thread;
 
 /// Checks a program whose names are in order. `Ok` comes exactly where every obligation holds (W3 to W9, V1 to V16), and then

@@ -2,17 +2,17 @@
 use Rattle.std.specs.Prelude.{ℕ, List, map, Box, Option, option_map}
 use Rattle.cov_grammar.specs.PlacedTrees.{Placed, Named, Proofs, Retypes, State, Block}
 use Rattle.cov_expr.specs.Term.{Term}
-use Rattle.placed_trees.specs.declared.decl.Pair.{Pair}
-use Rattle.placed_trees.specs.declared.decl.PlacedLock.{PlacedLock}
-use Rattle.placed_trees.specs.declared.state.Typed.{Typed}
-use Rattle.placed_trees.specs.declared.state.PlacedProof.{PlacedProof}
-use Rattle.placed_trees.specs.declared.state.PlacedState.{PlacedState}
-use Rattle.placed_trees.specs.declared.stmt.Braces.{Braces}
-use Rattle.placed_trees.specs.declared.stmt.PlacedStmt.{PlacedStmt}
-use Rattle.placed_trees.specs.CertViews.{whole}
-use Rattle.placed_trees.specs.DeclViews.{number, pair}
-use Rattle.placed_trees.specs.StateViews.{typed, state, proof}
-use Rattle.placed_trees.specs.StmtViews.{block}
+use Rattle.cov_read.specs.declared.decl.Pair.{Pair}
+use Rattle.cov_read.specs.declared.decl.PlacedLock.{PlacedLock}
+use Rattle.cov_read.specs.declared.state.Typed.{Typed}
+use Rattle.cov_read.specs.declared.state.PlacedProof.{PlacedProof}
+use Rattle.cov_read.specs.declared.state.PlacedState.{PlacedState}
+use Rattle.cov_read.specs.declared.stmt.Braces.{Braces}
+use Rattle.cov_read.specs.declared.stmt.PlacedStmt.{PlacedStmt}
+use Rattle.cov_read.specs.CertViews.{whole}
+use Rattle.cov_read.specs.DeclViews.{number, pair}
+use Rattle.cov_read.specs.StateViews.{typed, state, proof}
+use Rattle.cov_read.specs.StmtViews.{block}
 
 abbrev pub retyped : List Typed × List PlacedProof → Retypes × Proofs
 retyped x = (map typed x.0, map proof x.1)

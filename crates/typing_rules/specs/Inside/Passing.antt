@@ -5,8 +5,8 @@ use Rattle.cov_ast.specs.declared.refusal.CheckFault.{CheckFault}
 use Rattle.cov_ast.specs.declared.refusal.CheckFault.TheVariants.{Refused, NoMemory}
 use Rattle.typing_law.specs.ThreadEntailments.{PlacedEntailment, reached_entailments, view_entail}
 use Rattle.typing_law.specs.declared.entail.Entail.{Entail}
-use Rattle.entail_rules.specs.Keeping.{kept_for, looked_at}
-use Rattle.entail_rules.specs.declared.purpose.Purpose.{Purpose}
+use Rattle.typing_rules.specs.Keeping.{kept_for, looked_at}
+use Rattle.typing_rules.specs.declared.purpose.Purpose.{Purpose}
 
 -- Of the entailments of these obligations, those that are reached and that the walk keeps were added to those before.
 abbrev pub Adds : Purpose → List Obligation → List PlacedEntailment → (before after : List Entail) → Type 0

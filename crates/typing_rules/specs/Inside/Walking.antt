@@ -25,11 +25,11 @@ use Rattle.typing_law.specs.Entailments.{Entailment, is_small_entailment, guard_
 use Rattle.typing_law.specs.ThreadObligations.{block_obligations, few_preds, flat, guard_obligations, narrow, numbers, of_var, one_unstable, over_controls, proved, reads, same_locks, small_terms, state_obligations, stm_parts, type_obligations}
 use Rattle.typing_law.specs.ThreadEntailments.{PlacedEntailment, block_entailments, placed_from, stm_entailments, view_entail}
 use Rattle.typing_law.specs.declared.entail.Entail.{Entail}
-use Rattle.entail_rules.specs.Keeping.{kept_for}
-use Rattle.entail_rules.specs.Unproved.{unproved_for}
+use Rattle.typing_rules.specs.Keeping.{kept_for}
+use Rattle.typing_rules.specs.Unproved.{unproved_for}
 use Rattle.typing_rules.specs.Inside.Passing.{Passes, Stops}
 use Rattle.typing_rules.specs.declared.entailments_tried.Tried.{Tried}
-use Rattle.entail_rules.specs.declared.purpose.Purpose.{Purpose}
+use Rattle.typing_rules.specs.declared.purpose.Purpose.{Purpose}
 use Rattle.typing_rules.specs.declared.walk.Guarded.{Guarded}
 use Rattle.typing_rules.specs.declared.walk.Walk.{Walk}
 use Rattle.typing_rules.specs.declared.walk.Walked.{Walked}

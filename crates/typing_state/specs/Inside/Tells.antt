@@ -6,8 +6,8 @@ use Rattle.cov_ast.specs.Plain.{Plain}
 use Rattle.mode_state.specs.Sets.{Sets, modes_at}
 use Rattle.point_law.specs.Point.{is_tracked}
 use Rattle.point_law.specs.Point as spec
-use Rattle.variable_types.specs.KeptVariables.{AreVariables}
-use Rattle.variable_types.specs.declared.variables.Variables.{Variables}
+use Rattle.typing_state.specs.KeptVariables.{AreVariables}
+use Rattle.typing_state.specs.declared.variables.Variables.{Variables}
 use Rattle.typing_state.specs.KeptPoints.{KeepsParts}
 use Rattle.typing_state.specs.declared.parts.Parts.{Parts}
 

@@ -3,7 +3,7 @@ use Rattle.policy_class.specs.Resolved.{name_obligations, resolved}
 use Rattle.call_judge.proofs.CheckLaws.{accepted_program, names_hold, none_false}
 use Rattle.call_judge.specs.Check.{IsAcceptedText}
 use Rattle.cov_ast.specs.Syntax.{Parsed}
-use Rattle.program_law.specs.Accepted.{IsAccepted}
+use Rattle.typing_law.specs.Accepted.{IsAccepted}
 use Rattle.call_code.proofs.laws.accepted_programs_have_good_code.Goals as goal
 
 of_text : (p : Parsed) → IsAcceptedText p → IsAccepted (resolved p)

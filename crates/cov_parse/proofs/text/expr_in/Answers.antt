@@ -3,9 +3,9 @@ use Rattle.cov_expr.specs.Term.{Term}
 use Rattle.cov_expr.specs.View.{term}
 use Rattle.cov_ast.specs.declared.parsed.NameUse.{NameUse}
 use Rattle.cov_text.specs.Uses.{uses_of}
-use Rattle.placed_trees.specs.WrittenViews.{written}
+use Rattle.cov_read.specs.WrittenViews.{written}
 use Rattle.cov_grammar.specs.Grammar.{whole}
-use Rattle.placed_trees.specs.CertViews as certs
+use Rattle.cov_read.specs.CertViews as certs
 use Rattle.cov_text.specs.Limits.{in_expr}
 use Rattle.cov_text.specs.Text.{Expression, Answers, expression_of, words_of, names_of}
 use Rattle.cov_parse.specs.Reads.{found_expr}

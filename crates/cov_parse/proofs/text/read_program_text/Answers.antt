@@ -1,5 +1,5 @@
 use Rattle.std.proofs.Common.{refl}
-use Rattle.placed_trees.specs.DeclViews as decls
+use Rattle.cov_read.specs.DeclViews as decls
 use Rattle.cov_text.specs.Text.{words_of}
 use Rattle.cov_text.proofs.NamesInOrder.{declarations_named}
 use Rattle.cov_text.proofs.WordLaws.{names_few}

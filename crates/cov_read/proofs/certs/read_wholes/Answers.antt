@@ -1,7 +1,7 @@
 use Rattle.std.proofs.Common.{◌∙◌, ◌∷◌, [], arith}
 use Rattle.cov_expr.specs.declared.kind.Kind.TheVariants as k
 use Rattle.cov_grammar.specs.Grammar.{◌▸◌, whole}
-use Rattle.placed_trees.specs.CertViews as views
+use Rattle.cov_read.specs.CertViews as views
 use Rattle.cov_grammar.proofs.Repeats.{item_goes, behind_sign}
 use Rattle.cov_read.proofs.CertLaws.{comma_item}
 use Rattle.cov_read.proofs.certs.read_wholes.Goals as goal

@@ -3,7 +3,7 @@ use Rattle.std.proofs.lemmas.Result.{err_from_is_err_and}
 use Rattle.cov_expr.specs.declared.kind.Kind.TheVariants as k
 use Rattle.cov_grammar.specs.Reading.{reading}
 use Rattle.cov_grammar.specs.Grammar as spec
-use Rattle.placed_trees.specs.DeclViews as views
+use Rattle.cov_read.specs.DeclViews as views
 use Rattle.cov_grammar.proofs.Repeats.{item_goes, item_ends, item_breaks}
 use Rattle.cov_read.proofs.DeclLaws.{lock_item}
 use Rattle.cov_grammar.proofs.Stops.{stop_onward}

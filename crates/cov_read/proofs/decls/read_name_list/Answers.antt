@@ -1,7 +1,7 @@
 use Rattle.std.proofs.Common.{◌∙◌, ◌∷◌, [], arith}
 use Rattle.cov_expr.specs.declared.kind.Kind.TheVariants as k
 use Rattle.cov_grammar.specs.Grammar.{◌▸◌, name}
-use Rattle.placed_trees.specs.DeclViews as views
+use Rattle.cov_read.specs.DeclViews as views
 use Rattle.cov_grammar.proofs.Repeats.{item_goes, behind_sign}
 use Rattle.cov_read.proofs.DeclLaws.{comma_name}
 use Rattle.cov_read.proofs.decls.read_name_list.Goals as goal

@@ -3,7 +3,7 @@ use Rattle.cov_expr.specs.declared.kind.Kind.TheVariants as k
 use Rattle.cov_grammar.specs.Shapes.{many}
 use Rattle.cov_grammar.specs.Grammar.{◌▸◌, separated, name}
 use Rattle.cov_grammar.specs.Reading.{reading}
-use Rattle.placed_trees.specs.DeclViews as views
+use Rattle.cov_read.specs.DeclViews as views
 use Rattle.cov_grammar.proofs.Repeats.{pushed}
 use Rattle.cov_read.proofs.decls.read_name_list.Given as goal
 

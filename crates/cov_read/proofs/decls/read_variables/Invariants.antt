@@ -2,7 +2,7 @@ use Rattle.std.proofs.Common.{◌≡◌, ◌≤◌, length, map}
 use Rattle.cov_grammar.specs.Shapes.{many}
 use Rattle.cov_grammar.specs.Reading.{reading}
 use Rattle.cov_grammar.specs.Grammar as spec
-use Rattle.placed_trees.specs.DeclViews as views
+use Rattle.cov_read.specs.DeclViews as views
 use Rattle.cov_grammar.proofs.Repeats.{pushed}
 use Rattle.cov_read.proofs.decls.read_variables.Given as goal
 

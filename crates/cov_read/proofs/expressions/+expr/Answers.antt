@@ -3,7 +3,7 @@ use Rattle.std.proofs.lemmas.Result.{err_from_is_err_and}
 use Rattle.cov_grammar.proofs.Stops.{stop_onward}
 use Rattle.cov_read.specs.declared.level.Level.TheVariants.{Prod}
 use Rattle.cov_read.specs.Inside.Levels.{atom_of, onward, levelled, repeats}
-use Rattle.placed_trees.specs.WrittenViews.{written}
+use Rattle.cov_read.specs.WrittenViews.{written}
 use Rattle.cov_read.proofs.Levels.{operator_goes, operator_breaks, behind, unary_begins, unary_goes}
 use Rattle.cov_read.proofs.expressions.+expr.Goals as goal
 

@@ -1,7 +1,7 @@
 use Rattle.std.proofs.Common.{◌≡◌, ◌≤◌, ◌+◌, ◌-◌, ◌*◌, length, drop}
 use Rattle.cov_grammar.specs.Grammar.{unary}
 use Rattle.cov_grammar.specs.Reading.{reading}
-use Rattle.placed_trees.specs.WrittenViews.{written}
+use Rattle.cov_read.specs.WrittenViews.{written}
 use Rattle.cov_read.specs.Inside.Levels.{atom_of, onward, levelled}
 use Rattle.cov_read.proofs.Levels.{behind}
 use Rattle.cov_read.proofs.expressions.+expr.Given as goal

@@ -1,7 +1,7 @@
 use Rattle.std.proofs.Common.{◌∙◌, ◌∷◌, [], arith}
 use Rattle.cov_expr.specs.declared.kind.Kind.TheVariants as k
 use Rattle.cov_grammar.specs.Grammar.{◌▸◌, proof}
-use Rattle.placed_trees.specs.StateViews as views
+use Rattle.cov_read.specs.StateViews as views
 use Rattle.cov_grammar.proofs.Repeats.{item_goes, behind_sign}
 use Rattle.cov_read.proofs.StateLaws.{comma_proof}
 use Rattle.cov_read.proofs.states.read_proof_list.Goals as goal

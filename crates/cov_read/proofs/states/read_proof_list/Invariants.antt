@@ -3,7 +3,7 @@ use Rattle.cov_expr.specs.declared.kind.Kind.TheVariants as k
 use Rattle.cov_grammar.specs.Shapes.{many}
 use Rattle.cov_grammar.specs.Grammar.{◌▸◌, separated, proof}
 use Rattle.cov_grammar.specs.Reading.{reading}
-use Rattle.placed_trees.specs.StateViews as views
+use Rattle.cov_read.specs.StateViews as views
 use Rattle.cov_grammar.proofs.Repeats.{pushed}
 use Rattle.cov_read.proofs.states.read_proof_list.Given as goal
 

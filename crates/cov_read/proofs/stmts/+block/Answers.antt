@@ -4,7 +4,7 @@ use Rattle.cov_expr.specs.declared.kind.Kind.TheVariants as k
 use Rattle.cov_grammar.specs.Shapes.{placed}
 use Rattle.cov_grammar.specs.Reading.{reading}
 use Rattle.cov_grammar.specs.Grammar as spec
-use Rattle.placed_trees.specs.StmtViews as views
+use Rattle.cov_read.specs.StmtViews as views
 use Rattle.cov_grammar.proofs.Repeats.{item_goes, item_ends, item_breaks}
 use Rattle.cov_read.proofs.StmtLaws.{statement_item}
 use Rattle.cov_grammar.proofs.Stops.{stop_onward}

@@ -2,7 +2,7 @@ use Rattle.std.proofs.Common.{◌≡◌, ◌≤◌, ◌+◌, ◌*◌, length, ma
 use Rattle.cov_grammar.specs.Shapes.{many, placed}
 use Rattle.cov_grammar.specs.Reading.{reading}
 use Rattle.cov_grammar.specs.Grammar as spec
-use Rattle.placed_trees.specs.StmtViews as views
+use Rattle.cov_read.specs.StmtViews as views
 use Rattle.cov_grammar.proofs.Repeats.{pushed}
 use Rattle.cov_read.proofs.stmts.+block.Given as goal
 

@@ -2,7 +2,7 @@ use Rattle.std.proofs.Common.{◌≡◌, ◌≤◌, length, map}
 use Rattle.cov_grammar.specs.Shapes.{many}
 use Rattle.cov_grammar.specs.Reading.{reading}
 use Rattle.cov_grammar.specs.Grammar as spec
-use Rattle.placed_trees.specs.StateViews as views
+use Rattle.cov_read.specs.StateViews as views
 use Rattle.cov_grammar.proofs.Repeats.{pushed}
 use Rattle.cov_read.proofs.stmts.read_retypes.Given as goal
 

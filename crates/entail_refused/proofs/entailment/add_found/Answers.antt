@@ -2,7 +2,7 @@ use Rattle.std.proofs.Common.{◌++◌, ap, ◌∙◌, append_assoc, map}
 use Rattle.std.proofs.lemmas.Result.{on_ok_weaker}
 use Rattle.cov_expr.specs.View.{term}
 use Rattle.cov_ast.specs.View as view
-use Rattle.entail_questions.specs.QuestionLines.{question_line}
+use Rattle.entail_origins.specs.QuestionLines.{question_line}
 use Rattle.typing_law.specs.ThreadEntailments.{view_entail}
 use Rattle.entail_refused.specs.Asked.{entailment_lines}
 use Rattle.entail_refused.specs.Further.{further_lines}

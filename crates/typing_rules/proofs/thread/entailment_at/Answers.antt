@@ -3,7 +3,7 @@ use Rattle.std.specs.Prelude.{slice_get}
 use Rattle.std.proofs.lemmas.Option.{slice_get-map}
 use Rattle.cov_ast.specs.View as view
 use Rattle.typing_law.specs.ThreadEntailments.{thread_entailments, view_entail}
-use Rattle.entail_rules.proofs.KeptLaws.{first_wanted}
+use Rattle.typing_rules.proofs.KeptLaws.{first_wanted}
 use Rattle.typing_rules.proofs.thread.entailment_at.Goals as goal
 
 pub returns : goal.returns

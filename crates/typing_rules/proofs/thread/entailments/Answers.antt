@@ -2,7 +2,7 @@ use Rattle.std.proofs.Common.{◌≡◌, map, subst}
 use Rattle.std.specs.Prelude.{IfOk}
 use Rattle.cov_ast.specs.View as view
 use Rattle.typing_law.specs.ThreadEntailments.{thread_entailments, view_entail}
-use Rattle.entail_rules.proofs.KeptLaws.{every_wanted}
+use Rattle.typing_rules.proofs.KeptLaws.{every_wanted}
 use Rattle.typing_rules.proofs.thread.entailments.Goals as goal
 
 pub returns : goal.returns

@@ -1,6 +1,6 @@
 use Rattle.std.proofs.Common.{[], refl, subst}
 use Rattle.cov_ast.specs.Obligations.{Decides}
-use Rattle.entail_rules.specs.Keeping.{looked_at}
+use Rattle.typing_rules.specs.Keeping.{looked_at}
 use Rattle.typing_rules.proofs.Reaching.{adds_none, no_entailments, stops_bare}
 use Rattle.typing_rules.proofs.walk.finish.Goals as goal
 

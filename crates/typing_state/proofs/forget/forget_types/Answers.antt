@@ -5,7 +5,7 @@ use Rattle.cov_expr.specs.View.{term}
 use Rattle.cov_ast.specs.Plain.{plain}
 use Rattle.cov_ast.specs.View as view
 use Rattle.point_law.specs.After.{forgotten_type}
-use Rattle.variable_types.specs.Groups.{is_free}
+use Rattle.typing_state.specs.Groups.{is_free}
 use Rattle.typing_state.proofs.ForgetLaws.{forgotten_keeps}
 use Rattle.point_law.proofs.Steps.{upto_none, upto_more}
 use Rattle.typing_state.proofs.WalkLaws.{walked_to, walked_all}

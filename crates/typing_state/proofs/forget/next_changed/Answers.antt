@@ -4,10 +4,10 @@ use Rattle.cov_expr.specs.View.{term}
 use Rattle.cov_ast.specs.Tables.{has}
 use Rattle.cov_ast.specs.View as view
 use Rattle.point_law.specs.Terms.{is_closed_type}
-use Rattle.variable_types.specs.Next.{AreDone}
+use Rattle.typing_state.specs.Next.{AreDone}
 use Rattle.typing_state.specs.Inside.Least.{if_below}
 use Rattle.typing_state.proofs.WalkLaws.{done_both, done_below}
-use Rattle.variable_types.proofs.NextLaws.{next_done}
+use Rattle.typing_state.proofs.NextLaws.{next_done}
 use Rattle.typing_state.proofs.forget.next_changed.Goals as goal
 
 pub returns : goal.returns

@@ -2,9 +2,9 @@ use Rattle.std.proofs.Common.{◌∙◌, map, option_map, get_or, length, subst,
 use Rattle.std.proofs.lemmas.List.{length-map}
 use Rattle.cov_expr.specs.View.{term}
 use Rattle.cov_ast.specs.View as view
-use Rattle.variable_types.specs.Groups.{is_free}
+use Rattle.typing_state.specs.Groups.{is_free}
 use Rattle.typing_state.specs.Inside.Least.{if_below}
-use Rattle.variable_types.specs.Next.{AreDone}
+use Rattle.typing_state.specs.Next.{AreDone}
 use Rattle.typing_state.proofs.WalkLaws.{done_below}
 use Rattle.typing_state.proofs.forget.next_mentioning.Goals as goal
 

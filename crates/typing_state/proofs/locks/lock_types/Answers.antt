@@ -6,7 +6,7 @@ use Rattle.cov_ast.specs.Tables.{has}
 use Rattle.cov_ast.specs.View as view
 use Rattle.point_law.specs.After.{locked_type}
 use Rattle.point_law.proofs.Steps.{upto_none, upto_more}
-use Rattle.variable_types.proofs.VariableLaws.{lists_long, unlisted_keeps}
+use Rattle.typing_state.proofs.VariableLaws.{lists_long, unlisted_keeps}
 use Rattle.typing_state.proofs.WalkLaws.{walked_to, walked_all}
 use Rattle.typing_state.proofs.locks.lock_types.Goals as goal
 

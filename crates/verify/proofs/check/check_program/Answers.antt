@@ -6,7 +6,7 @@ use Rattle.cov_ast.proofs.ObligationLaws.{append_decided, append_refused, append
 use Rattle.mode_compat.specs.Compatible.{threads_of}
 use Rattle.mode_compat.specs.Declared.{declaration_obligations}
 use Rattle.typing_law.specs.ThreadObligations.{thread_obligations}
-use Rattle.program_law.specs.Accepted.{program_obligations}
+use Rattle.typing_law.specs.Accepted.{program_obligations}
 use Rattle.verify.proofs.check.check_program.Goals as goal
 
 pub returns-in-Err-clause-answer : goal.returns-in-Err-clause-answer

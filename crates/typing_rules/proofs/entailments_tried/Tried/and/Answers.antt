@@ -5,11 +5,11 @@ use Rattle.std.proofs.lemmas.List.{length-append}
 use Rattle.std.proofs.lemmas.List.Folds.{list_all-append}
 use Rattle.typing_law.specs.Entailments.{is_small_entailment}
 use Rattle.typing_law.specs.ThreadEntailments.{placed_from, view_entail}
-use Rattle.entail_rules.specs.Keeping.{kept_for}
-use Rattle.entail_rules.specs.Unproved.{unproved_for}
-use Rattle.entail_rules.proofs.KeptLaws.{kept-append}
+use Rattle.typing_rules.specs.Keeping.{kept_for}
+use Rattle.typing_rules.specs.Unproved.{unproved_for}
+use Rattle.typing_rules.proofs.KeptLaws.{kept-append}
 use Rattle.typing_rules.proofs.Reaching.{placed-append}
-use Rattle.entail_rules.proofs.UnprovedLaws.{unproved_for-append}
+use Rattle.typing_rules.proofs.UnprovedLaws.{unproved_for-append}
 use Rattle.typing_rules.proofs.entailments_tried.Tried.and.Goals as goal
 use Rattle.typing_rules.proofs.entailments_tried.Tried.and.Goals.{then-self, else-self}
 

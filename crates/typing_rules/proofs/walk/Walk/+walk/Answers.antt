@@ -20,7 +20,7 @@ use Rattle.typing_rules.specs.Inside.Walking.{HasTypesBelow, IsWalk, WalksStm, p
 use Rattle.typing_rules.specs.declared.walk.Walk.{Walk}
 use Rattle.typing_rules.proofs.Ranges.{block_below, classes_below, meet_below, stm_below}
 use Rattle.typing_rules.proofs.Splits.{branch_walks, first_refused, fork_refused, head_refused, loop_walks, second_refused, turn_refused}
-use Rattle.statement_rules.proofs.StatementLaws.{block_from}
+use Rattle.typing_rules.proofs.StatementLaws.{block_from}
 use Rattle.typing_rules.proofs.Walks.{assign_is, branch_seen, lock_is, loop_seen, output_is, skip_is, Reaches, one_point, reaches_end, reaches_few, reaches_more, reaches_refused, reaches_start}
 use Rattle.typing_rules.proofs.walk.Walk.+walk.Goals as goal
 

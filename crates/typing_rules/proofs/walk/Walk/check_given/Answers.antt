@@ -2,7 +2,7 @@ use Rattle.std.proofs.Common.{ap, map, sym, subst, None, ◌≡◌}
 use Rattle.cov_ast.specs.Obligations.{Decides, first_false}
 use Rattle.cov_ast.specs.View as view
 use Rattle.typing_law.specs.ThreadObligations.{numbers}
-use Rattle.entail_rules.specs.Keeping.{looked_at}
+use Rattle.typing_rules.specs.Keeping.{looked_at}
 use Rattle.typing_rules.specs.Inside.Walking.{plain_of}
 use Rattle.typing_rules.proofs.Concluding.{numbers_silent}
 use Rattle.typing_rules.proofs.walk.Walk.check_given.Goals as goal

@@ -7,7 +7,7 @@ use Rattle.cov_ast.specs.declared.refusal.Detail.TheVariants.{Nothing}
 use Rattle.cov_ast.proofs.ObligationLaws.{append_decided, append_refused}
 use Rattle.typing_law.specs.Entailments.{is_small_entailment}
 use Rattle.typing_law.specs.ThreadObligations.{obligation, numbers, proved, small_terms}
-use Rattle.entail_rules.specs.Keeping.{looked_at}
+use Rattle.typing_rules.specs.Keeping.{looked_at}
 use Rattle.point_law.specs.Point.{has_small_types}
 use Rattle.typing_rules.specs.Inside.Walking.{plain_of}
 use Rattle.typing_law.specs.declared.site.Site.{Site}

@@ -4,7 +4,7 @@ use Rattle.cov_ast.specs.Obligations.{Decides}
 use Rattle.cov_ast.specs.View as view
 use Rattle.point_law.specs.Point.{has_small_types}
 use Rattle.typing_law.specs.ThreadObligations.{flat, numbers, proved}
-use Rattle.entail_rules.specs.Keeping.{looked_at}
+use Rattle.typing_rules.specs.Keeping.{looked_at}
 use Rattle.typing_rules.specs.Inside.Walking.{last_parts, plain_of}
 use Rattle.typing_rules.proofs.Concluding.{all_tried, concludes, cut_back, last_counted, last_silent, last_stops, looked_front}
 use Rattle.typing_rules.proofs.walk.Walk.conclude.Goals as goal

@@ -8,7 +8,7 @@ use Rattle.cov_ast.specs.declared.refusal.Detail.TheVariants.{Nothing}
 use Rattle.typing_law.specs.Entailments.{is_small_entailment}
 use Rattle.typing_law.specs.ThreadEntailments.{placed_from}
 use Rattle.typing_law.specs.ThreadObligations.{obligation, few_preds, proved, small_terms}
-use Rattle.entail_rules.specs.Keeping.{looked_at}
+use Rattle.typing_rules.specs.Keeping.{looked_at}
 use Rattle.typing_rules.specs.Inside.Passing.{Passes, Stops}
 use Rattle.typing_rules.specs.Inside.Walking.{plain_of}
 use Rattle.typing_rules.proofs.Concluding.{all_tried, asked_counted, asked_silent, concludes, cut_back, last_stops, looked_front}

@@ -6,7 +6,7 @@ use Rattle.std.proofs.lemmas.List.Folds.{list_all_at, list_all_more}
 use Rattle.cov_expr.specs.View.{term}
 use Rattle.point_law.specs.Point.{is_over_controls, ty_var}
 use Rattle.typing_rules.specs.Inside.Walking.{plain_of}
-use Rattle.entail_rules.proofs.LargeTypes.{controls_of_type}
+use Rattle.typing_rules.proofs.LargeTypes.{controls_of_type}
 use Rattle.typing_rules.proofs.ReadTypes.{vars_below}
 use Rattle.typing_rules.proofs.walk.Walk.is_read_over_controls.Goals as goal
 

@@ -11,7 +11,7 @@ use Rattle.point_law.specs.Point.{ty, has_small_types}
 use Rattle.typing_law.specs.Entailments.{assign_entailments, is_small_entailment}
 use Rattle.typing_law.specs.ThreadObligations.{obligation, few_preds, small_terms, thread_obligation}
 use Rattle.typing_rules.specs.Inside.Walking.{plain_of, value_parts}
-use Rattle.entail_rules.proofs.LargeTypes.{large_type, large_value}
+use Rattle.typing_rules.proofs.LargeTypes.{large_type, large_value}
 use Rattle.typing_rules.proofs.Parts.{part_refused, parts_refused}
 use Rattle.typing_law.proofs.VerdictLaws.{obligation_refused}
 use Rattle.typing_rules.proofs.walk.Walk.refuse_large.Goals as goal

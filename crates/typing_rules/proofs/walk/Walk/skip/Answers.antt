@@ -4,7 +4,7 @@ use Rattle.cov_ast.specs.Obligations.{Decides}
 use Rattle.cov_ast.specs.View as view
 use Rattle.typing_law.specs.ThreadObligations.{numbers}
 use Rattle.typing_law.proofs.Counting.{count_skip}
-use Rattle.entail_rules.specs.Keeping.{looked_at}
+use Rattle.typing_rules.specs.Keeping.{looked_at}
 use Rattle.typing_rules.specs.Inside.Walking.{Walks, plain_of}
 use Rattle.typing_rules.proofs.walk.Walk.skip.Goals as goal
 

@@ -9,9 +9,9 @@ use Rattle.point_law.specs.Point.{Point}
 use Rattle.typing_law.specs.Blocks.{value_type}
 use Rattle.typing_law.specs.Entailments.{Entailment, controlled_values, retype_follows, shown_value, written_type}
 use Rattle.typing_law.proofs.Bounds.{few_entailments_assign}
-use Rattle.entail_rules.specs.Listed.{AreListed, entailment_of}
+use Rattle.typing_rules.specs.Listed.{AreListed, entailment_of}
 use Rattle.typing_rules.specs.Inside.Walking.{IsWalk, Tries, plain_of}
-use Rattle.entail_rules.specs.declared.asked.Entailment as rust
+use Rattle.typing_rules.specs.declared.asked.Entailment as rust
 use Rattle.typing_rules.specs.declared.walk.Walk.{Walk}
 use Rattle.typing_rules.proofs.walk.Walk.try_assign.Goals as goal
 

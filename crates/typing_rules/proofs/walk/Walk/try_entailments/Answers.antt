@@ -1,7 +1,7 @@
 use Rattle.std.proofs.Common.{map, sym, ◌∙◌}
 use Rattle.std.proofs.lemmas.Result.{IfOk-weaker}
 use Rattle.cov_ast.specs.View as view
-use Rattle.entail_rules.specs.Listed.{entailments_of}
+use Rattle.typing_rules.specs.Listed.{entailments_of}
 use Rattle.typing_rules.specs.Inside.Walking.{plain_of}
 use Rattle.typing_rules.proofs.walk.Walk.try_entailments.Goals as goal
 

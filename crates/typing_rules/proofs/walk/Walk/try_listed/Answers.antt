@@ -1,6 +1,6 @@
 use Rattle.std.proofs.Common.{map, subst}
 use Rattle.cov_ast.specs.View as view
-use Rattle.entail_rules.specs.Listed.{AreListed}
+use Rattle.typing_rules.specs.Listed.{AreListed}
 use Rattle.typing_rules.proofs.walk.Walk.try_listed.Goals as goal
 
 pub returns-in-None : goal.returns-in-None

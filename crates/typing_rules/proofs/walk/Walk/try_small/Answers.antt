@@ -1,7 +1,7 @@
 use Rattle.std.proofs.Common.{map, sym, refl}
 use Rattle.std.proofs.lemmas.List.{length-map}
 use Rattle.cov_ast.specs.View as view
-use Rattle.entail_rules.specs.Listed.{entailment_of, entailments_of}
+use Rattle.typing_rules.specs.Listed.{entailment_of, entailments_of}
 use Rattle.typing_rules.specs.Inside.Walking.{plain_of}
 use Rattle.typing_rules.proofs.TryLaws.{tries_collected, tries_judged}
 use Rattle.typing_rules.proofs.walk.Walk.try_small.Goals as goal

@@ -3,7 +3,7 @@ use Rattle.std.proofs.lemmas.List.{length-map}
 use Rattle.cov_ast.specs.View as view
 use Rattle.typing_law.specs.Entailments.{state_follows}
 use Rattle.typing_law.proofs.Bounds.{few_entailments_state}
-use Rattle.entail_rules.specs.Listed.{entailment_of, entailments_of}
+use Rattle.typing_rules.specs.Listed.{entailment_of, entailments_of}
 use Rattle.typing_rules.specs.Inside.Walking.{plain_of}
 use Rattle.typing_rules.proofs.TryLaws.{tried_same}
 use Rattle.typing_rules.proofs.walk.Walk.try_state.Goals as goal

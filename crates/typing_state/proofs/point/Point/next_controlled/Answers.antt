@@ -5,8 +5,8 @@ use Rattle.cov_expr.specs.Trees.{mentions}
 use Rattle.cov_ast.specs.Declarations.{class_of}
 use Rattle.cov_ast.specs.Plain.{plain}
 use Rattle.cov_ast.specs.View as view
-use Rattle.variable_types.specs.KeptVariables.{AreVariables}
-use Rattle.variable_types.specs.Next.{AreDone}
+use Rattle.typing_state.specs.KeptVariables.{AreVariables}
+use Rattle.typing_state.specs.Next.{AreDone}
 use Rattle.typing_state.specs.Inside.Least.{if_below}
 use Rattle.typing_state.proofs.WalkLaws.{below_some, below_within, done_below}
 use Rattle.typing_state.proofs.point.Point.next_controlled.Goals as goal

@@ -1,0 +1,197 @@
+-- A small program, and what is said of types in it, by computation.
+use Rattle.std.proofs.Common.{◌≡◌, ℕ, List, [], ◌∷◌, Option, Some, None, refl, codes, lit<}
+use Rattle.std.proofs.lemmas.Fmt.{decimal_digit}
+use Rattle.cov_expr.specs.Term.{Term, const, var, bin}
+use Rattle.cov_expr.specs.declared.expr.Op.TheVariants.{Eq, Add, Both}
+use Rattle.cov_ast.specs.Declarations.{no_modes}
+use Rattle.cov_ast.specs.Plain.{Plain, none}
+use Rattle.cov_ast.specs.Syntax as s
+use Rattle.point_law.specs.Point.{controls_of}
+use Rattle.entail_origins.specs.declared.kinds.End.TheVariants as e
+use Rattle.entail_origins.specs.declared.kinds.Question.TheVariants as q
+use Rattle.statement_paths.specs.Paths.{Step, passed, yes, head}
+use Rattle.entail_origins.specs.AskedVariables.{variables_of}
+use Rattle.point_law.specs.After.{start}
+use Rattle.entail_origins.specs.GoalTypes.{goal_of, goals_of}
+use Rattle.entail_origins.specs.TypeLines.{type_lines}
+use Rattle.entail_origins.specs.TypeOrigins.{history, locks_over, change_at}
+use Rattle.entail_origins.specs.declared.type_origin.By.TheVariants as by
+use Rattle.entail_origins.specs.declared.type_origin.TypeChange.TheVariants as change
+use Rattle.entail_origins.specs.declared.type_origin.History.{History}
+use Rattle.entail_origins.specs.declared.type_origin.Later.{Later}
+use Rattle.entail_origins.specs.declared.type_origin.TypeSource.{TypeSource}
+use Rattle.entail_origins.specs.declared.type_origin.TypeSource.TheVariants as source
+
+-- var m: low; var buf: low when m == 0; var o: high; var n: low; lock l hide m, buf; thread t assume nowrite o
+abbrev program : Plain
+program = record {
+  vars =
+      record { name = codes "m"; at = 0; class = s.low }
+      ∷ record { name = codes "buf"; at = 0; class = s.when (bin Eq (var 0) (const 0)) }
+      ∷ record { name = codes "o"; at = 0; class = s.high } ∷ record { name = codes "n"; at = 0; class = s.low } ∷ [];
+  locks = record { name = codes "l"; at = 0; nowrite = []; hide = 0 ∷ 1 ∷ []; inv = None } ∷ [];
+  threads = record { name = codes "t"; modes = record no_modes { assume_nowrite = 2 ∷ [] }; body = none } ∷ [];
+}
+
+abbrev stated : List (ℕ × Term) → s.State
+stated types = record { preds = []; types = types }
+
+abbrev taken : Step
+taken = passed 1 (s.lock 0)
+
+abbrev returned : Step
+returned = passed 5 (s.unlock 0)
+
+-- o := o + buf
+abbrev sum : s.Stm
+sum = s.assign 2 (bin Add (var 2) (var 1)) None []
+
+abbrev stored : Step
+stored = passed 2 sum
+
+-- m := 1 retype buf as 1
+abbrev raised : Step
+raised = passed 3 (s.assign 0 (const 1) None ((1, const 1) ∷ []))
+
+abbrev joined : List (ℕ × Term) → Step
+joined types = passed 4 (s.branch (var 1) s.done s.done (stated types))
+
+abbrev noted : Step
+noted = passed 4 (s.note (stated ((2, const 0) ∷ [])))
+
+abbrev story : (z : ℕ) → List Step → History
+story z steps = history (controls_of program) (locks_over program z) z steps
+
+abbrev from : (at : ℕ) → TypeSource → Option Later → History
+from at source later = record { origin = Some (record { source = source; at = at }); later = later }
+
+-- One step -----------------------------------------------------------------------------------------------------
+
+the_start : story 2 [] ≡ record { origin = None; later = None }
+the_start = refl
+
+an_assignment : story 2 (stored ∷ []) ≡ from 2 source.Stored None
+an_assignment = refl
+
+a_lock : story 1 (taken ∷ []) ≡ from 1 (source.Taken 0) None
+a_lock = refl
+
+-- `o` isn't under the lock
+another_lock : story 2 (taken ∷ []) ≡ record { origin = None; later = None }
+another_lock = refl
+
+a_retype : story 1 (raised ∷ []) ≡ from 3 (source.Listed by.Retype) None
+a_retype = refl
+
+a_control : story 2 (raised ∷ []) ≡ record { origin = None; later = Some (change_at 3 (change.ControlStored 0)) }
+a_control = refl
+
+a_join : story 1 (joined ((1, const 1) ∷ []) ∷ []) ≡ from 4 (source.Listed by.Join) None
+a_join = refl
+
+-- a join sets what it doesn't list, and a note leaves it
+a_join_of_others : story 1 (joined [] ∷ []) ≡ from 4 (source.Unlisted by.Join) None
+a_join_of_others = refl
+
+a_note : story 2 (noted ∷ []) ≡ from 4 (source.Listed by.Noted) None
+a_note = refl
+
+a_note_of_others : story 1 (taken ∷ noted ∷ []) ≡ from 1 (source.Taken 0) None
+a_note_of_others = refl
+
+a_head : story 2 (head 6 (stated []) ∷ yes 6 (var 1) ∷ []) ≡ from 6 (source.Unlisted by.LoopState) None
+a_head = refl
+
+-- Several steps ------------------------------------------------------------------------------------------------
+
+the_last_counts : story 2 (noted ∷ stored ∷ []) ≡ from 2 source.Stored None
+the_last_counts = refl
+
+what_came_later_is_none : story 2 (raised ∷ noted ∷ []) ≡ from 4 (source.Listed by.Noted) None
+what_came_later_is_none = refl
+
+the_last_change : story 2 (stored ∷ raised ∷ returned ∷ []) ≡ from 2 source.Stored (Some (change_at 5 (change.Returned 0)))
+the_last_change = refl
+
+-- Variables ----------------------------------------------------------------------------------------------------
+
+of_the_value : variables_of (q.Shown 2) sum ≡ 2 ∷ 1 ∷ []
+of_the_value = refl
+
+of_a_written_type : variables_of (q.Shown 2) (s.assign 2 (var 1) (Some (const 1)) []) ≡ []
+of_a_written_type = refl
+
+behind_a_written_type : variables_of q.Written (s.assign 2 (var 1) (Some (const 1)) []) ≡ 1 ∷ []
+behind_a_written_type = refl
+
+of_a_guard : variables_of q.HeadGuard (s.loop (bin Eq (var 1) (var 1)) (stated []) s.done) ≡ 1 ∷ []
+of_a_guard = refl
+
+of_what_is_listed : variables_of (q.TypeOf e.Body 1) s.skip ≡ 1 ∷ []
+of_what_is_listed = refl
+
+of_a_predicate : variables_of (q.Predicate e.Here 1) s.skip ≡ []
+of_a_predicate = refl
+
+-- Goals --------------------------------------------------------------------------------------------------------
+
+-- at the start the type of `o` is its class, and so is that of `buf`, which others may write
+of_a_sum : goal_of program 0 (q.Shown 2) sum (start program 0) ≡ bin Both (const 0) (bin Eq (var 0) (const 0))
+of_a_sum = refl
+
+what_is_written : goal_of program 0 (q.Shown 2) (s.assign 2 (var 1) (Some (const 1)) []) (start program 0) ≡ const 1
+what_is_written = refl
+
+of_a_variable : goal_of program 0 (q.Controlled 1) sum (start program 0) ≡ bin Eq (var 0) (const 0)
+of_a_variable = refl
+
+the_second_predicate : goal_of program 0 (q.Predicate e.Here 2) (s.note (record { preds = var 0 ∷ var 2 ∷ []; types = [] })) (start program 0) ≡ var 2
+the_second_predicate = refl
+
+-- a branch on `n`, whose second block stores a public value in `o`
+abbrev chooses : s.Stm
+chooses = s.branch (var 3) s.done (s.more 5 (s.assign 2 (const 1) None []) [] s.done) (stated ((2, const 1) ∷ []))
+
+at_its_guard_and_its_ends : goals_of program 0 chooses (start program 0) ≡ const 1 ∷ const 0 ∷ const 1 ∷ []
+at_its_guard_and_its_ends = refl
+
+-- the loop states that `o` is public, which it is at the head, and not at the end of a block that stores `buf`
+abbrev repeats : s.Stm
+repeats = s.loop (var 2) (stated ((2, const 1) ∷ [])) (s.more 6 (s.assign 2 (var 1) None []) [] s.done)
+
+at_its_head_and_its_end : goals_of program 0 repeats (start program 0) ≡ const 0 ∷ const 1 ∷ bin Eq (var 0) (const 0) ∷ []
+at_its_head_and_its_end = refl
+
+-- Lines --------------------------------------------------------------------------------------------------------
+
+-- the place 3 stands in line 3, and 4 in line 4
+abbrev text : List ℕ
+text = 10 ∷ 120 ∷ 10 ∷ 10 ∷ 120 ∷ 120 ∷ 120 ∷ 120 ∷ []
+
+a_control_and_an_assignment : type_lines program 0 text (taken ∷ stored ∷ raised ∷ []) q.Printed (s.output (bin Add (var 0) (var 2)))
+    ≡ codes "  type of m:  1, as that of every control\n  type of o:  from the assignment, line 2; then m is stored to, line 3, which turns a type that mentions it into its class `0`\n"
+a_control_and_an_assignment = simp (decimal_digit 0 (lit< tt), decimal_digit 2 (lit< tt), decimal_digit 3 (lit< tt))
+
+not_stable : type_lines program 0 text (taken ∷ returned ∷ []) q.Guard (s.branch (var 1) s.done s.done (stated []))
+    ≡ codes "  type of buf:  its class `m == 0`, since it isn't stable here: the thread doesn't assume that no other writes it, and holds no lock that it is under\n"
+not_stable = simp (decimal_digit 0 (lit< tt))
+
+a_low_variable : type_lines program 0 text [] q.Printed (s.output (var 3)) ≡ codes "  type of n:  its class `1`, since it isn't stable here: the thread doesn't assume that no other writes it, and holds no lock that it is under\n"
+a_low_variable = simp (decimal_digit 1 (lit< tt))
+
+-- under its lock nobody else reads `buf`
+hidden : type_lines program 0 text (taken ∷ joined [] ∷ []) (q.Freed 1) (s.unlock 0) ≡ codes "  type of buf:  0, since the join of the `if`, line 4, doesn't list it\n"
+hidden = simp (decimal_digit 4 (lit< tt))
+
+not_hidden : type_lines program 0 text (joined [] ∷ returned ∷ []) (q.Retyped 2) s.skip
+    ≡ codes "  type of o:  its class `0`, since the join of the `if`, line 4, doesn't list it; then l is given back, line 4, which turns a type that mentions what it protects into its class `0`\n"
+not_hidden = simp (decimal_digit 0 (lit< tt), decimal_digit 4 (lit< tt))
+
+by_its_lock : type_lines program 0 text (taken ∷ []) (q.Controlled 1) s.skip ≡ codes "  type of buf:  its class `m == 0`, from the lock l, line 2\n"
+by_its_lock = simp (decimal_digit 0 (lit< tt), decimal_digit 2 (lit< tt))
+
+at_the_start : type_lines program 0 text [] (q.TypeOf e.Here 2) s.skip ≡ codes "  type of o:  its class `0`, from the start of the thread\n"
+at_the_start = simp (decimal_digit 0 (lit< tt))
+
+no_lines : type_lines program 0 text [] (q.Invariant 0) (s.unlock 0) ≡ []
+no_lines = refl

@@ -1,0 +1,13 @@
+use Rattle.std.proofs.Common.{◌≡◌, ◌++◌, drop, map}
+use Rattle.cov_ast.specs.Plain.{plain}
+use Rattle.cov_ast.specs.View as view
+use Rattle.statement_paths.specs.Paths as paths
+use Rattle.entail_origins.specs.TypeLines as spec
+use Rattle.entail_origins.proofs.type_lines.add_lines.Given as goal
+
+-- the lines so far, and those of the variables that are left, are all of them
+abbrev pub invariant-loop-z : goal.invariant-loop-z
+invariant-loop-z l =
+    let p = plain (view.program l.p) in
+    let steps = map paths.step l.steps in
+    l.text ++ spec.lines_of p l.names l.bytes steps l.known (drop l.z-index l.variables) ≡ l.fn.text ++ spec.lines_of p l.names l.bytes steps l.known l.variables

@@ -1,0 +1,15 @@
+pub mod GivenViews
+pub mod Origins
+pub mod Points
+pub mod Remarks
+pub mod Questions
+pub mod QuestionLines
+pub mod OwnEntailments
+pub mod LeftOut
+pub mod LeftOutLines
+pub mod WouldBeKnown
+pub mod TypeOrigins
+pub mod AskedVariables
+pub mod GoalTypes
+pub mod TypeLines
+pub mod TypesFromOrigins

@@ -1,0 +1,122 @@
+-- Where the type of a variable behind steps comes from: the last step that sets it, and the last one after that which may forget it.
+--
+-- By the rules of types: a join and what a loop states set every type, listed or not; a note and the new types of an assignment to a
+-- control set those that they list. A type is forgotten where it mentions a control that is stored to, or what a lock that is given
+-- back protects.
+use Rattle.std.specs.Prelude.{ℕ, ◌==◌, List, [], ◌∷◌, Bool, map, if◌then◌else◌, Option, Some, None}
+use Rattle.std.specs.List.{list_any}
+use Rattle.cov_expr.specs.Term.{Term}
+use Rattle.cov_ast.specs.Declarations.{lists}
+use Rattle.cov_ast.specs.Plain.{Plain}
+use Rattle.cov_ast.specs.Syntax.{State, Stm, skip, assign, lock, unlock, branch, loop, note, output}
+use Rattle.cov_ast.specs.Tables.{has}
+use Rattle.statement_paths.specs.Paths.{Step, passed, yes, no, head, place_of}
+use Rattle.entail_origins.specs.declared.type_origin.By.{By}
+use Rattle.entail_origins.specs.declared.type_origin.By.TheVariants as by
+use Rattle.entail_origins.specs.declared.type_origin.TypeChange.{TypeChange}
+use Rattle.entail_origins.specs.declared.type_origin.TypeChange.TheVariants as change
+use Rattle.entail_origins.specs.declared.type_origin.History.{History}
+use Rattle.entail_origins.specs.declared.type_origin.Later.{Later}
+use Rattle.entail_origins.specs.declared.type_origin.TypeSource.{TypeSource}
+use Rattle.entail_origins.specs.declared.type_origin.TypeSource.TheVariants as source
+
+-- whether types are listed for a variable
+abbrev pub is_listed : List (ℕ × Term) → (z : ℕ) → Bool
+is_listed types z = list_any (λ r. r.0 == z) types
+
+-- the set of the locks that a variable is under
+abbrev pub locks_over : Plain → (z : ℕ) → List Bool
+locks_over p z = map (λ l. lists l z) p.locks
+
+-- What a step does to the type of a variable --------------------------------------------------------------------
+
+-- something, where a condition holds
+abbrev pub where_true : {A : Type 0} → Bool → A → Option A
+where_true holds x = if holds then Some x else None
+
+-- with the set of the controls
+module _ (controls : List Bool) where
+  -- what may forget it behind a statement
+  abbrev pub changed_past : Stm → Option TypeChange
+  changed_past skip = None
+  changed_past (assign x e q retypes) = where_true (has controls x) (change.ControlStored x)
+  changed_past (lock l) = None
+  changed_past (unlock l) = Some (change.Returned l)
+  changed_past (branch e a b join) = None
+  changed_past (loop e inv b) = None
+  changed_past (note j) = None
+  changed_past (output e) = None
+
+  -- what may forget it in a step
+  abbrev pub changed_by : Step → Option TypeChange
+  changed_by (passed at s) = changed_past s
+  changed_by (yes at e) = None
+  changed_by (no at e) = None
+  changed_by (head at inv) = None
+
+-- of a state that sets every type
+abbrev pub set_by_state : (z : ℕ) → By → State → TypeSource
+set_by_state z by j = if is_listed j.types z then source.Listed by else source.Unlisted by
+
+-- of types that set those of their variables alone
+abbrev pub set_by_types : (z : ℕ) → By → List (ℕ × Term) → Option TypeSource
+set_by_types z by types = where_true (is_listed types z) (source.Listed by)
+
+-- a control has no type itself: what is stored there gives the types that are written behind it
+abbrev pub set_by_assignment : (controls : List Bool) → (z x : ℕ) → (retypes : List (ℕ × Term)) → Option TypeSource
+set_by_assignment controls z x retypes = if has controls x then set_by_types z by.Retype retypes else where_true (x == z) source.Stored
+
+-- with the set of the controls, and the set of the locks that the variable is under
+module _ (controls locks : List Bool) (z : ℕ) where
+  -- what in a statement sets the type behind it
+  abbrev pub set_past : Stm → Option TypeSource
+  set_past skip = None
+  set_past (assign x e q retypes) = set_by_assignment controls z x retypes
+  set_past (lock l) = where_true (has locks l) (source.Taken l)
+  set_past (unlock l) = None
+  set_past (branch e a b join) = Some (set_by_state z by.Join join)
+  set_past (loop e inv b) = Some (set_by_state z by.LoopState inv)
+  set_past (note j) = set_by_types z by.Noted j.types
+  set_past (output e) = None
+
+  -- what in a step sets the type at its end
+  abbrev pub set_by : Step → Option TypeSource
+  set_by (passed at s) = set_past s
+  set_by (yes at e) = None
+  set_by (no at e) = None
+  set_by (head at inv) = Some (set_by_state z by.LoopState inv)
+
+-- The history of a type ----------------------------------------------------------------------------------------
+
+-- a type that was set here, and not changed since
+abbrev pub set_at : (at : ℕ) → TypeSource → History
+set_at at source = record { origin = Some (record { source = source; at = at }); later = None }
+
+abbrev pub change_at : (at : ℕ) → TypeChange → Later
+change_at at change = record { change = change; at = at }
+
+-- the same type, which may be forgotten here
+abbrev pub changed_at : (at : ℕ) → Option TypeChange → History → History
+changed_at at None h = h
+changed_at at (Some change) h = record h { later = Some (change_at at change) }
+
+-- what sets the type begins a new history
+abbrev pub with_step : (at : ℕ) → Option TypeSource → Option TypeChange → History → History
+with_step at (Some source) change h = set_at at source
+with_step at None change h = changed_at at change h
+
+-- from the start of the thread
+abbrev pub no_history : History
+no_history = record { origin = None; later = None }
+
+module _ (controls locks : List Bool) (z : ℕ) where
+  abbrev pub history_after_step : Step → History → History
+  history_after_step s h = with_step (place_of s) (set_by controls locks z s) (changed_by controls s) h
+
+  abbrev pub history_after_steps : List Step → History → History
+  history_after_steps [] h = h
+  history_after_steps (s ∷ ss) h = history_after_steps ss (history_after_step s h)
+
+  -- the history of the type of the variable behind steps from the start of the thread
+  abbrev pub history : List Step → History
+  history ss = history_after_steps ss no_history

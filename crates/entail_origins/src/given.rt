@@ -1,0 +1,217 @@
+//! What a step may give.
+
+ghost use Rattle.std.specs.Prelude.{◌≡◌, [], ◌∷◌, ◌++◌, IfOk, OnOk, map, option_map};
+ghost use Rattle.cov_expr.specs.Term.{bin, neg, var};
+ghost use Rattle.cov_expr.specs.Trees as tree;
+ghost use Rattle.cov_expr.specs.View.{term};
+ghost use Rattle.cov_expr.specs.declared.expr.Op.TheVariants.{Eq};
+ghost use Rattle.cov_ast.specs.Declarations.{lock_at};
+ghost use Rattle.cov_ast.specs.Plain.{plain};
+ghost use Rattle.cov_ast.specs.View as view;
+ghost use Rattle.statement_paths.specs.Paths as paths;
+ghost use Rattle.entail_origins.specs.GivenViews as spec;
+ghost use Rattle.entail_origins.specs.Origins as origins;
+
+use crate::hypothesis_origin::HypothesisSource;
+use cov_ast::{Program, State, StmtKind};
+use cov_expr::{Expr, List, NoMemory, Op, boxed, copy, same};
+use statement_paths::Step;
+use std::alloc::Global;
+
+/// A predicate that a step may give, by the expression in the program from which it is made.
+#[derive(Clone, Copy)]
+pub enum GivenTerm<'p> {
+    /// This expression itself.
+    Written(&'p Expr),
+    /// Its negation.
+    Negation(&'p Expr),
+    /// The equation of a variable and this value.
+    Equation(u32, &'p Expr),
+}
+
+/// A predicate that a step may give, with what in the step does.
+#[derive(Clone, Copy)]
+pub struct Given<'p> {
+    pub source: HypothesisSource,
+    pub term: GivenTerm<'p>,
+}
+
+impl GivenTerm<'_> {
+    /// Whether it is an expression.
+    pub fn is(&self, e: &Expr) -> bool
+        ensures { result ≡ tree.same (spec.given_term self.now) (term e.now) }
+    {
+        match self {
+            GivenTerm::Written(made) => same(made, e),
+            GivenTerm::Negation(of) => is_negation(of, e),
+            GivenTerm::Equation(x, value) => is_equation(*x, value, e),
+        }
+    }
+
+    /// The predicate itself, as an expression of its own.
+    pub fn made(&self, alloc: Global) -> Result<Expr, NoMemory>
+        ensures { IfOk result (λ made. term made ≡ spec.given_term self.now) }
+    {
+        match self {
+            GivenTerm::Written(e) => copy(alloc, e),
+            GivenTerm::Negation(e) => negation(alloc, e),
+            GivenTerm::Equation(x, value) => equation(alloc, *x, value),
+        }
+    }
+}
+
+/// Adds what a step may give to the point at its end.
+pub fn add_given<'p>(
+    p: &'p Program,
+    step: &Step<'p>,
+    all: &mut List<Given<'p>>,
+) -> Result<(), NoMemory>
+    ensures { OnOk result (map spec.given all.new ≡ map spec.given all.old ++ origins.given_by (plain (view.program p.now)) (paths.step step.now)) }
+{
+    match step {
+        Step::Passed(stmt) => add_given_after_statement(p, &stmt.kind, all),
+        Step::Yes(_, guard) => add_one(
+            HypothesisSource::GuardHolds,
+            GivenTerm::Written(guard),
+            all,
+        ),
+        Step::No(_, guard) => add_one(
+            HypothesisSource::GuardFails,
+            GivenTerm::Negation(guard),
+            all,
+        ),
+        Step::Head(_, inv) => add_each(HypothesisSource::LoopState, inv, all),
+    }
+}
+
+/// Adds what a statement may give to the point behind it.
+fn add_given_after_statement<'p>(
+    p: &'p Program,
+    kind: &'p StmtKind,
+    all: &mut List<Given<'p>>,
+) -> Result<(), NoMemory>
+    ensures { OnOk result (map spec.given all.new ≡ map spec.given all.old ++ origins.given_after_statement (plain (view.program p.now)) (view.kind kind.now)) }
+{
+    match kind {
+        StmtKind::Skip | StmtKind::Unlock(_) | StmtKind::Output(_) => Ok(()),
+        StmtKind::Assign(x, value, _, _) => {
+            add_one(
+                HypothesisSource::Assigned,
+                GivenTerm::Equation(*x, value),
+                all,
+            )
+        }
+        StmtKind::Lock(l) => add_invariant(*l, invariant_of(p, *l), all),
+        StmtKind::If(_, _, _, join) => add_each(HypothesisSource::Join, join, all),
+        StmtKind::While(guard, inv, _) => add_given_after_loop(guard, inv, all),
+        StmtKind::Note(note) => add_each(HypothesisSource::Noted, note, all),
+    }
+}
+
+/// Adds what a loop may give to the point behind it.
+fn add_given_after_loop<'p>(
+    guard: &'p Expr,
+    inv: &'p State,
+    all: &mut List<Given<'p>>,
+) -> Result<(), NoMemory>
+    ensures { OnOk result (map spec.given all.new ≡ map spec.given all.old ++ origins.given_after_loop (term guard.now) (view.state inv.now)) }
+{
+    add_one(HypothesisSource::LoopLeft, GivenTerm::Negation(guard), all)?;
+    add_each(HypothesisSource::LoopState, inv, all)
+}
+
+/// Adds one predicate.
+fn add_one<'p>(
+    source: HypothesisSource,
+    made: GivenTerm<'p>,
+    all: &mut List<Given<'p>>,
+) -> Result<(), NoMemory>
+    ensures { OnOk result (map spec.given all.new ≡ map spec.given all.old ++ origins.given source (spec.given_term made.entry) ∷ []) }
+{
+    all.push(Given { source, term: made })
+}
+
+/// Adds the predicates of a state.
+fn add_each<'p>(
+    source: HypothesisSource,
+    state: &'p State,
+    all: &mut List<Given<'p>>,
+) -> Result<(), NoMemory>
+    ensures { OnOk result (map spec.given all.new ≡ map spec.given all.old ++ origins.each source (view.state state.now).preds) }
+{
+    for pred in state.preds.as_slice() {
+        add_one(source, GivenTerm::Written(pred), all)?;
+    }
+    Ok(())
+}
+
+/// Adds the invariant of a lock, if it has one.
+fn add_invariant<'p>(
+    l: u32,
+    invariant: Option<&'p Expr>,
+    all: &mut List<Given<'p>>,
+) -> Result<(), NoMemory>
+    ensures { OnOk result (map spec.given all.new ≡ map spec.given all.old ++ origins.by_invariant l (option_map (λ e. term e.now) invariant.entry)) }
+{
+    match invariant {
+        Some(e) => add_one(HypothesisSource::Invariant(l), GivenTerm::Written(e), all),
+        None => Ok(()),
+    }
+}
+
+/// The invariant of a lock, if it has one.
+fn invariant_of(p: &Program, l: u32) -> Option<&Expr>
+    ensures { option_map (λ e. term e.now) result ≡ (lock_at (plain (view.program p.now)) l).inv }
+{
+    match p.locks.as_slice().get(l as usize) {
+        Some(lock) => lock.inv.as_ref(),
+        None => None,
+    }
+}
+
+/// Whether an expression is the negation of another.
+fn is_negation(of: &Expr, e: &Expr) -> bool
+    ensures { result ≡ tree.same (neg (term of.now)) (term e.now) }
+{
+    match e {
+        Expr::Not(inner) => same(of, inner),
+        Expr::Const(_) | Expr::Var(_) | Expr::Bin(..) => false,
+    }
+}
+
+/// Whether an expression is the equation of a variable and a value.
+fn is_equation(x: u32, value: &Expr, e: &Expr) -> bool
+    ensures { result ≡ tree.same (bin Eq (var x) (term value.now)) (term e.now) }
+{
+    match e {
+        Expr::Bin(Op::Eq, left, right) => is_variable(x, left) && same(value, right),
+        Expr::Const(_) | Expr::Var(_) | Expr::Not(_) | Expr::Bin(..) => false,
+    }
+}
+
+/// Whether an expression is a variable.
+fn is_variable(x: u32, e: &Expr) -> bool
+    ensures { result ≡ tree.same (var x) (term e.now) }
+{
+    match e {
+        Expr::Var(y) => x == *y,
+        Expr::Const(_) | Expr::Not(_) | Expr::Bin(..) => false,
+    }
+}
+
+/// The negation of an expression.
+fn negation(alloc: Global, of: &Expr) -> Result<Expr, NoMemory>
+    ensures { IfOk result (λ made. term made ≡ neg (term of.now)) }
+{
+    let inner = boxed(alloc, copy(alloc, of)?)?;
+    Ok(Expr::Not(inner))
+}
+
+/// The equation of a variable and a value.
+fn equation(alloc: Global, x: u32, value: &Expr) -> Result<Expr, NoMemory>
+    ensures { IfOk result (λ made. term made ≡ bin Eq (var x) (term value.now)) }
+{
+    let left = boxed(alloc, Expr::Var(x))?;
+    let right = boxed(alloc, copy(alloc, value)?)?;
+    Ok(Expr::Bin(Op::Eq, left, right))
+}

@@ -1,0 +1,126 @@
+//! The lines of what was left out.
+
+ghost use Rattle.std.specs.Prelude.{◌≡◌, ◌<◌, ◌++◌, OnOk, length, map};
+ghost use Rattle.cov_expr.specs.View.{term};
+ghost use Rattle.cov_ast.specs.Plain.{plain};
+ghost use Rattle.cov_ast.specs.View as view;
+ghost use Rattle.cov_ast.specs.WellFormed.{IsWellFormed};
+ghost use Rattle.statement_paths.specs.Paths as paths;
+ghost use Rattle.entail_origins.specs.LeftOut.{seen};
+ghost use Rattle.entail_origins.specs.LeftOutLines as spec;
+
+use crate::left_out_found::LeftOut;
+use crate::left_out_search::left_out;
+use crate::left_out_states::{StateAt, StateKind};
+use cov_ast::{NameTable, Program};
+use cov_expr::{Blob, Expr, NoMemory};
+use cov_print::add_expr;
+use entail_origins::{Origin, add_origin};
+use statement_paths::{Step, stable_after_steps};
+use std::alloc::Global;
+use text_parts::{add_number, position, variable_names};
+
+/// Adds a line for each predicate that would be known behind steps of a thread, had a state on the way listed it: the predicate, what gives
+/// it, and the state. `hypotheses` are known there, and `bytes` are the text of the program.
+///
+/// It takes time in proportion to the steps and what they spell, times the hypotheses, and to the text.
+pub fn add_left_out(
+    alloc: Global,
+    p: &Program,
+    t: u32,
+    bytes: &[u8],
+    steps: &[Step<'_>],
+    hypotheses: &[Expr],
+    text: &mut Blob,
+) -> Result<(), NoMemory>
+    requires formed { IsWellFormed (view.program p.now) }
+    requires thread { t < length p.now.threads }
+    ensures { OnOk result (text.new ≡ text.old ++ spec.left_out_lines (view.program p.now) t bytes.now (map paths.step steps.now) (map term hypotheses.now)) }
+{
+    let stable = stable_after_steps(alloc, p, t, steps)?;
+    let found = left_out(alloc, p, hypotheses, stable, steps)?;
+    let names = variable_names(alloc, p)?;
+    add_lines(p, &names, bytes, found.as_slice(), text)
+}
+
+/// Adds a line for each predicate that was left out.
+fn add_lines(
+    p: &Program,
+    names: &NameTable,
+    bytes: &[u8],
+    found: &[LeftOut],
+    text: &mut Blob,
+) -> Result<(), NoMemory>
+    ensures { OnOk result (text.new ≡ text.old ++ spec.lines_of (plain (view.program p.now)) names.now bytes.now (map seen found.now)) }
+{
+    for one in found {
+        add_line(p, names, bytes, one, text)?;
+    }
+    Ok(())
+}
+
+/// Adds the line of a predicate that was left out.
+fn add_line(
+    p: &Program,
+    names: &NameTable,
+    bytes: &[u8],
+    one: &LeftOut,
+    text: &mut Blob,
+) -> Result<(), NoMemory>
+    ensures { OnOk result (text.new ≡ text.old ++ spec.left_out_line (plain (view.program p.now)) names.now bytes.now (seen one.now)) }
+{
+    add_predicate_part(names, &one.term, text)?;
+    add_origin_part(p, bytes, one.origin, text)?;
+    add_state_part(bytes, one.state, text)
+}
+
+/// Adds a predicate.
+fn add_predicate_part(names: &NameTable, e: &Expr, text: &mut Blob) -> Result<(), NoMemory>
+    ensures { OnOk result (text.new ≡ text.old ++ spec.predicate_part names.now (term e.now)) }
+{
+    text.extend_from_slice(b"  left out:     ")?;
+    add_expr(names, false, e, text)
+}
+
+/// Adds what gives a predicate, and its line.
+fn add_origin_part(
+    p: &Program,
+    bytes: &[u8],
+    origin: Origin,
+    text: &mut Blob,
+) -> Result<(), NoMemory>
+    ensures { OnOk result (text.new ≡ text.old ++ spec.origin_part (plain (view.program p.now)) bytes.now origin) }
+{
+    text.extend_from_slice(b"   (")?;
+    add_origin(p, bytes, origin, text)?;
+    text.extend_from_slice(b")")
+}
+
+/// Adds which state left a predicate out, and ends the line.
+fn add_state_part(bytes: &[u8], state: StateAt, text: &mut Blob) -> Result<(), NoMemory>
+    ensures { OnOk result (text.new ≡ text.old ++ spec.state_part bytes.now state) }
+{
+    text.extend_from_slice(b", by the ")?;
+    text.extend_from_slice(kind_text(state.kind).as_bytes())?;
+    add_line_part(bytes, state.at, text)
+}
+
+/// Adds the line of a state, and ends the line of text.
+fn add_line_part(bytes: &[u8], at: u32, text: &mut Blob) -> Result<(), NoMemory>
+    ensures { OnOk result (text.new ≡ text.old ++ spec.line_part bytes.now at) }
+{
+    text.extend_from_slice(b", line ")?;
+    add_number(position(bytes, at as usize).line, text)?;
+    text.extend_from_slice(b"\n")
+}
+
+/// What a state is, with the statement that it is of, which gives its line.
+fn kind_text(kind: StateKind) -> &'static str
+    ensures { result.now ≡ spec.kind_text kind }
+{
+    match kind {
+        StateKind::Join => "join of the `if`",
+        StateKind::Inv => "inv of the `while`",
+        StateKind::Note => "note",
+    }
+}

@@ -1,0 +1,94 @@
+//! What is asked of a statement.
+
+ghost use Rattle.std.specs.Prelude.{◌≡◌, ◌<◌, ◌∷◌, ◌++◌, IfOk, OnOk, filter, length, map, not, option_map, option_to_list};
+ghost use Rattle.cov_expr.specs.View.{term};
+ghost use Rattle.cov_ast.specs.Declarations as declared;
+ghost use Rattle.cov_ast.specs.Plain.{plain};
+ghost use Rattle.cov_ast.specs.Tables.{has};
+ghost use Rattle.cov_ast.specs.View as view;
+ghost use Rattle.cov_ast.specs.WellFormed.{IsStmInRange, IsWellFormed};
+ghost use Rattle.entail_origins.specs.Questions as spec;
+
+use crate::assignments::add_assignment;
+use crate::kinds::{End, Question};
+use crate::question_states::add_state;
+use cov_ast::{NumberSet, Program, State, StmtKind};
+use cov_expr::{Expr, List, NoMemory};
+use policy_class::is_control;
+use std::alloc::Global;
+
+/// What the entailments of a statement ask, in their order, where the others may not read the variables of a set.
+pub fn questions(
+    alloc: Global,
+    p: &Program,
+    hidden: &NumberSet,
+    kind: &StmtKind,
+) -> Result<List<Question>, NoMemory>
+    requires formed { IsWellFormed (view.program p.now) }
+    requires range { IsStmInRange (length p.now.vars) (length p.now.locks) (view.kind kind.now) }
+    ensures { IfOk result (λ made. made ≡ spec.of_statement (plain (view.program p.now)) (has hidden.now) (view.kind kind.now)) }
+{
+    let mut made = List::new(alloc);
+    match kind {
+        StmtKind::Skip | StmtKind::Lock(_) => {}
+        StmtKind::Assign(x, _, written, retypes) => {
+            add_assignment(p, hidden, *x, written, retypes.as_slice(), &mut made)?
+        }
+        StmtKind::Unlock(l) => add_unlock(p, *l, &mut made)?,
+        StmtKind::If(_, _, _, join) => add_branch(join, &mut made)?,
+        StmtKind::While(_, inv, _) => add_loop(inv, &mut made)?,
+        StmtKind::Note(state) => add_state(End::Here, state, &mut made)?,
+        StmtKind::Output(_) => made.push(Question::Printed)?,
+    }
+    Ok(made)
+}
+
+/// Adds what is asked of a branch: its guard, and what it states at the ends of its blocks.
+fn add_branch(join: &State, made: &mut List<Question>) -> Result<(), NoMemory>
+    ensures { OnOk result (made.new ≡ made.old ++ Question.Guard ∷ (spec.of_state End.FirstBlock (view.state join.now) ++ spec.of_state End.SecondBlock (view.state join.now))) }
+{
+    made.push(Question::Guard)?;
+    add_state(End::FirstBlock, join, made)?;
+    add_state(End::SecondBlock, join, made)
+}
+
+/// Adds what is asked of a loop: what it states in front of it, its guard, and what it states at the end of its block.
+fn add_loop(inv: &State, made: &mut List<Question>) -> Result<(), NoMemory>
+    ensures { OnOk result (made.new ≡ made.old ++ (spec.of_state End.Entry (view.state inv.now) ++ (Question.HeadGuard ∷ spec.of_state End.Body (view.state inv.now)))) }
+{
+    add_state(End::Entry, inv, made)?;
+    made.push(Question::HeadGuard)?;
+    add_state(End::Body, inv, made)
+}
+
+/// Adds what is asked where a lock is given back: its invariant, and what it hides no longer.
+fn add_unlock(p: &Program, l: u32, made: &mut List<Question>) -> Result<(), NoMemory>
+    requires { l < length p.now.locks }
+    ensures { OnOk result (made.new ≡ made.old ++ spec.of_unlock (plain (view.program p.now)) l) }
+{
+    let lock = &p.locks.as_slice()[l as usize];
+    add_invariant(l, &lock.inv, made)?;
+    add_freed(p, lock.hide.as_slice(), made)
+}
+
+/// Adds that the invariant of a lock holds, where it has one.
+fn add_invariant(l: u32, inv: &Option<Expr>, made: &mut List<Question>) -> Result<(), NoMemory>
+    ensures { OnOk result (made.new ≡ made.old ++ map (λ r. Question.Invariant l) (option_to_list (option_map term inv.now))) }
+{
+    match inv {
+        Some(_) => made.push(Question::Invariant(l)),
+        None => Ok(()),
+    }
+}
+
+/// Adds that the class of each variable that a lock hides gives its type, of those that aren't controls.
+fn add_freed(p: &Program, hide: &[u32], made: &mut List<Question>) -> Result<(), NoMemory>
+    ensures { OnOk result (made.new ≡ made.old ++ map Question.Freed (filter (λ x. not (declared.is_control (plain (view.program p.now)) x)) hide.now)) }
+{
+    for x in hide {
+        if !is_control(p, *x) {
+            made.push(Question::Freed(*x))?;
+        }
+    }
+    Ok(())
+}

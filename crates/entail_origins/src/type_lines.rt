@@ -1,0 +1,307 @@
+//! The lines on the variables whose types make up a goal.
+
+ghost use Rattle.std.specs.Prelude.{◌≡◌, ◌<◌, ◌++◌, OnOk, length, map};
+ghost use Rattle.cov_ast.specs.Plain.{plain};
+ghost use Rattle.cov_ast.specs.Tables.{has};
+ghost use Rattle.cov_ast.specs.View as view;
+ghost use Rattle.cov_ast.specs.WellFormed.{IsWellFormed};
+ghost use Rattle.statement_paths.specs.Paths as paths;
+ghost use Rattle.entail_origins.specs.TypeLines as spec;
+ghost use Rattle.entail_origins.specs.TypeOrigins.{history, locks_over};
+
+use crate::goal_variables::variables_of;
+use crate::known_types::{Known, known_after_steps};
+use crate::type_classes::{add_class, add_default, add_shared, add_start};
+use crate::type_origin::{By, History, Later, TypeChange, TypeOrigin, TypeSource};
+use crate::type_steps::{history_of, locks_over};
+use crate::type_words::{change_end, change_word, list_word, listed_text, source_end};
+use cov_ast::{NameTable, Program, StmtKind};
+use cov_expr::{Blob, NoMemory};
+use entail_origins::Question;
+use statement_paths::Step;
+use std::alloc::Global;
+use text_parts::{add_lock_name, add_number, add_variable_name, position, variable_names};
+
+/// Adds a line for each variable whose type makes up the goal of what is asked of a statement: where that type comes from. `steps` are
+/// those from the start of the thread to the point of which is asked, and `bytes` are the text of the program.
+///
+/// For each such variable it takes time in proportion to the text, to what the steps list, to the lists of the locks and to the class of the
+/// variable; once, to the names, and for each variable of the program to the classes.
+pub fn add_type_lines(
+    alloc: Global,
+    p: &Program,
+    t: u32,
+    bytes: &[u8],
+    steps: &[Step<'_>],
+    question: Question,
+    kind: &StmtKind,
+    text: &mut Blob,
+) -> Result<(), NoMemory>
+    requires formed { IsWellFormed (view.program p.now) }
+    requires thread { t < length p.now.threads }
+    ensures { OnOk result (text.new ≡ text.old ++ spec.type_lines (plain (view.program p.now)) t bytes.now (map paths.step steps.now) question (view.kind kind.now)) }
+{
+    let known = known_after_steps(alloc, p, t, steps)?;
+    let variables = variables_of(alloc, question, kind)?;
+    let names = variable_names(alloc, p)?;
+    add_lines(
+        alloc,
+        p,
+        &names,
+        bytes,
+        steps,
+        &known,
+        variables.as_slice(),
+        text,
+    )
+}
+
+/// Adds the line of each of some variables.
+fn add_lines(
+    alloc: Global,
+    p: &Program,
+    names: &NameTable,
+    bytes: &[u8],
+    steps: &[Step<'_>],
+    known: &Known,
+    variables: &[u32],
+    text: &mut Blob,
+) -> Result<(), NoMemory>
+    ensures { OnOk result (text.new ≡ text.old ++ spec.lines_of (plain (view.program p.now)) names.now bytes.now (map paths.step steps.now) known.now variables.now) }
+{
+    for z in variables {
+        add_line(alloc, p, names, bytes, steps, known, *z, text)?;
+    }
+    Ok(())
+}
+
+/// Adds the line of a variable.
+fn add_line(
+    alloc: Global,
+    p: &Program,
+    names: &NameTable,
+    bytes: &[u8],
+    steps: &[Step<'_>],
+    known: &Known,
+    z: u32,
+    text: &mut Blob,
+) -> Result<(), NoMemory>
+    ensures { OnOk result (text.new ≡ text.old ++ spec.type_line (plain (view.program p.now)) names.now bytes.now (map paths.step steps.now) known.now z) }
+{
+    add_label(p, z, text)?;
+    add_type(alloc, p, names, bytes, steps, known, z, text)?;
+    text.extend_from_slice(b"\n")
+}
+
+/// Adds what stands in front of the words on a variable.
+fn add_label(p: &Program, z: u32, text: &mut Blob) -> Result<(), NoMemory>
+    ensures { OnOk result (text.new ≡ text.old ++ spec.label (plain (view.program p.now)) z) }
+{
+    text.extend_from_slice(b"  type of ")?;
+    add_variable_name(p, z, text)?;
+    text.extend_from_slice(b":  ")
+}
+
+/// Adds where the type of a variable comes from.
+fn add_type(
+    alloc: Global,
+    p: &Program,
+    names: &NameTable,
+    bytes: &[u8],
+    steps: &[Step<'_>],
+    known: &Known,
+    z: u32,
+    text: &mut Blob,
+) -> Result<(), NoMemory>
+    ensures { OnOk result (text.new ≡ text.old ++ spec.type_text (plain (view.program p.now)) names.now bytes.now (map paths.step steps.now) known.now z) }
+{
+    if known.controls.has(z) {
+        text.extend_from_slice(b"1, as that of every control")
+    } else if known.stable.has(z) {
+        add_tracked(alloc, p, names, bytes, steps, known, z, text)
+    } else {
+        add_shared(p, names, z, text)
+    }
+}
+
+/// Adds where the type of a variable comes from that is tracked.
+fn add_tracked(
+    alloc: Global,
+    p: &Program,
+    names: &NameTable,
+    bytes: &[u8],
+    steps: &[Step<'_>],
+    known: &Known,
+    z: u32,
+    text: &mut Blob,
+) -> Result<(), NoMemory>
+    ensures { OnOk result (text.new ≡ text.old ++ spec.tracked_text (plain (view.program p.now)) names.now bytes.now (map paths.step steps.now) known.now z) }
+{
+    let locks = locks_over(alloc, p, z)?;
+    let history = history_of(&known.controls, &locks, z, steps);
+    add_history(p, names, bytes, known.hidden.has(z), z, &history, text)
+}
+
+/// Adds the history of the type of a variable.
+fn add_history(
+    p: &Program,
+    names: &NameTable,
+    bytes: &[u8],
+    hidden: bool,
+    z: u32,
+    history: &History,
+    text: &mut Blob,
+) -> Result<(), NoMemory>
+    ensures { OnOk result (text.new ≡ text.old ++ spec.history_text (plain (view.program p.now)) names.now bytes.now hidden z history.now) }
+{
+    add_any_origin(p, names, bytes, hidden, z, history.origin, text)?;
+    add_any_later(p, names, bytes, hidden, z, history.later, text)
+}
+
+/// Adds where the type of a variable comes from.
+fn add_any_origin(
+    p: &Program,
+    names: &NameTable,
+    bytes: &[u8],
+    hidden: bool,
+    z: u32,
+    origin: Option<TypeOrigin>,
+    text: &mut Blob,
+) -> Result<(), NoMemory>
+    ensures { OnOk result (text.new ≡ text.old ++ spec.origin_text (plain (view.program p.now)) names.now bytes.now hidden z origin) }
+{
+    match origin {
+        Some(origin) => add_origin(p, names, bytes, hidden, z, origin, text),
+        None => add_start(p, names, z, text),
+    }
+}
+
+/// Adds what sets the type of a variable, and its line.
+fn add_origin(
+    p: &Program,
+    names: &NameTable,
+    bytes: &[u8],
+    hidden: bool,
+    z: u32,
+    origin: TypeOrigin,
+    text: &mut Blob,
+) -> Result<(), NoMemory>
+    ensures { OnOk result (text.new ≡ text.old ++ spec.set_text (plain (view.program p.now)) names.now bytes.now hidden z origin) }
+{
+    add_source(p, names, hidden, z, origin.source, text)?;
+    add_place(bytes, origin.at, text)?;
+    text.extend_from_slice(source_end(origin.source).as_bytes())
+}
+
+/// Adds what sets the type of a variable.
+fn add_source(
+    p: &Program,
+    names: &NameTable,
+    hidden: bool,
+    z: u32,
+    source: TypeSource,
+    text: &mut Blob,
+) -> Result<(), NoMemory>
+    ensures { OnOk result (text.new ≡ text.old ++ spec.source_text (plain (view.program p.now)) names.now hidden z source) }
+{
+    match source {
+        TypeSource::Stored => text.extend_from_slice(b"from the assignment"),
+        TypeSource::Taken(l) => add_taken(p, names, z, l, text),
+        TypeSource::Listed(by) => text.extend_from_slice(listed_text(by).as_bytes()),
+        TypeSource::Unlisted(by) => add_unlisted(p, names, hidden, z, by, text),
+    }
+}
+
+/// Adds that a lock is taken, which a variable is under.
+fn add_taken(
+    p: &Program,
+    names: &NameTable,
+    z: u32,
+    l: u32,
+    text: &mut Blob,
+) -> Result<(), NoMemory>
+    ensures { OnOk result (text.new ≡ text.old ++ spec.taken_text (plain (view.program p.now)) names.now z l) }
+{
+    add_class(p, names, z, text)?;
+    text.extend_from_slice(b", from the lock ")?;
+    add_lock_name(p, l, text)
+}
+
+/// Adds that the type of a variable isn't listed.
+fn add_unlisted(
+    p: &Program,
+    names: &NameTable,
+    hidden: bool,
+    z: u32,
+    by: By,
+    text: &mut Blob,
+) -> Result<(), NoMemory>
+    ensures { OnOk result (text.new ≡ text.old ++ spec.unlisted_text (plain (view.program p.now)) names.now hidden z by) }
+{
+    add_default(p, names, hidden, z, text)?;
+    text.extend_from_slice(b", since the ")?;
+    text.extend_from_slice(list_word(by).as_bytes())
+}
+
+/// Adds the line of a place.
+fn add_place(bytes: &[u8], at: u32, text: &mut Blob) -> Result<(), NoMemory>
+    ensures { OnOk result (text.new ≡ text.old ++ spec.place_text bytes.now at) }
+{
+    text.extend_from_slice(b", line ")?;
+    add_number(position(bytes, at as usize).line, text)
+}
+
+/// Adds what may have forgotten the type of a variable since, if something may.
+fn add_any_later(
+    p: &Program,
+    names: &NameTable,
+    bytes: &[u8],
+    hidden: bool,
+    z: u32,
+    later: Option<Later>,
+    text: &mut Blob,
+) -> Result<(), NoMemory>
+    ensures { OnOk result (text.new ≡ text.old ++ spec.later_text (plain (view.program p.now)) names.now bytes.now hidden z later) }
+{
+    match later {
+        Some(later) => add_later(p, names, bytes, hidden, z, later, text),
+        None => Ok(()),
+    }
+}
+
+/// Adds what may have forgotten the type of a variable since, its line, and what the type is then.
+fn add_later(
+    p: &Program,
+    names: &NameTable,
+    bytes: &[u8],
+    hidden: bool,
+    z: u32,
+    later: Later,
+    text: &mut Blob,
+) -> Result<(), NoMemory>
+    ensures { OnOk result (text.new ≡ text.old ++ spec.forgotten_text (plain (view.program p.now)) names.now bytes.now hidden z later) }
+{
+    add_change(p, later.change, text)?;
+    add_place(bytes, later.at, text)?;
+    text.extend_from_slice(change_end(later.change).as_bytes())?;
+    add_default(p, names, hidden, z, text)
+}
+
+/// Adds what is done that may forget a type.
+fn add_change(p: &Program, change: TypeChange, text: &mut Blob) -> Result<(), NoMemory>
+    ensures { OnOk result (text.new ≡ text.old ++ spec.change_text (plain (view.program p.now)) change) }
+{
+    text.extend_from_slice(b"; then ")?;
+    add_subject(p, change, text)?;
+    text.extend_from_slice(change_word(change).as_bytes())
+}
+
+/// Adds the name of the control that is stored to, or of the lock that is given back.
+fn add_subject(p: &Program, change: TypeChange, text: &mut Blob) -> Result<(), NoMemory>
+    ensures { OnOk result (text.new ≡ text.old ++ spec.change_subject (plain (view.program p.now)) change) }
+{
+    match change {
+        TypeChange::ControlStored(x) => add_variable_name(p, x, text),
+        TypeChange::Returned(l) => add_lock_name(p, l, text),
+    }
+}

@@ -1,0 +1,191 @@
+//! The steps that set the type of a variable, and those that may forget it.
+
+ghost use Rattle.std.specs.Prelude.{◌≡◌, ◌∷◌, IfOk, Some, None, map};
+ghost use Rattle.cov_expr.specs.View.{term};
+ghost use Rattle.cov_ast.specs.Plain.{plain};
+ghost use Rattle.cov_ast.specs.View as view;
+ghost use Rattle.statement_paths.specs.Paths as paths;
+ghost use Rattle.entail_origins.specs.TypeOrigins as spec;
+
+use crate::type_origin::{By, History, Later, TypeChange, TypeOrigin, TypeSource};
+use cov_ast::{NumberSet, Program, Retype, State, StmtKind};
+use cov_expr::{Expr, List, NoMemory};
+use mode_state::Mask;
+use statement_paths::Step;
+use std::alloc::Global;
+
+/// The history of the type of a variable behind steps from the start of a thread, where these are the controls and the locks that the
+/// variable is under. It takes no memory, and time in proportion to what the steps list.
+pub fn history_of(controls: &Mask, locks: &NumberSet, z: u32, steps: &[Step<'_>]) -> History
+    ensures { result ≡ spec.history controls.now locks.now z (map paths.step steps.now) }
+{
+    let mut so_far = History {
+        origin: None,
+        later: None,
+    };
+    for step in steps {
+        so_far = history_after_step(controls, locks, z, step, so_far);
+    }
+    so_far
+}
+
+/// The history with a step more.
+fn history_after_step(
+    controls: &Mask,
+    locks: &NumberSet,
+    z: u32,
+    step: &Step<'_>,
+    so_far: History,
+) -> History
+    ensures { result ≡ spec.history_after_step controls.now locks.now z (paths.step step.now) so_far }
+{
+    let at = step.place();
+    match set_by(controls, locks, z, step) {
+        Some(source) => set_at(at, source),
+        None => changed_at(at, changed_by(controls, step), so_far),
+    }
+}
+
+/// A type that was set at a place, and not changed since.
+fn set_at(at: u32, source: TypeSource) -> History
+    ensures { result ≡ spec.set_at at source }
+{
+    History {
+        origin: Some(TypeOrigin { source, at }),
+        later: None,
+    }
+}
+
+/// The same type, which may be forgotten at a place.
+fn changed_at(at: u32, change: Option<TypeChange>, so_far: History) -> History
+    ensures { result ≡ spec.changed_at at change so_far }
+{
+    match change {
+        Some(change) => History {
+            origin: so_far.origin,
+            later: Some(Later { change, at }),
+        },
+        None => so_far,
+    }
+}
+
+/// What in a step may forget the type.
+fn changed_by(controls: &Mask, step: &Step<'_>) -> Option<TypeChange>
+    ensures { result ≡ spec.changed_by controls.now (paths.step step.now) }
+{
+    match step {
+        Step::Passed(stmt) => changed_past(controls, &stmt.kind),
+        Step::Yes(_, _) | Step::No(_, _) | Step::Head(_, _) => None,
+    }
+}
+
+/// What may forget the type behind a statement.
+fn changed_past(controls: &Mask, kind: &StmtKind) -> Option<TypeChange>
+    ensures { result ≡ spec.changed_past controls.now (view.kind kind.now) }
+{
+    match kind {
+        StmtKind::Assign(x, _, _, _) if controls.has(*x) => Some(TypeChange::ControlStored(*x)),
+        StmtKind::Unlock(l) => Some(TypeChange::Returned(*l)),
+        StmtKind::Assign(_, _, _, _)
+        | StmtKind::Skip
+        | StmtKind::Lock(_)
+        | StmtKind::If(_, _, _, _)
+        | StmtKind::While(_, _, _)
+        | StmtKind::Note(_)
+        | StmtKind::Output(_) => None,
+    }
+}
+
+/// What in a step sets the type at its end.
+fn set_by(controls: &Mask, locks: &NumberSet, z: u32, step: &Step<'_>) -> Option<TypeSource>
+    ensures { result ≡ spec.set_by controls.now locks.now z (paths.step step.now) }
+{
+    match step {
+        Step::Passed(stmt) => set_past(controls, locks, z, &stmt.kind),
+        Step::Yes(_, _) | Step::No(_, _) => None,
+        Step::Head(_, inv) => Some(set_by_state(z, By::LoopState, inv)),
+    }
+}
+
+/// What in a statement sets the type behind it.
+fn set_past(controls: &Mask, locks: &NumberSet, z: u32, kind: &StmtKind) -> Option<TypeSource>
+    ensures { result ≡ spec.set_past controls.now locks.now z (view.kind kind.now) }
+{
+    match kind {
+        StmtKind::Skip | StmtKind::Unlock(_) | StmtKind::Output(_) => None,
+        StmtKind::Assign(x, _, _, retypes) => {
+            set_by_assignment(controls, z, *x, retypes.as_slice())
+        }
+        StmtKind::Lock(l) => where_true(locks.has(*l), TypeSource::Taken(*l)),
+        StmtKind::If(_, _, _, join) => Some(set_by_state(z, By::Join, join)),
+        StmtKind::While(_, inv, _) => Some(set_by_state(z, By::LoopState, inv)),
+        StmtKind::Note(note) => where_true(
+            is_listed(note.types.as_slice(), z),
+            TypeSource::Listed(By::Noted),
+        ),
+    }
+}
+
+/// A source under a condition.
+fn where_true(holds: bool, source: TypeSource) -> Option<TypeSource>
+    ensures { result ≡ spec.where_true holds source }
+{
+    if holds { Some(source) } else { None }
+}
+
+/// What in an assignment to a variable sets the type.
+fn set_by_assignment(controls: &Mask, z: u32, x: u32, retypes: &[Retype]) -> Option<TypeSource>
+    ensures { result ≡ spec.set_by_assignment controls.now z x (map view.retype retypes.now) }
+{
+    if controls.has(x) {
+        where_true(is_retyped(retypes, z), TypeSource::Listed(By::Retype))
+    } else {
+        where_true(x == z, TypeSource::Stored)
+    }
+}
+
+/// The source in a state that sets every type.
+fn set_by_state(z: u32, by: By, state: &State) -> TypeSource
+    ensures { result ≡ spec.set_by_state z by (view.state state.now) }
+{
+    if is_listed(state.types.as_slice(), z) {
+        TypeSource::Listed(by)
+    } else {
+        TypeSource::Unlisted(by)
+    }
+}
+
+/// Whether a type is listed for a variable.
+fn is_listed(types: &[(u32, Expr)], z: u32) -> bool
+    ensures { result ≡ spec.is_listed (map view.typed types.now) z }
+{
+    for listed in types {
+        if listed.0 == z {
+            return true;
+        }
+    }
+    false
+}
+
+/// Whether a new type is given to a variable.
+fn is_retyped(retypes: &[Retype], z: u32) -> bool
+    ensures { result ≡ spec.is_listed (map view.retype retypes.now) z }
+{
+    for retype in retypes {
+        if retype.var == z {
+            return true;
+        }
+    }
+    false
+}
+
+/// The locks that a variable is under. It takes time in proportion to the lists of the locks.
+pub fn locks_over(alloc: Global, p: &Program, z: u32) -> Result<NumberSet, NoMemory>
+    ensures { IfOk result (λ made. made ≡ spec.locks_over (plain (view.program p.now)) z) }
+{
+    let mut marks = List::new(alloc);
+    for lock in p.locks.as_slice() {
+        marks.push(lock.lists(z))?;
+    }
+    Ok(NumberSet::from_marks(marks))
+}

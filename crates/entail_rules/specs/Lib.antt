@@ -1,4 +1,0 @@
-pub mod Keeping
-pub mod Listed
-pub mod Unproved
-pub mod Inside

@@ -1,4 +1,0 @@
-pub mod FrontLaws
-pub mod FollowLaws
-pub mod LanguageLaws
-mod Examples

@@ -1,7 +1,0 @@
-use Rattle.cov_expr.specs.Spellings.{spellings}
-use Rattle.expected_tokens.specs.ExpectedLines.{spelling_of}
-use Rattle.expected_tokens.proofs.line.spelling_of.Goals as goal
-
-pub returns : goal.returns
-unfolding spellings spelling_of
-returns c = c.spelling_among.ensures

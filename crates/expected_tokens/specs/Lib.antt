@@ -1,3 +1,0 @@
-pub mod ExpectedTokens
-pub mod ExpectedLines
-pub mod Inside

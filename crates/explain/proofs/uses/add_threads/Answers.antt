@@ -1,0 +1,19 @@
+use Rattle.std.proofs.Common.{◌+◌, drop, map, flat_map}
+use Rattle.cov_ast.specs.View as view
+use Rattle.explain.specs.Inside.{block_reads, block_writes}
+use Rattle.explain.proofs.Marking.{marks_go_on, thread_reads_next, thread_writes_next}
+use Rattle.explain.proofs.uses.add_threads.Goals as goal
+
+pub loop-thread-preserved : goal.loop-thread-preserved
+loop-thread-preserved c =
+    let ts = c.args.threads.now in
+    let i = c.loop-thread.thread-index in
+    let t = c.thread-item.result in
+    record {
+      read = marks_go_on c.args.read.now c.loop-thread.read c.add_block.new.read (flat_map (λ u. block_reads u.body) (map view.thread ts)) (block_reads (view.block t.body))
+          (flat_map (λ u. block_reads u.body) (map view.thread (drop (i + 1) ts))) (flat_map (λ u. block_reads u.body) (map view.thread (drop i ts)))
+          c.loop-thread.invariant.read (thread_reads_next ts i t c.loop-thread-test.true c.thread-item.is) (rw c.as_slice.ensures at c.add_block.ensures.read);
+      written = marks_go_on c.args.written.now c.loop-thread.written c.add_block.new.written (flat_map (λ u. block_writes u.body) (map view.thread ts)) (block_writes (view.block t.body))
+          (flat_map (λ u. block_writes u.body) (map view.thread (drop (i + 1) ts))) (flat_map (λ u. block_writes u.body) (map view.thread (drop i ts)))
+          c.loop-thread.invariant.written (thread_writes_next ts i t c.loop-thread-test.true c.thread-item.is) (rw c.as_slice.ensures at c.add_block.ensures.written);
+    }

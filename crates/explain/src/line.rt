@@ -1,0 +1,115 @@
+//! The line that says what could stand at a place.
+
+ghost use Rattle.std.specs.Prelude.{◌≡◌, ◌≤◌, ◌++◌, ◌∷◌, length, map, flat_map, OnOk};
+ghost use Rattle.cov_expr.specs.declared.limits.TheConstants.{MOST_BYTES};
+ghost use Rattle.explain.specs.ExpectedLines as spec;
+
+use crate::next::Next;
+use crate::places::{expected, is_behind_version};
+use cov_expr::{Blob, Kind, NoMemory, SPELLINGS};
+use cov_grammar::is;
+use std::alloc::Global;
+
+/// Adds a line that says what could stand at a place of a text of at most 1 MiB; none where nothing could.
+pub fn add_expected(alloc: Global, bytes: &[u8], at: u32, text: &mut Blob) -> Result<(), NoMemory>
+    requires { length bytes.now ≤ MOST_BYTES }
+    ensures { OnOk result (text.new ≡ text.old ++ spec.expected_line bytes.now at) }
+{
+    let of_version = is_behind_version(alloc, bytes, at)?;
+    let found = expected(alloc, bytes, at)?;
+    add_line(of_version, found.as_slice(), text)
+}
+
+/// Adds a line that has what could stand at a place.
+fn add_line(of_version: bool, found: &[Next], text: &mut Blob) -> Result<(), NoMemory>
+    ensures { OnOk result (text.new ≡ text.old ++ spec.line_of of_version found.now) }
+{
+    match found {
+        [] => Ok(()),
+        [first, others @ ..] => add_some(of_version, *first, others, text),
+    }
+}
+
+/// Adds a line that has the first of what could stand at a place, and the others.
+fn add_some(of_version: bool, first: Next, others: &[Next], text: &mut Blob) -> Result<(), NoMemory>
+    ensures { OnOk result (text.new ≡ text.old ++ spec.line_of of_version (first ∷ others.now)) }
+{
+    add_line_front(text)?;
+    add_phrase(of_version, first, text)?;
+    add_others(of_version, others, text)?;
+    text.extend_from_slice(b"\n")
+}
+
+/// Adds what the line begins with.
+#[tactic(auto, unfolding(crate::specs::ExpectedLines::line_front))]
+fn add_line_front(text: &mut Blob) -> Result<(), NoMemory>
+    ensures { OnOk result (text.new ≡ text.old ++ spec.line_front) }
+{
+    text.extend_from_slice(b"  here could stand: ")
+}
+
+/// Adds what else could stand there.
+fn add_others(of_version: bool, others: &[Next], text: &mut Blob) -> Result<(), NoMemory>
+    ensures { OnOk result (text.new ≡ text.old ++ flat_map (spec.other of_version) others.now) }
+{
+    for next in others {
+        text.extend_from_slice(b", ")?;
+        add_phrase(of_version, *next, text)?;
+    }
+    Ok(())
+}
+
+/// Adds the words for what could stand at a place.
+fn add_phrase(of_version: bool, next: Next, text: &mut Blob) -> Result<(), NoMemory>
+    ensures { OnOk result (text.new ≡ text.old ++ spec.phrase of_version next) }
+{
+    match next {
+        Next::Token(kind) => add_kind(of_version, kind, text),
+        Next::End => text.extend_from_slice(b"the end of the text"),
+    }
+}
+
+/// Adds the words for a token of a kind.
+fn add_kind(of_version: bool, kind: Kind, text: &mut Blob) -> Result<(), NoMemory>
+    ensures { OnOk result (text.new ≡ text.old ++ spec.kind_phrase of_version kind) }
+{
+    if is(Kind::Name, kind) {
+        return text.extend_from_slice(b"a name");
+    }
+    if is(Kind::Number, kind) {
+        return text.extend_from_slice(number_phrase(of_version).as_bytes());
+    }
+    text.extend_from_slice(b"`")?;
+    text.extend_from_slice(spelling_of(kind))?;
+    text.extend_from_slice(b"`")
+}
+
+/// The words for a number.
+fn number_phrase(of_version: bool) -> &'static str
+    ensures { result.now ≡ spec.number_phrase of_version }
+{
+    if of_version {
+        "the number 2"
+    } else {
+        "a number"
+    }
+}
+
+/// The spelling of a keyword or a sign.
+fn spelling_of(kind: Kind) -> &'static [u8]
+    ensures { result.now ≡ spec.spelling_of kind }
+{
+    spelling_among(&SPELLINGS, kind)
+}
+
+/// The first of these spellings that is of a kind; nothing where none is.
+fn spelling_among<'t>(spellings: &[(&'t [u8], Kind)], kind: Kind) -> &'t [u8]
+    ensures { result.now ≡ spec.spelling_among (map (λ s. (s.0.now, s.1)) spellings.now) kind }
+{
+    for (spelling, other) in spellings {
+        if is(*other, kind) {
+            return *spelling;
+        }
+    }
+    &[]
+}

@@ -1,0 +1,69 @@
+//! All warnings of a program and its text, in the order of their places.
+
+ghost use Rattle.std.specs.Prelude.{◌≡◌, ◌++◌, ◌≤◌, length, MatchResult, IfOk};
+ghost use Rattle.cov_ast.specs.Plain.{plain};
+ghost use Rattle.cov_ast.specs.View as view;
+ghost use Rattle.cov_expr.specs.declared.limits.TheConstants.{MOST_BYTES};
+ghost use Rattle.explain.specs.Warnings as spec;
+
+use crate::hidden::text_warnings;
+use crate::unreached::add_threads;
+use crate::unused::of_declarations;
+use crate::warning::Warning;
+use cov_ast::Program;
+use cov_expr::{List, NoMemory};
+use std::alloc::Global;
+
+/// What is warned of in a program and in the bytes that spell it, in the order of the places.
+pub fn warnings(alloc: Global, program: &Program, bytes: &[u8]) -> Result<List<Warning>, NoMemory>
+    requires { length bytes.now ≤ MOST_BYTES }
+    ensures { IfOk result (λ found. found ≡ spec.warnings (plain (view.program program.now)) bytes.now) }
+{
+    let first = of_program(alloc, program)?;
+    let second = text_warnings(alloc, bytes)?;
+    merged_by_place(alloc, first.as_slice(), second.as_slice())
+}
+
+/// What is warned of in a program, in the order of its text.
+fn of_program(alloc: Global, program: &Program) -> Result<List<Warning>, NoMemory>
+    ensures { IfOk result (λ found. found ≡ spec.of_program (plain (view.program program.now))) }
+{
+    let mut found = of_declarations(alloc, program)?;
+    add_threads(program.threads.as_slice(), &mut found)?;
+    Ok(found)
+}
+
+/// The warnings of two lists, each in the order of the places, in that order.
+fn merged_by_place(
+    alloc: Global,
+    first: &[Warning],
+    second: &[Warning],
+) -> Result<List<Warning>, NoMemory>
+    ensures { IfOk result (λ made. made ≡ spec.merged_by_place first.now second.now) }
+{
+    let mut made = List::new(alloc);
+    let mut rest = second;
+    for warning in first {
+        rest = add_warnings_before(warning.place, rest, &mut made)?;
+        made.push(*warning)?;
+    }
+    made.extend_from_slice(rest)?;
+    Ok(made)
+}
+
+/// Adds the warnings in front of a place, and gives the rest.
+fn add_warnings_before<'a>(
+    place: u32,
+    warnings: &'a [Warning],
+    made: &mut List<Warning>,
+) -> Result<&'a [Warning], NoMemory>
+    ensures { MatchResult result (λ rest. (rest.now ≡ spec.warnings_from place warnings.now) × (made.new ≡ made.old ++ spec.warnings_before place warnings.now)) (λ e. Unit {0}) }
+{
+    for (i, warning) in warnings.iter().enumerate() {
+        if place <= warning.place {
+            return Ok(&warnings[i..]);
+        }
+        made.push(*warning)?;
+    }
+    Ok(&[])
+}

@@ -1,0 +1,101 @@
+//! What is warned of in declarations.
+
+ghost use Rattle.std.specs.Prelude.{◌≡◌, ◌++◌, flat_map, length, map, option_map, IfOk, OnOk};
+ghost use Rattle.cov_ast.specs.Plain.{plain};
+ghost use Rattle.cov_ast.specs.Tables.{table};
+ghost use Rattle.cov_ast.specs.View as view;
+ghost use Rattle.cov_expr.specs.View.{term};
+ghost use Rattle.explain.specs.Unused as spec;
+ghost use Rattle.explain.specs.StatementUses.{is_read, is_written};
+
+use crate::uses::{UseSets, uses};
+use crate::warning::{Cause, Warning};
+use cov_ast::{LockDecl, Program, VarDecl};
+use cov_expr::{Expr, List, NoMemory, closed, eval};
+use std::alloc::Global;
+
+/// What is warned of in the declarations of a program, in their order.
+pub fn of_declarations(alloc: Global, program: &Program) -> Result<List<Warning>, NoMemory>
+    ensures { IfOk result (λ found. found ≡ spec.of_declarations (plain (view.program program.now))) }
+{
+    let uses = uses(alloc, program)?;
+    let mut found = List::new(alloc);
+    add_variables(program, &uses, &mut found)?;
+    add_locks(program.locks.as_slice(), &mut found)?;
+    Ok(found)
+}
+
+/// Adds what is warned of variables.
+fn add_variables(
+    program: &Program,
+    uses: &UseSets,
+    found: &mut List<Warning>,
+) -> Result<(), NoMemory>
+    requires read { uses.now.read ≡ table (length program.now.vars) (is_read (plain (view.program program.now))) }
+    requires written { uses.now.written ≡ table (length program.now.vars) (is_written (plain (view.program program.now))) }
+    ensures { OnOk result (found.new ≡ found.old ++ spec.of_variables (plain (view.program program.now)) 0 (map view.var program.now.vars)) }
+{
+    for (x, var) in program.vars.as_slice().iter().enumerate() {
+        let read = uses.read.has_index(x);
+        let written = uses.written.has_index(x);
+        add_use(var, read, written, found)?;
+    }
+    Ok(())
+}
+
+/// Adds what is warned of a variable that is read, or isn't, and is written, or isn't.
+fn add_use(
+    var: &VarDecl,
+    read: bool,
+    written: bool,
+    found: &mut List<Warning>,
+) -> Result<(), NoMemory>
+    ensures { OnOk result (found.new ≡ found.old ++ spec.of_use (view.var var.now) read written) }
+{
+    if !read {
+        found.push(Warning {
+            place: var.at,
+            cause: Cause::NeverRead(var.name),
+        })?;
+    }
+    if !written {
+        found.push(Warning {
+            place: var.at,
+            cause: Cause::NeverWritten(var.name),
+        })?;
+    }
+    Ok(())
+}
+
+/// Adds what is warned of locks.
+fn add_locks(locks: &[LockDecl], found: &mut List<Warning>) -> Result<(), NoMemory>
+    ensures { OnOk result (found.new ≡ found.old ++ flat_map spec.of_lock (map view.lock locks.now)) }
+{
+    for lock in locks {
+        if is_false(&lock.inv) {
+            found.push(Warning {
+                place: lock.at,
+                cause: Cause::FalseInvariant(lock.name),
+            })?;
+        }
+    }
+    Ok(())
+}
+
+/// Whether an invariant is there, and is 0 without a look at memory.
+fn is_false(inv: &Option<Expr>) -> bool
+    ensures { result ≡ spec.is_false (option_map term inv.now) }
+{
+    match inv {
+        Some(e) => is_closed_false(e),
+        None => false,
+    }
+}
+
+/// Whether an expression is 0 without a look at memory.
+#[tactic(auto, using(crate::proofs::ClosedLaws::closed_in_range))]
+pub fn is_closed_false(e: &Expr) -> bool
+    ensures { result ≡ spec.is_closed_false (term e.now) }
+{
+    closed(e) && eval(e, &[]) == 0
+}

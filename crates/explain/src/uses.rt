@@ -1,0 +1,93 @@
+//! Which variables the statements of a program read and write.
+
+ghost use Rattle.std.specs.Prelude.{◌≡◌, flat_map, length, map, IfOk};
+ghost use Rattle.cov_ast.specs.Plain.{plain, plain_block};
+ghost use Rattle.cov_ast.specs.Tables.{table, with_all};
+ghost use Rattle.cov_ast.specs.View as view;
+ghost use Rattle.cov_expr.specs.Trees.{occurrences};
+ghost use Rattle.cov_expr.specs.View.{term};
+ghost use Rattle.explain.specs.Inside.{block_reads, block_writes, stm_reads, stm_writes};
+ghost use Rattle.explain.specs.StatementUses.{is_read, is_written};
+
+use cov_ast::{NumberSet, Program, Stmt, StmtKind, ThreadDecl};
+use cov_expr::{Expr, NoMemory};
+use std::alloc::Global;
+
+/// The variables that the statements of a program read, and those that they write.
+#[derive(Drop)]
+pub struct UseSets {
+    pub read: NumberSet,
+    pub written: NumberSet,
+}
+
+/// What the statements of a program read and write. Each statement is looked at once.
+pub fn uses(alloc: Global, program: &Program) -> Result<UseSets, NoMemory>
+    ensures read { IfOk result (λ made. made.read ≡ table (length program.now.vars) (is_read (plain (view.program program.now)))) }
+    ensures written { IfOk result (λ made. made.written ≡ table (length program.now.vars) (is_written (plain (view.program program.now)))) }
+{
+    let mut read = NumberSet::new(alloc, program.vars.len())?;
+    let mut written = NumberSet::new(alloc, program.vars.len())?;
+    add_threads(program.threads.as_slice(), &mut read, &mut written);
+    Ok(UseSets { read, written })
+}
+
+/// Adds what the statements of threads read and write.
+fn add_threads(threads: &[ThreadDecl], read: &mut NumberSet, written: &mut NumberSet)
+    ensures read { read.new ≡ with_all read.old (flat_map (λ t. block_reads t.body) (map view.thread threads.now)) }
+    ensures written { written.new ≡ with_all written.old (flat_map (λ t. block_writes t.body) (map view.thread threads.now)) }
+{
+    for thread in threads {
+        add_block(thread.body.as_slice(), read, written);
+    }
+}
+
+/// Adds what the statements of a block read and write.
+#[cycle(blocks)]
+fn add_block(body: &[Stmt], read: &mut NumberSet, written: &mut NumberSet)
+    ensures read { read.new ≡ with_all read.old (block_reads (view.block body.now)) }
+    ensures written { written.new ≡ with_all written.old (block_writes (view.block body.now)) }
+{
+    for stmt in body {
+        add_kind(&stmt.kind, read, written);
+    }
+}
+
+/// Adds what a statement and those in its blocks read and write.
+#[cycle(blocks)]
+fn add_kind(kind: &StmtKind, read: &mut NumberSet, written: &mut NumberSet)
+    ensures read { read.new ≡ with_all read.old (stm_reads (view.kind kind.now)) }
+    ensures written { written.new ≡ with_all written.old (stm_writes (view.kind kind.now)) }
+{
+    match kind {
+        StmtKind::Skip | StmtKind::Lock(_) | StmtKind::Unlock(_) | StmtKind::Note(_) => {}
+        StmtKind::Assign(x, e, _, _) => {
+            add_read(e, read);
+            written.put(*x, true);
+        }
+        StmtKind::If(e, a, b, _) => {
+            add_read(e, read);
+            add_block(a.as_slice(), read, written);
+            add_block(b.as_slice(), read, written);
+        }
+        StmtKind::While(e, _, b) => {
+            add_read(e, read);
+            add_block(b.as_slice(), read, written);
+        }
+        StmtKind::Output(e) => add_read(e, read),
+    }
+}
+
+/// Adds the variables of an expression that is evaluated.
+fn add_read(e: &Expr, read: &mut NumberSet)
+    ensures { read.new ≡ with_all read.old (occurrences (term e.now)) }
+{
+    match e {
+        Expr::Const(_) => {}
+        Expr::Var(x) => read.put(*x, true),
+        Expr::Not(a) => add_read(a, read),
+        Expr::Bin(_, a, b) => {
+            add_read(a, read);
+            add_read(b, read);
+        }
+    }
+}

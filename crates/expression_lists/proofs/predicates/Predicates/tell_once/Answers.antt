@@ -1,9 +1,0 @@
-use Rattle.std.proofs.Common.{ap, map}
-use Rattle.cov_expr.specs.View.{term}
-use Rattle.expression_lists.specs.Keys.{key}
-use Rattle.expression_lists.proofs.KeyedLaws.{each_once}
-use Rattle.expression_lists.proofs.predicates.Predicates.tell_once.Goals as goal
-
-pub returns : goal.returns
-returns c =
-    each_once (map key (map term c.self.inside.list)) (map term c.args.self.now) (ap (λ es. map key (map term es)) c.self.view_is) c.self.invariant.0

@@ -1,6 +1,0 @@
-use Rattle.std.proofs.Common.{[]}
-use Rattle.given_trees.proofs.BlockLaws.{stands_at}
-use Rattle.given_trees.proofs.programs.name_of.Goals as goal
-
-pub returns : goal.returns
-returns c = stands_at c.args.names.now c.args.id c.name.result [] c.requires c.name.ensures

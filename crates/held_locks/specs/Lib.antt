@@ -1,2 +1,0 @@
-pub mod LocksHeld
-pub mod VariableSets

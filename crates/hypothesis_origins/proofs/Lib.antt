@@ -1,4 +1,0 @@
-pub mod Examples
-pub mod OriginLaws
-pub mod LastOrigin
-pub mod PointLaws

@@ -1,7 +1,0 @@
-use Rattle.std.proofs.Common.{ap}
-use Rattle.std.specs.Option.{is_some}
-use Rattle.hypothesis_origins.proofs.OriginLaws.{has_origin}
-use Rattle.hypothesis_origins.proofs.laws.predicates_have_origins.Goals as goal
-
-pub returns : goal.returns
-returns c p t ss e h = ap is_some (has_origin p t ss e h).1

@@ -1,4 +1,0 @@
-pub mod GivenViews
-pub mod Origins
-pub mod Points
-pub mod Remarks

@@ -1,3 +1,0 @@
-pub mod LeftOut
-pub mod LeftOutLines
-pub mod WouldBeKnown

@@ -1,5 +1,0 @@
-pub mod WrittenViews
-pub mod CertViews
-pub mod StateViews
-pub mod StmtViews
-pub mod DeclViews

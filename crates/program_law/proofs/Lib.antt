@@ -1,5 +1,0 @@
-mod Parts
-mod Placed
-mod Places
-mod Discipline
-mod Examples

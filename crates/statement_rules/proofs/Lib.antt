@@ -1,3 +1,0 @@
-mod GuardLaws
-mod StateLaws
-pub mod StatementLaws

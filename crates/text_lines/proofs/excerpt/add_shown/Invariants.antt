@@ -1,7 +1,0 @@
-use Rattle.std.proofs.Common.{◌≡◌, ◌++◌, drop, map}
-use Rattle.text_lines.specs.Excerpts as spec
-use Rattle.text_lines.proofs.excerpt.add_shown.Given as goal
-
--- what is written, and what is left, is all of it
-abbrev pub invariant-loop-byte : goal.invariant-loop-byte
-invariant-loop-byte l = l.text ++ map spec.shown (drop l.byte-index l.bytes) ≡ l.fn.text ++ map spec.shown l.bytes

@@ -1,6 +1,0 @@
-use Rattle.cov_text.proofs.NameNumbers.{Numbering}
-use Rattle.text_tokens.proofs.tokens.number_names.Given as goal
-
--- the names so far have their numbers
-abbrev pub invariant-loop-i : goal.invariant-loop-i
-invariant-loop-i l = Numbering l.bytes l.names l.tokens l.i

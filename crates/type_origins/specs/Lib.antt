@@ -1,5 +1,0 @@
-pub mod TypeOrigins
-pub mod AskedVariables
-pub mod GoalTypes
-pub mod TypeLines
-pub mod TypesFromOrigins

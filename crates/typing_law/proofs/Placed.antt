@@ -1,0 +1,166 @@
+-- What the statements of a thread keep, with the locks that are held before each and after it: statements without
+-- annotations, each with the held locks of its place.
+use Rattle.std.proofs.Common.{◌≡◌, ℕ, zero, suc, ◌<◌, ◌≤◌, ◌+◌, not, nat_le, List, [], ◌∷◌, ◌++◌, length, set, Bool, true, false, refl, sym, ◌∙◌, subst, arith, IsTrue, inl, inr, length-set, count_by}
+use Rattle.std.specs.List.{list_all, range_with_len}
+use Rattle.std.proofs.lemmas.Bool.{and_parts, cases_lt}
+use Rattle.std.proofs.lemmas.List.{ext_get_or}
+use Rattle.cov_expr.specs.Term.{Term, neg}
+use Rattle.cov_expr.specs.Trees.{occurrences, width}
+use Rattle.cov_expr.proofs.Tests.{each_below}
+use Rattle.cov_ast.specs.Obligations.{Obligation, all_hold}
+use Rattle.cov_ast.specs.Plain.{Cmd, Cmds, none, next, Plain, plain_stm, plain_block}
+use Rattle.cov_ast.specs.Plain as code
+use Rattle.cov_ast.specs.Syntax.{Proof, Stm, skip, assign, lock, unlock, branch, loop, note, output, Block, done, more}
+use Rattle.cov_ast.specs.Tables.{has}
+use Rattle.cov_ast.specs.WellFormed.{IsStmInRange, IsBlockInRange}
+use Rattle.cov_ast.proofs.ObligationLaws.{both_hold}
+use Rattle.mode_state.specs.Sets.{is_stable, may_write}
+use Rattle.point_law.specs.Point.{Point}
+use Rattle.point_law.specs.After.{with_guard, meet}
+use Rattle.typing_law.specs.Blocks.{after_stm, after_block}
+use Rattle.typing_law.specs.ThreadObligations.{flat, agree, same_held, reads, one_unstable, narrow, assign_parts, unlock_parts, stm_parts, block_obligations}
+use Rattle.typing_law.proofs.Soundness.Sound.{agreed}
+use Rattle.typing_law.specs.Disciplined.{points_within, points}
+
+module _ (p : Plain) (t : ℕ) where
+  -- what the rules ask of an expression that is evaluated
+  pub record Reads (held : List Bool) (e : Term) : Type 0 where
+    pub narrow : IsTrue (nat_le (width e) 7)
+    pub one_unstable : IsTrue (nat_le (count_by (λ x. not (is_stable p t held x)) (occurrences e)) 1)
+
+  module _ (at_place : ℕ → List Bool) where
+    abbrev mutual
+      -- from the locks that are held before a statement to those that are held after it
+      pub PlacedCmd : Cmd → (before after : List Bool) → Type 0
+      PlacedCmd code.skip H K = H ≡ K
+      PlacedCmd (code.assign x e) H K = IsTrue (may_write p t H x) × Reads H e × (H ≡ K)
+      PlacedCmd (code.lock l) H K = (l < length p.locks) × (set H l true ≡ K)
+      PlacedCmd (code.unlock l) H K = (l < length p.locks) × IsTrue (has H l) × (set H l false ≡ K)
+      PlacedCmd (code.branch e a b) H K = Reads H e × Placed a H K × Placed b H K
+      PlacedCmd (code.loop e a) H K = Reads H e × Placed a H H × (H ≡ K)
+      PlacedCmd (code.output e) H K = Reads H e × (H ≡ K)
+
+      pub Placed : Cmds → (before after : List Bool) → Type 0
+      Placed none H K = H ≡ K
+      Placed (next at c cs) H K = (M : List Bool) × (at_place at ≡ H) × PlacedCmd c H M × Placed cs M K
+
+-- Obligations ----------------------------------------------------------------------------------------------------
+
+abbrev AllHold : List (List Obligation) → Type 0
+AllHold [] = Unit {0}
+AllHold (es ∷ ess) = IsTrue (all_hold es) × AllHold ess
+
+parts : (ess : List (List Obligation)) → IsTrue (all_hold (flat ess)) → AllHold ess
+parts [] h = tt
+parts (es ∷ ess) h = let both = both_hold es (flat ess) h in (both.0, parts ess both.1)
+
+one_holds : (e : Obligation) → IsTrue (all_hold (e ∷ [])) → IsTrue e.holds
+one_holds e h = (and_parts e.holds true h).0
+
+-- Held locks -----------------------------------------------------------------------------------------------------
+
+-- where the same locks are held, the lists are the same
+same_lists : (p : Plain) (H K : List Bool) → length H ≡ length p.locks → length K ≡ length p.locks → IsTrue (same_held p H K) → H ≡ K
+same_lists p H K h k same =
+    ext_get_or false H K (h ∙ sym k)
+    (λ l lt. agreed (has H l) (has K l) (each_below (λ l. agree (has H l) (has K l)) 0 (length p.locks) l (omega arith) (omega (arith, lt, h)) same))
+
+-- Points ---------------------------------------------------------------------------------------------------------
+
+-- the place of each point has its held locks
+module _ (at_place : ℕ → List Bool) where
+  abbrev pub AreFound : List (ℕ × Point) → Type 0
+  AreFound [] = Unit {0}
+  AreFound (r ∷ rs) = (at_place r.0 ≡ r.1.held) × AreFound rs
+
+  found_left : (rs qs : List (ℕ × Point)) → AreFound (rs ++ qs) → AreFound rs
+  found_left [] qs h = tt
+  found_left (r ∷ rs) qs h = (h.0, found_left rs qs h.1)
+
+  found_right : (rs qs : List (ℕ × Point)) → AreFound (rs ++ qs) → AreFound qs
+  found_right [] qs h = h
+  found_right (r ∷ rs) qs h = found_right rs qs h.1
+
+module _ (p : Plain) (t : ℕ) where
+  -- A statement keeps of how many locks a point tells.
+  mutual
+    stm_sized : (s : Stm) (a : Point) → length (after_stm p t s a).held ≡ length a.held
+    stm_sized skip a = refl
+    stm_sized (assign x e q retypes) a = refl
+    stm_sized (lock l) a = length-set a.held l true
+    stm_sized (unlock l) a = length-set a.held l false
+    stm_sized (branch e yes_block no_block join) a = block_sized yes_block (with_guard p t a e)
+    stm_sized (loop e inv b) a = refl
+    stm_sized (note j) a = refl
+    stm_sized (output e) a = refl
+
+    pub block_sized : (b : Block) (a : Point) → length (after_block p t b a).held ≡ length a.held
+    block_sized done a = refl
+    block_sized (more at s proofs b) a = block_sized b (after_stm p t s a) ∙ stm_sized s a
+
+  module _ (at_place : ℕ → List Bool) where
+    guard_reads : (at : ℕ) (H : List Bool) (e : Term)
+        → IsTrue (all_hold (reads p t at H e ++ one_unstable p t at H e ++ narrow p t at e)) → Reads p t H e
+    guard_reads at H e h =
+        let first = both_hold (reads p t at H e ++ one_unstable p t at H e) (narrow p t at e) h in
+        let second = both_hold (reads p t at H e) (one_unstable p t at H e) first.0 in
+        record { narrow = (and_parts (nat_le (width e) 7) true first.1).0; one_unstable = (and_parts _ true second.1).0 }
+
+    mutual
+      -- a statement in front of others
+      placed_stm : (s : Stm) (at : ℕ) (proofs : List Proof) (rest : Cmds) (a : Point) (K : List Bool)
+          → length a.held ≡ length p.locks → IsStmInRange (length p.vars) (length p.locks) s
+          → IsTrue (all_hold (flat (stm_parts p t s at proofs a))) → at_place at ≡ a.held → AreFound at_place (points_within p t s a)
+          → Placed p t at_place rest (after_stm p t s a).held K → Placed p t at_place (plain_stm s at rest) a.held K
+      placed_stm skip at proofs rest a K n r h e f k = (a.held, e, refl, k)
+      placed_stm (assign x v q retypes) at proofs rest a K n r h e f k =
+          let hs = parts (assign_parts p t at a x v q retypes proofs) h in
+          let fine : Reads p t a.held v = record { narrow = (and_parts _ true hs.1.1.1.0).0; one_unstable = (and_parts _ true hs.1.1.0).0 } in
+          (a.held, e, ((and_parts (may_write p t a.held x) true hs.1.0).0, fine, refl), k)
+      placed_stm (lock l) at proofs rest a K n r h e f k = (set a.held l true, e, (r, refl), k)
+      placed_stm (unlock l) at proofs rest a K n r h e f k =
+          let hs = parts (unlock_parts p t at a l proofs) h in
+          (set a.held l false, e, (r, (and_parts (has a.held l) true hs.0).0, refl), k)
+      placed_stm (branch g yes_block no_block join) at proofs rest a K n r h e f k =
+          let yes = with_guard p t a g in
+          let no = with_guard p t a (neg g) in
+          let yes_held = (after_block p t yes_block yes).held in
+          let no_held = (after_block p t no_block no).held in
+          let hs = parts (stm_parts p t (branch g yes_block no_block join) at proofs a) h in
+          let same = same_lists p yes_held no_held (block_sized yes_block yes ∙ n) (block_sized no_block no ∙ n) (and_parts _ true hs.1.1.1.1.1.1.0).0 in (
+            yes_held,
+            e,
+            (
+              guard_reads at a.held g hs.0,
+              placed_block yes_block yes n r.1 hs.1.1.1.1.0 (found_left at_place (points p t yes_block yes) (points p t no_block no) f),
+              subst (λ M. Placed p t at_place (plain_block no_block) a.held M) (sym same)
+                  (placed_block no_block no n r.2 hs.1.1.1.1.1.0 (found_right at_place (points p t yes_block yes) (points p t no_block no) f)),
+            ),
+            k,
+          )
+      placed_stm (loop g inv b) at proofs rest a K n r h e f k =
+          let from = with_guard p t (meet p t a inv) g in
+          let hs = parts (stm_parts p t (loop g inv b) at proofs a) h in
+          let same = same_lists p (after_block p t b from).held a.held (block_sized b from ∙ n) n (and_parts _ true hs.1.1.1.1.1.1.0).0 in (
+            a.held,
+            e,
+            (
+              guard_reads at a.held g hs.1.0,
+              subst (λ M. Placed p t at_place (plain_block b) a.held M) same (placed_block b from n r.2 hs.1.1.1.1.1.0 f),
+              refl,
+            ),
+            k,
+          )
+      placed_stm (note j) at proofs rest a K n r h e f k = k
+      placed_stm (output g) at proofs rest a K n r h e f k =
+          (a.held, e, (guard_reads at a.held g (parts (stm_parts p t (output g) at proofs a) h).0, refl), k)
+
+      pub placed_block : (b : Block) (a : Point) → length a.held ≡ length p.locks → IsBlockInRange (length p.vars) (length p.locks) b
+          → IsTrue (all_hold (block_obligations p t b a)) → AreFound at_place (points p t b a)
+          → Placed p t at_place (plain_block b) a.held (after_block p t b a).held
+      placed_block done a n r h f = refl
+      placed_block (more at s proofs b) a n r h f =
+          let both = both_hold (flat (stm_parts p t s at proofs a)) (block_obligations p t b (after_stm p t s a)) h in
+          placed_stm s at proofs (plain_block b) a (after_block p t b (after_stm p t s a)).held n r.0 both.0 f.0
+          (found_left at_place (points_within p t s a) (points p t b (after_stm p t s a)) f.1)
+          (placed_block b (after_stm p t s a) (stm_sized s a ∙ n) r.2 both.1 (found_right at_place (points_within p t s a) (points p t b (after_stm p t s a)) f.1))

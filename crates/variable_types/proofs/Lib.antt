@@ -1,5 +1,0 @@
-mod GroupLaws
-pub mod NextLaws
-mod SharedLaws
-mod TypeLaws
-pub mod VariableLaws
