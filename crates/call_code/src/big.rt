@@ -27,8 +27,8 @@ ghost use Rattle.schedule_replay.specs.CodeReplays.{CodeAgreesThroughout};
 ghost use Rattle.schedule_replay.specs.Replays.{AgreeThroughout};
 ghost use Rattle.source_machine.specs.SourceMachine.{run_of};
 
+use crate::codes::{Coded, check_starts, coded_text, start};
 use crate::summaries::{add_code_part, add_head, add_source_part};
-use call_code::codes::{Coded, check_starts, coded_text, start};
 use call_inputs::{read_entries, read_text};
 use call_reports::{Answer, Stop};
 use cov_ast::{Parsed, Program, VarDecl};

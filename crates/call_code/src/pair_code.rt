@@ -15,7 +15,7 @@ ghost use Rattle.cov_ast.specs.View as view;
 ghost use Rattle.flow_model.specs.Agreement.{AreFitStarts};
 ghost use Rattle.flow_model.specs.FirstDifference.{first_bad_start};
 
-use call_code::codes::{Coded, check_starts, coded_text, start};
+use crate::codes::{Coded, check_starts, coded_text, start};
 use call_inputs::{PairInput, read_pair};
 use call_reports::{Answer, Stop, code_pair_report};
 use cov_expr::{Blob, List, NoMemory};

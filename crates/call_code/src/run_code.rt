@@ -11,7 +11,7 @@ ghost use Rattle.call_reports.specs.AnswerViews.{Gets};
 ghost use Rattle.call_reports.specs.Replies as replies;
 ghost use Rattle.cov_ast.specs.View as view;
 
-use call_code::codes::{Coded, coded_text, start};
+use crate::codes::{Coded, coded_text, start};
 use call_inputs::{RunInput, read_run};
 use call_reports::{Answer, Stop, code_report};
 use cov_expr::{Blob, List, NoMemory};

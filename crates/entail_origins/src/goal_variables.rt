@@ -5,9 +5,9 @@ ghost use Rattle.cov_expr.specs.View.{term};
 ghost use Rattle.cov_ast.specs.View as view;
 ghost use Rattle.entail_origins.specs.AskedVariables as spec;
 
+use crate::kinds::Question;
 use cov_ast::StmtKind;
 use cov_expr::{Expr, List, NoMemory, vars};
-use entail_origins::Question;
 use std::alloc::Global;
 
 /// The variables whose types make up the goal of what is asked of a statement, each once.

@@ -11,10 +11,11 @@ ghost use Rattle.statement_paths.specs.Paths as paths;
 ghost use Rattle.point_law.specs.Terms.{each_variable};
 ghost use Rattle.entail_origins.specs.LeftOut as spec;
 
+use crate::given::{Given, add_given};
+use crate::hypothesis_origin::{HypothesisSource, Origin};
 use crate::left_out_states::StateAt;
 use cov_ast::{NumberSet, Program};
 use cov_expr::{Expr, List, NoMemory, Op, closed, has_same, mentions, same};
-use entail_origins::{Given, HypothesisSource, Origin, add_given};
 use statement_paths::Step;
 use std::alloc::Global;
 

@@ -9,13 +9,14 @@ ghost use Rattle.statement_paths.specs.Paths as paths;
 ghost use Rattle.entail_origins.specs.LeftOut.{seen};
 ghost use Rattle.entail_origins.specs.LeftOutLines as spec;
 
+use crate::hypothesis_origin::Origin;
 use crate::left_out_found::LeftOut;
 use crate::left_out_search::left_out;
 use crate::left_out_states::{StateAt, StateKind};
+use crate::remark::add_origin;
 use cov_ast::{NameTable, Program};
 use cov_expr::{Blob, Expr, NoMemory};
 use cov_print::add_expr;
-use entail_origins::{Origin, add_origin};
 use statement_paths::{Step, stable_after_steps};
 use std::alloc::Global;
 use text_parts::{add_number, position, variable_names};

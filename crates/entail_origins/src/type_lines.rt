@@ -10,6 +10,7 @@ ghost use Rattle.entail_origins.specs.TypeLines as spec;
 ghost use Rattle.entail_origins.specs.TypeOrigins.{history, locks_over};
 
 use crate::goal_variables::variables_of;
+use crate::kinds::Question;
 use crate::known_types::{Known, known_after_steps};
 use crate::type_classes::{add_class, add_default, add_shared, add_start};
 use crate::type_origin::{By, History, Later, TypeChange, TypeOrigin, TypeSource};
@@ -17,7 +18,6 @@ use crate::type_steps::{history_of, locks_over};
 use crate::type_words::{change_end, change_word, list_word, listed_text, source_end};
 use cov_ast::{NameTable, Program, StmtKind};
 use cov_expr::{Blob, NoMemory};
-use entail_origins::Question;
 use statement_paths::Step;
 use std::alloc::Global;
 use text_parts::{add_lock_name, add_number, add_variable_name, position, variable_names};

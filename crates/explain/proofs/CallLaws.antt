@@ -25,7 +25,7 @@ use Rattle.cov_io.specs.declared.shelf.ShelfFault.TheVariants as fails
 use Rattle.cov_io.proofs.ShelfLaws.{passes_none}
 use Rattle.explain.specs.Explanations.{explanation_at, where_is, sentence_of, place_of}
 use Rattle.explain.specs.FileCalls.{Answers, EndsAt, Explains, FollowsFile, IsChecked, Outcome, Tells, TellsAll, first_status, out_of_memory, told, usage_line}
-use Rattle.explain.specs.Inside.{AddsTold, IsLeft}
+use Rattle.explain.specs.Inside.Told.{AddsTold, IsLeft}
 use Rattle.explain.specs.Tellings.{IsTold}
 use Rattle.text_parts.specs.Excerpts.{excerpt}
 

@@ -12,7 +12,7 @@ use Rattle.cov_ast.specs.Syntax.{Stm, Block, done, more, Thread, Program}
 use Rattle.cov_ast.specs.Syntax as s
 use Rattle.cov_ast.specs.WellFormed.{IsWellFormed, are_distinct, places, places_within}
 use Rattle.flow_model.specs.Source.{items_of, items_then, first_place, begin, after}
-use Rattle.explain.specs.Inside.{stm_front, cuts_off, stm_unreached, block_unreached}
+use Rattle.explain.specs.Inside.StatementWalks.{stm_front, cuts_off, stm_unreached, block_unreached}
 use Rattle.explain.specs.NeverReached.{is_closed_true, of_front, of_thread}
 use Rattle.explain.specs.Unused.{is_closed_false, warned}
 use Rattle.explain.specs.declared.warning.Warning.{Warning}

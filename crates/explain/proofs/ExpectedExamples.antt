@@ -8,7 +8,7 @@ use Rattle.cov_grammar.specs.Reading.{rule_of}
 use Rattle.cov_grammar.specs.Grammar.{names, atom, template_atom, unary, prod, sum, band, bxor, bor, cmp, both, either, part, arguments, last_certs, more_certs, certificate, proof, proofs, types, state, retype, assigned, branched, looped, statement, braces, class, var_decl, lock_decl, modes_behind, two_modes, thread_decl, version, program, body}
 use Rattle.explain.specs.ExpectedTokens.{token_of, candidates, is_front, is_whole}
 use Rattle.explain.specs.ExpectedLines.{line_of, line_front, spelling_of}
-use Rattle.explain.specs.Inside.{could_follow}
+use Rattle.explain.specs.Inside.Following.{could_follow}
 use Rattle.explain.specs.declared.next.Next.TheVariants as n
 
 -- Tokens -------------------------------------------------------------------------------------------------------

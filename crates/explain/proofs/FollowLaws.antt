@@ -16,7 +16,7 @@ use Rattle.cov_text.specs.Text.{or_none, lexed_of, numbered_of, words_of}
 use Rattle.cov_text.specs.Versioned.{versioned, of_first, foreign, behind_version, is_other_number}
 use Rattle.explain.specs.ExpectedLines.{are_version}
 use Rattle.explain.specs.ExpectedTokens.{is_front, is_whole, token_of, could_stand, of_kinds, candidates, following}
-use Rattle.explain.specs.Inside.{fitted, names_version, could_follow}
+use Rattle.explain.specs.Inside.Following.{fitted, names_version, could_follow}
 use Rattle.explain.specs.declared.next.Next.{Next}
 use Rattle.explain.specs.declared.next.Next.TheVariants as n
 

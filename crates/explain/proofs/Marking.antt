@@ -13,7 +13,7 @@ use Rattle.cov_ast.proofs.TableLaws.{with_all_append}
 use Rattle.cov_expr.specs.Trees.{occurrences}
 use Rattle.cov_expr.specs.View.{term}
 use Rattle.cov_expr.specs.declared.expr.Expr.{Expr}
-use Rattle.explain.specs.Inside.{stm_reads, block_reads, stm_writes, block_writes}
+use Rattle.explain.specs.Inside.StatementWalks.{stm_reads, block_reads, stm_writes, block_writes}
 
 -- the marks of a list of two parts
 pub marked_of : (old mid new : List Bool) (all xs ys : List ℕ) → all ≡ xs ++ ys → mid ≡ with_all old xs → new ≡ with_all mid ys → new ≡ with_all old all

@@ -7,7 +7,7 @@ use Rattle.cov_ast.specs.Plain.{plain_stm, plain_block, plain_thread}
 use Rattle.cov_ast.specs.View as view
 use Rattle.cov_ast.specs.declared.stmt.Stmt.{Stmt}
 use Rattle.cov_ast.specs.declared.stmt.StmtKind.TheFolds.{fold_out-Stmt}
-use Rattle.explain.specs.Inside.{stm_front, cuts_off, stm_unreached, block_unreached}
+use Rattle.explain.specs.Inside.StatementWalks.{stm_front, cuts_off, stm_unreached, block_unreached}
 use Rattle.explain.specs.NeverReached.{is_closed_true, of_front, of_block, of_thread}
 use Rattle.explain.specs.Unused.{is_closed_false}
 use Rattle.explain.specs.declared.warning.Warning.{Warning}

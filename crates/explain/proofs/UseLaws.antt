@@ -6,7 +6,7 @@ use Rattle.cov_ast.specs.Plain.{Cmds, plain_stm, plain_block, plain_thread, plai
 use Rattle.cov_ast.specs.Tables.{table, with_all}
 use Rattle.cov_ast.proofs.TableLaws.{with_all_none}
 use Rattle.cov_expr.specs.Trees.{occurrences}
-use Rattle.explain.specs.Inside.{stm_reads, block_reads, stm_writes, block_writes}
+use Rattle.explain.specs.Inside.StatementWalks.{stm_reads, block_reads, stm_writes, block_writes}
 use Rattle.explain.specs.StatementUses.{read_in, written_in, is_read, is_written}
 
 mutual

@@ -3,7 +3,7 @@
 ghost use Rattle.std.specs.Prelude.{◌≡◌, ◌≤◌, [], map, string_bytes};
 ghost use Rattle.cov_io.specs.Shelves.{Passes};
 ghost use Rattle.explain.specs.FileCalls.{Answers, Explains};
-ghost use Rattle.explain.specs.Inside.{IsLeft, outcome_of};
+ghost use Rattle.explain.specs.Inside.Told.{IsLeft, outcome_of};
 
 use crate::files::tell_all;
 use call_reports::Status;

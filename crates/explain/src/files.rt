@@ -11,7 +11,7 @@ ghost use Rattle.call_reports.specs.declared.answers.Status.TheVariants as s;
 ghost use Rattle.cov_expr.specs.declared.limits.TheConstants.{MOST_BYTES};
 ghost use Rattle.explain.specs.FileCalls as spec;
 ghost use Rattle.explain.specs.FileCalls.{TellsAll};
-ghost use Rattle.explain.specs.Inside.{AddsTold, IsLeft, outcome_of};
+ghost use Rattle.explain.specs.Inside.Told.{AddsTold, IsLeft, outcome_of};
 
 use crate::explanation::{add_explanation, add_report};
 use crate::more::add_more;

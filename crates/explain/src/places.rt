@@ -7,7 +7,7 @@ ghost use Rattle.cov_expr.specs.Spellings.{spellings};
 ghost use Rattle.cov_text.specs.Text.{words_of};
 ghost use Rattle.explain.specs.ExpectedLines.{are_version};
 ghost use Rattle.explain.specs.ExpectedTokens as spec;
-ghost use Rattle.explain.specs.Inside as inside;
+ghost use Rattle.explain.specs.Inside.Following as inside;
 
 use crate::fronts::{is_front, is_whole};
 use crate::next::Next;

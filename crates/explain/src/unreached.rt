@@ -3,7 +3,7 @@
 ghost use Rattle.std.specs.Prelude.{◌≡◌, ◌++◌, false, flat_map, map, OnOk};
 ghost use Rattle.cov_ast.specs.View as view;
 ghost use Rattle.cov_expr.specs.View.{term};
-ghost use Rattle.explain.specs.Inside.{block_unreached, cuts_off, stm_front, stm_unreached};
+ghost use Rattle.explain.specs.Inside.StatementWalks.{block_unreached, cuts_off, stm_front, stm_unreached};
 ghost use Rattle.explain.specs.NeverReached as spec;
 
 use crate::unused::is_closed_false;

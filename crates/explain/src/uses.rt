@@ -6,7 +6,7 @@ ghost use Rattle.cov_ast.specs.Tables.{table, with_all};
 ghost use Rattle.cov_ast.specs.View as view;
 ghost use Rattle.cov_expr.specs.Trees.{occurrences};
 ghost use Rattle.cov_expr.specs.View.{term};
-ghost use Rattle.explain.specs.Inside.{block_reads, block_writes, stm_reads, stm_writes};
+ghost use Rattle.explain.specs.Inside.StatementWalks.{block_reads, block_writes, stm_reads, stm_writes};
 ghost use Rattle.explain.specs.StatementUses.{is_read, is_written};
 
 use cov_ast::{NumberSet, Program, Stmt, StmtKind, ThreadDecl};

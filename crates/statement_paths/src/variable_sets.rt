@@ -9,10 +9,10 @@ ghost use Rattle.statement_paths.specs.Paths.{step};
 ghost use Rattle.statement_paths.specs.VariableSets as spec;
 
 use crate::walk::modes_along;
+use crate::way::Step;
 use cov_ast::{NumberSet, Program};
 use cov_expr::{List, NoMemory};
 use mode_state::ModeState;
-use statement_paths::Step;
 use std::alloc::Global;
 
 /// The variables that no other thread writes while a thread holds some locks.

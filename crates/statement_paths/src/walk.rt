@@ -9,10 +9,10 @@ ghost use Rattle.statement_paths.specs.Paths.{step};
 ghost use Rattle.cov_ast.specs.LocksAlong.{no_locks};
 ghost use Rattle.statement_paths.specs.LocksHeld as spec;
 
+use crate::way::Step;
 use cov_ast::{Program, Stmt, StmtKind};
 use cov_expr::NoMemory;
 use mode_state::ModeState;
-use statement_paths::Step;
 use std::alloc::Global;
 
 /// The modes of a thread, with the locks that it holds at the end of steps from the start of its text.

@@ -7,11 +7,11 @@ ghost use Rattle.flow_model.specs.Secure.{IsSecure};
 ghost use Rattle.typing_law.specs.Accepted.{IsAccepted};
 ghost use Rattle.typing_law.specs.Disciplined.{IsDisciplined};
 
-use flow_model::threads_compose;
-use mode_compat::{sets_are_holdings, writable_and_stable_are_disjoint};
-use typing_law::{
+use crate::laws::{
     threads_end_without_locks, true_declarations_are_declared, true_obligations_are_secure,
 };
+use flow_model::threads_compose;
+use mode_compat::{sets_are_holdings, writable_and_stable_are_disjoint};
 
 /// An accepted program is secure: from any two starts that agree on all that is low and meet every lock's invariant, under
 /// every schedule, the two runs agree after each step. It rests on the security of each thread alone and on what keeps the

@@ -9,9 +9,9 @@ ghost use Rattle.typing_law.specs.Accepted.{IsAccepted};
 ghost use Rattle.typing_law.specs.Disciplined.{IsDisciplined};
 ghost use Rattle.typing_law.specs.Verdicts.{counts};
 
+use crate::count::Count;
 use crate::program_laws::{accepted_is_disciplined, accepted_is_secure};
 use cov_ast::Program;
-use typing_law::Count;
 
 /// That a program is accepted, and what follows: it is secure and disciplined. It keeps how much was checked.
 #[derive(Drop)]

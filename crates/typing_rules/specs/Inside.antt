@@ -1,5 +1,4 @@
 -- Words of private contracts. What is promised doesn't rest on them.
 pub mod Passing
-pub mod Walking
--- Words of private contracts. What is promised doesn't rest on them.
 pub mod Seen
+pub mod Walking

@@ -11,7 +11,7 @@
 //! - [`subst_nodes_left`]: how many nodes an expression would have with a part in the place of a variable, counted
 //!   without making it. [`statements`]: how many statements a block has.
 //!
-//! `Walk` of `walk.rt` goes over the statements: those without blocks stand in `statements.rt`, branches and loops in
+//! `Walk` of `walk.rt` goes over the statements: those without blocks stand in `single_statements.rt`, branches and loops in
 //! `branches.rt`. There is one walk for two purposes (`Purpose`). To judge, it tries each obligation and keeps
 //! nothing. To collect what has to follow, it looks at no certificate, and keeps copies of what is wanted of the entailments of
 //! each statement that holds but for its certificates. Where each rule is tried:
@@ -23,8 +23,8 @@
 //! | V3 | `check_one_unstable` | `evaluation.rt` |
 //! | V4 | `check_over_controls` | `types.rt` |
 //! | V5 | `check_stable_if` | `writes.rt` |
-//! | V6 | `Walk::lock` | `statements.rt` |
-//! | V7 | `Walk::unlock` | `statements.rt` |
+//! | V6 | `Walk::lock` | `single_statements.rt` |
+//! | V7 | `Walk::unlock` | `single_statements.rt` |
 //! | V8 | `check_same_locks` | `locks.rt` |
 //! | V9 | `first_unproved`, `require_proved` | `certificates.rt` |
 //! | V10 | `check_narrow` | `evaluation.rt` |
@@ -55,8 +55,8 @@ mod known;
 mod large;
 mod locks;
 mod purpose;
+mod single_statements;
 mod sizes;
-mod statements;
 mod subst_nodes;
 mod thread;
 mod types;

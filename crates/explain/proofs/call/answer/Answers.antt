@@ -1,5 +1,5 @@
 use Rattle.std.proofs.Common.{string_bytes}
-use Rattle.explain.specs.Inside.{IsLeft, outcome_of}
+use Rattle.explain.specs.Inside.Told.{IsLeft, outcome_of}
 use Rattle.explain.proofs.CallLaws.{answers_all}
 use Rattle.explain.proofs.call.answer.Goals as goal
 

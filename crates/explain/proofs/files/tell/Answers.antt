@@ -3,7 +3,7 @@ use Rattle.call_inputs.specs.Readings.{HasRead, stopped, stops, took}
 use Rattle.call_inputs.specs.Steps.{bytes}
 use Rattle.cov_expr.specs.declared.limits.TheConstants.{MOST_BYTES}
 use Rattle.call_reports.specs.AnswerViews.{seen}
-use Rattle.explain.specs.Inside.{AddsTold}
+use Rattle.explain.specs.Inside.Told.{AddsTold}
 use Rattle.explain.proofs.CallLaws.{file_not, file_told, unread_told}
 use Rattle.explain.proofs.files.tell.Goals as goal
 

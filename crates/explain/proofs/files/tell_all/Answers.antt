@@ -1,7 +1,7 @@
 use Rattle.std.proofs.Common.{◌≡◌, Err, map, rules, string_bytes, subst, sym}
 use Rattle.call_reports.specs.declared.answers.Status.TheVariants as s
 use Rattle.explain.specs.FileCalls.{TellsAll}
-use Rattle.explain.specs.Inside.{IsLeft, outcome_of}
+use Rattle.explain.specs.Inside.Told.{IsLeft, outcome_of}
 use Rattle.explain.proofs.CallLaws.{tells_step, tells_stopped}
 use Rattle.explain.proofs.files.tell_all.Goals as goal
 

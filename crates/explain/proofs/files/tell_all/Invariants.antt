@@ -1,7 +1,7 @@
 use Rattle.std.proofs.Common.{map, take, string_bytes}
 use Rattle.call_reports.specs.declared.answers.Status.TheVariants as s
 use Rattle.explain.specs.FileCalls.{TellsAll, told}
-use Rattle.explain.specs.Inside.{IsLeft}
+use Rattle.explain.specs.Inside.Told.{IsLeft}
 use Rattle.explain.proofs.files.tell_all.Given as goal
 
 -- what is told of the files so far

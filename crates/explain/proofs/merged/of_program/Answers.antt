@@ -1,7 +1,7 @@
 use Rattle.std.proofs.Common.{◌++◌, false, map, flat_map, ap, ap₂, ◌∙◌}
 use Rattle.cov_ast.specs.Plain.{plain}
 use Rattle.cov_ast.specs.View as view
-use Rattle.explain.specs.Inside.{block_unreached}
+use Rattle.explain.specs.Inside.StatementWalks.{block_unreached}
 use Rattle.explain.specs.Unused.{of_declarations}
 use Rattle.explain.proofs.UnreachedLaws.{threads_are}
 use Rattle.explain.proofs.merged.of_program.Goals as goal

@@ -1,7 +1,7 @@
 use Rattle.std.proofs.Common.{◌≡◌, ◌++◌, drop, map}
 use Rattle.std.specs.List.{filter}
 use Rattle.explain.specs.ExpectedTokens.{of_kinds}
-use Rattle.explain.specs.Inside.{could_follow}
+use Rattle.explain.specs.Inside.Following.{could_follow}
 use Rattle.explain.proofs.places.add_spelled.Given as goal
 
 -- those found so far, and those among the spellings that are left, are all of them

@@ -1,6 +1,6 @@
 use Rattle.std.proofs.Common.{◌++◌, drop, ◌+◌, ap, ◌∙◌}
 use Rattle.cov_ast.specs.View as view
-use Rattle.explain.specs.Inside.{block_unreached, cuts_off, stm_front, stm_unreached}
+use Rattle.explain.specs.Inside.StatementWalks.{block_unreached, cuts_off, stm_front, stm_unreached}
 use Rattle.explain.proofs.UnreachedLaws.{unreached_next, three_added}
 use Rattle.explain.proofs.unreached.+blocks.Goals as goal
 

@@ -1,6 +1,6 @@
 use Rattle.std.proofs.Common.{◌≡◌, ◌++◌, drop}
 use Rattle.cov_ast.specs.View as view
-use Rattle.explain.specs.Inside.{block_unreached}
+use Rattle.explain.specs.Inside.StatementWalks.{block_unreached}
 use Rattle.explain.proofs.unreached.+blocks.Given as goal
 
 -- what is found, with the rest, is all of it

@@ -2,7 +2,7 @@ use Rattle.std.proofs.Common.{refl, ◌++◌, drop, ◌+◌}
 use Rattle.cov_ast.specs.View as view
 use Rattle.cov_expr.specs.Trees.{occurrences}
 use Rattle.cov_expr.specs.View.{term}
-use Rattle.explain.specs.Inside.{stm_reads, block_reads, stm_writes, block_writes}
+use Rattle.explain.specs.Inside.StatementWalks.{stm_reads, block_reads, stm_writes, block_writes}
 use Rattle.explain.proofs.Marking.{marked_of, branch_reads, branch_writes, loop_reads, reads_next, writes_next, marks_go_on}
 use Rattle.explain.proofs.uses.+blocks.Goals as goal
 

@@ -1,7 +1,7 @@
 use Rattle.std.proofs.Common.{◌≡◌, drop}
 use Rattle.cov_ast.specs.Tables.{with_all}
 use Rattle.cov_ast.specs.View as view
-use Rattle.explain.specs.Inside.{block_reads, block_writes}
+use Rattle.explain.specs.Inside.StatementWalks.{block_reads, block_writes}
 use Rattle.explain.proofs.uses.+blocks.Given as goal
 
 -- what is added, with the rest, is all of it

@@ -1,6 +1,6 @@
 use Rattle.std.proofs.Common.{◌+◌, drop, map, flat_map}
 use Rattle.cov_ast.specs.View as view
-use Rattle.explain.specs.Inside.{block_reads, block_writes}
+use Rattle.explain.specs.Inside.StatementWalks.{block_reads, block_writes}
 use Rattle.explain.proofs.Marking.{marks_go_on, thread_reads_next, thread_writes_next}
 use Rattle.explain.proofs.uses.add_threads.Goals as goal
 

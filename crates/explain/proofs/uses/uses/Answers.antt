@@ -1,7 +1,7 @@
 use Rattle.std.proofs.Common.{false, length, map, flat_map, replicate, ap, ap₂, ◌∙◌}
 use Rattle.cov_ast.specs.Tables.{with_all}
 use Rattle.cov_ast.specs.View as view
-use Rattle.explain.specs.Inside.{block_reads, block_writes}
+use Rattle.explain.specs.Inside.StatementWalks.{block_reads, block_writes}
 use Rattle.explain.proofs.UseLaws.{read_table, written_table}
 use Rattle.explain.proofs.uses.uses.Goals as goal
 
