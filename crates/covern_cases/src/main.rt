@@ -20,8 +20,8 @@
 //!   and `[N]` the status, where it isn't 0. A word with blanks stands between apostrophes. In front of the command may stand what the
 //!   call meets outside: `fetch=N` and `put=N`, that the fetch or the put of this number fails; `step=N`, that a put takes N bytes;
 //!   `room=N`, that the output has room for N bytes; `cut=N`, that there are only N bytes of the file `p`.
-//! - `% PART` calls a part of the product by itself on the text of `p`: `tokens`, `parsed`, `declared`, `certificates` or `listing`
-//!   ([`parts`] says what each shows). `cut=N` may stand in front of it as well.
+//! - `% PART` calls a part of the product by itself on the text of `p`: `tokens`, `parsed`, `declared`, `certificates`,
+//!   `entailments`, `expression` or `listing` ([`parts`] says what each shows). `cut=N` may stand in front of it as well.
 //! - An empty line behind a call ends what it has to show. What stands between there and the next case is a comment.
 //! - `@N TEXT`, in a file or in what a call has to show, stands for TEXT N times, without a line feed at the end. In TEXT `#` is the
 //!   number of the turn, from 0, and `~` a line feed.
@@ -32,6 +32,7 @@
 //! The second form is for measurements: it does a part of the work N times on the program of a file.
 #![tactic(auto)]
 
+mod calls;
 mod case;
 mod certificates;
 mod claim;
@@ -40,8 +41,6 @@ mod lines;
 mod outside;
 mod parts;
 mod play;
-#[cfg(test)]
-mod tests;
 mod top;
 
 use crate::failure::Failure;

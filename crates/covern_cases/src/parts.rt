@@ -4,6 +4,7 @@ ghost use Rattle.cov_expr.specs.declared.limits.TheConstants.{MOST_BYTES, MOST_L
 ghost use Rattle.cov_ast.specs.View as view;
 ghost use Rattle.cov_ast.specs.Ready.{IsReady};
 
+use crate::calls::{add_entailments, add_expression};
 use crate::certificates::add_claims;
 use crate::failure::Failure;
 use code_text::{CodeFault, list, read_code};
@@ -25,6 +26,7 @@ use std::alloc::{AllocError, Global};
 /// - `declared`: whether the rules of declarations hold. Those of modes are measured.
 /// - `certificates`: of each note with a proof whether the certificate is valid, or the path of the first node that fails, `top` for
 ///   the root. The check of a certificate is measured.
+/// - `entailments`, `expression`: what calls answer that no command makes, as `calls.rt` has them.
 /// - `listing`: the listing of the code that the text lists, or the fault. Reading is measured.
 pub fn add_part(
     alloc: Global,
@@ -44,6 +46,8 @@ pub fn add_part(
         "parsed" => add_parsed(alloc, text, out),
         "declared" => add_declared(alloc, times, text, out),
         "certificates" => add_claims(alloc, times, text, out),
+        "entailments" => add_entailments(alloc, text, out),
+        "expression" => add_expression(alloc, text, out),
         _ => Ok(out.extend_from_slice(b"no such part\n")?),
     }
 }
@@ -128,6 +132,7 @@ fn declare(alloc: Global, times: u32, parsed: Parsed) -> Result<(), CheckFault>
     check_modes(alloc, &program)
 }
 
-fn add_text(text: Result<String, AllocError>, out: &mut Blob) -> Result<(), Failure> {
+/// Adds a text that was made.
+pub fn add_text(text: Result<String, AllocError>, out: &mut Blob) -> Result<(), Failure> {
     Ok(out.extend_from_slice(text?.as_bytes())?)
 }
