@@ -10,6 +10,7 @@ later build proves what has changed, and what stands on it.
 Standard output gets what `rt` says. Standard error, where it is a terminal, tells how far the build is. The status is 0 where the program is built, as
 crates/PROGRAM/out/PROGRAM.
 """
+import fcntl
 import os
 import shutil
 import subprocess
@@ -88,7 +89,15 @@ class Build:
         self.began, self.saying = time.monotonic(), threading.Lock()
 
     def prove(self, name):
-        """Proves a crate whose libraries are proved, and builds it. What `rt` said is printed."""
+        """Proves a crate whose libraries are proved, and builds it. What `rt` said is printed. Meanwhile no other `rt` works in the crate's own folder."""
+        folder = os.open(os.path.join(TOP, 'crates', name), os.O_RDONLY)
+        fcntl.flock(folder, fcntl.LOCK_EX)
+        try:
+            return self.prove_alone(name)
+        finally:
+            os.close(folder)
+
+    def prove_alone(self, name):
         with tempfile.TemporaryDirectory(dir=self.room) as room:
             for it in [*self.closures[name], name]:
                 for part in [*PARTS, 'out/rlib'] if it != name else PARTS:
