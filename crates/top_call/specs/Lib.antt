@@ -1,4 +1,3 @@
-pub mod Commands
 pub mod Outcome
 pub mod Headline
 pub mod AcceptedRuns

@@ -3,9 +3,8 @@
 ghost use Rattle.std.specs.Prelude.{◌≡◌, ◌≤◌, IfSome, map, string_bytes};
 ghost use Rattle.call_inputs.specs.Plans.{CarriesOut};
 ghost use Rattle.cov_expr.specs.declared.limits.TheConstants.{MOST_TRIALS};
-ghost use Rattle.top_call.specs.Commands as spec;
-ghost use Rattle.top_call.specs.Commands.{plan_of};
-ghost use Rattle.top_call.specs.Outcome.{plan_for};
+ghost use Rattle.call_commands.specs.Commands as spec;
+ghost use Rattle.call_commands.specs.Commands.{plan_for, plan_of};
 
 use call_code::big::big;
 use call_code::compile::compile;
@@ -25,23 +24,26 @@ use cov_expr::{MOST_EXPRESSION_BYTES, MOST_ROUNDS, MOST_TRIALS};
 use cov_io::Shelf;
 use itoa::Buffer;
 use std::alloc::Global;
+use typing_law::Checker;
 
-/// Does what the words ask for.
-pub fn answer<'w, S: Shelf>(
+/// Does what the words ask for, where a checker checks programs.
+pub fn answer<'w, S: Shelf, C: Checker>(
     alloc: Global,
     words: &'w [String],
     shelf: &mut S,
+    checker: &C,
 ) -> Result<Answer<'w>, Stop<'w>>
     ensures { CarriesOut (S.shelved shelf.old) (S.shelved shelf.new) (plan_for (map string_bytes words.now)) result }
 {
     match words {
-        [command, name] => of_one(alloc, command.as_str(), name.as_str(), shelf),
+        [command, name] => of_one(alloc, command.as_str(), name.as_str(), shelf, checker),
         [command, first, second] => of_two(
             alloc,
             command.as_str(),
             first.as_str(),
             second.as_str(),
             shelf,
+            checker,
         ),
         [command, program, start, schedule] => of_three(
             alloc,
@@ -50,6 +52,7 @@ pub fn answer<'w, S: Shelf>(
             start.as_str(),
             schedule.as_str(),
             shelf,
+            checker,
         ),
         [command, program, start, next, last] => of_four(
             alloc,
@@ -59,30 +62,32 @@ pub fn answer<'w, S: Shelf>(
             next.as_str(),
             last.as_str(),
             shelf,
+            checker,
         ),
         _ => Ok(Answer::Usage),
     }
 }
 
 /// The commands of one file.
-fn of_one<'w, S: Shelf>(
+fn of_one<'w, S: Shelf, C: Checker>(
     alloc: Global,
     command: &str,
     name: &'w str,
     shelf: &mut S,
+    checker: &C,
 ) -> Result<Answer<'w>, Stop<'w>>
     ensures { CarriesOut (S.shelved shelf.old) (S.shelved shelf.new) (plan_of (spec.of_one command.now name.now)) result }
 {
     if command == "check" {
-        check(alloc, name, shelf)
+        check(alloc, name, shelf, checker)
     } else if command == "compile" {
-        compile(alloc, name, shelf)
+        compile(alloc, name, shelf, checker)
     } else if command == "fmt" {
         format(alloc, name, shelf)
     } else if command == "migrate" {
         migrate(alloc, name, shelf)
     } else if command == "object" {
-        object(alloc, name, shelf)
+        object(alloc, name, shelf, checker)
     } else if command == "unobject" {
         unobject(alloc, name, shelf)
     } else {
@@ -91,18 +96,19 @@ fn of_one<'w, S: Shelf>(
 }
 
 /// The commands of a number and a file.
-fn of_two<'w, S: Shelf>(
+fn of_two<'w, S: Shelf, C: Checker>(
     alloc: Global,
     command: &str,
     first: &'w str,
     second: &'w str,
     shelf: &mut S,
+    checker: &C,
 ) -> Result<Answer<'w>, Stop<'w>>
     ensures { CarriesOut (S.shelved shelf.old) (S.shelved shelf.new) (plan_of (spec.of_two command.now first.now second.now)) result }
 {
     if command == "big" {
         match number_of(first, MOST_ROUNDS) {
-            Some(rounds) => big(alloc, rounds, second, shelf),
+            Some(rounds) => big(alloc, rounds, second, shelf, checker),
             None => Ok(Answer::Usage),
         }
     } else if command == "refute" {
@@ -138,13 +144,14 @@ fn is_number(word: &str, number: u32, most: u32) -> bool
 }
 
 /// The commands of three files.
-fn of_three<'w, S: Shelf>(
+fn of_three<'w, S: Shelf, C: Checker>(
     alloc: Global,
     command: &str,
     program: &'w str,
     start: &'w str,
     schedule: &'w str,
     shelf: &mut S,
+    checker: &C,
 ) -> Result<Answer<'w>, Stop<'w>>
     ensures { CarriesOut (S.shelved shelf.old) (S.shelved shelf.new)
         (plan_of (spec.of_three command.now program.now start.now schedule.now)) result }
@@ -152,14 +159,14 @@ fn of_three<'w, S: Shelf>(
     if command == "run" {
         run(alloc, program, start, schedule, shelf)
     } else if command == "run-code" {
-        run_code(alloc, program, start, schedule, shelf)
+        run_code(alloc, program, start, schedule, shelf, checker)
     } else {
         Ok(Answer::Usage)
     }
 }
 
 /// The commands of four words.
-fn of_four<'w, S: Shelf>(
+fn of_four<'w, S: Shelf, C: Checker>(
     alloc: Global,
     command: &str,
     program: &'w str,
@@ -167,6 +174,7 @@ fn of_four<'w, S: Shelf>(
     next: &'w str,
     last: &'w str,
     shelf: &mut S,
+    checker: &C,
 ) -> Result<Answer<'w>, Stop<'w>>
     ensures { CarriesOut (S.shelved shelf.old) (S.shelved shelf.new)
         (plan_of (spec.of_four command.now program.now start.now next.now last.now)) result }
@@ -180,7 +188,7 @@ fn of_four<'w, S: Shelf>(
     } else if command == "pair" {
         pair(alloc, program, start, next, last, shelf)
     } else if command == "pair-code" {
-        pair_code(alloc, program, start, next, last, shelf)
+        pair_code(alloc, program, start, next, last, shelf, checker)
     } else {
         Ok(Answer::Usage)
     }
