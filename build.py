@@ -55,13 +55,12 @@ def closures(program, below):
 
 
 def weight(name):
-    """About how many seconds the proof of a crate takes."""
-    seconds = 20.0
-    for part in PARTS:
-        for at, _, files in os.walk(os.path.join(TOP, 'crates', name, part)):
-            for file in files:
-                with open(os.path.join(at, file), 'rb') as text:
-                    seconds += text.read().count(b'\n') * (0.2 if file.endswith('.rt') else 0.02)
+    """About how many seconds the proof of a crate takes: some for each, and more by its lines of code."""
+    seconds = 10.0
+    for at, _, files in os.walk(os.path.join(TOP, 'crates', name, 'src')):
+        for file in files:
+            with open(os.path.join(at, file), 'rb') as text:
+                seconds += 0.13 * text.read().count(b'\n')
     return seconds
 
 

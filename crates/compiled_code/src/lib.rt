@@ -1,5 +1,5 @@
 //! The code of a program as a definition, and that it is good code: it matches the program step for step, is as secure as the
-//! program, and loads variables no more often than it has to.
+//! program, and meets the load bound.
 //!
 //! The definitions stand in `specs/`: `Compiled` has the code, `Matches` when code matches a program, `SecureCode` the secure
 //! code, `LoadBound` how often code may load a variable, `GoodCode` all three, and `Records` when what registers keep is true.

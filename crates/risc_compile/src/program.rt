@@ -17,8 +17,8 @@ use risc_machine::{Code, Parts, ThreadCode};
 use std::alloc::Global;
 use typing_law::Verdict;
 
-/// The code of an accepted program: it matches the program step for step, is as secure, and loads no variable more often
-/// than it has to (`compiled_code` has the laws). It takes linear time, and memory for the lines.
+/// The code of an accepted program: it matches the program step for step, is as secure, and meets the load
+/// bound (`compiled_code` has the laws). It takes linear time, and memory for the lines.
 pub fn compile(alloc: Global, v: &Verdict<'_>) -> Result<Code, NoMemory>
     ensures code { IfOk result (λ code. code ≡ compiled (view.program (v.now).program.now)) }
     ensures good { IfOk result (λ code. IsGoodCode (view.program (v.now).program.now) code) }
