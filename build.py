@@ -13,6 +13,7 @@ crates/PROGRAM/out/PROGRAM.
 import fcntl
 import os
 import shutil
+import signal
 import subprocess
 import sys
 import tempfile
@@ -85,7 +86,7 @@ class Build:
         self.program, self.room = program, room
         self.below = lines_of_crates()
         self.closures = closures(program, self.below)
-        self.began, self.saying = time.monotonic(), threading.Lock()
+        self.began, self.saying, self.running = time.monotonic(), threading.Lock(), set()
 
     def prove(self, name):
         """Proves a crate whose libraries are proved, and builds it. What `rt` said is printed. Meanwhile no other `rt` works in the crate's own folder."""
@@ -109,13 +110,23 @@ class Build:
             if os.path.isdir(kept):
                 os.rename(kept, own)
             words = ['rt', 'run', '--jobs', '1', '--'] if name == self.program else ['rt', 'lib', '--jobs', '1']
-            ran = subprocess.run(words, cwd=os.path.join(room, 'crates', name), stdin=subprocess.DEVNULL, stdout=subprocess.PIPE, stderr=subprocess.STDOUT)
+            how = {'cwd': os.path.join(room, 'crates', name), 'stdin': subprocess.DEVNULL, 'stdout': subprocess.PIPE, 'stderr': subprocess.STDOUT}
+            with subprocess.Popen(words, **how) as ran:
+                self.running.add(ran)
+                said = ran.communicate()[0]
+                self.running.discard(ran)
             if os.path.isdir(own):
                 os.rename(own, kept)
         with self.saying:
-            sys.stdout.write('== %s, after %d s\n%s' % (name, time.monotonic() - self.began, ran.stdout.decode(errors='replace')))
+            sys.stdout.write('== %s, after %d s\n%s' % (name, time.monotonic() - self.began, said.decode(errors='replace')))
             sys.stdout.flush()
         return os.path.isfile(os.path.join(kept, name)) if name == self.program else ran.returncode == 0
+
+    def stop(self, number, frame):
+        """Ends what is running, and then the build, as for a signal."""
+        for it in list(self.running):
+            it.terminate()
+        sys.exit(128 + number)
 
     def tell(self, count, name):
         if sys.stderr.isatty():
@@ -158,8 +169,18 @@ def main():
         return 2
     room = os.path.join(TOP, '.build')
     os.makedirs(room, exist_ok=True)
-    with tempfile.TemporaryDirectory(dir=room) as inside:
-        return Build(sys.argv[1], inside).run()
+    # one build at a time; what one left that was killed goes
+    with open(os.path.join(room, 'proving.lock'), 'w', encoding='utf-8') as lock:
+        fcntl.flock(lock, fcntl.LOCK_EX)
+        inside = os.path.join(room, 'proving')
+        shutil.rmtree(inside, ignore_errors=True)
+        os.mkdir(inside)
+        try:
+            build = Build(sys.argv[1], inside)
+            signal.signal(signal.SIGTERM, build.stop)
+            return build.run()
+        finally:
+            shutil.rmtree(inside, ignore_errors=True)
 
 
 sys.exit(main())
