@@ -39,7 +39,6 @@ use risc_machine::{Code, Risc};
 use schedule_replay::{pair, pair_code, run};
 use source_machine::Source;
 use std::alloc::Global;
-use typing_law::Checker;
 
 /// Two memories to start from.
 #[derive(Drop)]
@@ -49,19 +48,18 @@ struct Memories {
 }
 
 /// Runs the program of so many rounds, and its code, from two starts that differ in its secret, under a schedule.
-pub fn big<'w, S: Shelf, C: Checker>(
+pub fn big<'w, S: Shelf>(
     alloc: Global,
     rounds: u32,
     schedule: &'w str,
     shelf: &mut S,
-    checker: &C,
 ) -> Result<Answer<'w>, Stop<'w>>
     requires { (1 ≤ rounds) × (rounds ≤ MOST_ROUNDS) }
     ensures { CarriesOut (S.shelved shelf.old) (S.shelved shelf.new) (spec.big_plan rounds schedule.now) result }
 {
     let parsed = read_made(alloc, rounds)?;
     let entries = read_entries(alloc, schedule, &parsed, shelf)?;
-    sum_up_text(alloc, rounds, parsed, entries.as_slice(), checker)
+    sum_up_text(alloc, rounds, parsed, entries.as_slice())
 }
 
 /// The program of so many rounds, by its text.
@@ -76,12 +74,11 @@ fn read_made<'w>(alloc: Global, rounds: u32) -> Result<Parsed, Stop<'w>>
 }
 
 /// Sums up the runs of what a text spells, and of its code.
-fn sum_up_text<'w, C: Checker>(
+fn sum_up_text<'w>(
     alloc: Global,
     rounds: u32,
     parsed: Parsed,
     schedule: &[u32],
-    checker: &C,
 ) -> Result<Answer<'w>, Stop<'w>>
     requires ready { IsReady (view.parsed parsed) }
     requires threads { IsSchedule (length parsed.threads) schedule.now }
@@ -89,7 +86,7 @@ fn sum_up_text<'w, C: Checker>(
     ensures { let p = view.parsed parsed in let i = spec.starts_with_secrets p schedule.now in
         Gets (UnlessRejected (rejection p) (UnlessRejected (unfit_starts p i.left i.right) (spec.SumsUp rounds i))) result }
 {
-    let coded = coded_text(alloc, parsed, checker)?;
+    let coded = coded_text(alloc, parsed)?;
     sum_up(alloc, rounds, &coded, schedule)
 }
 

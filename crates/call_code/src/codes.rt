@@ -21,7 +21,6 @@ use flow_model::starts;
 use risc_compile::compile;
 use risc_machine::{Code, Risc};
 use std::alloc::Global;
-use typing_law::Checker;
 
 /// An accepted program with its code, and how much was checked of it.
 #[derive(Drop)]
@@ -31,19 +30,15 @@ pub struct Coded {
     pub totals: Totals,
 }
 
-/// The program that a text stands for, with its code, if a checker accepts it.
-pub fn coded_text<'w, C: Checker>(
-    alloc: Global,
-    parsed: Parsed,
-    checker: &C,
-) -> Result<Coded, Stop<'w>>
+/// The program that a text stands for, with its code, if it is accepted.
+pub fn coded_text<'w>(alloc: Global, parsed: Parsed) -> Result<Coded, Stop<'w>>
     requires { IsReady (view.parsed parsed) }
     ensures coded { MatchResult result (IsOfText (view.parsed parsed)) (Stops (IsRejected (view.parsed parsed))) }
     ensures variables { IfOk result (λ coded. length coded.program.vars ≡ length parsed.vars) }
     ensures threads { IfOk result (λ coded. length coded.program.threads ≡ length parsed.threads) }
 {
     let program = named(alloc, parsed)?;
-    let made = code_of(alloc, &program, checker)?;
+    let made = code_of(alloc, &program)?;
     Ok(Coded {
         program,
         code: made.0,
@@ -52,15 +47,11 @@ pub fn coded_text<'w, C: Checker>(
 }
 
 /// The code of a program, if it is accepted, and how much was checked of it.
-fn code_of<'w, C: Checker>(
-    alloc: Global,
-    program: &Program,
-    checker: &C,
-) -> Result<(Code, Totals), Stop<'w>>
+fn code_of<'w>(alloc: Global, program: &Program) -> Result<(Code, Totals), Stop<'w>>
     requires { IsWellFormed (view.program program.now) }
     ensures { MatchResult result (λ made. IsCodeOf program.now made.0 made.1) (Stops (IsProgramRejected (view.program program.now))) }
 {
-    let verdict = verdict_on(alloc, program, checker)?;
+    let verdict = verdict_on(alloc, program)?;
     let code = compile(alloc, &verdict)?;
     Ok((code, totals_of(&verdict)))
 }

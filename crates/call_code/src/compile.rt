@@ -18,31 +18,25 @@ use cov_ast::Parsed;
 use cov_io::Shelf;
 use risc_machine::Code;
 use std::alloc::Global;
-use typing_law::Checker;
 
 /// Lists the code of the program of a file.
-pub fn compile<'w, S: Shelf, C: Checker>(
+pub fn compile<'w, S: Shelf>(
     alloc: Global,
     name: &'w str,
     shelf: &mut S,
-    checker: &C,
 ) -> Result<Answer<'w>, Stop<'w>>
     ensures { CarriesOut (S.shelved shelf.old) (S.shelved shelf.new) (compile_plan name.now) result }
 {
     let parsed = read_program(alloc, name, shelf)?;
-    compile_text(alloc, parsed, checker)
+    compile_text(alloc, parsed)
 }
 
 /// Lists the code of what a text spells.
-fn compile_text<'w, C: Checker>(
-    alloc: Global,
-    parsed: Parsed,
-    checker: &C,
-) -> Result<Answer<'w>, Stop<'w>>
+fn compile_text<'w>(alloc: Global, parsed: Parsed) -> Result<Answer<'w>, Stop<'w>>
     requires { IsReady (view.parsed parsed) }
     ensures { let p = view.parsed parsed in Gets (UnlessRejected (rejection p) (Compiles p)) result }
 {
-    let coded = coded_text(alloc, parsed, checker)?;
+    let coded = coded_text(alloc, parsed)?;
     compiled_is_code();
     listed(alloc, &coded.code)
 }

@@ -18,31 +18,25 @@ use cov_io::Shelf;
 use object_code::object as written;
 use risc_machine::Code;
 use std::alloc::Global;
-use typing_law::Checker;
 
 /// Writes the object of the code of the program of a file.
-pub fn object<'w, S: Shelf, C: Checker>(
+pub fn object<'w, S: Shelf>(
     alloc: Global,
     name: &'w str,
     shelf: &mut S,
-    checker: &C,
 ) -> Result<Answer<'w>, Stop<'w>>
     ensures { CarriesOut (S.shelved shelf.old) (S.shelved shelf.new) (object_plan name.now) result }
 {
     let parsed = read_program(alloc, name, shelf)?;
-    object_text(alloc, parsed, checker)
+    object_text(alloc, parsed)
 }
 
 /// Writes the object of the code of what a text spells.
-fn object_text<'w, C: Checker>(
-    alloc: Global,
-    parsed: Parsed,
-    checker: &C,
-) -> Result<Answer<'w>, Stop<'w>>
+fn object_text<'w>(alloc: Global, parsed: Parsed) -> Result<Answer<'w>, Stop<'w>>
     requires { IsReady (view.parsed parsed) }
     ensures { let p = view.parsed parsed in Gets (UnlessRejected (rejection p) (WritesObject p)) result }
 {
-    let coded = coded_text(alloc, parsed, checker)?;
+    let coded = coded_text(alloc, parsed)?;
     compiled_is_code();
     object_of(alloc, &coded.code)
 }

@@ -22,31 +22,25 @@ use cov_expr::{Blob, List, NoMemory};
 use cov_io::Shelf;
 use schedule_replay::pair_code as replay_pair;
 use std::alloc::Global;
-use typing_law::Checker;
 
 /// Runs the code of the program of a file from two starts under a schedule, side by side.
-pub fn pair_code<'w, S: Shelf, C: Checker>(
+pub fn pair_code<'w, S: Shelf>(
     alloc: Global,
     program: &'w str,
     first: &'w str,
     second: &'w str,
     schedule: &'w str,
     shelf: &mut S,
-    checker: &C,
 ) -> Result<Answer<'w>, Stop<'w>>
     ensures { CarriesOut (S.shelved shelf.old) (S.shelved shelf.new)
         (pair_code_plan program.now first.now second.now schedule.now) result }
 {
     let input = read_pair(alloc, program, first, second, schedule, shelf)?;
-    pair_taken(alloc, input, checker)
+    pair_taken(alloc, input)
 }
 
 /// Runs the code of what was taken, twice.
-fn pair_taken<'w, C: Checker>(
-    alloc: Global,
-    input: PairInput,
-    checker: &C,
-) -> Result<Answer<'w>, Stop<'w>>
+fn pair_taken<'w>(alloc: Global, input: PairInput) -> Result<Answer<'w>, Stop<'w>>
     requires { IsPairInput input }
     ensures { let p = view.parsed input.parsed in
         Gets (UnlessRejected (rejection p) (UnlessRejected (unfit_starts p input.left input.right) (PairsCode (pair_input input)))) result }
@@ -57,7 +51,7 @@ fn pair_taken<'w, C: Checker>(
         right,
         entries,
     } = input;
-    let coded = coded_text(alloc, parsed, checker)?;
+    let coded = coded_text(alloc, parsed)?;
     pair_coded(alloc, &coded, left, right, entries.as_slice())
 }
 

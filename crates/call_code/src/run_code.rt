@@ -18,29 +18,23 @@ use cov_expr::{Blob, List, NoMemory};
 use cov_io::Shelf;
 use schedule_replay::run_code as replay;
 use std::alloc::Global;
-use typing_law::Checker;
 
 /// Runs the code of the program of a file from a start under a schedule.
-pub fn run_code<'w, S: Shelf, C: Checker>(
+pub fn run_code<'w, S: Shelf>(
     alloc: Global,
     program: &'w str,
     start: &'w str,
     schedule: &'w str,
     shelf: &mut S,
-    checker: &C,
 ) -> Result<Answer<'w>, Stop<'w>>
     ensures { CarriesOut (S.shelved shelf.old) (S.shelved shelf.new) (run_code_plan program.now start.now schedule.now) result }
 {
     let input = read_run(alloc, program, start, schedule, shelf)?;
-    run_taken(alloc, input, checker)
+    run_taken(alloc, input)
 }
 
 /// Runs the code of what was taken.
-fn run_taken<'w, C: Checker>(
-    alloc: Global,
-    input: RunInput,
-    checker: &C,
-) -> Result<Answer<'w>, Stop<'w>>
+fn run_taken<'w>(alloc: Global, input: RunInput) -> Result<Answer<'w>, Stop<'w>>
     requires { IsRunInput input }
     ensures { Gets (UnlessRejected (rejection (view.parsed input.parsed)) (RunsCode (run_input input))) result }
 {
@@ -49,7 +43,7 @@ fn run_taken<'w, C: Checker>(
         memory,
         entries,
     } = input;
-    let coded = coded_text(alloc, parsed, checker)?;
+    let coded = coded_text(alloc, parsed)?;
     run_coded(alloc, &coded, memory, entries.as_slice())
 }
 

@@ -19,42 +19,37 @@ use cov_expr::Name;
 use cov_io::Shelf;
 use policy_class::resolve;
 use std::alloc::Global;
-use typing_law::{Checker, Verdict};
+use verify::{Verdict, check_program};
 
-/// Checks the program of a file, by a checker.
-pub fn check<'w, S: Shelf, C: Checker>(
+/// Checks the program of a file.
+pub fn check<'w, S: Shelf>(
     alloc: Global,
     name: &'w str,
     shelf: &mut S,
-    checker: &C,
 ) -> Result<Answer<'w>, Stop<'w>>
     ensures { CarriesOut (S.shelved shelf.old) (S.shelved shelf.new) (check_plan name.now) result }
 {
     let parsed = read_program(alloc, name, shelf)?;
-    judge(alloc, parsed, checker)
+    judge(alloc, parsed)
 }
 
 /// Judges what a text spells.
-fn judge<'w, C: Checker>(alloc: Global, parsed: Parsed, checker: &C) -> Result<Answer<'w>, Stop<'w>>
+fn judge<'w>(alloc: Global, parsed: Parsed) -> Result<Answer<'w>, Stop<'w>>
     requires { IsReady (view.parsed parsed) }
     ensures { Gets (Judges (view.parsed parsed)) result }
 {
     let program = named(alloc, parsed)?;
-    judge_program(alloc, &program, checker)
+    judge_program(alloc, &program)
 }
 
 /// Judges a program whose names are in order.
-fn judge_program<'w, C: Checker>(
-    alloc: Global,
-    program: &Program,
-    checker: &C,
-) -> Result<Answer<'w>, Stop<'w>>
+fn judge_program<'w>(alloc: Global, program: &Program) -> Result<Answer<'w>, Stop<'w>>
     requires { IsWellFormed (view.program program.now) }
     ensures { MatchResult result
         (λ answer. IsAccepted (view.program program.now) × (seen answer ≡ accepted_with (totals (view.program program.now))))
         (Stops (IsProgramRejected (view.program program.now))) }
 {
-    let verdict = verdict_on(alloc, program, checker)?;
+    let verdict = verdict_on(alloc, program)?;
     Ok(Answer::Accepted(totals_of(&verdict)))
 }
 
@@ -71,18 +66,14 @@ pub fn named<'w>(alloc: Global, parsed: Parsed) -> Result<Program, Stop<'w>>
 }
 
 /// The verdict on a program, if it is accepted.
-pub fn verdict_on<'p, 'w, C: Checker>(
-    alloc: Global,
-    program: &'p Program,
-    checker: &C,
-) -> Result<Verdict<'p>, Stop<'w>>
+pub fn verdict_on<'p, 'w>(alloc: Global, program: &'p Program) -> Result<Verdict<'p>, Stop<'w>>
     requires { IsWellFormed (view.program program.now) }
     ensures verdict { MatchResult result
         (λ verdict. (verdict.program.now ≡ program.now) × IsAccepted (view.program program.now))
         (Stops (IsProgramRejected (view.program program.now))) }
     ensures secure { IfOk result (λ _. IsSecure (plain (view.program program.now))) }
 {
-    match checker.check_program(alloc, program) {
+    match check_program(alloc, program) {
         Ok(verdict) => Ok(verdict),
         Err(CheckFault::Refused(refusal)) => {
             let thread = thread_name(program.threads.as_slice(), refusal.thread);

@@ -21,7 +21,7 @@ use cov_ast::{CheckFault, Parsed, Program, Refusal};
 use cov_expr::NoMemory;
 use policy_class::resolve;
 use std::alloc::Global;
-use typing_law::Checker;
+use verify::check_program;
 
 /// What was found of the bytes of a text.
 #[derive(Drop)]
@@ -54,40 +54,36 @@ impl Judged {
     }
 }
 
-/// Judges the bytes of a text of at most 1 MiB, by a checker. They are read once.
-pub fn judge_bytes<C: Checker>(alloc: Global, bytes: &[u8], checker: &C) -> Result<Judged, NoMemory>
+/// Judges the bytes of a text of at most 1 MiB. They are read once.
+pub fn judge_bytes(alloc: Global, bytes: &[u8]) -> Result<Judged, NoMemory>
     requires { length bytes.now ≤ MOST_BYTES }
     ensures { IfOk result (λ judged. Finds bytes.now judged) }
 {
     match parse_text(alloc, bytes) {
-        Ok(parsed) => judge_text(alloc, parsed, checker),
+        Ok(parsed) => judge_text(alloc, parsed),
         Err(Some(fault)) => Ok(Judged::Malformed(fault)),
         Err(None) => Err(NoMemory),
     }
 }
 
 /// Judges a text.
-fn judge_text<C: Checker>(alloc: Global, parsed: Parsed, checker: &C) -> Result<Judged, NoMemory>
+fn judge_text(alloc: Global, parsed: Parsed) -> Result<Judged, NoMemory>
     requires { IsReady (view.parsed parsed) }
     ensures { IfOk result (λ judged. FindsIn (view.parsed parsed) judged) }
 {
     match resolve(alloc, parsed) {
-        Ok(program) => judge_program(alloc, Box::new(alloc, program)?, checker),
+        Ok(program) => judge_program(alloc, Box::new(alloc, program)?),
         Err(CheckFault::Refused(refusal)) => Ok(Judged::Unnamed(refusal)),
         Err(CheckFault::NoMemory) => Err(NoMemory),
     }
 }
 
 /// Judges the program that a text stands for, whatever the text is.
-fn judge_program<C: Checker>(
-    alloc: Global,
-    program: Box<Program>,
-    checker: &C,
-) -> Result<Judged, NoMemory>
+fn judge_program(alloc: Global, program: Box<Program>) -> Result<Judged, NoMemory>
     requires { IsWellFormed (view.program program.value) }
     ensures { (p : syntax.Parsed) → IsNamed p (view.program program.value) → IfOk result (λ judged. FindsIn p judged) }
 {
-    match check_totals(alloc, &program, checker) {
+    match check_totals(alloc, &program) {
         Ok(counts) => Ok(Judged::Accepted(counts, program)),
         Err(CheckFault::Refused(refusal)) => Ok(Judged::Refused(refusal, program)),
         Err(CheckFault::NoMemory) => Err(NoMemory),
@@ -95,17 +91,13 @@ fn judge_program<C: Checker>(
 }
 
 /// How much a program has, if it is accepted.
-fn check_totals<C: Checker>(
-    alloc: Global,
-    program: &Program,
-    checker: &C,
-) -> Result<Totals, CheckFault>
+fn check_totals(alloc: Global, program: &Program) -> Result<Totals, CheckFault>
     requires { IsWellFormed (view.program program.now) }
     ensures { MatchResult result
         (λ counts. IsAccepted (view.program program.now) × (counts ≡ totals (view.program program.now)))
         (λ fault. Decides (program_obligations (view.program program.now)) (Err fault)) }
 {
-    match checker.check_program(alloc, program) {
+    match check_program(alloc, program) {
         Ok(verdict) => Ok(totals_of(&verdict)),
         Err(fault) => Err(fault),
     }

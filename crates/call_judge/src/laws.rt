@@ -10,7 +10,7 @@ ghost use Rattle.cov_expr.specs.declared.limits.TheConstants.{MOST_BYTES};
 ghost use Rattle.flow_model.specs.Secure.{IsSecure};
 ghost use Rattle.policy_class.specs.Resolved.{resolved};
 
-use typing_law::accepted_is_secure;
+use verify::accepted_is_secure;
 
 /// Where the names of what bytes spell are in order, the program that it stands for is well formed: its ids are in range, its
 /// numbers are words, its names and places differ, it is within the limits, and it is of its version. So what is known of well

@@ -22,7 +22,7 @@ use policy_class::resolve;
 use schedule_replay::run as replay;
 use source_machine::Source;
 use std::alloc::Global;
-use typing_law::check_declared;
+use verify::check_declared;
 
 /// Runs the program of a file from a start under a schedule.
 pub fn run<'w, S: Shelf>(

@@ -21,7 +21,6 @@ use call_reports::{Answer, Status, Stop, status_for};
 use cov_expr::{Blob, MOST_BYTES, NoMemory};
 use cov_io::Shelf;
 use std::alloc::Global;
-use verify::Verifier;
 
 /// Adds what is told of each file, and gives the first status that isn't Done.
 pub fn tell_all<S: Shelf>(
@@ -80,7 +79,7 @@ fn tell_bytes(alloc: Global, name: &str, bytes: &[u8], text: &mut Blob) -> Resul
     requires { length bytes.now ≤ MOST_BYTES }
     ensures { AddsTold name.now (took bytes.now) text.old text.new result }
 {
-    let judged = judge_bytes(alloc, bytes, &Verifier)?;
+    let judged = judge_bytes(alloc, bytes)?;
     tell_judged(alloc, name, bytes, &judged, text)
 }
 

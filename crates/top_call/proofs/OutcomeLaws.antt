@@ -39,10 +39,10 @@ use Rattle.call_reports.specs.declared.answers.Stop.TheVariants as stop
 use Rattle.call_run.specs.Pairs.{Pairs, pair_reading}
 use Rattle.call_run.specs.Refutes.{Refutes, refute_reading}
 use Rattle.top_call.specs.AcceptedRuns.{HoldsAccepted, RunsAccepted}
-use Rattle.call_commands.specs.Commands.{command_of, of_trials, plan_for, plan_of}
+use Rattle.top_call.specs.Commands.{command_of, of_trials, plan_of}
 use Rattle.top_call.specs.Headline.{HoldsSecure, PutsCode, PutsGoodCode, PutsObject}
 use Rattle.top_call.specs.Laws.{IsOneReply}
-use Rattle.top_call.specs.Outcome.{IsSuccess, Outcome}
+use Rattle.top_call.specs.Outcome.{IsSuccess, Outcome, plan_for}
 use Rattle.call_inputs.proofs.InputLaws.{schedule_fine, start_is_memory}
 use Rattle.call_inputs.proofs.PlanLaws.{IsResult, IsSound, Puts, at_end, performs_exact, performs_fault, performs_met, performs_passes, performs_took, reply_one}
 use Rattle.call_inputs.proofs.ReadingLaws.{Reliable, reads_onward}
@@ -51,7 +51,7 @@ use Rattle.call_judge.proofs.CheckLaws.{names_hold, not_rejected}
 use Rattle.call_reports.proofs.EndLaws.{ends_onward}
 use Rattle.call_run.proofs.PairLaws.{pairs_never_differ}
 use Rattle.call_run.proofs.RefuteLaws.{refutes_never_differ}
-use Rattle.call_commands.proofs.CommandLaws.{ArePairWords, AreTrialWords, IsSuccessIf, differing_words, may_differ, results, sound}
+use Rattle.top_call.proofs.CommandLaws.{ArePairWords, AreTrialWords, IsSuccessIf, differing_words, may_differ, results, sound}
 
 -- One reply ---------------------------------------------------------------------------------------------------
 

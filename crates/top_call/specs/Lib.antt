@@ -1,3 +1,4 @@
+pub mod Commands
 pub mod Outcome
 pub mod Headline
 pub mod AcceptedRuns

@@ -1,11 +1,15 @@
 -- What the words of a command line ask for, what is replied to them, and which statuses say that it is done.
 use Rattle.std.specs.Prelude.{◌≡◌, ◌⊎◌, ◌∷◌, ℕ, List, codes}
-use Rattle.call_inputs.specs.Plans.{RepliesOver}
+use Rattle.call_inputs.specs.Plans.{Plan, RepliesOver}
 use Rattle.call_reports.specs.Replies.{Reply}
 use Rattle.call_reports.specs.declared.answers.Status.{Status}
 use Rattle.call_reports.specs.declared.answers.Status.TheVariants as s
 use Rattle.cov_io.specs.Shelves.{File}
-use Rattle.call_commands.specs.Commands.{plan_for}
+use Rattle.top_call.specs.Commands.{command_of, plan_of}
+
+-- what the words ask for
+abbrev pub plan_for : (words : List (List ℕ)) → Plan
+plan_for words = plan_of (command_of words)
 
 -- the reply to the words where all files are told, and no call fails but for a name that isn't told
 abbrev pub Outcome : List File → (words : List (List ℕ)) → Reply → Type 0

@@ -7,16 +7,14 @@ ghost use Rattle.cov_io.specs.Counters.{Rose};
 ghost use Rattle.cov_io.specs.Shelves.{Passes};
 ghost use Rattle.top_call.specs.AcceptedRuns.{RunsAccepted};
 ghost use Rattle.top_call.specs.Headline.{HoldsSecure, PutsCode, PutsObject};
-ghost use Rattle.call_commands.specs.Commands.{plan_for};
-ghost use Rattle.top_call.specs.Outcome.{IsSuccess, Outcome};
+ghost use Rattle.top_call.specs.Outcome.{IsSuccess, Outcome, plan_for};
 
+use crate::commands::answer;
 use call_code::accepted_programs_have_good_code;
-use call_commands::answer;
 use call_judge::accepted_programs_are_secure;
 use call_reports::{Status, Stop, end};
 use cov_io::{Shelf, Sink};
 use std::alloc::Global;
-use verify::Verifier;
 
 /// Does what the command line says, and writes the report. `words` are the command line without the program's name; files
 /// are read from `shelf` by name, and the report goes to `sink`.
@@ -57,7 +55,7 @@ pub fn covern<S: Shelf, K: Sink>(
 {
     accepted_programs_are_secure();
     accepted_programs_have_good_code();
-    let answer = match answer(alloc, words, shelf, &Verifier) {
+    let answer = match answer(alloc, words, shelf) {
         Ok(answer) | Err(Stop::Answer(answer)) => answer,
         Err(Stop::NoMemory) => return Status::NoMemory,
     };

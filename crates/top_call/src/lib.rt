@@ -8,15 +8,18 @@
 //! | `src/` | `specs/` | what it has |
 //! |---|---|---|
 //! | `call` | `Headline`, `AcceptedRuns` | `covern`, with all its promises; what it says of a file that it is accepted, and of what is put that it is the listing or the object of its code; whose runs never differ |
+//! | `commands` | `Commands`, `Outcome` | the plan of each command, in one row, and which command the words are; what is replied to the words |
 //! | `laws` | `Laws` | one reply; no two runs of an accepted program that differ |
 //!
-//! What is replied to the words stands in `specs/Outcome`, over the plan of each command, which `call_commands` has and carries out, by whoever checks
-//! programs; here that is `verify`. So no command waits for the proof of the check. Definitions by command have no row for the rest, so that none is
+//! What a command does stands in the crates below: `call_judge`, `call_text`, `call_run` and `call_code`, over what it takes (`call_inputs`) and
+//! what it answers (`call_reports`). There a command is a module with its step, and its plan and replies; here it is a row in each of `Command`
+//! and `plan_of`, an arm in `commands`, and rows of `sound` and `may_differ` in `proofs`. Definitions by command have no row for the rest, so that none is
 //! forgotten; `HoldsSecure`, `PutsCode`, `PutsObject` and `RunsAccepted` speak of the words of one or two commands each, and what is promised of another is a
 //! clause of its own.
 #![tactic(auto)]
 
 mod call;
+mod commands;
 mod laws;
 
 pub use call::covern;

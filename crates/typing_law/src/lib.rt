@@ -10,8 +10,7 @@
 //!
 //! - [`Count`]: how many statements and entailments a thread has. [`Entail`]: one of these, as it is handed out.
 //! - [`Site`]: where an obligation of a thread stands. [`require_at`] and [`refused_at`] refuse one there.
-//! - [`Checker`]: whoever decides whether a program is accepted. [`check_declared`] decides it of its declarations. [`Verdict`]: that a program
-//!   is accepted, with what follows.
+//! - [`Verdict`]: that a program is accepted, with what follows.
 //! - [`threads_end_without_locks`], [`entailments_are_obligations`], [`true_declarations_are_declared`],
 //!   [`true_obligations_are_secure`]: laws, without a body. The last is the soundness of the rules.
 //! - [`accepted_is_secure`], [`accepted_is_disciplined`]: laws of whole programs.
@@ -19,7 +18,6 @@
 //! The walk over statements that tries these obligations is `typing_rules`, and the check of whole programs is `verify`.
 #![tactic(auto)]
 
-mod checker;
 mod count;
 mod entail;
 mod laws;
@@ -27,7 +25,6 @@ mod program_laws;
 mod site;
 mod verdict;
 
-pub use checker::{Checker, check_declared};
 pub use count::Count;
 pub use entail::Entail;
 pub use laws::{

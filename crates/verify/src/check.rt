@@ -16,10 +16,11 @@ ghost use Rattle.typing_law.specs.Disciplined.{IsDisciplined};
 ghost use Rattle.typing_law.specs.Verdicts.{counts};
 
 use cov_ast::{CheckFault, Program};
+use lock_spec::check_locks;
+use mode_compat::check_modes;
+use policy_class::check_policy;
 use std::alloc::Global;
-use typing_law::{
-    Checker, Count, Verdict, accepted_is_disciplined, accepted_is_secure, check_declared,
-};
+use typing_law::{Count, Verdict, accepted_is_disciplined, accepted_is_secure};
 use typing_rules::check_thread;
 
 /// Checks a program whose names are in order. `Ok` comes exactly where every obligation holds (W3 to W9, V1 to V16), and then
@@ -46,13 +47,18 @@ pub fn check_program<'p>(alloc: Global, p: &'p Program) -> Result<Verdict<'p>, C
     }
 }
 
-/// The checker that goes by the rules.
-pub struct Verifier;
-
-impl Checker for Verifier {
-    fn check_program<'p>(&self, alloc: Global, p: &'p Program) -> Result<Verdict<'p>, CheckFault> {
-        check_program(alloc, p)
+/// Refuses a program for the first rule of declarations that it breaks (W3 to W9).
+pub fn check_declared(alloc: Global, p: &Program) -> Result<(), CheckFault>
+    requires { IsWellFormed (view.program p.now) }
+    ensures { Decides (declaration_obligations (view.program p.now)) result }
+{
+    if let Err(fault) = check_policy(alloc, p) {
+        return Err(fault);
     }
+    if let Err(fault) = check_locks(alloc, p) {
+        return Err(fault);
+    }
+    check_modes(alloc, p)
 }
 
 /// Checks each thread in turn, and adds up what was checked.

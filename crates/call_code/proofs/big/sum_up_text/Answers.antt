@@ -11,7 +11,7 @@ use Rattle.call_reports.specs.AnswerViews.{Gets}
 use Rattle.call_code.proofs.big.sum_up_text.Goals as goal
 
 pub returns-in_err-coded : goal.returns-in_err-coded
-returns-in_err-coded g c =
+returns-in_err-coded c =
     let i = starts_with_secrets (view.parsed c.args.parsed) c.args.schedule.now in
     let next = UnlessRejected (unfit_starts i.program i.left i.right) (SumsUp c.args.rounds i) in
     let same : c.from_residual.result ≡ Err c.in_err-coded.field-0.0 = search rules in
@@ -19,8 +19,8 @@ returns-in_err-coded g c =
     (gets_rejected (rejection i.program) next c.in_err-coded.field-0.0 c.in_err-coded.ensures.coded)
 
 pub returns : goal.returns
-returns g c =
+returns c =
     big_by_code c.args.rounds c.args.schedule.now (view.parsed c.args.parsed) c.in_ok-coded.coded c.in_ok-coded.ensures.coded c.sum_up.result c.sum_up.ensures
 
 pub sum_up-requires-clause-threads : goal.sum_up-requires-clause-threads
-sum_up-requires-clause-threads g c = subst (λ n. IsSchedule n c.args.schedule.now) (sym c.in_ok-coded.ensures.threads) c.requires.threads
+sum_up-requires-clause-threads c = subst (λ n. IsSchedule n c.args.schedule.now) (sym c.in_ok-coded.ensures.threads) c.requires.threads

@@ -10,7 +10,7 @@ use Rattle.call_reports.specs.AnswerViews.{Stops}
 use Rattle.call_code.proofs.codes.coded_text.Goals as goal
 
 pub returns-in_err-made-clause-coded : goal.returns-in_err-made-clause-coded
-returns-in_err-made-clause-coded g c =
+returns-in_err-made-clause-coded c =
     let p = view.parsed c.args.parsed in
     let program = view.program c.in_ok-program.program in
     let named = c.in_ok-program.ensures in
@@ -19,7 +19,7 @@ returns-in_err-made-clause-coded g c =
     (stops_onward (IsProgramRejected program) (IsRejected p) c.in_err-made.field-0.0 (program_rejected p program named.is named.held) c.in_err-made.ensures)
 
 pub returns-clause-coded : goal.returns-clause-coded
-returns-clause-coded g c =
+returns-clause-coded c =
     let p = view.parsed c.args.parsed in
     let named = c.in_ok-program.ensures in
     record {
@@ -29,7 +29,7 @@ returns-clause-coded g c =
     }
 
 pub returns-clause-variables : goal.returns-clause-variables
-returns-clause-variables g c = as_many_variables c.args.parsed c.in_ok-program.program c.in_ok-program.ensures.is
+returns-clause-variables c = as_many_variables c.args.parsed c.in_ok-program.program c.in_ok-program.ensures.is
 
 pub returns-clause-threads : goal.returns-clause-threads
-returns-clause-threads g c = as_many_threads c.args.parsed c.in_ok-program.program c.in_ok-program.ensures.is
+returns-clause-threads c = as_many_threads c.args.parsed c.in_ok-program.program c.in_ok-program.ensures.is

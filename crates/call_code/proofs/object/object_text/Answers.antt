@@ -9,17 +9,17 @@ use Rattle.risc_machine.specs.Faults.{AreGood}
 use Rattle.call_code.proofs.object.object_text.Goals as goal
 
 pub returns-in_err-coded : goal.returns-in_err-coded
-returns-in_err-coded g c =
+returns-in_err-coded c =
     let p = view.parsed c.args.parsed in
     let same : c.from_residual.result ≡ Err c.in_err-coded.field-0.0 = search rules in
     subst (Gets (UnlessRejected (rejection p) (WritesObject p))) (sym same)
     (gets_rejected (rejection p) (WritesObject p) c.in_err-coded.field-0.0 c.in_err-coded.ensures.coded)
 
 pub object_of-requires : goal.object_of-requires
-object_of-requires g c =
+object_of-requires c =
     let made = c.in_ok-coded.ensures.coded.good in
     subst AreGood (sym made.code.is) (c.compiled_is_code.ensures (view.program c.in_ok-coded.coded.program) made.formed)
 
 pub returns : goal.returns
-returns g c =
+returns c =
     by_code (view.parsed c.args.parsed) c.in_ok-coded.coded c.in_ok-coded.ensures.coded (λ q d. RepliesObject d) c.object_of.result c.object_of.ensures

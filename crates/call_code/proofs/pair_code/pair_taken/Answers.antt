@@ -17,7 +17,7 @@ use Rattle.call_reports.specs.Replies.{Reply}
 use Rattle.call_code.proofs.pair_code.pair_taken.Goals as goal
 
 pub returns-in_err-coded : goal.returns-in_err-coded
-returns-in_err-coded g c =
+returns-in_err-coded c =
     let i = inputs.pair_input c.args.input in
     let next = UnlessRejected (unfit_starts i.program i.left i.right) (PairsCode i) in
     let same : c.from_residual.result ≡ Err c.in_err-coded.field-0.0 = search rules in
@@ -25,7 +25,7 @@ returns-in_err-coded g c =
     (gets_rejected (rejection i.program) next c.in_err-coded.field-0.0 c.in_err-coded.ensures.coded)
 
 pub returns : goal.returns
-returns g c =
+returns c =
     let i = inputs.pair_input c.args.input in
     let made = c.in_ok-coded.coded in
     let runs : Program → Parts → List ℕ → Reply → Type 0 = λ q d k.
@@ -34,7 +34,7 @@ returns g c =
     (subst (λ k. Gets (runs (view.program made.program) made.code k) c.pair_coded.result) c.as_slice.ensures c.pair_coded.ensures)
 
 pub pair_coded-requires-clause-left : goal.pair_coded-requires-clause-left
-pair_coded-requires-clause-left g c =
+pair_coded-requires-clause-left c =
     let i = c.args.input in
     let made = c.in_ok-coded.ensures in
     subst (IsRunOf c.in_ok-coded.coded.program i.left) (sym c.as_slice.ensures) (record {
@@ -44,7 +44,7 @@ pair_coded-requires-clause-left g c =
     })
 
 pub pair_coded-requires-clause-right : goal.pair_coded-requires-clause-right
-pair_coded-requires-clause-right g c =
+pair_coded-requires-clause-right c =
     let i = c.args.input in
     let made = c.in_ok-coded.ensures in
     subst (IsRunOf c.in_ok-coded.coded.program i.right) (sym c.as_slice.ensures) (record {

@@ -12,14 +12,14 @@ use Rattle.call_reports.specs.Replies.{ran}
 use Rattle.call_code.proofs.run_code.run_taken.Goals as goal
 
 pub returns-in_err-coded : goal.returns-in_err-coded
-returns-in_err-coded g c =
+returns-in_err-coded c =
     let i = inputs.run_input c.args.input in
     let same : c.from_residual.result ≡ Err c.in_err-coded.field-0.0 = search rules in
     subst (Gets (UnlessRejected (rejection i.program) (RunsCode i))) (sym same)
     (gets_rejected (rejection i.program) (RunsCode i) c.in_err-coded.field-0.0 c.in_err-coded.ensures.coded)
 
 pub returns : goal.returns
-returns g c =
+returns c =
     let i = inputs.run_input c.args.input in
     let made = c.in_ok-coded.coded in
     by_code i.program made c.in_ok-coded.ensures.coded (λ q d reply. reply ≡ ran (report_on_code q d i.memory i.schedule)) c.run_coded.result
@@ -27,7 +27,7 @@ returns g c =
     c.run_coded.ensures)
 
 pub run_coded-requires-clause-run : goal.run_coded-requires-clause-run
-run_coded-requires-clause-run g c =
+run_coded-requires-clause-run c =
     let i = c.args.input in
     let made = c.in_ok-coded.ensures in
     subst (IsRunOf c.in_ok-coded.coded.program i.memory) (sym c.as_slice.ensures) (record {

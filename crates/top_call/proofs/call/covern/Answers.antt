@@ -1,7 +1,7 @@
 use Rattle.std.proofs.Common.{inl, inr, refl, map, string_bytes, rules}
 use Rattle.call_reports.specs.AnswerViews.{seen}
 use Rattle.call_reports.specs.declared.answers.Status.TheVariants as s
-use Rattle.call_commands.specs.Commands.{plan_for}
+use Rattle.top_call.specs.Outcome.{plan_for}
 use Rattle.top_call.proofs.OutcomeLaws.{answered, call_agree, call_code, call_complete, call_object, call_exact, call_fault, call_passes, call_secure, lacking}
 use Rattle.top_call.proofs.call.covern.Goals as goal
 

@@ -1,6 +1,6 @@
 use Rattle.std.proofs.Common.{◌≡◌, None, sym, ◌∙◌, rules}
-use Rattle.call_commands.proofs.NumberLaws.{said, unread, unsaid, within}
-use Rattle.call_commands.proofs.commands.number_of.Goals as goal
+use Rattle.top_call.proofs.NumberLaws.{said, unread, unsaid, within}
+use Rattle.top_call.proofs.commands.number_of.Goals as goal
 
 pub returns-in_err-number-clause-is : goal.returns-in_err-number-clause-is
 returns-in_err-number-clause-is c =

@@ -104,7 +104,3 @@ command_of (word ∷ first ∷ second ∷ []) = of_two word first second
 command_of (word ∷ program ∷ start ∷ schedule ∷ []) = of_three word program start schedule
 command_of (word ∷ program ∷ start ∷ next ∷ last ∷ []) = of_four word program start next last
 command_of words = nothing
-
--- what the words ask for
-abbrev pub plan_for : (words : List (List ℕ)) → Plan
-plan_for words = plan_of (command_of words)

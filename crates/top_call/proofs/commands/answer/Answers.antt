@@ -2,10 +2,10 @@ use Rattle.std.proofs.Common.{◌≡◌, ◌<◌, Ok, inl, refl, sym, subst, len
 use Rattle.std.proofs.lemmas.List.{length-map}
 use Rattle.call_inputs.specs.Plans.{CarriesOut}
 use Rattle.call_reports.specs.declared.answers.Answer.TheVariants as a
-use Rattle.call_commands.specs.Commands.{command_of, nothing, plan_of}
-use Rattle.call_commands.proofs.CommandLaws.{few_words, many_words}
-use Rattle.call_commands.proofs.commands.answer.Goals as goal
-use Rattle.call_commands.proofs.commands.answer.Goals.{in_default-via-then-words-lt2, in_default-via-else-words-lt2+else-words-lt3+else-words-lt4+else-words-lt5+else-words-lt6}
+use Rattle.top_call.specs.Commands.{command_of, nothing, plan_of}
+use Rattle.top_call.proofs.CommandLaws.{few_words, many_words}
+use Rattle.top_call.proofs.commands.answer.Goals as goal
+use Rattle.top_call.proofs.commands.answer.Goals.{in_default-via-then-words-lt2, in_default-via-else-words-lt2+else-words-lt3+else-words-lt4+else-words-lt5+else-words-lt6}
 
 -- other words ask for nothing
 pub returns-in_default : goal.returns-in_default

@@ -4,7 +4,7 @@ use Rattle.cov_ast.proofs.ObligationLaws.{append_decided, append_refused, append
 use Rattle.policy_class.specs.Policy.{policy_obligations}
 use Rattle.lock_spec.specs.Locks.{lock_obligations}
 use Rattle.mode_compat.specs.Compatible.{mode_obligations}
-use Rattle.typing_law.proofs.checker.check_declared.Goals as goal
+use Rattle.verify.proofs.check.check_declared.Goals as goal
 
 pub returns-in-Err : goal.returns-in-Err
 returns-in-Err c =

@@ -4,7 +4,7 @@ use Rattle.std.specs.Str.{bytes_eq}
 use Rattle.std.proofs.Common.{◌≡◌, ◌⊎◌, ℕ, List, [], ◌∷◌, Bool, true, false, Option, Some, None, length, ◌<◌, refl, sym, subst, ap, inl, inr, nat_le, arith}
 use Rattle.std.proofs.lemmas.Slice.Eq.{bytes_eq-Decides}
 use Rattle.cov_expr.specs.declared.limits.TheConstants.{MOST_EXPRESSION_BYTES, MOST_ROUNDS, MOST_TRIALS}
-use Rattle.call_commands.specs.Commands.{Command, command_of, plan_of, number_of, of_four, of_one, of_rounds, of_three, of_trials, of_two, check, compile, fmt, migrate, object, unobject, refute, run, run_code, run_until, pair, pair_code, big, nothing}
+use Rattle.top_call.specs.Commands.{Command, command_of, plan_of, number_of, of_four, of_one, of_rounds, of_three, of_trials, of_two, check, compile, fmt, migrate, object, unobject, refute, run, run_code, run_until, pair, pair_code, big, nothing}
 use Rattle.call_code.proofs.BigLaws.{sum_sound}
 use Rattle.call_code.proofs.CodeLaws.{compile_sound}
 use Rattle.call_code.proofs.ObjectLaws.{code_reading, object_sound, unobject_sound}

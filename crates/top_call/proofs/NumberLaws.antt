@@ -10,7 +10,7 @@ use Rattle.std.proofs.lemmas.Fmt.{digits_value-decimal, parse-decimal}
 use Rattle.std.proofs.lemmas.Slice.Eq.{bytes_eq-Decides}
 use Rattle.std.proofs.lemmas.Str.Parse.{numerals_by_value, tells_digits}
 use Rattle.cov_expr.specs.declared.limits.TheConstants.{MOST_TRIALS}
-use Rattle.call_commands.specs.Commands.{is_number, number_of}
+use Rattle.top_call.specs.Commands.{is_number, number_of}
 
 at_most : (a b : ℕ) → nat_le a b ≡ true → a ≤ b
 at_most a b h = grind (arith, nat_tests)

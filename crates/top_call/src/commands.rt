@@ -3,8 +3,9 @@
 ghost use Rattle.std.specs.Prelude.{◌≡◌, ◌≤◌, IfSome, map, string_bytes};
 ghost use Rattle.call_inputs.specs.Plans.{CarriesOut};
 ghost use Rattle.cov_expr.specs.declared.limits.TheConstants.{MOST_TRIALS};
-ghost use Rattle.call_commands.specs.Commands as spec;
-ghost use Rattle.call_commands.specs.Commands.{plan_for, plan_of};
+ghost use Rattle.top_call.specs.Commands as spec;
+ghost use Rattle.top_call.specs.Commands.{plan_of};
+ghost use Rattle.top_call.specs.Outcome.{plan_for};
 
 use call_code::big::big;
 use call_code::compile::compile;
@@ -24,26 +25,23 @@ use cov_expr::{MOST_EXPRESSION_BYTES, MOST_ROUNDS, MOST_TRIALS};
 use cov_io::Shelf;
 use itoa::Buffer;
 use std::alloc::Global;
-use typing_law::Checker;
 
-/// Does what the words ask for, where a checker checks programs.
-pub fn answer<'w, S: Shelf, C: Checker>(
+/// Does what the words ask for.
+pub fn answer<'w, S: Shelf>(
     alloc: Global,
     words: &'w [String],
     shelf: &mut S,
-    checker: &C,
 ) -> Result<Answer<'w>, Stop<'w>>
     ensures { CarriesOut (S.shelved shelf.old) (S.shelved shelf.new) (plan_for (map string_bytes words.now)) result }
 {
     match words {
-        [command, name] => of_one(alloc, command.as_str(), name.as_str(), shelf, checker),
+        [command, name] => of_one(alloc, command.as_str(), name.as_str(), shelf),
         [command, first, second] => of_two(
             alloc,
             command.as_str(),
             first.as_str(),
             second.as_str(),
             shelf,
-            checker,
         ),
         [command, program, start, schedule] => of_three(
             alloc,
@@ -52,7 +50,6 @@ pub fn answer<'w, S: Shelf, C: Checker>(
             start.as_str(),
             schedule.as_str(),
             shelf,
-            checker,
         ),
         [command, program, start, next, last] => of_four(
             alloc,
@@ -62,32 +59,30 @@ pub fn answer<'w, S: Shelf, C: Checker>(
             next.as_str(),
             last.as_str(),
             shelf,
-            checker,
         ),
         _ => Ok(Answer::Usage),
     }
 }
 
 /// The commands of one file.
-fn of_one<'w, S: Shelf, C: Checker>(
+fn of_one<'w, S: Shelf>(
     alloc: Global,
     command: &str,
     name: &'w str,
     shelf: &mut S,
-    checker: &C,
 ) -> Result<Answer<'w>, Stop<'w>>
     ensures { CarriesOut (S.shelved shelf.old) (S.shelved shelf.new) (plan_of (spec.of_one command.now name.now)) result }
 {
     if command == "check" {
-        check(alloc, name, shelf, checker)
+        check(alloc, name, shelf)
     } else if command == "compile" {
-        compile(alloc, name, shelf, checker)
+        compile(alloc, name, shelf)
     } else if command == "fmt" {
         format(alloc, name, shelf)
     } else if command == "migrate" {
         migrate(alloc, name, shelf)
     } else if command == "object" {
-        object(alloc, name, shelf, checker)
+        object(alloc, name, shelf)
     } else if command == "unobject" {
         unobject(alloc, name, shelf)
     } else {
@@ -96,19 +91,18 @@ fn of_one<'w, S: Shelf, C: Checker>(
 }
 
 /// The commands of a number and a file.
-fn of_two<'w, S: Shelf, C: Checker>(
+fn of_two<'w, S: Shelf>(
     alloc: Global,
     command: &str,
     first: &'w str,
     second: &'w str,
     shelf: &mut S,
-    checker: &C,
 ) -> Result<Answer<'w>, Stop<'w>>
     ensures { CarriesOut (S.shelved shelf.old) (S.shelved shelf.new) (plan_of (spec.of_two command.now first.now second.now)) result }
 {
     if command == "big" {
         match number_of(first, MOST_ROUNDS) {
-            Some(rounds) => big(alloc, rounds, second, shelf, checker),
+            Some(rounds) => big(alloc, rounds, second, shelf),
             None => Ok(Answer::Usage),
         }
     } else if command == "refute" {
@@ -144,14 +138,13 @@ fn is_number(word: &str, number: u32, most: u32) -> bool
 }
 
 /// The commands of three files.
-fn of_three<'w, S: Shelf, C: Checker>(
+fn of_three<'w, S: Shelf>(
     alloc: Global,
     command: &str,
     program: &'w str,
     start: &'w str,
     schedule: &'w str,
     shelf: &mut S,
-    checker: &C,
 ) -> Result<Answer<'w>, Stop<'w>>
     ensures { CarriesOut (S.shelved shelf.old) (S.shelved shelf.new)
         (plan_of (spec.of_three command.now program.now start.now schedule.now)) result }
@@ -159,14 +152,14 @@ fn of_three<'w, S: Shelf, C: Checker>(
     if command == "run" {
         run(alloc, program, start, schedule, shelf)
     } else if command == "run-code" {
-        run_code(alloc, program, start, schedule, shelf, checker)
+        run_code(alloc, program, start, schedule, shelf)
     } else {
         Ok(Answer::Usage)
     }
 }
 
 /// The commands of four words.
-fn of_four<'w, S: Shelf, C: Checker>(
+fn of_four<'w, S: Shelf>(
     alloc: Global,
     command: &str,
     program: &'w str,
@@ -174,7 +167,6 @@ fn of_four<'w, S: Shelf, C: Checker>(
     next: &'w str,
     last: &'w str,
     shelf: &mut S,
-    checker: &C,
 ) -> Result<Answer<'w>, Stop<'w>>
     ensures { CarriesOut (S.shelved shelf.old) (S.shelved shelf.new)
         (plan_of (spec.of_four command.now program.now start.now next.now last.now)) result }
@@ -188,7 +180,7 @@ fn of_four<'w, S: Shelf, C: Checker>(
     } else if command == "pair" {
         pair(alloc, program, start, next, last, shelf)
     } else if command == "pair-code" {
-        pair_code(alloc, program, start, next, last, shelf, checker)
+        pair_code(alloc, program, start, next, last, shelf)
     } else {
         Ok(Answer::Usage)
     }
