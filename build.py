@@ -4,8 +4,8 @@
 usage: build.py PROGRAM          (a crate that is a program; `covern` calls this)
 
 `rt` lets one run at a time work in a crate and in those below it. So each crate is proved in a folder of its own, with links to the files of those below it, once
-these are proved; crates with the longest chain of others behind them come first. What is proved is kept in crates/NAME/out, where every command of `rt` finds it: a
-later build proves what has changed, and what stands on it.
+these are proved; crates with the longest chain of others behind them come first. The libraries are kept in crates/NAME/out, some 4 GB, where every command of `rt` finds
+them: a later build proves what has changed, and what stands on it.
 
 Standard output gets what `rt` says. Standard error, where it is a terminal, tells how far the build is. The status is 0 where the program is built, as
 crates/PROGRAM/out/PROGRAM.
@@ -73,12 +73,15 @@ def at_once():
 
 
 def link_tree(folder, to):
-    """Puts links to the files of a folder in another."""
+    """Puts links to the files of a folder in another, or copies where the file system has no links."""
     for at, _, files in os.walk(folder):
         there = os.path.join(to, os.path.relpath(at, folder))
         os.makedirs(there, exist_ok=True)
         for file in files:
-            os.link(os.path.join(at, file), os.path.join(there, file))
+            try:
+                os.link(os.path.join(at, file), os.path.join(there, file))
+            except OSError:
+                shutil.copy2(os.path.join(at, file), os.path.join(there, file))
 
 
 class Build:
@@ -107,6 +110,7 @@ class Build:
                     text.write('%s: %s\n' % (it, ' '.join(self.below[it])))
             shutil.copy(os.path.join(TOP, 'HANDLES'), room)
             kept, own = os.path.join(TOP, 'crates', name, 'out'), os.path.join(room, 'crates', name, 'out')
+            had_kept = os.path.isdir(os.path.join(kept, 'incremental'))
             if os.path.isdir(kept):
                 os.rename(kept, own)
             words = ['rt', 'run', '--jobs', '1', '--'] if name == self.program else ['rt', 'lib', '--jobs', '1']
@@ -115,6 +119,9 @@ class Build:
                 self.running.add(ran)
                 said = ran.communicate()[0]
                 self.running.discard(ran)
+            # what `rt` keeps beside the library is for whoever edits the crate, and takes more room
+            if not had_kept:
+                shutil.rmtree(os.path.join(own, 'incremental'), ignore_errors=True)
             if os.path.isdir(own):
                 os.rename(own, kept)
         with self.saying:
