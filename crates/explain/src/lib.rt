@@ -16,9 +16,9 @@
 //! | `call`, `files` | `FileCalls` | the words of a command line; what is told of each file, and the status |
 //! | `explanation` | `Explanations` | what is told of the bytes of a file |
 //! | `more` | `Tellings` | what is told beside it: what could stand at the place of a token, and what a refusal is about |
-//! | `next`, `fronts`, `line` | `ExpectedTokens`, `ExpectedLines` | what could stand at a place, in the order of the table of spellings, and the line that says so |
+//! | `next`, `fronts`, `places`, `line` | `ExpectedTokens`, `ExpectedLines` | what could stand at a place, in the order of the table of spellings, and the line that says so |
 //! | `warnings`, `sentences` | `WarningSentences` | what is warned of in a file, as text |
-//! | `warning`, `merged`, `uses`, `unused`, `unreached`, `hidden`, `places` | `Warnings`, `StatementUses`, `Unused`, `NeverReached`, `HiddenText` | what is warned of, each at its place: in declarations, statements and bytes |
+//! | `warning`, `merged`, `uses`, `unused`, `unreached`, `hidden` | `Warnings`, `StatementUses`, `Unused`, `NeverReached`, `HiddenText` | what is warned of, each at its place: in declarations, statements and bytes |
 //! | `rules` | `RuleSentences` | the sentence of each rule |
 //! | `faults`, `words` | `FaultSentences`, `TokenSentences` | the sentence of each fault of a text; reserved words |
 //! | `laws`, `expected_laws`, `warning_laws` | | the laws |
