@@ -8,4 +8,5 @@ mod NameLaws
 mod OverLaws
 mod BoundLaws
 mod BindLaws
+mod LineLaws
 mod Examples

@@ -2,12 +2,13 @@
 //! the threads that were replaced are judged.
 //!
 //! The definitions stand in `specs/`: `Judges` has what a judge means, `Swaps` the verdict from scratch and what a swapper keeps,
-//! `Replacements` which declarations may stand in the place of which thread, `Binding` what a text of threads means for a program and
+//! `SwapLines` what is told after each replaced thread, `Replacements` which declarations may stand in the place of which thread, `Binding` what a text of threads means for a program and
 //! its first fault, `RulesSay` and `MemJudges` what the two judges here say. `specs/Inside` has words of private contracts, and what
 //! laws of judges rest on. `proofs/Examples.antt` computes worked rows.
 //!
 //! - [`Judge`]: whoever says of a thread whether it is accepted ([`Said`]). [`Rules`]: by the rules. [`MemJudge`]: by a table of [`Row`]s.
 //! - [`Swapper`]: a program with its verdict ([`Judged`]), of which threads may be replaced.
+//! - [`swap_lines`]: the verdict on a program and after each of some replaced threads, a [`Line`] each.
 //! - [`bind`]: the threads of a text for the places of threads of a program, or the first fault ([`SwapFault`]).
 //! - [`others_keep_their_obligations`], [`exact_verdicts_are_right`], [`exactly_accepted_is_secure`]: laws, without code of their own.
 #![tactic(auto)]
@@ -17,6 +18,8 @@ mod bound_threads;
 mod judge;
 mod judged;
 mod laws;
+mod line;
+mod lines;
 mod mem_judge;
 mod names;
 mod row;
@@ -31,6 +34,8 @@ pub use judged::Judged;
 pub use laws::{
     exact_verdicts_are_right, exactly_accepted_is_secure, others_keep_their_obligations,
 };
+pub use line::Line;
+pub use lines::swap_lines;
 pub use mem_judge::MemJudge;
 pub use row::Row;
 pub use rules::Rules;
