@@ -82,7 +82,7 @@ def write(folder, name, text):
 WRITER = (b"var mode: low; var buf: low when mode == 0; var key: high; lock l hide mode, buf; thread w { lock l; buf := key; mode := 1; "
           b"unlock l by { 1: have [1 == 0] (rev 1 [_ == 0] (hyp 2)) (clash 3) }; }")
 WORDS = [["check", "p"], ["fmt", "p"], ["migrate", "p"], ["compile", "p"], ["run", "p", "s", "k"], ["run-code", "p", "s", "k"],
-         ["run-until", "p", "s", "k", "mode == 1"], ["pair", "p", "s", "t", "k"], ["pair-code", "p", "s", "t", "k"], ["object", "p"], ["unobject", "o"], ["refute", "p", "20"]]
+         ["run-until", "p", "s", "k", "mode == 1"], ["pair", "p", "s", "t", "k"], ["pair-code", "p", "s", "t", "k"], ["object", "p"], ["unobject", "o"], ["refute", "p", "20"], ["swap", "p", "e"]]
 
 
 def write_writer(folder):
@@ -90,6 +90,7 @@ def write_writer(folder):
     for name, key in (("s", 1), ("t", 2)):
         write(folder, name, b" " * 70_000 + json.dumps({"mode": 0, "buf": 0, "key": key}).encode())
     write(folder, "k", b" " * 70_000 + b"[0,0,0,0,0,0,0,0,0,0]")
+    write(folder, "e", b" " * 70_000 + b"thread w { skip; } thread w { lock l; }")
     write(folder, "o", object_of(code_of(b"code 1\nthread t 70000\n" + b"1 nop\n" * 70_000)))
 
 
@@ -520,6 +521,11 @@ def limit_rows():
     yield row("`unobject` of a count of 4,294,967,295 lines that aren't there", "", "unobject o", o=heads + b"\xff" * 4)
     yield row("`refute` of a program of 256 variables, 1000 trials", wide, "refute p 1000")
     yield row("`refute` of 9,990 assignments, 1000 trials", code, "refute p 1000")
+    parts = "".join(f"thread t{t} {{ {'skip; ' * 1_250}}} " for t in range(16))
+    yield row("`swap` of 16 threads of 1,250 statements, each by itself", parts, "swap p e", e=parts.encode())
+    one = "thread t0 { " + "skip; " * 1_250 + "} "
+    yield row("`swap` of one of them 16 times", parts, "swap p e", e=(one * 16).encode())
+    yield row("`swap` by a text of 1 MiB of `{`", parts, "swap p e", e=b"{" * most)
     yield row("a start of 4 MiB of blanks", loop, "run p s k", s=b" " * (longest - 8) + b'{"v0":0}', k=b"[]")
     yield row("a start of 4 MiB of one string", loop, "run p s k", s=b'{"' + b"a" * (longest - 6) + b'":0}', k=b"[]")
     yield row("a start of 4 MiB of keys", loop, "run p s k", s=repeated(b'{"v0":0', b',"a":0', b"}", longest), k=b"[]")

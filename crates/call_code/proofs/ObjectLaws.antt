@@ -17,7 +17,7 @@ use Rattle.call_inputs.proofs.TextLaws.{program_reading, not_some}
 use Rattle.call_inputs.specs.Plans.{RepliesAt, RepliesOver}
 use Rattle.call_inputs.specs.Programs.{IsShownFault, SpellsProgram}
 use Rattle.call_inputs.specs.Readings.{FollowsBytes, FollowsCall, Over, answer_by, gives, tries}
-use Rattle.call_inputs.specs.Rejections.{Rejection, by_rule, no_form, rejected, unfit}
+use Rattle.call_inputs.specs.Rejections.{Rejection, by_rule, misfit, no_form, rejected, unfit}
 use Rattle.call_judge.specs.Check.{rejection}
 use Rattle.call_reports.specs.Replies.{Reply, malformed, spelled, status_of}
 use Rattle.call_reports.specs.declared.answers.Fault.{Fault}
@@ -68,6 +68,7 @@ never_rejected : (text : List ℕ) (rejection : Rejection) → spelled text ≡ 
 never_rejected text no_form e = cc
 never_rejected text (by_rule refusal thread) e = cc
 never_rejected text (unfit name) e = cc
+never_rejected text (misfit name fault) e = cc
 
 module _ (files : List File) (name bytes : List ℕ) (at : held files name ≡ Some bytes) (fits : length bytes ≤ MOST_OBJECT_BYTES) (reply : Reply) where
   -- what follows a call for the object

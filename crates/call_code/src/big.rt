@@ -168,7 +168,7 @@ fn run_all(
         schedule.now (replies.ran text)) }
 {
     let mut text = List::new(alloc);
-    add_head(alloc, rounds, &coded.totals, &mut text)?;
+    add_head(rounds, &coded.totals, &mut text)?;
     add_source_runs(alloc, coded, memories, schedule, &mut text)?;
     add_code_runs(alloc, coded, memories, schedule, &mut text)?;
     Ok(text)

@@ -7,24 +7,19 @@ ghost use Rattle.source_machine.specs.SourceMachine.{run_of};
 ghost use Rattle.call_code.specs.Summaries as spec;
 ghost use Rattle.call_judge.specs.Check.{accepted_with};
 
-use call_reports::{Totals, accepted_line, add_number, add_numbered, add_pairs};
+use call_reports::{Totals, add_accepted, add_number, add_numbered, add_pairs};
 use cov_ast::Program;
 use cov_expr::{Blob, NoMemory};
 use risc_machine::Risc;
 use source_machine::Source;
-use std::alloc::Global;
 
 /// Adds the number of rounds, and the line of a check that accepts a program of which there is so much.
-pub fn add_head(
-    alloc: Global,
-    rounds: u32,
-    totals: &Totals,
-    text: &mut Blob,
-) -> Result<(), NoMemory>
+pub fn add_head(rounds: u32, totals: &Totals, text: &mut Blob) -> Result<(), NoMemory>
     ensures { OnOk result (text.new ≡ text.old ++ spec.head rounds (accepted_with totals.now)) }
 {
     add_numbered(b"big ", rounds, text)?;
-    text.extend_from_slice(accepted_line(alloc, totals)?.as_bytes())
+    add_accepted(totals, text)?;
+    text.extend_from_slice(b"\n")
 }
 
 /// Adds what is told of two runs of a program of so many steps, of which the first stayed so often, and of their machines after them.

@@ -1,5 +1,5 @@
 -- Laws of plans, whatever the command: what a call says of the files that a shelf tells, and how steps of the code carry a plan out.
-use Rattle.std.proofs.Common.{◌≡◌, ◌⊎◌, ℕ, List, Result, Option, Ok, Err, Some, None, refl, sym, ap, ◌∙◌, subst, inl, inr}
+use Rattle.std.proofs.Common.{◌≡◌, ◌⊎◌, ℕ, ◌+◌, ◌≤◌, List, Result, Option, Ok, Err, Some, None, refl, sym, ap, ◌∙◌, subst, inl, inr, arith}
 use Rattle.std.specs.Prelude.{MatchResult}
 use Rattle.cov_io.specs.Counters.{Rose, raised}
 use Rattle.cov_io.specs.Shelves.{File, Gives, Passes, Shelved, held}
@@ -19,10 +19,10 @@ use Rattle.call_reports.specs.declared.answers.Status.TheVariants as s
 use Rattle.call_reports.specs.declared.answers.Stop.{Stop}
 use Rattle.call_reports.specs.declared.answers.Stop.TheVariants as stop
 use Rattle.call_reports.proofs.EndLaws.{ends_onward}
-use Rattle.call_inputs.specs.Plans.{CarriesOut, EndsAt, GetsAt, IsMet, Performs, Plan, RepliesAt, RepliesOver, does}
+use Rattle.call_inputs.specs.Plans.{CarriesOut, CarriesOutAsking, CountsAt, EndsAt, GetsAt, IsMet, LacksMemory, Performs, PerformsAsking, Plan, RepliesAt, RepliesOver, Rises, asks, does}
 use Rattle.call_inputs.specs.Readings.{End, FollowsBytes, FollowsCall, HasRead, Over, Reading, Reads, Takes, answer_by, argument, ended, file, gives, lacks, stopped, stops, then_read, took, tries}
 use Rattle.call_inputs.specs.Steps.{bytes}
-use Rattle.call_inputs.specs.Rejections.{Rejection, UnlessRejected, by_rule, no_form, rejected, unfit}
+use Rattle.call_inputs.specs.Rejections.{Rejection, UnlessRejected, by_rule, misfit, no_form, rejected, unfit}
 use Rattle.call_inputs.proofs.ReadingLaws.{AreReadings, LeftAt, Onward, Reliable, answer_whole, bytes_read, call_one, bytes_one, left_passes, reads_exact, reads_onward, reads_pass, reads_rose, reads_then, reads_took}
 
 -- How a call ends ----------------------------------------------------------------------------------------------
@@ -69,6 +69,7 @@ rejected_no_result : (rejection : Rejection) → NoResult (rejected rejection)
 rejected_no_result no_form h = h
 rejected_no_result (by_rule refusal thread) h = h
 rejected_no_result (unfit name) h = h
+rejected_no_result (misfit name fault) h = h
 
 -- a status that is a result is put with a reply
 result_put : (may_reply : Reply → Type 0) (old new : Sunk) (status : Status) → IsResult status → Ends may_reply old new status → Puts may_reply old new status
@@ -170,11 +171,11 @@ pub one_sound : (it : Reply) → status_of it ≡ s.Done → IsSoundReply (λ st
 one_sound it done = record { one = λ reply other h k. h ∙ sym k; success = λ reply h. ap status_of h ∙ done }
 
 abbrev pub IsSound : (IsSuccess : Status → Type 0) → Plan → Type 0
-IsSound IsSuccess (does reading may_reply) = AreReadings reading × ((x : _) → IsSoundReply IsSuccess (may_reply x))
+IsSound IsSuccess (asks reading may_reply due) = AreReadings reading × ((x : _) → IsSoundReply IsSuccess (may_reply x))
 
 pub reply_one : (IsSuccess : Status → Type 0) (files : List File) (plan : Plan) (reply other : Reply) → IsSound IsSuccess plan → RepliesOver files plan reply
     → RepliesOver files plan other → reply ≡ other
-reply_one IsSuccess files (does reading may_reply) reply other sound h k =
+reply_one IsSuccess files (asks reading may_reply due) reply other sound h k =
     over_one files may_reply reply other reading sound.0 (λ x. (sound.1 x).one reply other) h k
 
 -- Calls that perform a plan ------------------------------------------------------------------------------------
@@ -183,21 +184,21 @@ module _ (before after : Shelved) (old new : Sunk) (status : Status) where
   -- What is replied by the calls is what the files say.
   pub performs_exact : (files : List File) (plan : Plan) → before.told ≡ Some files → Reliable before after → Performs before after old new plan status
       → Ends (RepliesOver files plan) old new status
-  performs_exact files (does reading may_reply) told reliable h =
+  performs_exact files (asks reading may_reply due) told reliable h =
       by (reads_exact (EndsAt may_reply old new status) after files before reading told reliable h)
     where
-      by : Over files (EndsAt may_reply old new status) reading ⊎ ((status ≡ s.NoMemory) × (new ≡ old)) → Ends (RepliesOver files (does reading may_reply)) old new status
+      by : Over files (EndsAt may_reply old new status) reading ⊎ ((status ≡ s.NoMemory) × (new ≡ old)) → Ends (RepliesOver files (asks reading may_reply due)) old new status
       by (inl over) = over_ends files may_reply old new status reading over
-      by (inr (e, same)) = subst (Ends (RepliesOver files (does reading may_reply)) old new) (sym e) same
+      by (inr (e, same)) = subst (Ends (RepliesOver files (asks reading may_reply due)) old new) (sym e) same
 
   pub performs_passes : (plan : Plan) → Performs before after old new plan status → Passes before after
-  performs_passes (does reading may_reply) h =
+  performs_passes (asks reading may_reply due) h =
       reads_pass (LeftAt after (EndsAt may_reply old new status)) after (left_passes (EndsAt may_reply old new status) after) before reading h
 
   -- A result is one of what was taken, and then all was there.
-  pub performs_took : {A : Type 0} (files : List File) (reading : Reading A) (may_reply : A → Reply → Type 0) → before.told ≡ Some files → IsResult status
-      → Performs before after old new (does reading may_reply) status → Takes files (λ x. Puts (may_reply x) old new status) reading
-  performs_took files reading may_reply told is h =
+  pub performs_took : {A : Type 0} (files : List File) (reading : Reading A) (may_reply : A → Reply → Type 0) (due : A → ℕ) → before.told ≡ Some files
+      → IsResult status → Performs before after old new (asks reading may_reply due) status → Takes files (λ x. Puts (may_reply x) old new status) reading
+  performs_took files reading may_reply due told is h =
       takes_onward files (λ x. Ends (may_reply x) old new status) (λ x. Puts (may_reply x) old new status) (λ x. result_put (may_reply x) old new status is) reading
       (reads_took (EndsAt may_reply old new status) after files NoResult rejected_no_result (λ title fault h. h) (λ name h. h) (λ name h. h)
       (λ reply none ends. none (subst IsResult (result_is reply ends) is)) (λ lack. not_result status s.NoMemory lack.0 is (λ h. h)) before reading told h)
@@ -208,7 +209,7 @@ module _ (before after : Shelved) (old new : Sunk) (status : Status) where
   -- A read fault comes only where the shelf's faults rose.
   pub performs_fault : (IsSuccess : Status → Type 0) → ((status : Status) → IsSuccess status → IsResult status) → (plan : Plan) → IsSound IsSuccess plan
       → status ≡ s.ReadFault → Performs before after old new plan status → Rose before.faults after.faults
-  performs_fault IsSuccess results (does reading may_reply) sound fault h =
+  performs_fault IsSuccess results (asks reading may_reply due) sound fault h =
       reads_rose (EndsAt may_reply old new status) after (λ reply. status_of reply ≡ s.ReadFault → ⊥) rejects (λ title found e. cc) (λ name e. cc) other
       (λ lack. let wrong : s.NoMemory ≡ s.ReadFault = sym lack.0 ∙ fault in cc) succeeds before reading h
     where
@@ -216,6 +217,7 @@ module _ (before after : Shelved) (old new : Sunk) (status : Status) where
       rejects no_form e = cc
       rejects (by_rule refusal thread) e = cc
       rejects (unfit name) e = cc
+      rejects (misfit name fault) e = cc
 
       by : (replies : Reply → Type 0) → (status ≡ s.NoMemory) ⊎ (status ≡ s.WriteFault) ⊎ Puts replies old new status
           → (reply : Reply) × replies reply × (status_of reply ≡ s.ReadFault)
@@ -234,7 +236,7 @@ module _ (before after : Shelved) (old new : Sunk) (status : Status) where
   -- Where all is there that a plan asks, and no call failed, there is success, unless memory ran out or the write failed.
   pub performs_met : (IsSuccess : Status → Type 0) (files : List File) (plan : Plan) → IsSound IsSuccess plan → before.told ≡ Some files → Reliable before after
       → IsMet files plan → Performs before after old new plan status → (status ≡ s.NoMemory) ⊎ (status ≡ s.WriteFault) ⊎ IsSuccess status
-  performs_met IsSuccess files (does reading may_reply) sound told reliable met h =
+  performs_met IsSuccess files (asks reading may_reply due) sound told reliable met h =
       by (reads_exact (EndsAt may_reply old new status) after files before reading told reliable h)
     where
       cases : (x : _) → (status ≡ s.NoMemory) ⊎ (status ≡ s.WriteFault) ⊎ Puts (may_reply x) old new status → (status ≡ s.NoMemory) ⊎ (status ≡ s.WriteFault) ⊎ IsSuccess status
@@ -286,6 +288,69 @@ module _ {A : Type 0} (may_reply : A → Reply → Type 0) (x : A) (shelf : Shel
       → CarriesOut shelf shelf (does (tries rejection (tries other (gives x))) may_reply) r
   carried_tries None other h = inl (carried_try other h)
   carried_tries (Some rejection) other h = inl (refl, h)
+
+-- Commands that ask no judge, and a call without what it asks --------------------------------------------------
+
+-- A plan asks a judge of nothing.
+abbrev pub AsksNothing : Plan → Type 0
+AsksNothing (asks reading may_reply due) = (x : _) → due x ≡ 0
+
+-- where nothing is due, and nothing was asked
+pub rises_none : (count due : ℕ) (Lacks : Type 0) → due ≡ 0 → Rises count count due Lacks
+rises_none count due Lacks none = record { least = omega arith; most = omega arith; all = λ some. omega (arith, none) }
+
+-- a step that asks nothing
+pub carried_unasked : (plan : Plan) (before after : Shelved) (asked told : ℕ) (r : Result Answer Stop) → AsksNothing plan → told ≡ asked
+    → CarriesOut before after plan r → CarriesOutAsking before after asked told plan r
+carried_unasked (asks reading may_reply due) before after asked told r nothing same h =
+    reads_onward (λ shelf end. (shelf ≡ after) × GetsAt may_reply end r)
+    (λ shelf end. (shelf ≡ after) × GetsAt may_reply end r × CountsAt due asked told (LacksMemory r) end) (λ shelf end e. (e.0, e.1, counted end)) before reading h
+  where
+    counted : (end : End _) → CountsAt due asked told (LacksMemory r) end
+    counted (took x) = subst (λ n. Rises asked n (due x) (LacksMemory r)) (sym same) (rises_none asked (due x) (LacksMemory r) (nothing x))
+    counted (stops reply) = same
+    counted lacks = same
+
+-- a step that stopped, and asked nothing
+pub stopped_unasked : {A : Type 0} (may_reply : A → Reply → Type 0) (due : A → ℕ) (asked told : ℕ) (why : Stop) → told ≡ asked
+    → GetsAt may_reply (stopped why) (Err why) × CountsAt due asked told (LacksMemory (Err why)) (stopped why)
+stopped_unasked may_reply due asked told (stop.Answer answer) same = (refl, same)
+stopped_unasked may_reply due asked told stop.NoMemory same = (tt, same)
+
+module _ {A B : Type 0} (reading : Reading A) (next : A → Reading B) (may_reply : B → Reply → Type 0) (due : B → ℕ) (before between after : Shelved) (asked told : ℕ) where
+  pub asked_on : (x : A) (r : Result Answer Stop) → HasRead before between reading (took x) → CarriesOutAsking between after asked told (asks (next x) may_reply due) r
+      → CarriesOutAsking before after asked told (asks (then_read reading next) may_reply due) r
+  asked_on x r h rest =
+      read_on reading next (λ shelf end. (shelf ≡ after) × GetsAt may_reply end r × CountsAt due asked told (LacksMemory r) end) before between x h rest
+
+  pub asked_not : (why : Stop) → told ≡ asked → HasRead before between reading (stopped why)
+      → CarriesOutAsking before between asked told (asks (then_read reading next) may_reply due) (Err why)
+  asked_not why same h =
+      let end = stopped_unasked may_reply due asked told why same in
+      read_stopped reading next (λ shelf end. (shelf ≡ between) × GetsAt may_reply end (Err why) × CountsAt due asked told (LacksMemory (Err why)) end) before between
+      why h (refl, end.0, end.1)
+
+-- what may reject something, and what is next
+module _ {A : Type 0} (left : Shelved → End A → Type 0) (shelf : Shelved) (next : Reading A) (rejection : Option Rejection) where
+  pub tried_on : rejection ≡ None → Reads left shelf next → Reads left shelf (tries rejection next)
+  tried_on none h = subst (λ o. Reads left shelf (tries o next)) (sym none) (inl h)
+
+  pub tried_not : (why : Stop) → Stops (λ reply. (q : Rejection) × (rejection ≡ Some q) × (reply ≡ rejected q)) why → left shelf (stopped why)
+      → Reads left shelf (tries rejection next)
+  tried_not (stop.Answer answer) (q, some, is) h =
+      subst (λ o. Reads left shelf (tries o next)) (sym some) (inl (subst (λ reply. left shelf (stops reply)) is h))
+  tried_not stop.NoMemory none h = lacking rejection
+    where
+      lacking : (o : Option Rejection) → Reads left shelf (tries o next)
+      lacking None = inr h
+      lacking (Some q) = inr h
+
+-- what a call does, whatever it asks
+pub performs_asking : (plan : Plan) (before after : Shelved) (old new : Sunk) (asked told : ℕ) (status : Status)
+    → PerformsAsking before after old new asked told plan status → Performs before after old new plan status
+performs_asking (asks reading may_reply due) before after old new asked told status h =
+    reads_onward (λ shelf end. (shelf ≡ after) × EndsAt may_reply old new status end × CountsAt due asked told (status ≡ s.NoMemory) end)
+    (λ shelf end. (shelf ≡ after) × EndsAt may_reply old new status end) (λ shelf end e. (e.0, e.1)) before reading h
 
 -- Steps that read ----------------------------------------------------------------------------------------------
 

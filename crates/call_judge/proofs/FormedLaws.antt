@@ -30,7 +30,7 @@ use Rattle.call_judge.proofs.WordTrees.{program_words}
 -- Words ----------------------------------------------------------------------------------------------------------
 
 -- the position of what passes is one of the list, or its end
-position_most : {X : Type 0} (test : X → Bool) (xs : List X) → position_or_len test xs ≤ length xs
+pub position_most : {X : Type 0} (test : X → Bool) (xs : List X) → position_or_len test xs ≤ length xs
 position_most test [] = omega arith
 position_most test (x ∷ xs) = go (position_most test xs) (test x)
   where

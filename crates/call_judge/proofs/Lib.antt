@@ -1,8 +1,8 @@
 pub mod CheckLaws
 pub mod ApartLaws
 pub mod JudgeLaws
-mod NumberWords
+pub mod NumberWords
 mod WordShapes
 mod WordTerms
-mod WordTrees
-mod FormedLaws
+pub mod WordTrees
+pub mod FormedLaws

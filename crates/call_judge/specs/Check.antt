@@ -44,6 +44,15 @@ rejection p = rejection_by p (first_false (obligations p))
 abbrev pub totals : Program → Totals
 totals p = record { threads = length p.threads; statements = (counts p).statements; entailments = (counts p).entailments }
 
+-- the rejection for an obligation of names that doesn't hold; it is in no thread
+abbrev pub name_rejection_by : Option Refusal → Option Rejection
+name_rejection_by None = None
+name_rejection_by (Some refusal) = Some (by_rule refusal None)
+
+-- why the names of what a text spells aren't in order: the first obligation of theirs that doesn't hold (W1, W2)
+abbrev pub name_rejection : Parsed → Option Rejection
+name_rejection p = name_rejection_by (first_false (name_obligations p))
+
 -- the reply to a check of a program that is accepted and has so much
 abbrev pub accepted_with : Totals → Reply
 accepted_with t = accepted t.threads t.statements t.entailments

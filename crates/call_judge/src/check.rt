@@ -1,9 +1,9 @@
 //! `check`: the verdict on what a file spells, and the steps to it that other commands share.
 
-ghost use Rattle.std.specs.Prelude.{◌≡◌, IfOk, MatchResult, map};
+ghost use Rattle.std.specs.Prelude.{◌≡◌, IfOk, MatchResult, None, map};
 ghost use Rattle.call_inputs.specs.Plans.{CarriesOut};
-ghost use Rattle.call_judge.specs.Check.{Judges, accepted_with, check_plan, name_in, totals};
-ghost use Rattle.call_judge.specs.Inside.{IsNamed, IsProgramRejected, IsRejected};
+ghost use Rattle.call_judge.specs.Check.{Judges, accepted_with, check_plan, name_in, name_rejection, totals};
+ghost use Rattle.call_judge.specs.Inside.{IsNamed, IsProgramRejected, IsRejected, IsUnnamed};
 ghost use Rattle.call_reports.specs.AnswerViews.{Gets, Stops, seen};
 ghost use Rattle.cov_ast.specs.Plain.{plain};
 ghost use Rattle.cov_ast.specs.Ready.{IsReady};
@@ -56,7 +56,8 @@ fn judge_program<'w>(alloc: Global, program: &Program) -> Result<Answer<'w>, Sto
 /// The program that a text stands for, if its names are in order. A name that is refused is that of no thread.
 pub fn named<'w>(alloc: Global, parsed: Parsed) -> Result<Program, Stop<'w>>
     requires { IsReady (view.parsed parsed) }
-    ensures { MatchResult result (λ program. IsNamed (view.parsed parsed) (view.program program)) (Stops (IsRejected (view.parsed parsed))) }
+    ensures named { MatchResult result (λ program. IsNamed (view.parsed parsed) (view.program program)) (Stops (IsRejected (view.parsed parsed))) }
+    ensures unnamed { MatchResult result (λ _. name_rejection (view.parsed parsed) ≡ None) (Stops (IsUnnamed (view.parsed parsed))) }
 {
     match resolve(alloc, parsed) {
         Ok(program) => Ok(program),

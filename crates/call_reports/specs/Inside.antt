@@ -2,7 +2,7 @@
 -- `covern` promises, nothing here need be read.
 use Rattle.std.specs.Prelude.{◌≡◌, ℕ, List, codes}
 use Rattle.call_reports.specs.Replies.{Reply, spelled, ran, refuted}
-use Rattle.call_reports.specs.Reports.{kind_text, report_of}
+use Rattle.call_reports.specs.Reports.{kind_text, misfit_text, report_of}
 use Rattle.call_reports.specs.declared.answers.Fault.{Fault}
 use Rattle.call_reports.specs.declared.answers.Fault.TheVariants as f
 
@@ -26,3 +26,4 @@ fault_word f.TooMany = codes "many"
 fault_word (f.BadEntry i) = codes "entry "
 fault_word (f.Object at) = codes "object at "
 fault_word f.Code = codes "code"
+fault_word (f.Misfit what at) = misfit_text what

@@ -10,6 +10,8 @@ use Rattle.call_reports.specs.declared.answers.Fault.{Fault}
 use Rattle.call_reports.specs.declared.answers.Fault.TheVariants as f
 use Rattle.call_reports.specs.declared.answers.FaultKind.{FaultKind}
 use Rattle.call_reports.specs.declared.answers.FaultKind.TheVariants as k
+use Rattle.call_reports.specs.declared.answers.Misfit.{Misfit}
+use Rattle.call_reports.specs.declared.answers.Misfit.TheVariants as m
 
 -- Faults of files ----------------------------------------------------------------------------------------------
 
@@ -27,6 +29,13 @@ kind_text k.Limit = codes "limit"
 kind_text k.Depth = codes "depth"
 kind_text k.Unknown = codes "unknown"
 
+-- what of a text doesn't fit a program is called
+abbrev pub misfit_text : Misfit → List ℕ
+misfit_text m.Version = codes "version"
+misfit_text m.Declares = codes "declares"
+misfit_text m.Thread = codes "thread"
+misfit_text m.Unknown = codes "unknown"
+
 -- what a fault of a file is, and where
 abbrev pub fault_text : Fault → List ℕ
 fault_text (f.Text kind at) = kind_text kind ++ codes " at " ++ decimal at
@@ -40,6 +49,7 @@ fault_text f.TooMany = codes "many"
 fault_text (f.BadEntry i) = codes "entry " ++ decimal i
 fault_text (f.Object at) = codes "object at " ++ decimal at
 fault_text f.Code = codes "code"
+fault_text (f.Misfit what at) = misfit_text what ++ codes " at " ++ decimal at
 
 -- Refusals -----------------------------------------------------------------------------------------------------
 
@@ -84,9 +94,20 @@ detail_text (d.Three x y z) = codes ": " ++ x ++ codes " " ++ y ++ codes " " ++ 
 detail_text (d.Number n) = codes " entailment " ++ decimal n
 
 -- the broken rule, its thread, its place, and what it shows
+abbrev pub refusal_words : Refusal → (thread : Option (List ℕ)) → List ℕ
+refusal_words refusal thread =
+    codes "refused " ++ rule_text refusal.rule ++ thread_text thread ++ codes " at " ++ decimal refusal.place ++ detail_text refusal.detail
+
+-- a line of that
 abbrev pub refusal_text : Refusal → (thread : Option (List ℕ)) → List ℕ
-refusal_text refusal thread =
-    codes "refused " ++ rule_text refusal.rule ++ thread_text thread ++ codes " at " ++ decimal refusal.place ++ detail_text refusal.detail ++ codes "\n"
+refusal_text refusal thread = refusal_words refusal thread ++ codes "\n"
+
+-- Counts -------------------------------------------------------------------------------------------------------
+
+-- how much a program has that is accepted
+abbrev pub accepted_words : (threads statements entailments : ℕ) → List ℕ
+accepted_words threads statements entailments =
+    codes "accepted: " ++ counted threads (codes " threads, ") ++ counted statements (codes " statements, ") ++ counted entailments (codes " entailments")
 
 -- Reports ------------------------------------------------------------------------------------------------------
 
@@ -97,8 +118,7 @@ report_of (read_fault name) = codes "read fault: " ++ name ++ 10 ∷ []
 report_of (too_long name) = codes "too long: " ++ name ++ 10 ∷ []
 report_of (malformed name fault) = codes "malformed " ++ name ++ codes ": " ++ fault_text fault ++ codes "\n"
 report_of (refused refusal thread) = refusal_text refusal thread
-report_of (accepted threads statements entailments) =
-    codes "accepted: " ++ counted threads (codes " threads, ") ++ counted statements (codes " statements, ") ++ counted entailments (codes " entailments\n")
+report_of (accepted threads statements entailments) = accepted_words threads statements entailments ++ codes "\n"
 report_of (spelled text) = text
 report_of (ran report) = report
 report_of (bad_starts name) = codes "bad starts: " ++ name ++ codes "\n"

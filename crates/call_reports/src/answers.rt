@@ -74,6 +74,19 @@ pub enum FaultKind {
     Unknown,
 }
 
+/// What of a text of threads doesn't fit the program whose threads they are to replace.
+#[derive(Clone, Copy)]
+pub enum Misfit {
+    /// It is of version 2, and the program of version 1.
+    Version,
+    /// A variable or a lock that it declares.
+    Declares,
+    /// A thread whose name none of the program has.
+    Thread,
+    /// A name that is that of no variable, or of no lock, of the program.
+    Unknown,
+}
+
 /// A fault of a file, as reports show it.
 #[derive(Clone, Copy)]
 pub enum Fault {
@@ -99,6 +112,8 @@ pub enum Fault {
     Object(u32),
     /// An object is one of parts that are no code.
     Code,
+    /// Of a text that is read for a program, at the offset of a byte.
+    Misfit(Misfit, u32),
 }
 
 /// What a call answers, the want of memory and a failed write aside. Names of files are words of the command line.

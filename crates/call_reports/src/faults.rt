@@ -5,7 +5,7 @@ ghost use Rattle.call_reports.specs.Inside as inside;
 ghost use Rattle.call_reports.specs.Replies.{malformed};
 ghost use Rattle.call_reports.specs.Reports as spec;
 
-use crate::answers::{Fault, FaultKind};
+use crate::answers::{Fault, FaultKind, Misfit};
 use crate::lines::{add_between, add_number, add_number_behind};
 use cov_expr::{Blob, List, NoMemory};
 use std::alloc::Global;
@@ -30,7 +30,7 @@ fn add_fault(fault: &Fault, line: &mut Blob) -> Result<(), NoMemory>
         Fault::Json | Fault::NotObject | Fault::UnknownKey => Ok(()),
         Fault::NotList | Fault::TooMany | Fault::Code => Ok(()),
         Fault::Missing(name) | Fault::NotWord(name) => line.extend_from_slice(name.text()),
-        Fault::Text(_, at) => add_number_behind(b" at ", *at, line),
+        Fault::Text(_, at) | Fault::Misfit(_, at) => add_number_behind(b" at ", *at, line),
         Fault::BadEntry(n) | Fault::Object(n) => add_number(*n, line),
     }
 }
@@ -51,6 +51,19 @@ fn fault_word(fault: &Fault) -> &'static str
         Fault::BadEntry(_) => "entry ",
         Fault::Object(_) => "object at ",
         Fault::Code => "code",
+        Fault::Misfit(what, _) => misfit_text(*what),
+    }
+}
+
+/// What of a text doesn't fit a program is called.
+fn misfit_text(what: Misfit) -> &'static str
+    ensures { result.now ≡ spec.misfit_text what }
+{
+    match what {
+        Misfit::Version => "version",
+        Misfit::Declares => "declares",
+        Misfit::Thread => "thread",
+        Misfit::Unknown => "unknown",
     }
 }
 

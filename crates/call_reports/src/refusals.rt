@@ -18,17 +18,18 @@ pub fn refusal_line(
 {
     let mut line = List::new(alloc);
     add_refusal(refusal, thread, &mut line)?;
+    line.extend_from_slice(b"\n")?;
     Ok(line)
 }
 
-fn add_refusal(refusal: &Refusal, thread: Option<Name>, line: &mut Blob) -> Result<(), NoMemory>
-    ensures { OnOk result (line.new ≡ line.old ++ spec.refusal_text refusal.now thread) }
+/// Adds what is refused, without the end of the line.
+pub fn add_refusal(refusal: &Refusal, thread: Option<Name>, line: &mut Blob) -> Result<(), NoMemory>
+    ensures { OnOk result (line.new ≡ line.old ++ spec.refusal_words refusal.now thread) }
 {
     add_rule(refusal.rule, line)?;
     add_thread(thread, line)?;
     add_number_behind(b" at ", refusal.place, line)?;
-    add_detail(&refusal.detail, line)?;
-    line.extend_from_slice(b"\n")
+    add_detail(&refusal.detail, line)
 }
 
 /// Adds what a refusal begins with: a word, and the rule.

@@ -1,6 +1,6 @@
 //! The report of an answer.
 
-ghost use Rattle.std.specs.Prelude.{◌≡◌, ◌++◌, IfOk, codes, string_bytes};
+ghost use Rattle.std.specs.Prelude.{◌≡◌, ◌++◌, IfOk, OnOk, codes};
 ghost use Rattle.call_reports.specs.AnswerViews.{seen};
 ghost use Rattle.call_reports.specs.Inside.{IsLine};
 ghost use Rattle.call_reports.specs.Reports as spec;
@@ -12,7 +12,8 @@ use crate::faults::malformed_line;
 use crate::lines::add_between;
 use crate::refusals::refusal_line;
 use cov_expr::{Blob, List, NoMemory};
-use std::alloc::{AllocError, Global};
+use itoa::Buffer;
+use std::alloc::Global;
 
 /// The report of an answer.
 pub fn report(alloc: Global, answer: Answer<'_>) -> Result<Blob, NoMemory>
@@ -34,7 +35,7 @@ fn line(alloc: Global, answer: &Answer<'_>) -> Result<Blob, NoMemory>
         Answer::TooLong(name) => line_of(alloc, b"too long: ", name.as_bytes()),
         Answer::Malformed(name, fault) => malformed_line(alloc, name, fault),
         Answer::Refused(refusal, thread) => refusal_line(alloc, refusal, *thread),
-        Answer::Accepted(counts) => accepted_bytes(alloc, counts),
+        Answer::Accepted(counts) => accepted_line(alloc, counts),
         Answer::BadStarts(name) => line_of(alloc, b"bad starts: ", name.as_slice()),
         Answer::Differ(step, what) => differ_line(alloc, *step, what),
         Answer::Spelled(_) | Answer::Ran(_) | Answer::Refuted(_) => Ok(List::new(alloc)),
@@ -50,33 +51,31 @@ fn line_of(alloc: Global, before: &[u8], text: &[u8]) -> Result<Blob, NoMemory>
     Ok(line)
 }
 
-fn accepted_bytes(alloc: Global, counts: &Totals) -> Result<Blob, NoMemory>
-    ensures { IfOk result (λ bytes. bytes ≡ report_of (seen (Answer.Accepted counts.now))) }
-{
-    let text = accepted_line(alloc, counts)?;
-    bytes_of(alloc, text.as_str())
-}
-
-fn bytes_of(alloc: Global, text: &str) -> Result<Blob, NoMemory>
-    ensures { IfOk result (λ bytes. bytes ≡ text.now) }
-{
-    let mut bytes = List::new(alloc);
-    bytes.extend_from_slice(text.as_bytes())?;
-    Ok(bytes)
-}
-
 /// The line of a check that accepts.
-pub fn accepted_line(alloc: Global, counts: &Totals) -> Result<String, AllocError>
-    ensures { IfOk result (λ text. string_bytes text ≡ report_of (seen (Answer.Accepted counts.now))) }
+fn accepted_line(alloc: Global, counts: &Totals) -> Result<Blob, NoMemory>
+    ensures { IfOk result (λ line. line ≡ report_of (seen (Answer.Accepted counts.now))) }
 {
-    let text = with_count(alloc, "accepted: ", counts.threads, " threads, ")?;
-    let text = with_count(alloc, text.as_str(), counts.statements, " statements, ")?;
-    with_count(alloc, text.as_str(), counts.entailments, " entailments\n")
+    let mut line = List::new(alloc);
+    add_accepted(counts, &mut line)?;
+    line.extend_from_slice(b"\n")?;
+    Ok(line)
 }
 
-/// A text, a number behind it, and what there are so many of.
-fn with_count(alloc: Global, before: &str, n: u64, what: &str) -> Result<String, AllocError>
-    ensures { IfOk result (λ text. string_bytes text ≡ before.now ++ spec.counted n what.now) }
+/// Adds how much a program has that is accepted, without the end of the line.
+pub fn add_accepted(counts: &Totals, line: &mut Blob) -> Result<(), NoMemory>
+    ensures { OnOk result (line.new ≡ line.old ++ spec.accepted_words counts.now.threads counts.now.statements counts.now.entailments) }
 {
-    format!(in alloc; "{before}{n}{what}")
+    line.extend_from_slice(b"accepted: ")?;
+    add_counted(counts.threads, b" threads, ", line)?;
+    add_counted(counts.statements, b" statements, ", line)?;
+    add_counted(counts.entailments, b" entailments", line)
+}
+
+/// Adds a number, and what there are so many of.
+pub fn add_counted(n: u64, what: &[u8], line: &mut Blob) -> Result<(), NoMemory>
+    ensures { OnOk result (line.new ≡ line.old ++ spec.counted n what.now) }
+{
+    let mut buffer = Buffer::new();
+    line.extend_from_slice(buffer.format(n).as_bytes())?;
+    line.extend_from_slice(what)
 }

@@ -19,9 +19,11 @@
 //! - `$ WORDS` calls the product with these words, on these files in memory. The lines behind it are what the call has to report,
 //!   and `[N]` the status, where it isn't 0. A word with blanks stands between apostrophes. In front of the command may stand what the
 //!   call meets outside: `fetch=N` and `put=N`, that the fetch or the put of this number fails; `step=N`, that a put takes N bytes;
-//!   `room=N`, that the output has room for N bytes; `cut=N`, that there are only N bytes of the file `p`.
+//!   `room=N`, that the output has room for N bytes; `cut=N`, that there are only N bytes of the file `p`; `statements=N` and
+//!   `entailments=N`, that the judge is one in memory, which says so much of each thread, but with `refuses=N` refuses those that are declared at
+//!   N. A last line then has its count, as `judged 6`.
 //! - `% PART` calls a part of the product by itself on the text of `p`: `tokens`, `parsed`, `declared`, `certificates`,
-//!   `entailments`, `expression` or `listing` ([`parts`] says what each shows). `cut=N` may stand in front of it as well.
+//!   `entailments`, `expression`, `replaced` or `listing` ([`parts`] says what each shows). `cut=N` may stand in front of it as well.
 //! - An empty line behind a call ends what it has to show. What stands between there and the next case is a comment.
 //! - `@N TEXT`, in a file or in what a call has to show, stands for TEXT N times, without a line feed at the end. In TEXT `#` is the
 //!   number of the turn, from 0, and `~` a line feed.
@@ -41,6 +43,7 @@ mod lines;
 mod outside;
 mod parts;
 mod play;
+mod replaced;
 mod top;
 
 use crate::failure::Failure;

@@ -16,6 +16,10 @@ pub struct Outside {
     pub room: usize,
     /// How many bytes there are of the file `p`.
     pub cut: usize,
+    /// How many statements and entailments a judge in memory says that each thread has, where there is such a judge.
+    pub says: Option<(u32, u32)>,
+    /// The place of the threads that this judge refuses.
+    pub refuses: Option<u32>,
 }
 
 impl Outside {
@@ -27,6 +31,8 @@ impl Outside {
             step: ROOM,
             room: ROOM,
             cut: usize::MAX,
+            says: None,
+            refuses: None,
         }
     }
 
@@ -44,6 +50,9 @@ impl Outside {
             "step" => self.step = number as usize,
             "room" => self.room = number as usize,
             "cut" => self.cut = number as usize,
+            "statements" => self.says = Some((number, 0)),
+            "entailments" => self.says = Some((self.says.unwrap_or((0, 0)).0, number)),
+            "refuses" => self.refuses = Some(number),
             _ => return false,
         }
         true

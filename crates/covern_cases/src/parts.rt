@@ -7,6 +7,7 @@ ghost use Rattle.cov_ast.specs.Ready.{IsReady};
 use crate::calls::{add_entailments, add_expression};
 use crate::certificates::add_claims;
 use crate::failure::Failure;
+use crate::replaced::add_replaced;
 use code_text::{CodeFault, list, read_code};
 use cov_ast::{CheckFault, Parsed};
 use cov_expr::{Blob, MOST_BYTES, MOST_LISTING_BYTES};
@@ -27,6 +28,7 @@ use std::alloc::{AllocError, Global};
 /// - `certificates`: of each note with a proof whether the certificate is valid, or the path of the first node that fails, `top` for
 ///   the root. The check of a certificate is measured.
 /// - `entailments`, `expression`: what calls answer that no command makes, as `calls.rt` has them.
+/// - `replaced`: the verdict after the first thread of a text was replaced by itself a thousand times, as `replaced.rt` has it.
 /// - `listing`: the listing of the code that the text lists, or the fault. Reading is measured.
 pub fn add_part(
     alloc: Global,
@@ -48,6 +50,7 @@ pub fn add_part(
         "certificates" => add_claims(alloc, times, text, out),
         "entailments" => add_entailments(alloc, text, out),
         "expression" => add_expression(alloc, text, out),
+        "replaced" => add_replaced(alloc, text, out),
         _ => Ok(out.extend_from_slice(b"no such part\n")?),
     }
 }

@@ -1,14 +1,19 @@
 //! The top call on files in memory, and what it shows.
-ghost use Rattle.std.specs.Prelude.{IsNone, IsTrue};
+ghost use Rattle.std.specs.Prelude.{IfOk, IsNone, IsTrue};
 ghost use Rattle.cov_io.specs.Shelves.{IsDistinctByName, held};
+ghost use Rattle.thread_swap.specs.MemJudges.{are_lawful};
 
 use crate::failure::Failure;
 use crate::lines::copy_of;
 use crate::outside::{Outside, cut_at};
+use crate::parts::add_text;
+use cov_ast::{Detail, Refusal, Rule};
 use cov_expr::{Blob, List, Name};
 use cov_io::{MemShelf, MemSink};
 use std::alloc::Global;
-use top_call::covern;
+use thread_swap::{Judge, MemJudge, Row};
+use top_call::{covern, covern_with};
+use typing_law::Count;
 
 /// Adds what the product shows when it is called with words on files: its report, and the status where it isn't 0. Words in front of a
 /// command may say what fails outside of the product.
@@ -49,9 +54,51 @@ fn add_reply(
     }
     let fails = list_of(alloc, outside.put)?;
     let mut sink = MemSink::new(alloc, outside.room, outside.step, fails)?;
-    let status = covern(alloc, words, shelf, &mut sink) as u8;
+    let Some((statements, entailments)) = outside.says else {
+        let status = covern(alloc, words, shelf, &mut sink) as u8;
+        out.extend_from_slice(sink.bytes())?;
+        return add_status(alloc, status, out);
+    };
+    let mut judge = judge_of(alloc, statements, entailments, outside.refuses)?;
+    let status = covern_with(alloc, words, shelf, &mut sink, &mut judge) as u8;
     out.extend_from_slice(sink.bytes())?;
-    add_status(alloc, status, out)
+    add_status(alloc, status, out)?;
+    add_text(format!(in alloc; "judged {}\n", judge.judged()), out)
+}
+
+/// A judge in memory that says so much of each thread, but refuses those at a place.
+fn judge_of(
+    alloc: Global,
+    statements: u32,
+    entailments: u32,
+    refuses: Option<u32>,
+) -> Result<MemJudge, Failure> {
+    let rows = rows_of(alloc, refuses)?;
+    let rest = Count {
+        statements: u64::from(statements),
+        entailments: u64::from(entailments),
+    };
+    Ok(MemJudge::new(rows, rest))
+}
+
+/// The row of threads at a place, of which a rule is broken that shows nothing.
+fn rows_of(alloc: Global, refuses: Option<u32>) -> Result<List<Row>, Failure>
+    ensures { IfOk result (λ rows. IsTrue (are_lawful rows)) }
+{
+    let mut rows = List::new(alloc);
+    if let Some(at) = refuses {
+        let refusal = Refusal {
+            rule: Rule::V3,
+            thread: None,
+            place: at,
+            detail: Detail::Nothing,
+        };
+        rows.push(Row {
+            at,
+            said: Err(refusal),
+        })?;
+    }
+    Ok(rows)
 }
 
 /// Adds the status, where it isn't 0.

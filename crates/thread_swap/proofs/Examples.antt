@@ -1,5 +1,5 @@
 -- A program of which a thread is replaced twice, and texts of threads for it, by computation. Places are those of the text above each.
-use Rattle.std.proofs.Common.{◌≡◌, ℕ, List, [], ◌∷◌, set, true, false, refl, Option, Some, None, Ok}
+use Rattle.std.proofs.Common.{◌≡◌, ℕ, List, [], ◌∷◌, map, set, true, false, refl, Option, Some, None, Ok}
 use Rattle.cov_expr.specs.Term.{const}
 use Rattle.cov_ast.specs.Declarations.{no_modes}
 use Rattle.cov_ast.specs.Syntax.{low, Stm, assign, lock, unlock, Thread, Program, Parsed}
@@ -11,6 +11,7 @@ use Rattle.thread_swap.specs.Judges.{Said, risen}
 use Rattle.thread_swap.specs.MemJudges.{by_table}
 use Rattle.thread_swap.specs.Replacements.{thread_named}
 use Rattle.thread_swap.specs.RulesSay.{by_rules}
+use Rattle.thread_swap.specs.SwapLines.{swap_lines}
 use Rattle.thread_swap.specs.Swaps.{all_open, due, settled, swapped, verdict_on}
 use Rattle.thread_swap.specs.declared.judged.Judged.TheVariants.{Accepted, Refused}
 use Rattle.thread_swap.specs.declared.swap_fault.SwapFault.TheVariants.{Declares, NoThread, Unknown, Version}
@@ -146,6 +147,22 @@ second-due = refl
 table-verdict : verdict_on (by_table [] (record { statements = 7; entailments = 9 }) 0) writes_under_lock
     ≡ Accepted (record { statements = 14; entailments = 18 })
 table-verdict = refl
+
+-- Lines -------------------------------------------------------------------------------------------------------------------
+
+two_threads-lines : swap_lines (by_rules 0) writes_under_lock (locks_twice ∷ does_nothing ∷ [])
+    ≡ record { verdict = Accepted (record { statements = 6; entailments = 2 }); checked = 6 }
+    ∷ record { verdict = Refused (record { rule = V6; thread = Some 0; place = 19; detail = One (108 ∷ []) }); checked = 2 }
+    ∷ record { verdict = Accepted (record { statements = 3; entailments = 1 }); checked = 0 } ∷ []
+two_threads-lines = refl
+
+table-lines : swap_lines (by_table [] (record { statements = 7; entailments = 9 }) 0) writes_under_lock []
+    ≡ record { verdict = Accepted (record { statements = 14; entailments = 18 }); checked = 6 } ∷ []
+table-lines = refl
+
+-- at the end of a count it rises by what is left, and then no more
+last-lines : map (λ l. l.checked) (swap_lines (by_rules 18446744073709551613) writes_under_lock (locks_twice ∷ [])) ≡ 2 ∷ 0 ∷ []
+last-lines = refl
 
 -- Counts ------------------------------------------------------------------------------------------------------------------
 

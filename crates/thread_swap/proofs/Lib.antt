@@ -9,4 +9,6 @@ mod OverLaws
 mod BoundLaws
 mod BindLaws
 mod LineLaws
+mod SecureLines
+pub mod FitLaws
 mod Examples

@@ -80,11 +80,11 @@ module _ (e : Parsed) where
 
 -- Names of declarations -------------------------------------------------------------------------------------------------
 
-vars_same : (vs : List Var) → map (λ (v : Var). v.name) (map bare_var vs) ≡ map (λ (v : Var). v.name) vs
+pub vars_same : (vs : List Var) → map (λ (v : Var). v.name) (map bare_var vs) ≡ map (λ (v : Var). v.name) vs
 vars_same [] = refl
 vars_same (v ∷ vs) = ap (λ ns. v.name ∷ ns) (vars_same vs)
 
-locks_same : (ls : List Lock) → map (λ (l : Lock). l.name) (map bare_lock ls) ≡ map (λ (l : Lock). l.name) ls
+pub locks_same : (ls : List Lock) → map (λ (l : Lock). l.name) (map bare_lock ls) ≡ map (λ (l : Lock). l.name) ls
 locks_same [] = refl
 locks_same (l ∷ ls) = ap (λ ns. l.name ∷ ns) (locks_same ls)
 
@@ -157,7 +157,7 @@ module _ (p : Program) (e : Parsed) where
     known_is : (u : NameUse) → is_declared (over p (threads_in e ts)) u ≡ is_known p e u
     known_is u = λ i. is_among (cond u.lock (locks_same p.locks i) (vars_same p.vars i)) (text_of e u.name)
 
-    uses_first : (us : List NameUse) → option_map (λ (r : Refusal). Unknown r.place) (first_false (map (use_obligation (over p (threads_in e ts))) us))
+    pub uses_first : (us : List NameUse) → option_map (λ (r : Refusal). Unknown r.place) (first_false (map (use_obligation (over p (threads_in e ts))) us))
         ≡ option_map (λ (u : NameUse). Unknown u.at) (find (λ u. not (is_known p e u)) us)
     uses_first [] = refl
     uses_first (u ∷ us) =

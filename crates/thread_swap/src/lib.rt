@@ -10,7 +10,8 @@
 //! - [`Swapper`]: a program with its verdict ([`Judged`]), of which threads may be replaced.
 //! - [`swap_lines`]: the verdict on a program and after each of some replaced threads, a [`Line`] each.
 //! - [`bind`]: the threads of a text for the places of threads of a program, or the first fault ([`SwapFault`]).
-//! - [`others_keep_their_obligations`], [`exact_verdicts_are_right`], [`exactly_accepted_is_secure`]: laws, without code of their own.
+//! - [`others_keep_their_obligations`], [`exact_verdicts_are_right`], [`exactly_accepted_is_secure`], [`accepted_lines_are_secure`]: laws, without code of
+//!   their own.
 #![tactic(auto)]
 
 mod binding;
@@ -32,7 +33,8 @@ pub use binding::bind;
 pub use judge::{Judge, Said};
 pub use judged::Judged;
 pub use laws::{
-    exact_verdicts_are_right, exactly_accepted_is_secure, others_keep_their_obligations,
+    accepted_lines_are_secure, exact_verdicts_are_right, exactly_accepted_is_secure,
+    others_keep_their_obligations,
 };
 pub use line::Line;
 pub use lines::swap_lines;

@@ -29,6 +29,7 @@ pub fn swap_lines<J: Judge>(
     ensures lines { IfOk result (λ lines. lines ≡ spec.swap_lines (J.judging judge.old) (view.program p) (map view.thread replacements)) }
     ensures passes { Passes (J.judging judge.old) (J.judging judge.new) }
     ensures count { IfOk result (λ lines. (J.judging judge.new).judged ≡ (J.judging judge.old).judged + all_checked lines) }
+    ensures least { (J.judging judge.old).judged ≤ (J.judging judge.new).judged }
     ensures most { OnErr result ((J.judging judge.new).judged
         ≤ (J.judging judge.old).judged + all_checked (spec.swap_lines (J.judging judge.old) (view.program p) (map view.thread replacements))) }
 {

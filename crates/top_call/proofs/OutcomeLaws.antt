@@ -21,7 +21,7 @@ use Rattle.flow_model.specs.Secure.{IsSecure}
 use Rattle.policy_class.specs.Resolved.{resolved}
 use Rattle.call_code.specs.Codes.{Compiles, code_of}
 use Rattle.call_code.specs.Objects.{RepliesObject}
-use Rattle.call_inputs.specs.Plans.{CarriesOut, EndsAt, GetsAt, IsMet, LacksMemory, Performs, Plan, does}
+use Rattle.call_inputs.specs.Plans.{CarriesOutAsking, CountsAt, EndsAt, GetsAt, IsMet, LacksMemory, Performs, PerformsAsking, Plan, asks, does}
 use Rattle.call_inputs.specs.Programs.{SpellsProgram, SpellsTree}
 use Rattle.cov_grammar.specs.PlacedTrees as trees
 use Rattle.call_inputs.specs.Readings.{End, Reading, Reads, Takes, lacks, stops, took}
@@ -40,11 +40,16 @@ use Rattle.call_run.specs.Pairs.{Pairs, pair_reading}
 use Rattle.call_run.specs.Refutes.{Refutes, refute_reading}
 use Rattle.top_call.specs.AcceptedRuns.{HoldsAccepted, RunsAccepted}
 use Rattle.top_call.specs.Commands.{command_of, of_trials, plan_of}
+use Rattle.thread_swap.specs.Judges.{Judging}
+use Rattle.thread_swap.specs.SwapLines.{AreSecureIfAccepted, swapped_programs}
+use Rattle.call_verdicts.specs.Swap.{SwapInput, Swaps, due_by, lines_by, misfit_rejection, replacements, swap_reading}
+use Rattle.call_verdicts.proofs.SwapLaws.{names_ordered}
 use Rattle.top_call.specs.Headline.{HoldsSecure, PutsCode, PutsGoodCode, PutsObject}
+use Rattle.top_call.specs.SwappedPrograms.{HoldsSwapped, HoldsText}
 use Rattle.top_call.specs.Laws.{IsOneReply}
 use Rattle.top_call.specs.Outcome.{IsSuccess, Outcome, plan_for}
 use Rattle.call_inputs.proofs.InputLaws.{schedule_fine, start_is_memory}
-use Rattle.call_inputs.proofs.PlanLaws.{IsResult, IsSound, Puts, at_end, performs_exact, performs_fault, performs_met, performs_passes, performs_took, reply_one}
+use Rattle.call_inputs.proofs.PlanLaws.{IsResult, IsSound, Puts, at_end, performs_exact, performs_asking, performs_fault, performs_met, performs_passes, performs_took, reply_one}
 use Rattle.call_inputs.proofs.ReadingLaws.{Reliable, reads_onward}
 use Rattle.call_inputs.proofs.TextLaws.{program_reading, some_one}
 use Rattle.call_judge.proofs.CheckLaws.{names_hold, not_rejected}
@@ -56,39 +61,54 @@ use Rattle.top_call.proofs.CommandLaws.{ArePairWords, AreTrialWords, IsSuccessIf
 -- One reply ---------------------------------------------------------------------------------------------------
 
 pub one_reply : IsOneReply
-one_reply files words reply other h k =
-    reply_one (IsSuccessIf (may_differ (command_of words))) files (plan_for words) reply other (sound (command_of words)) h k
+one_reply j files words reply other h k =
+    reply_one (IsSuccessIf (may_differ (command_of words))) files (plan_for j words) reply other (sound j (command_of words)) h k
 
 -- What the code does -------------------------------------------------------------------------------------------
 
-module _ (before after : Shelved) (old new : Sunk) where
+module _ (before after : Shelved) (old new : Sunk) (asked told : ℕ) where
   -- a command that gives an answer, and a call that ends with it
-  pub answered : (plan : Plan) (r : Result Answer Stop) (reply : Reply) (status : Status) → CarriesOut before after plan r → (LacksMemory r → ⊥)
-      → ((may_reply : Reply → Type 0) → Gets may_reply r → may_reply reply) → Ends (λ q. q ≡ reply) old new status → Performs before after old new plan status
-  answered (does reading may_reply) r reply status carried not_lacks gets ends =
-      reads_onward (λ shelf end. (shelf ≡ after) × GetsAt may_reply end r) (λ shelf end. (shelf ≡ after) × EndsAt may_reply old new status end) each before reading carried
+  pub answered : (plan : Plan) (r : Result Answer Stop) (reply : Reply) (status : Status) → CarriesOutAsking before after asked told plan r → (LacksMemory r → ⊥)
+      → ((may_reply : Reply → Type 0) → Gets may_reply r → may_reply reply) → Ends (λ q. q ≡ reply) old new status
+      → PerformsAsking before after old new asked told plan status
+  answered (asks reading may_reply due) r reply status carried not_lacks gets ends =
+      reads_onward (λ shelf end. (shelf ≡ after) × GetsAt may_reply end r × CountsAt due asked told (LacksMemory r) end)
+      (λ shelf end. (shelf ≡ after) × EndsAt may_reply old new status end × CountsAt due asked told (status ≡ s.NoMemory) end) each before reading carried
     where
       at : (end : End _) → GetsAt may_reply end r → EndsAt may_reply old new status end
       at (took x) h = ends_onward (λ q. q ≡ reply) (may_reply x) old new status (λ q e. subst (may_reply x) (sym e) (gets (may_reply x) h)) ends
       at (stops other) h = ends_onward (λ q. q ≡ reply) (λ q. q ≡ other) old new status (λ q e. e ∙ gets (λ q. q ≡ other) h) ends
       at lacks h = absurd (not_lacks h)
 
-      each : (shelf : Shelved) (end : End _) → (shelf ≡ after) × GetsAt may_reply end r → (shelf ≡ after) × EndsAt may_reply old new status end
-      each shelf end h = (h.0, at end h.1)
+      counted : (end : End _) → CountsAt due asked told (LacksMemory r) end → CountsAt due asked told (status ≡ s.NoMemory) end
+      counted (took x) h = record { least = h.least; most = h.most; all = λ some. h.all not_lacks }
+      counted (stops other) h = h
+      counted lacks h = h
+
+      each : (shelf : Shelved) (end : End _) → (shelf ≡ after) × GetsAt may_reply end r × CountsAt due asked told (LacksMemory r) end
+          → (shelf ≡ after) × EndsAt may_reply old new status end × CountsAt due asked told (status ≡ s.NoMemory) end
+      each shelf end h = (h.0, at end h.1, counted end h.2)
 
   -- a command that ends for want of memory
-  pub lacking : (plan : Plan) → CarriesOut before after plan (Err stop.NoMemory) → new ≡ old → Performs before after old new plan s.NoMemory
-  lacking (does reading may_reply) carried same =
-      reads_onward (λ shelf end. (shelf ≡ after) × GetsAt may_reply end (Err stop.NoMemory)) (λ shelf end. (shelf ≡ after) × EndsAt may_reply old new s.NoMemory end)
-      each before reading carried
+  pub lacking : (plan : Plan) → CarriesOutAsking before after asked told plan (Err stop.NoMemory) → new ≡ old
+      → PerformsAsking before after old new asked told plan s.NoMemory
+  lacking (asks reading may_reply due) carried same =
+      reads_onward (λ shelf end. (shelf ≡ after) × GetsAt may_reply end (Err stop.NoMemory) × CountsAt due asked told (LacksMemory (Err stop.NoMemory)) end)
+      (λ shelf end. (shelf ≡ after) × EndsAt may_reply old new s.NoMemory end × CountsAt due asked told (s.NoMemory ≡ s.NoMemory) end) each before reading carried
     where
       at : (end : End _) → EndsAt may_reply old new s.NoMemory end
       at (took x) = same
       at (stops other) = same
       at lacks = (refl, same)
 
-      each : (shelf : Shelved) (end : End _) → (shelf ≡ after) × GetsAt may_reply end (Err stop.NoMemory) → (shelf ≡ after) × EndsAt may_reply old new s.NoMemory end
-      each shelf end h = (h.0, at end)
+      counted : (end : End _) → CountsAt due asked told (LacksMemory (Err stop.NoMemory)) end → CountsAt due asked told (s.NoMemory ≡ s.NoMemory) end
+      counted (took x) h = record { least = h.least; most = h.most; all = λ some. absurd (some refl) }
+      counted (stops other) h = h
+      counted lacks h = h
+
+      each : (shelf : Shelved) (end : End _) → (shelf ≡ after) × GetsAt may_reply end (Err stop.NoMemory) × CountsAt due asked told (LacksMemory (Err stop.NoMemory)) end
+          → (shelf ≡ after) × EndsAt may_reply old new s.NoMemory end × CountsAt due asked told (s.NoMemory ≡ s.NoMemory) end
+      each shelf end h = (h.0, at end, counted end h.2)
 
 -- A call -------------------------------------------------------------------------------------------------------
 
@@ -108,13 +128,17 @@ schedule_fits p bytes k h = (schedule_fine (length p.threads) (value_of bytes) k
 abbrev pub OfAccepted : (Parsed → Type 0) → Type 0
 OfAccepted Holds = (bytes : List ℕ) (p : Parsed) → length bytes ≤ MOST_BYTES → SpellsProgram bytes p → IsAcceptedText p → Holds p
 
-module _ (before after : Shelved) (words : List (List ℕ)) (old new : Sunk) (status : Status) (performed : Performs before after old new (plan_for words) status) where
-  pub call_exact : Reliable before after → IfSome before.told (λ files. Ends (Outcome files words) old new status)
-  call_exact reliable = if_told before.told (λ files. Ends (Outcome files words) old new status)
-      (λ files told. performs_exact before after old new status files (plan_for words) told reliable performed)
+module _ (j : Judging) (before after : Shelved) (words : List (List ℕ)) (old new : Sunk) (status : Status) (asked judged : ℕ)
+    (asking : PerformsAsking before after old new asked judged (plan_for j words) status) where
+  pub call_performed : Performs before after old new (plan_for j words) status
+  call_performed = performs_asking (plan_for j words) before after old new asked judged status asking
 
-  call_by : (other : List (List ℕ)) → words ≡ other → Performs before after old new (plan_for other) status
-  call_by other is = subst (λ ws. Performs before after old new (plan_for ws) status) is performed
+  pub call_exact : Reliable before after → IfSome before.told (λ files. Ends (Outcome j files words) old new status)
+  call_exact reliable = if_told before.told (λ files. Ends (Outcome j files words) old new status)
+      (λ files told. performs_exact before after old new status files (plan_for j words) told reliable call_performed)
+
+  call_by : (other : List (List ℕ)) → words ≡ other → Performs before after old new (plan_for j other) status
+  call_by other is = subst (λ ws. Performs before after old new (plan_for j ws) status) is call_performed
 
   pub call_secure : OfAccepted (λ p. IsSecure (meaning p)) → status ≡ s.Done → IfSome before.told (λ files. HoldsSecure files words)
   call_secure is_secure done = if_told before.told (λ files. HoldsSecure files words) holds
@@ -134,7 +158,7 @@ module _ (before after : Shelved) (words : List (List ℕ)) (old new : Sunk) (st
 
       holds : (files : List File) → before.told ≡ Some files → HoldsSecure files words
       holds files told name is =
-          secure name files (performs_took before after old new status files (accepted_program name) (λ p reply. reply ≡ verdict p) told
+          secure name files (performs_took before after old new status files (accepted_program name) (λ p reply. reply ≡ verdict p) (λ p. 0) told
           (subst IsResult (sym done) tt) (call_by (codes "check" ∷ name ∷ []) is))
 
   -- what is put to the code of an accepted program, where each reply tells it
@@ -162,8 +186,8 @@ module _ (before after : Shelved) (words : List (List ℕ)) (old new : Sunk) (st
 
     puts_good : (files : List File) (name : List ℕ) → before.told ≡ Some files → Performs before after old new (does (accepted_program name) may_reply) status
         → PutsGoodCode Tells files name old new
-    puts_good files name told performed =
-        good name files (performs_took before after old new status files (accepted_program name) may_reply told (subst IsResult (sym done) tt) performed)
+    puts_good files name told performs =
+        good name files (performs_took before after old new status files (accepted_program name) may_reply (λ p. 0) told (subst IsResult (sym done) tt) performs)
 
   pub call_code : OfAccepted (λ p. IsGoodCode (resolved p) (code_of p)) → status ≡ s.Done → IfSome before.told (λ files. PutsCode files words old new)
   call_code is_good done = if_told before.told (λ files. PutsCode files words old new) (λ files told name is.
@@ -176,20 +200,45 @@ module _ (before after : Shelved) (words : List (List ℕ)) (old new : Sunk) (st
       (λ p reply h. (h.is_code, object_code.object (code_of p), record { whole = h.whole; spelling = refl }, h.is)) files name told
       (call_by (codes "object" ∷ name ∷ []) is))
 
+  -- what is put of a program of which threads are replaced
+  pub call_swapped : ((bytes these name : List ℕ) (i : SwapInput) → length bytes ≤ MOST_BYTES → length these ≤ MOST_BYTES → SpellsProgram bytes i.program
+      → SpellsProgram these i.replacing → AreNamesInOrder i.program → misfit_rejection name (resolved i.program) i.replacing ≡ None
+      → AreSecureIfAccepted (lines_by j i) (swapped_programs (resolved i.program) (replacements i)))
+      → status ≡ s.Done → IfSome before.told (λ files. HoldsSwapped j files words)
+  call_swapped are_secure done = if_told before.told (λ files. HoldsSwapped j files words) holds
+    where
+      swapped : (name replacing : List ℕ) (files : List File) → Takes files (λ i. Puts (Swaps j i) old new status) (swap_reading name replacing)
+          → (i : SwapInput) × HoldsText files name i.program × HoldsText files replacing i.replacing × AreNamesInOrder i.program
+          × AreSecureIfAccepted (lines_by j i) (swapped_programs (resolved i.program) (replacements i))
+      swapped name replacing files (bytes, at, fits, (p, spells, (these, there, brief, (e, given, (named, (none, puts)))))) =
+          let i : SwapInput = record { program = p; replacing = e } in
+          let ordered = names_ordered p named in (
+            i,
+            record { bytes = bytes; at = at; spelled = spells },
+            record { bytes = these; at = there; spelled = given },
+            ordered,
+            are_secure bytes these replacing i fits brief spells given ordered none,
+          )
+
+      holds : (files : List File) → before.told ≡ Some files → HoldsSwapped j files words
+      holds files told name replacing is =
+          swapped name replacing files (performs_took before after old new status files (swap_reading name replacing) (Swaps j) (due_by j) told
+          (subst IsResult (sym done) tt) (call_by (codes "swap" ∷ name ∷ replacing ∷ []) is))
+
   -- a reply that two runs differ is one of `pair` or of `refute`
   differs : (files : List File) → before.told ≡ Some files → status ≡ s.Differ → may_differ (command_of words) ≡ true
   differs files told differ = by (may_differ (command_of words)) refl
     where
       -- what was taken has a reply of this status
       taken : (plan : Plan) → IsSound (IsSuccessIf false) plan → Performs before after old new plan status → ⊥
-      taken (does reading may_reply) is_sound h =
+      taken (asks reading may_reply due) is_sound h =
           at_end files reading (λ x. Puts (may_reply x) old new status) (λ x put. let done = (is_sound.1 x).success put.0 put.1 in
           let wrong : s.Done ≡ s.Differ = sym done ∙ sym put.2 ∙ differ in cc)
-          (performs_took before after old new status files reading may_reply told (subst IsResult (sym differ) tt) h)
+          (performs_took before after old new status files reading may_reply due told (subst IsResult (sym differ) tt) h)
 
       by : (b : Bool) → may_differ (command_of words) ≡ b → may_differ (command_of words) ≡ true
       by true e = e
-      by false e = absurd (taken (plan_for words) (subst (λ c. IsSound (IsSuccessIf c) (plan_for words)) e (sound (command_of words))) performed)
+      by false e = absurd (taken (plan_for j words) (subst (λ c. IsSound (IsSuccessIf c) (plan_for j words)) e (sound j (command_of words))) call_performed)
 
   pub call_agree : OfAccepted (λ p. IsSecure (meaning p)) → IfSome before.told (λ files. RunsAccepted files words → status ≡ s.Differ → ⊥)
   call_agree is_secure = if_told before.told (λ files. RunsAccepted files words → status ≡ s.Differ → ⊥) agree
@@ -219,24 +268,24 @@ module _ (before after : Shelved) (words : List (List ℕ)) (old new : Sunk) (st
           by : ArePairWords words ⊎ AreTrialWords words → ⊥
           by (inl (name, first, second, schedule, is)) =
               apart name first second schedule files (accepted.pair name first second schedule is) differ
-              (performs_took before after old new status files (pair_reading name first second schedule) Pairs told
+              (performs_took before after old new status files (pair_reading name first second schedule) Pairs (λ i. 0) told
               (subst IsResult (sym differ) tt) (call_by (codes "pair" ∷ name ∷ first ∷ second ∷ schedule ∷ []) is))
           by (inr (name, number, trials, some, is)) =
               tried name trials files (accepted.refute name number is) differ
-              (performs_took before after old new status files (refute_reading name) (Refutes trials) told (subst IsResult (sym differ) tt)
-              (subst (λ o. Performs before after old new (plan_of (of_trials name o)) status) some (call_by (codes "refute" ∷ name ∷ number ∷ []) is)))
+              (performs_took before after old new status files (refute_reading name) (Refutes trials) (λ p. 0) told (subst IsResult (sym differ) tt)
+              (subst (λ o. Performs before after old new (plan_of j (of_trials name o)) status) some (call_by (codes "refute" ∷ name ∷ number ∷ []) is)))
 
   pub call_fault : status ≡ s.ReadFault → Rose before.faults after.faults
   call_fault fault =
-      performs_fault before after old new status (IsSuccessIf (may_differ (command_of words))) (results (may_differ (command_of words))) (plan_for words)
-      (sound (command_of words)) fault performed
+      performs_fault before after old new status (IsSuccessIf (may_differ (command_of words))) (results (may_differ (command_of words))) (plan_for j words)
+      (sound j (command_of words)) fault call_performed
 
   pub call_passes : Passes before after
-  call_passes = performs_passes before after old new status (plan_for words) performed
+  call_passes = performs_passes before after old new status (plan_for j words) call_performed
 
   pub call_complete : (status ≡ s.WriteFault → Rose old.faults new.faults) → ¬ Rose before.faults after.faults → ¬ Rose old.faults new.faults
-      → IfSome before.told (λ files. IsMet files (plan_for words) → IsSuccess words status ⊎ (status ≡ s.NoMemory))
-  call_complete rose quiet written = if_told before.told (λ files. IsMet files (plan_for words) → IsSuccess words status ⊎ (status ≡ s.NoMemory)) met
+      → IfSome before.told (λ files. IsMet files (plan_for j words) → IsSuccess words status ⊎ (status ≡ s.NoMemory))
+  call_complete rose quiet written = if_told before.told (λ files. IsMet files (plan_for j words) → IsSuccess words status ⊎ (status ≡ s.NoMemory)) met
     where
       success : (b : Bool) → may_differ (command_of words) ≡ b → IsSuccessIf b status → IsSuccess words status
       success false e done = inl done
@@ -252,6 +301,6 @@ module _ (before after : Shelved) (words : List (List ℕ)) (old new : Sunk) (st
       by (inr (inl e)) = absurd (written (rose e))
       by (inr (inr h)) = inl (success (may_differ (command_of words)) refl h)
 
-      met : (files : List File) → before.told ≡ Some files → IsMet files (plan_for words) → IsSuccess words status ⊎ (status ≡ s.NoMemory)
+      met : (files : List File) → before.told ≡ Some files → IsMet files (plan_for j words) → IsSuccess words status ⊎ (status ≡ s.NoMemory)
       met files told all =
-          by (performs_met before after old new status (IsSuccessIf (may_differ (command_of words))) files (plan_for words) (sound (command_of words)) told (inr quiet) all performed)
+          by (performs_met before after old new status (IsSuccessIf (may_differ (command_of words))) files (plan_for j words) (sound j (command_of words)) told (inr quiet) all call_performed)

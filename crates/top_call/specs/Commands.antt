@@ -1,5 +1,5 @@
 -- The commands: what each does, in one row, and which one the words of a command line are.
-use Rattle.std.specs.Prelude.{ℕ, List, [], ◌∷◌, length, nat_le, Bool, ◌&&◌, Option, Some, None, codes, decimal, if◌then◌else◌}
+use Rattle.std.specs.Prelude.{ℕ, ◌==◌, List, [], ◌∷◌, get_or, length, nat_le, Bool, ◌&&◌, Option, Some, None, codes, decimal, if◌then◌else◌}
 use Rattle.std.specs.Str.{bytes_eq}
 use Rattle.std.specs.Str.Parse.{digits_value}
 use Rattle.call_code.specs.BigReplies.{big_plan}
@@ -14,7 +14,9 @@ use Rattle.call_run.specs.Refutes.{refute_plan}
 use Rattle.call_run.specs.Runs.{run_plan, run_until_plan}
 use Rattle.call_code.specs.CodeRuns.{pair_code_plan, run_code_plan}
 use Rattle.call_text.specs.Format.{fmt_plan, migrate_plan}
+use Rattle.call_verdicts.specs.Swap.{swap_plan}
 use Rattle.cov_expr.specs.declared.limits.TheConstants.{MOST_EXPRESSION_BYTES, MOST_ROUNDS, MOST_TRIALS}
+use Rattle.thread_swap.specs.Judges.{Judging}
 
 -- a command, with the words that it takes: names of files, an expression, and a number of rounds or of trials
 pub data Command : Type 0 where
@@ -31,24 +33,26 @@ pub data Command : Type 0 where
   pair : (program first second schedule : List ℕ) → Command
   pair_code : (program first second schedule : List ℕ) → Command
   big : (rounds : ℕ) (schedule : List ℕ) → Command
+  swap : (name replacing : List ℕ) → Command
   nothing : Command
 
--- what each command does; words of none of the forms are rejected before anything is read
-abbrev pub plan_of : Command → Plan
-plan_of (check name) = check_plan name
-plan_of (compile name) = compile_plan name
-plan_of (fmt name) = fmt_plan name
-plan_of (migrate name) = migrate_plan name
-plan_of (object name) = object_plan name
-plan_of (unobject name) = unobject_plan name
-plan_of (refute name trials) = refute_plan name trials
-plan_of (run name start schedule) = run_plan name start schedule
-plan_of (run_code name start schedule) = run_code_plan name start schedule
-plan_of (run_until name start schedule word) = run_until_plan name start schedule word
-plan_of (pair name first second schedule) = pair_plan name first second schedule
-plan_of (pair_code name first second schedule) = pair_code_plan name first second schedule
-plan_of (big rounds schedule) = big_plan rounds schedule
-plan_of nothing = does (tries (Some no_form) (gives (tt {0}))) (λ x reply. ⊥)
+-- what each command does, of `swap` by what a judge says; words of none of the forms are rejected before anything is read
+abbrev pub plan_of : Judging → Command → Plan
+plan_of j (check name) = check_plan name
+plan_of j (compile name) = compile_plan name
+plan_of j (fmt name) = fmt_plan name
+plan_of j (migrate name) = migrate_plan name
+plan_of j (object name) = object_plan name
+plan_of j (unobject name) = unobject_plan name
+plan_of j (refute name trials) = refute_plan name trials
+plan_of j (run name start schedule) = run_plan name start schedule
+plan_of j (run_code name start schedule) = run_code_plan name start schedule
+plan_of j (run_until name start schedule word) = run_until_plan name start schedule word
+plan_of j (pair name first second schedule) = pair_plan name first second schedule
+plan_of j (pair_code name first second schedule) = pair_code_plan name first second schedule
+plan_of j (big rounds schedule) = big_plan rounds schedule
+plan_of j (swap name replacing) = swap_plan j name replacing
+plan_of j nothing = does (tries (Some no_form) (gives (tt {0}))) (λ x reply. ⊥)
 
 -- Words ----------------------------------------------------------------------------------------------------------
 
@@ -97,10 +101,18 @@ of_four word program start next last =
     else (if bytes_eq word (codes "pair") then pair program start next last
     else (if bytes_eq word (codes "pair-code") then pair_code program start next last else nothing))
 
--- the command of the words behind the program's name, and nothing where they have none of the forms
+-- the command that asks no judge, of the words behind the program's name, and nothing where they have none of the forms
+abbrev pub unjudged : List (List ℕ) → Command
+unjudged (word ∷ name ∷ []) = of_one word name
+unjudged (word ∷ first ∷ second ∷ []) = of_two word first second
+unjudged (word ∷ program ∷ start ∷ schedule ∷ []) = of_three word program start schedule
+unjudged (word ∷ program ∷ start ∷ next ∷ last ∷ []) = of_four word program start next last
+unjudged words = nothing
+
+-- whether the words are those of `swap`, with two files
+abbrev pub is_swap : List (List ℕ) → Bool
+is_swap words = length words == 3 && bytes_eq (get_or words 0 []) (codes "swap")
+
+-- the command of the words
 abbrev pub command_of : List (List ℕ) → Command
-command_of (word ∷ name ∷ []) = of_one word name
-command_of (word ∷ first ∷ second ∷ []) = of_two word first second
-command_of (word ∷ program ∷ start ∷ schedule ∷ []) = of_three word program start schedule
-command_of (word ∷ program ∷ start ∷ next ∷ last ∷ []) = of_four word program start next last
-command_of words = nothing
+command_of words = if is_swap words then swap (get_or words 1 []) (get_or words 2 []) else unjudged words

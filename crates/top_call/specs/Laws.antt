@@ -2,8 +2,10 @@
 use Rattle.std.specs.Prelude.{◌≡◌, ℕ, List}
 use Rattle.call_reports.specs.Replies.{Reply}
 use Rattle.cov_io.specs.Shelves.{File}
+use Rattle.thread_swap.specs.Judges.{Judging}
 use Rattle.top_call.specs.Outcome.{Outcome}
 
--- Over the same files words have one reply at most.
+-- Over the same files, by the same judge, words have one reply at most.
 abbrev pub IsOneReply : Type 0
-IsOneReply = (files : List File) (words : List (List ℕ)) (reply other : Reply) → Outcome files words reply → Outcome files words other → reply ≡ other
+IsOneReply =
+    (j : Judging) (files : List File) (words : List (List ℕ)) (reply other : Reply) → Outcome j files words reply → Outcome j files words other → reply ≡ other

@@ -2,4 +2,5 @@ pub mod Commands
 pub mod Outcome
 pub mod Headline
 pub mod AcceptedRuns
+pub mod SwappedPrograms
 pub mod Laws

@@ -1,8 +1,9 @@
 //! The command that the words of a command line ask for, carried out.
 
 ghost use Rattle.std.specs.Prelude.{◌≡◌, ◌≤◌, IfSome, map, string_bytes};
-ghost use Rattle.call_inputs.specs.Plans.{CarriesOut};
+ghost use Rattle.call_inputs.specs.Plans.{CarriesOut, CarriesOutAsking};
 ghost use Rattle.cov_expr.specs.declared.limits.TheConstants.{MOST_TRIALS};
+ghost use Rattle.thread_swap.specs.Judges.{Judging, Passes};
 ghost use Rattle.top_call.specs.Commands as spec;
 ghost use Rattle.top_call.specs.Commands.{plan_of};
 ghost use Rattle.top_call.specs.Outcome.{plan_for};
@@ -21,18 +22,45 @@ use call_run::run_until::run_until;
 use call_run::trials::refute;
 use call_text::fmt::format;
 use call_text::migrate::migrate;
+use call_verdicts::swap::swap;
 use cov_expr::{MOST_EXPRESSION_BYTES, MOST_ROUNDS, MOST_TRIALS};
 use cov_io::Shelf;
 use itoa::Buffer;
 use std::alloc::Global;
+use thread_swap::Judge;
 
-/// Does what the words ask for.
-pub fn answer<'w, S: Shelf>(
+/// Does what the words ask for. Only `swap` asks the judge.
+pub fn answer<'w, S: Shelf, J: Judge>(
+    alloc: Global,
+    words: &'w [String],
+    shelf: &mut S,
+    judge: &mut J,
+) -> Result<Answer<'w>, Stop<'w>>
+    ensures does { CarriesOutAsking (S.shelved shelf.old) (S.shelved shelf.new) (J.judging judge.old).judged (J.judging judge.new).judged
+        (plan_for (J.judging judge.old) (map string_bytes words.now)) result }
+    ensures passes { Passes (J.judging judge.old) (J.judging judge.new) }
+{
+    if is_swap(words) {
+        swap(alloc, words[1].as_str(), words[2].as_str(), shelf, judge)
+    } else {
+        unjudged(alloc, words, shelf)
+    }
+}
+
+/// Whether the words are those of `swap`, with two files.
+fn is_swap(words: &[String]) -> bool
+    ensures { result ≡ spec.is_swap (map string_bytes words.now) }
+{
+    words.len() == 3 && words[0].as_str() == "swap"
+}
+
+/// Does what the words ask for, where that asks no judge.
+fn unjudged<'w, S: Shelf>(
     alloc: Global,
     words: &'w [String],
     shelf: &mut S,
 ) -> Result<Answer<'w>, Stop<'w>>
-    ensures { CarriesOut (S.shelved shelf.old) (S.shelved shelf.new) (plan_for (map string_bytes words.now)) result }
+    ensures { (j : Judging) → CarriesOut (S.shelved shelf.old) (S.shelved shelf.new) (plan_of j (spec.unjudged (map string_bytes words.now))) result }
 {
     match words {
         [command, name] => of_one(alloc, command.as_str(), name.as_str(), shelf),
@@ -71,7 +99,7 @@ fn of_one<'w, S: Shelf>(
     name: &'w str,
     shelf: &mut S,
 ) -> Result<Answer<'w>, Stop<'w>>
-    ensures { CarriesOut (S.shelved shelf.old) (S.shelved shelf.new) (plan_of (spec.of_one command.now name.now)) result }
+    ensures { (j : Judging) → CarriesOut (S.shelved shelf.old) (S.shelved shelf.new) (plan_of j (spec.of_one command.now name.now)) result }
 {
     if command == "check" {
         check(alloc, name, shelf)
@@ -98,7 +126,7 @@ fn of_two<'w, S: Shelf>(
     second: &'w str,
     shelf: &mut S,
 ) -> Result<Answer<'w>, Stop<'w>>
-    ensures { CarriesOut (S.shelved shelf.old) (S.shelved shelf.new) (plan_of (spec.of_two command.now first.now second.now)) result }
+    ensures { (j : Judging) → CarriesOut (S.shelved shelf.old) (S.shelved shelf.new) (plan_of j (spec.of_two command.now first.now second.now)) result }
 {
     if command == "big" {
         match number_of(first, MOST_ROUNDS) {
@@ -146,8 +174,8 @@ fn of_three<'w, S: Shelf>(
     schedule: &'w str,
     shelf: &mut S,
 ) -> Result<Answer<'w>, Stop<'w>>
-    ensures { CarriesOut (S.shelved shelf.old) (S.shelved shelf.new)
-        (plan_of (spec.of_three command.now program.now start.now schedule.now)) result }
+    ensures { (j : Judging) → CarriesOut (S.shelved shelf.old) (S.shelved shelf.new)
+        (plan_of j (spec.of_three command.now program.now start.now schedule.now)) result }
 {
     if command == "run" {
         run(alloc, program, start, schedule, shelf)
@@ -168,8 +196,8 @@ fn of_four<'w, S: Shelf>(
     last: &'w str,
     shelf: &mut S,
 ) -> Result<Answer<'w>, Stop<'w>>
-    ensures { CarriesOut (S.shelved shelf.old) (S.shelved shelf.new)
-        (plan_of (spec.of_four command.now program.now start.now next.now last.now)) result }
+    ensures { (j : Judging) → CarriesOut (S.shelved shelf.old) (S.shelved shelf.new)
+        (plan_of j (spec.of_four command.now program.now start.now next.now last.now)) result }
 {
     if command == "run-until" {
         if last.len() <= MOST_EXPRESSION_BYTES {

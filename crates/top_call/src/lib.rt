@@ -22,5 +22,5 @@ mod call;
 mod commands;
 mod laws;
 
-pub use call::covern;
+pub use call::{covern, covern_with};
 pub use laws::{accepted_programs_are_never_refuted, accepted_runs_never_differ, one_outcome};

@@ -13,7 +13,7 @@ pub returns-in_err-made-clause-coded : goal.returns-in_err-made-clause-coded
 returns-in_err-made-clause-coded c =
     let p = view.parsed c.args.parsed in
     let program = view.program c.in_ok-program.program in
-    let named = c.in_ok-program.ensures in
+    let named = c.in_ok-program.ensures.named in
     let same : c.from_residual-in_err-made.result ≡ Err c.in_err-made.field-0.0 = search rules in
     subst (λ r. MatchResult r (IsOfText p) (Stops (IsRejected p))) (sym same)
     (stops_onward (IsProgramRejected program) (IsRejected p) c.in_err-made.field-0.0 (program_rejected p program named.is named.held) c.in_err-made.ensures)
@@ -21,7 +21,7 @@ returns-in_err-made-clause-coded c =
 pub returns-clause-coded : goal.returns-clause-coded
 returns-clause-coded c =
     let p = view.parsed c.args.parsed in
-    let named = c.in_ok-program.ensures in
+    let named = c.in_ok-program.ensures.named in
     record {
       is = named.is;
       accepted = none_rejects p (view.program c.in_ok-program.program) named.is named.held c.in_ok-made.ensures.holds;
@@ -29,7 +29,7 @@ returns-clause-coded c =
     }
 
 pub returns-clause-variables : goal.returns-clause-variables
-returns-clause-variables c = as_many_variables c.args.parsed c.in_ok-program.program c.in_ok-program.ensures.is
+returns-clause-variables c = as_many_variables c.args.parsed c.in_ok-program.program c.in_ok-program.ensures.named.is
 
 pub returns-clause-threads : goal.returns-clause-threads
-returns-clause-threads c = as_many_threads c.args.parsed c.in_ok-program.program c.in_ok-program.ensures.is
+returns-clause-threads c = as_many_threads c.args.parsed c.in_ok-program.program c.in_ok-program.ensures.named.is

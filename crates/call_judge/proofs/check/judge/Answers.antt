@@ -12,9 +12,9 @@ returns-in_err-program c =
     let p = view.parsed c.args.parsed in
     let same : c.from_residual.result ≡ Err c.in_err-program.field-0.0 = search rules in
     subst (Gets (Judges p)) (sym same)
-    (stops_onward (IsRejected p) (Judges p) c.in_err-program.field-0.0 (λ reply rejects. rejected_judged p reply rejects) c.in_err-program.ensures)
+    (stops_onward (IsRejected p) (Judges p) c.in_err-program.field-0.0 (λ reply rejects. rejected_judged p reply rejects) c.in_err-program.ensures.named)
 
 pub returns : goal.returns
 returns c =
-    let named = c.in_ok-program.ensures in
+    let named = c.in_ok-program.ensures.named in
     program_judged (view.parsed c.args.parsed) (view.program c.in_ok-program.program) named.is named.held c.judge_program.result c.judge_program.ensures

@@ -1,122 +1,51 @@
-use Rattle.std.proofs.Common.{inl, inr, refl, map, string_bytes, rules}
-use Rattle.call_reports.specs.AnswerViews.{seen}
+use Rattle.std.proofs.Common.{◌≡◌, ◌⊎◌, IfSome, IsTrue, map, string_bytes, subst}
+use Rattle.call_inputs.specs.Plans.{IsMet, PerformsAsking}
+use Rattle.call_inputs.proofs.PlanLaws.{performs_asking}
+use Rattle.call_reports.specs.Ends.{Ends}
 use Rattle.call_reports.specs.declared.answers.Status.TheVariants as s
-use Rattle.top_call.specs.Outcome.{plan_for}
-use Rattle.top_call.proofs.OutcomeLaws.{answered, call_agree, call_code, call_complete, call_object, call_exact, call_fault, call_passes, call_secure, lacking}
+use Rattle.cov_io.specs.Counters.{Rose}
+use Rattle.thread_swap.specs.RulesSay.{by_rules}
+use Rattle.top_call.specs.Outcome.{IsSuccess, Outcome, plan_for}
 use Rattle.top_call.proofs.call.covern.Goals as goal
 
--- Memory ran out before an answer ------------------------------------------------------------------------------
-
-pub returns-in-Err-NoMemory-clause-does : goal.returns-in-Err-NoMemory-clause-does
-returns-in-Err-NoMemory-clause-does g c =
-    let shelved = g.S.Shelf.shelved in
-    let sunk = g.K.Sink.sunk in
-    lacking (shelved c.args.shelf.now) (shelved c.answer.new.shelf) (sunk c.args.sink.now) (sunk c.args.sink.now) (plan_for (map string_bytes c.args.words.now))
-    (search rules) refl
-
-pub returns-in-Err-NoMemory-clause-exact : goal.returns-in-Err-NoMemory-clause-exact
-returns-in-Err-NoMemory-clause-exact g c sure =
-    let shelved = g.S.Shelf.shelved in
-    let sunk = g.K.Sink.sunk in
-    call_exact (shelved c.args.shelf.now) (shelved c.answer.new.shelf) (map string_bytes c.args.words.now) (sunk c.args.sink.now) (sunk c.args.sink.now) s.NoMemory
-    (returns-in-Err-NoMemory-clause-does g c) (inl sure)
-
-pub returns-in-Err-NoMemory-clause-quiet : goal.returns-in-Err-NoMemory-clause-quiet
-returns-in-Err-NoMemory-clause-quiet g c quiet =
-    let shelved = g.S.Shelf.shelved in
-    let sunk = g.K.Sink.sunk in
-    call_exact (shelved c.args.shelf.now) (shelved c.answer.new.shelf) (map string_bytes c.args.words.now) (sunk c.args.sink.now) (sunk c.args.sink.now) s.NoMemory
-    (returns-in-Err-NoMemory-clause-does g c) (inr quiet)
-
-pub returns-in-Err-NoMemory-clause-agree : goal.returns-in-Err-NoMemory-clause-agree
-returns-in-Err-NoMemory-clause-agree g c =
-    let shelved = g.S.Shelf.shelved in
-    let sunk = g.K.Sink.sunk in
-    call_agree (shelved c.args.shelf.now) (shelved c.answer.new.shelf) (map string_bytes c.args.words.now) (sunk c.args.sink.now) (sunk c.args.sink.now) s.NoMemory
-    (returns-in-Err-NoMemory-clause-does g c) c.accepted_programs_are_secure.ensures
-
-pub returns-in-Err-NoMemory-clause-complete : goal.returns-in-Err-NoMemory-clause-complete
-returns-in-Err-NoMemory-clause-complete g c quiet written =
-    let shelved = g.S.Shelf.shelved in
-    let sunk = g.K.Sink.sunk in
-    call_complete (shelved c.args.shelf.now) (shelved c.answer.new.shelf) (map string_bytes c.args.words.now) (sunk c.args.sink.now) (sunk c.args.sink.now) s.NoMemory
-    (returns-in-Err-NoMemory-clause-does g c) (λ e. cc) quiet written
-
-pub returns-in-Err-NoMemory-clause-passes : goal.returns-in-Err-NoMemory-clause-passes
-returns-in-Err-NoMemory-clause-passes g c =
-    let shelved = g.S.Shelf.shelved in
-    let sunk = g.K.Sink.sunk in
-    call_passes (shelved c.args.shelf.now) (shelved c.answer.new.shelf) (map string_bytes c.args.words.now) (sunk c.args.sink.now) (sunk c.args.sink.now) s.NoMemory
-    (returns-in-Err-NoMemory-clause-does g c)
-
--- An answer ----------------------------------------------------------------------------------------------------
-
+-- Nothing was judged before the call: the rules are what `covern_with` is told that they are.
 pub returns-clause-does : goal.returns-clause-does
 returns-clause-does g c =
     let shelved = g.S.Shelf.shelved in
     let sunk = g.K.Sink.sunk in
-    answered (shelved c.args.shelf.now) (shelved c.answer.new.shelf) (sunk c.args.sink.now) (sunk c.end.new.sink) (plan_for (map string_bytes c.args.words.now))
-    c.answer.result (seen c.match-answer.answer) c.end.result c.answer.ensures (search rules) (λ may_reply h. search rules) c.end.ensures.ends
+    let words = map string_bytes c.args.words.now in
+    let before = shelved c.args.shelf.now in
+    let after = shelved c.covern_with.new.shelf in
+    let old = sunk c.args.sink.now in
+    let new = sunk c.covern_with.new.sink in
+    let asked = c.new-judge.result.judged in
+    let told = c.covern_with.new.judge.judged in
+    performs_asking (plan_for (by_rules 0) words) before after old new asked told c.covern_with.result
+    (subst (λ n. PerformsAsking before after old new asked told (plan_for (by_rules n) words) c.covern_with.result) c.new-judge.ensures c.covern_with.ensures.does)
 
 pub returns-clause-exact : goal.returns-clause-exact
-returns-clause-exact g c sure =
+returns-clause-exact g c =
     let shelved = g.S.Shelf.shelved in
     let sunk = g.K.Sink.sunk in
-    call_exact (shelved c.args.shelf.now) (shelved c.answer.new.shelf) (map string_bytes c.args.words.now) (sunk c.args.sink.now) (sunk c.end.new.sink) c.end.result
-    (returns-clause-does g c) (inl sure)
+    subst (λ n. IsTrue (shelved c.args.shelf.now).sure → IfSome (shelved c.args.shelf.now).told (λ files.
+    Ends (Outcome (by_rules n) files (map string_bytes c.args.words.now)) (sunk c.args.sink.now) (sunk c.covern_with.new.sink) c.covern_with.result))
+    c.new-judge.ensures c.covern_with.ensures.exact
 
 pub returns-clause-quiet : goal.returns-clause-quiet
-returns-clause-quiet g c quiet =
+returns-clause-quiet g c =
     let shelved = g.S.Shelf.shelved in
     let sunk = g.K.Sink.sunk in
-    call_exact (shelved c.args.shelf.now) (shelved c.answer.new.shelf) (map string_bytes c.args.words.now) (sunk c.args.sink.now) (sunk c.end.new.sink) c.end.result
-    (returns-clause-does g c) (inr quiet)
-
-pub returns-clause-secure : goal.returns-clause-secure
-returns-clause-secure g c done =
-    let shelved = g.S.Shelf.shelved in
-    let sunk = g.K.Sink.sunk in
-    call_secure (shelved c.args.shelf.now) (shelved c.answer.new.shelf) (map string_bytes c.args.words.now) (sunk c.args.sink.now) (sunk c.end.new.sink) c.end.result
-    (returns-clause-does g c) c.accepted_programs_are_secure.ensures done
-
-pub returns-clause-code : goal.returns-clause-code
-returns-clause-code g c done =
-    let shelved = g.S.Shelf.shelved in
-    let sunk = g.K.Sink.sunk in
-    call_code (shelved c.args.shelf.now) (shelved c.answer.new.shelf) (map string_bytes c.args.words.now) (sunk c.args.sink.now) (sunk c.end.new.sink) c.end.result
-    (returns-clause-does g c) c.accepted_programs_have_good_code.ensures.good done
-
-pub returns-clause-object : goal.returns-clause-object
-returns-clause-object g c done =
-    let shelved = g.S.Shelf.shelved in
-    let sunk = g.K.Sink.sunk in
-    call_object (shelved c.args.shelf.now) (shelved c.answer.new.shelf) (map string_bytes c.args.words.now) (sunk c.args.sink.now) (sunk c.end.new.sink) c.end.result
-    (returns-clause-does g c) c.accepted_programs_have_good_code.ensures.good done
-
-pub returns-clause-agree : goal.returns-clause-agree
-returns-clause-agree g c =
-    let shelved = g.S.Shelf.shelved in
-    let sunk = g.K.Sink.sunk in
-    call_agree (shelved c.args.shelf.now) (shelved c.answer.new.shelf) (map string_bytes c.args.words.now) (sunk c.args.sink.now) (sunk c.end.new.sink) c.end.result
-    (returns-clause-does g c) c.accepted_programs_are_secure.ensures
+    subst (λ n. (Rose (shelved c.args.shelf.now).faults (shelved c.covern_with.new.shelf).faults → ⊥) → IfSome (shelved c.args.shelf.now).told (λ files.
+    Ends (Outcome (by_rules n) files (map string_bytes c.args.words.now)) (sunk c.args.sink.now) (sunk c.covern_with.new.sink) c.covern_with.result))
+    c.new-judge.ensures c.covern_with.ensures.quiet
 
 pub returns-clause-complete : goal.returns-clause-complete
-returns-clause-complete g c quiet written =
+returns-clause-complete g c =
     let shelved = g.S.Shelf.shelved in
     let sunk = g.K.Sink.sunk in
-    call_complete (shelved c.args.shelf.now) (shelved c.answer.new.shelf) (map string_bytes c.args.words.now) (sunk c.args.sink.now) (sunk c.end.new.sink) c.end.result
-    (returns-clause-does g c) c.end.ensures.write_fault quiet written
-
-pub returns-clause-read_fault : goal.returns-clause-read_fault
-returns-clause-read_fault g c fault =
-    let shelved = g.S.Shelf.shelved in
-    let sunk = g.K.Sink.sunk in
-    call_fault (shelved c.args.shelf.now) (shelved c.answer.new.shelf) (map string_bytes c.args.words.now) (sunk c.args.sink.now) (sunk c.end.new.sink) c.end.result
-    (returns-clause-does g c) fault
-
-pub returns-clause-passes : goal.returns-clause-passes
-returns-clause-passes g c =
-    let shelved = g.S.Shelf.shelved in
-    let sunk = g.K.Sink.sunk in
-    call_passes (shelved c.args.shelf.now) (shelved c.answer.new.shelf) (map string_bytes c.args.words.now) (sunk c.args.sink.now) (sunk c.end.new.sink) c.end.result
-    (returns-clause-does g c)
+    let words = map string_bytes c.args.words.now in
+    subst (λ n. (Rose (shelved c.args.shelf.now).faults (shelved c.covern_with.new.shelf).faults → ⊥)
+    → (Rose (sunk c.args.sink.now).faults (sunk c.covern_with.new.sink).faults → ⊥)
+    → IfSome (shelved c.args.shelf.now).told (λ files. IsMet files (plan_for (by_rules n) words)
+    → IsSuccess words c.covern_with.result ⊎ (c.covern_with.result ≡ s.NoMemory)))
+    c.new-judge.ensures c.covern_with.ensures.complete
