@@ -1,0 +1,19 @@
+//! A search for certificates: for hypotheses and a goal, a valid one of a class, or the word that the class has none.
+//!
+//! - [`find`] searches the class of a depth, which is at most [`MOST_DEPTH`]. [`find_lent`] does so of hypotheses that are lent one by one.
+//!
+//! `specs/Classes.antt` says which certificates a class has, and what a search says. `specs/Inside` has words of private contracts: `Searching.antt`
+//! the search as a function, `Relevance.antt` which hypotheses more may make a leaf valid, `Replaced.antt` what a replacement makes.
+//! `proofs/Rows.antt` computes worked rows.
+#![tactic(auto)]
+
+mod conditions;
+mod finder;
+mod leaves;
+mod nodes;
+mod relevance;
+mod replaced;
+mod search;
+mod templates;
+
+pub use finder::{MOST_DEPTH, find, find_lent};
