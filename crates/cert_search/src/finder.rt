@@ -16,11 +16,11 @@ pub const MOST_DEPTH: u32 = 2;
 /// A valid certificate of the class of a depth, for the claim that a goal holds in every memory in which all hypotheses hold.
 ///
 /// `None` comes exactly where no certificate of the class is valid. That doesn't make the claim false, and a certificate that isn't of the class may
-/// still be valid. Of several the first comes in the order of an iterative deepening (Korf 1985): one without a step where there is one, and so on.
+/// still be valid. It is an iterative deepening (Korf 1985): a certificate of fewer steps above each other comes before one of more.
 ///
-/// With n hypotheses it tries at most some n * n steps at depth 1, and as many behind each of these at depth 2. It takes memory for a pointer to
-/// each hypothesis, and for what the steps on the way to where it looks have made. A want of memory may come in place of each answer, and does where it
-/// would name a hypothesis whose number is past 4294967295.
+/// With n hypotheses it looks at some n * n steps at depth 1 at most, and at as many behind each of these at depth 2. It takes memory for pointers to
+/// the hypotheses, once for each step on the way to where it looks, and for the expressions that these steps make. Want of memory may come in the place of
+/// each answer, and does where a hypothesis would be named whose number is past 4294967295.
 pub fn find(
     alloc: Global,
     hyps: &List<Expr>,
@@ -34,7 +34,7 @@ pub fn find(
     find_lent(alloc, given.as_slice(), goal, depth)
 }
 
-/// The same of hypotheses that are lent one by one, of which not even the pointers are copied at depth 0.
+/// The same of hypotheses that are lent one by one.
 #[tactic(auto, using(crate::proofs::Told::told))]
 pub fn find_lent(
     alloc: Global,
