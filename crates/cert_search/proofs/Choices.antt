@@ -5,7 +5,7 @@ use Rattle.cov_expr.specs.declared.expr.Op.TheVariants.{Eq}
 use Rattle.cov_ast.specs.Syntax.{Cert}
 use Rattle.entail_cert.specs.Valid.{operands_of}
 use Rattle.cert_search.specs.Classes.{of_sides, variable_and_side, definition_in}
-use Rattle.cert_search.specs.Inside.Searching.{first_of, joined, only_where}
+use Rattle.cert_search.specs.Searching.{first_of, joined, only_where}
 
 -- Where there is one -------------------------------------------------------------------------------------------
 

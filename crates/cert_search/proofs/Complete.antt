@@ -12,7 +12,7 @@ use Rattle.cov_ast.specs.Syntax as by
 use Rattle.entail_cert.specs.Axioms.{numbered}
 use Rattle.entail_cert.specs.Valid.{is_plain, is_negation, is_reflexive, operands, operands_of, negated, is_ring, is_range, filled, only_if, in_child, one, two, first_bad}
 use Rattle.cert_search.specs.Classes.{is_within, opened, definition_in, is_step, is_leaf, is_in_class}
-use Rattle.cert_search.specs.Inside.Searching.{leaf_where, number_of, denied_by, contradiction, leaf, is_sound_template, by_both, by_either, by_parts, by_cases, by_hypothesis, by_hypotheses, by_lemma, by_equation, by_one, by_lemmas, step, search}
+use Rattle.cert_search.specs.Searching.{leaf_where, number_of, denied_by, contradiction, leaf, is_sound_template, by_both, by_either, by_parts, by_cases, by_hypothesis, by_hypotheses, by_lemma, by_equation, by_one, by_lemmas, step, search}
 use Rattle.cert_search.proofs.Choices.{none_some, some_left, some_right, some_mapped, some_joined, some_where, definition_sides}
 
 -- Where no node fails ------------------------------------------------------------------------------------------

@@ -23,7 +23,7 @@ use Rattle.cov_ast.specs.Syntax as by
 use Rattle.entail_cert.specs.Valid.{is_true, is_false, is_known, is_all_known, is_plain, is_range, is_ring, is_reflexive, operands, negated}
 use Rattle.entail_cert.specs.WordTests.{is_of_words}
 use Rattle.entail_cert.proofs.Truth.{words_of}
-use Rattle.cert_search.specs.Inside.Searching.{first_of, leaf_where, number_of, denied_by, contradiction, leaf}
+use Rattle.cert_search.specs.Searching.{first_of, leaf_where, number_of, denied_by, contradiction, leaf}
 use Rattle.cert_search.proofs.Choices.{none_some, first_none}
 use Rattle.cert_search.specs.Inside.Relevance.{is_bounding, is_number, is_bound, is_compared, touches, denies, are_opposite, is_opposed, matters}
 

@@ -24,7 +24,7 @@ use Rattle.cert_search.specs.Inside.Relevance.{is_bound, is_compared, touches, d
 use Rattle.entail_cert.specs.Axioms.{numbered}
 use Rattle.cert_search.specs.Classes.{is_within, opened, definition_in, is_in_class}
 use Rattle.cert_search.specs.Inside.Replaced.{replaced}
-use Rattle.cert_search.specs.Inside.Searching.{only_where, leaf_where, contradiction, leaf, is_sound_template, by_lemma, step, search}
+use Rattle.cert_search.specs.Searching.{only_where, leaf_where, contradiction, leaf, is_sound_template, by_lemma, step, search}
 use Rattle.cert_search.proofs.Choices.{none_some, first_none}
 use Rattle.cert_search.proofs.Complete.{lemma_found, search_complete}
 use Rattle.cert_search.proofs.Irrelevant.{or_false, false_of_both, limited_by_none, fit_limited, fit_combined, fit_negated, fit_bound, not_compared, range_irrelevant, all_irrelevant, conflict, contradiction_flag, any_false, where_none, none_flag, flag_none, any_swapped}

@@ -13,7 +13,7 @@ use Rattle.entail_cert.specs.Valid.{is_false, negated}
 use Rattle.cert_search.specs.Classes.{is_within}
 use Rattle.cert_search.specs.Inside.Replaced.{replaced}
 use Rattle.cert_search.specs.Inside.Relevance.{is_bound, is_compared, touches, denies, are_opposite, is_opposed, matters}
-use Rattle.cert_search.specs.Inside.Searching.{only_where, leaf, by_lemma, search}
+use Rattle.cert_search.specs.Searching.{only_where, leaf, by_lemma, search}
 use Rattle.cert_search.proofs.Irrelevant.{or_false, false_of_both, same_swap, touches_both, leaf_irrelevant}
 use Rattle.cert_search.proofs.Choices.{none_some}
 

@@ -6,7 +6,7 @@ use Rattle.cov_expr.specs.Term.{Term, const, var, neg, bin}
 use Rattle.cov_ast.specs.Syntax as by
 use Rattle.entail_cert.specs.Valid.{is_valid}
 use Rattle.cert_search.specs.Classes.{is_in_class}
-use Rattle.cert_search.specs.Inside.Searching.{search}
+use Rattle.cert_search.specs.Searching.{search}
 
 -- `a`, `b`, `c`, `d`
 abbrev a : Term

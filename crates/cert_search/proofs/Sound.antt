@@ -11,7 +11,7 @@ use Rattle.cov_ast.specs.Syntax as by
 use Rattle.entail_cert.specs.Axioms.{numbered}
 use Rattle.entail_cert.specs.Valid.{is_plain, is_negation, is_reflexive, is_some_and, operands, operands_of, negated, is_ring, is_range, filled, only_if, first_bad}
 use Rattle.cert_search.specs.Classes.{is_within, opened, definition_in, is_step, is_leaf, is_in_class}
-use Rattle.cert_search.specs.Inside.Searching.{only_where, leaf_where, number_of, denied_by, contradiction, leaf, is_sound_template, by_both, by_either, by_parts, by_cases, by_replacement, by_hypothesis, by_hypotheses, by_lemma, by_equation, by_one, by_lemmas, step, search}
+use Rattle.cert_search.specs.Searching.{only_where, leaf_where, number_of, denied_by, contradiction, leaf, is_sound_template, by_both, by_either, by_parts, by_cases, by_replacement, by_hypothesis, by_hypotheses, by_lemma, by_equation, by_one, by_lemmas, step, search}
 use Rattle.cert_search.proofs.Choices.{none_some, first_some, mapped_some, joined_some, where_true, where_some, drop_head, drop_tail, definition_sides}
 
 -- a certificate that passes a test, and no node of which fails

@@ -7,7 +7,7 @@ use Rattle.cov_ast.specs.View as view
 use Rattle.entail_cert.specs.Valid.{first_bad}
 use Rattle.entail_cert.proofs.Sound.{none_is}
 use Rattle.cert_search.specs.Classes.{Finds, HasNone}
-use Rattle.cert_search.specs.Inside.Searching.{search}
+use Rattle.cert_search.specs.Searching.{search}
 use Rattle.cert_search.proofs.Sound.{search_sound}
 use Rattle.cert_search.proofs.Complete.{search_complete}
 

@@ -1,4 +1,3 @@
 -- Words of private contracts. What is promised doesn't rest on them.
-pub mod Searching
 pub mod Relevance
 pub mod Replaced

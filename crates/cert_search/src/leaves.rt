@@ -6,7 +6,7 @@ ghost use Rattle.cov_ast.specs.Syntax as by;
 ghost use Rattle.cov_ast.specs.View as view;
 ghost use Rattle.entail_range.specs.Range.{lent};
 ghost use Rattle.entail_cert.specs.Valid as valid;
-ghost use Rattle.cert_search.specs.Inside.Searching as spec;
+ghost use Rattle.cert_search.specs.Searching as spec;
 
 use crate::conditions::{is_plain, is_range, is_reflexive, is_ring};
 use crate::nodes::number_at;

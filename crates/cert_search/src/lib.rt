@@ -2,8 +2,8 @@
 //!
 //! - [`find`] searches the class of a depth, which is at most [`MOST_DEPTH`]. [`find_lent`] does so of hypotheses that are lent one by one.
 //!
-//! `specs/Classes.antt` says which certificates a class has, and what a search says. `specs/Inside` has words of private contracts: `Searching.antt`
-//! the search as a function, `Relevance.antt` which hypotheses more may make a leaf valid, `Replaced.antt` what a replacement makes.
+//! `specs/Classes.antt` says which certificates a class has, and what a search says. `specs/Searching.antt` says which of several valid ones comes.
+//! `specs/Inside` has words of private contracts: `Relevance.antt` which hypotheses more may make a leaf valid, `Replaced.antt` what a replacement makes.
 //! `proofs/Rows.antt` computes worked rows.
 #![tactic(auto)]
 

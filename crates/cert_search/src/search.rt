@@ -8,7 +8,7 @@ ghost use Rattle.entail_range.specs.Range.{lent};
 ghost use Rattle.entail_cert.specs.Axioms.{numbered};
 ghost use Rattle.entail_cert.specs.Valid as valid;
 ghost use Rattle.cert_search.specs.Classes as class;
-ghost use Rattle.cert_search.specs.Inside.Searching as spec;
+ghost use Rattle.cert_search.specs.Searching as spec;
 
 use crate::leaves::leaf_after;
 use crate::nodes;

@@ -6,7 +6,7 @@ ghost use Rattle.cov_expr.specs.Trees as tree;
 ghost use Rattle.cov_expr.specs.View.{term};
 ghost use Rattle.entail_cert.specs.Valid as valid;
 ghost use Rattle.cert_search.specs.Classes as class;
-ghost use Rattle.cert_search.specs.Inside.Searching as spec;
+ghost use Rattle.cert_search.specs.Searching as spec;
 
 use cov_expr::{
     Expr, HOLE, MOST_HEIGHT, MOST_NODES, NoMemory, Op, height_at_most, nodes_at_most, same, subst,
