@@ -1,0 +1,12 @@
+mod FindLaws
+mod TextItems
+mod TextSummaries
+mod TextAnswers
+mod PlaceLaws
+mod GivenLaws
+mod ReadLaws
+mod CalmLaws
+mod ScanLaws
+mod ReadyLaws
+mod OneReading
+mod Examples

@@ -1,0 +1,6 @@
+use Rattle.std.proofs.Common.{◌≡◌, ◌++◌, map, drop}
+use Rattle.level_text.specs.TextViews as views
+use Rattle.level_text.proofs.faults.declared_levels.Given as goal
+
+abbrev pub invariant-loop-level : goal.invariant-loop-level
+invariant-loop-level l = l.made ++ map (λ v. v.name.0) (map views.level (drop l.level-index l.levels)) ≡ map (λ v. v.name.0) (map views.level l.levels)

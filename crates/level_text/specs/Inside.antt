@@ -1,0 +1,4 @@
+-- Words of private contracts. What is promised doesn't rest on them.
+pub mod NamedBelow
+pub mod Trees
+pub mod GivenBy

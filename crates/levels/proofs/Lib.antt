@@ -1,0 +1,7 @@
+mod OrderLaws
+mod ShownFormed
+mod BlockLaws
+mod ShowLaws
+mod ShownSame
+mod CountLaws
+mod Examples

@@ -1,0 +1,3 @@
+-- Words of private contracts. What is promised doesn't rest on them.
+pub mod Marked
+pub mod Refused
