@@ -17,7 +17,7 @@ use Rattle.level_text.specs.declared.fault.LevelFault.TheVariants as kinds
 use Rattle.level_text.specs.Inside.NamedBelow.{AreNamedBelow}
 use Rattle.level_text.specs.Inside.Trees.{read_of, made_of}
 use Rattle.level_text.specs.LevelReads.{Spells, Reads, fault_of_tree}
-use Rattle.level_text.specs.TextFaults.{in_level_text, first_fault, fault_or, past_most, named_again, unknown_lower, unknown_level, unknown_variable, first_barred, sooner}
+use Rattle.level_text.specs.TextFaults.{in_level_text, first_fault, fault_or, past_most, named_again, unknown_lower, unknown_level, unknown_variable, variables_of, first_barred, sooner}
 use Rattle.level_text.specs.TextGrammar.{level_text}
 use Rattle.level_text.specs.TextTrees.{Level, LevelText}
 use Rattle.level_text.specs.TextViews as views
@@ -61,8 +61,8 @@ unfolding IsOfTree
 fault_of names p ts t =
     or_of_tree kinds.Many (λ n f e. cc) (past_most t) _
     (or_of_tree kinds.Same (λ n f e. cc) (named_again names t) _
-    (or_of_tree kinds.Unknown (λ n f e. cc) (sooner (unknown_lower [] t.levels) (sooner (unknown_level t) (unknown_variable names p ts))) _
-    (or_of_tree kinds.Plain (λ n f e. cc) (first_barred names p ts t.levels) None (λ f e. cc))))
+    (or_of_tree kinds.Unknown (λ n f e. cc) (sooner (unknown_lower [] t.levels) (sooner (unknown_level t) (unknown_variable names p (variables_of ts)))) _
+    (or_of_tree kinds.Plain (λ n f e. cc) (first_barred names p (variables_of ts) t.levels) None (λ f e. cc))))
 
 -- a fault of the tree is answered
 pub fault_reads : (text : List ℕ) (p : Parsed) (t : LevelText) (fault : LevelFault) → Spells text p t → fault_of_tree text p t ≡ Some fault → Reads text p (Err fault)

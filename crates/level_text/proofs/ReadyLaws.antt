@@ -225,11 +225,11 @@ module _ (names : List (List ℕ)) (p : Parsed) (ts : List Token) (t : LevelText
       let n = length names in
       let past = or_none kinds.Many (past_most t) _ none in
       let same = or_none kinds.Same (named_again names t) _ past.1 in
-      let unknown = or_none kinds.Unknown (sooner (unknown_lower [] t.levels) (sooner (unknown_level t) (unknown_variable names p ts))) _ same.1 in
-      let lower = none_left (unknown_lower [] t.levels) (sooner (unknown_level t) (unknown_variable names p ts)) unknown.0 in
-      let others = none_right (unknown_lower [] t.levels) (sooner (unknown_level t) (unknown_variable names p ts)) unknown.0 in
-      let level = none_left (unknown_level t) (unknown_variable names p ts) others in
-      let variable = none_right (unknown_level t) (unknown_variable names p ts) others in
+      let unknown = or_none kinds.Unknown (sooner (unknown_lower [] t.levels) (sooner (unknown_level t) (unknown_variable names p (variables_of ts)))) _ same.1 in
+      let lower = none_left (unknown_lower [] t.levels) (sooner (unknown_level t) (unknown_variable names p (variables_of ts))) unknown.0 in
+      let others = none_right (unknown_lower [] t.levels) (sooner (unknown_level t) (unknown_variable names p (variables_of ts))) unknown.0 in
+      let level = none_left (unknown_level t) (unknown_variable names p (variables_of ts)) others in
+      let variable = none_right (unknown_level t) (unknown_variable names p (variables_of ts)) others in
       let first = first_again names [] (map (λ v. v.name) t.levels) in
       let second = first_again names [] (map (λ c. c.var) t.listings) in
       let levels_differ = (again_none names [] (map (λ v. v.name) t.levels) (none_left first second same.0)).0 in

@@ -100,9 +100,13 @@ module _ (names : List (List ℕ)) where
   abbrev pub named_again : LevelText → Option ℕ
   named_again t = sooner (first_again [] (map (λ v. v.name) t.levels)) (first_again [] (map (λ c. c.var) t.listings))
 
-  -- a variable that the program doesn't declare
-  abbrev pub unknown_variable : Parsed → List Token → Option ℕ
-  unknown_variable p ts = first_failing (λ n. is_among (var_names p) (name_of names n)) (variables_of ts)
+  -- whether the name with a number is that of a variable of the program
+  abbrev pub is_variable : Parsed → ℕ → Bool
+  is_variable p n = is_among (var_names p) (name_of names n)
+
+  -- a variable that the program doesn't declare, of the names that are used as variables
+  abbrev pub unknown_variable : Parsed → (used : List Named) → Option ℕ
+  unknown_variable p used = first_failing (is_variable p) used
 
 -- a name behind a colon that isn't that of a level declared earlier
 abbrev pub unknown_lower : (before : List ℕ) → List Level → Option ℕ
@@ -147,13 +151,15 @@ module _ (m : ℕ) where
 
 -- A marker, the variable of the program that has the name of a level, is barred where it is more than that: it is used in the text as
 -- a variable, or stands in the program outside annotations.
-abbrev pub is_barred : (names : List (List ℕ)) → Parsed → List Token → Level → Bool
-is_barred names p ts v =
-    let name = name_of names v.name.0 in
-    is_among (var_names p) name && (list_any (λ n. n.0 == v.name.0) (variables_of ts) || in_program (number_of p.names name) p)
+abbrev pub is_barred : Parsed → (used : List Named) → (number : ℕ) → (name : List ℕ) → Bool
+is_barred p used number name = is_among (var_names p) name && (list_any (λ n. n.0 == number) used || in_program (number_of p.names name) p)
 
-abbrev pub first_barred : (names : List (List ℕ)) → Parsed → List Token → List Level → Option ℕ
-first_barred names p ts vs = least_place (λ v. if is_barred names p ts v then Some v.name.1 else None) vs
+-- the place of the name of a level, if it is that of such a variable
+abbrev pub barred : (names : List (List ℕ)) → Parsed → (used : List Named) → Named → Option ℕ
+barred names p used n = if is_barred p used n.0 (name_of names n.0) then Some n.1 else None
+
+abbrev pub first_barred : (names : List (List ℕ)) → Parsed → (used : List Named) → List Level → Option ℕ
+first_barred names p used vs = least_place (λ v. barred names p used v.name) vs
 
 -- The first fault ------------------------------------------------------------------------------------------------------
 
@@ -167,8 +173,8 @@ abbrev pub first_fault : (names : List (List ℕ)) → Parsed → List Token →
 first_fault names p ts t =
     fault_or Many (past_most t)
     (fault_or Same (named_again names t)
-    (fault_or Unknown (sooner (unknown_lower [] t.levels) (sooner (unknown_level t) (unknown_variable names p ts)))
-    (fault_or Plain (first_barred names p ts t.levels) None)))
+    (fault_or Unknown (sooner (unknown_lower [] t.levels) (sooner (unknown_level t) (unknown_variable names p (variables_of ts))))
+    (fault_or Plain (first_barred names p (variables_of ts) t.levels) None)))
 
 -- The levels that are given --------------------------------------------------------------------------------------------
 

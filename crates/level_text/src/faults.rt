@@ -1,9 +1,8 @@
 //! The first fault of a text of levels beyond its grammar and its limits.
 
-ghost use Rattle.std.specs.Prelude.{◌≡◌, ◌<◌, [], length, map, option_map, List, All, IfOk};
+ghost use Rattle.std.specs.Prelude.{◌≡◌, ◌<◌, [], length, map, option_map, All, IfOk};
 ghost use Rattle.cov_ast.specs.View as program_view;
 ghost use Rattle.cov_expr.specs.Trees as tree;
-ghost use Rattle.cov_grammar.specs.declared.token.Token.{Token};
 ghost use Rattle.level_text.specs.Inside.NamedBelow.{AreNamedBelow};
 ghost use Rattle.level_text.specs.TextFaults.{sooner};
 ghost use Rattle.level_text.specs.TextFaults as spec;
@@ -67,8 +66,8 @@ fn unknown(
     text: &PlacedLevels,
 ) -> Result<Option<u32>, NoMemory>
     requires { All (λ x. x.0 < length names.now) (map views.named variables.now) }
-    ensures { (ts : List Token) → map views.named variables.now ≡ spec.variables_of ts
-        → IfOk result (λ found. found ≡ sooner (spec.unknown_lower [] (views.level_text text.now).levels) (sooner (spec.unknown_level (views.level_text text.now)) (spec.unknown_variable names.now (program_view.parsed p.now) ts))) }
+    ensures { IfOk result (λ found. found ≡ sooner (spec.unknown_lower [] (views.level_text text.now).levels)
+        (sooner (spec.unknown_level (views.level_text text.now)) (spec.unknown_variable names.now (program_view.parsed p.now) (map views.named variables.now)))) }
 {
     let lower = unknown_lower(alloc, text.levels.as_slice())?;
     let declared = declared_levels(alloc, text.levels.as_slice())?;

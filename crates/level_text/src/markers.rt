@@ -1,12 +1,9 @@
 //! Markers that are more than markers.
 
-ghost use Rattle.std.specs.Prelude.{◌≡◌, ◌<◌, length, map, if◌then◌else◌, ◌&&◌, ◌||◌, ◌==◌, Some, None, List, All};
+ghost use Rattle.std.specs.Prelude.{◌≡◌, ◌<◌, ◌==◌, length, map, All};
 ghost use Rattle.std.specs.List.{list_any};
 ghost use Rattle.cov_ast.specs.NameTables.{number_of};
 ghost use Rattle.cov_ast.specs.View as program_view;
-ghost use Rattle.cov_grammar.specs.declared.token.Token.{Token};
-ghost use Rattle.cov_text.specs.GivenTrees.{name_of};
-ghost use Rattle.policy_class.specs.Resolved.{is_among, var_names};
 ghost use Rattle.level_text.specs.TextFaults as spec;
 ghost use Rattle.level_text.specs.TextViews as views;
 
@@ -25,7 +22,7 @@ pub fn first_barred(
     levels: &[LevelDecl],
 ) -> Option<u32>
     requires { All (λ v. v.name.0 < length names.now) (map views.level levels.now) }
-    ensures { (ts : List Token) → map views.named variables.now ≡ spec.variables_of ts → result ≡ spec.first_barred names.now (program_view.parsed p.now) ts (map views.level levels.now) }
+    ensures { result ≡ spec.first_barred names.now (program_view.parsed p.now) (map views.named variables.now) (map views.level levels.now) }
 {
     let mut found = None;
     for level in levels {
@@ -34,14 +31,12 @@ pub fn first_barred(
     found
 }
 
+/// The place of the name of a level, if it is that of such a variable.
 fn barred(p: &Parsed, names: &NameTable, variables: &[NamedAt], level: &NamedAt) -> Option<u32>
     requires { level.now.name < length names.now }
-    ensures { result ≡ (if is_among (var_names (program_view.parsed p.now)) (name_of names.now level.now.name)
-        && (list_any (λ n. n.0 == level.now.name) (map views.named variables.now) || spec.in_program (number_of p.now.names (name_of names.now level.now.name)) (program_view.parsed p.now))
-        then Some level.now.at else None) }
+    ensures { result ≡ spec.barred names.now (program_view.parsed p.now) (map views.named variables.now) (views.named level.now) }
 {
-    let name = names.name(level.name);
-    if is_barred(p, variables, level.name, name) {
+    if is_barred(p, variables, level.name, names.name(level.name)) {
         Some(level.at)
     } else {
         None
@@ -49,8 +44,7 @@ fn barred(p: &Parsed, names: &NameTable, variables: &[NamedAt], level: &NamedAt)
 }
 
 fn is_barred(p: &Parsed, variables: &[NamedAt], number: u32, name: Name) -> bool
-    ensures { result ≡ (is_among (var_names (program_view.parsed p.now)) name
-        && (list_any (λ n. n.0 == number) (map views.named variables.now) || spec.in_program (number_of p.now.names name) (program_view.parsed p.now))) }
+    ensures { result ≡ spec.is_barred (program_view.parsed p.now) (map views.named variables.now) number name }
 {
     is_variable(p, name) && (is_used(variables, number) || in_program(p, number_in(p, name)))
 }

@@ -2,7 +2,6 @@
 
 ghost use Rattle.std.specs.Prelude.{◌≡◌, ◌<◌, length, map, All, IfOk};
 ghost use Rattle.cov_ast.specs.View as program_view;
-ghost use Rattle.cov_text.specs.GivenTrees.{name_of};
 ghost use Rattle.policy_class.specs.Resolved.{is_among, var_names};
 ghost use Rattle.level_text.specs.TextFaults as spec;
 ghost use Rattle.level_text.specs.TextViews as views;
@@ -57,7 +56,7 @@ pub fn is_variable(p: &Parsed, name: Name) -> bool
 /// The least place of a name that is used as a variable and isn't one of the program.
 pub fn unknown_variable(p: &Parsed, names: &NameTable, variables: &[NamedAt]) -> Option<u32>
     requires { All (λ x. x.0 < length names.now) (map views.named variables.now) }
-    ensures { result ≡ spec.first_failing (λ n. is_among (var_names (program_view.parsed p.now)) (name_of names.now n)) (map views.named variables.now) }
+    ensures { result ≡ spec.unknown_variable names.now (program_view.parsed p.now) (map views.named variables.now) }
 {
     let mut found = None;
     for variable in variables {
@@ -68,7 +67,7 @@ pub fn unknown_variable(p: &Parsed, names: &NameTable, variables: &[NamedAt]) ->
 
 fn unknown_name(p: &Parsed, names: &NameTable, variable: &NamedAt) -> Option<u32>
     requires { variable.now.name < length names.now }
-    ensures { result ≡ spec.failing (λ n. is_among (var_names (program_view.parsed p.now)) (name_of names.now n)) (views.named variable.now) }
+    ensures { result ≡ spec.failing (spec.is_variable names.now (program_view.parsed p.now)) (views.named variable.now) }
 {
     if is_variable(p, names.name(variable.name)) {
         None
