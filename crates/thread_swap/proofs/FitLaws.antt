@@ -1,5 +1,5 @@
 -- The threads of a text for the places of those of a program: where there is no fault, each may stand there.
-use Rattle.std.proofs.Common.{◌≡◌, ◌⊎◌, ℕ, ◌<◌, ◌≤◌, ◌==◌, ◌&&◌, Bool, true, false, cond, not, List, [], ◌∷◌, ◌++◌, length, map, get_or, refl, sym, ap, subst, ◌∙◌, inl, inr, arith, Option, Some, None, All}
+use Rattle.std.proofs.Common.{◌≡◌, ℕ, ◌<◌, ◌≤◌, ◌==◌, ◌&&◌, Bool, true, false, cond, not, List, [], ◌∷◌, ◌++◌, length, map, get_or, refl, sym, ap, subst, ◌∙◌, arith, Option, Some, None, All}
 use Rattle.std.specs.Prelude.{option_map}
 use Rattle.std.specs.List.{find}
 use Rattle.std.specs.Option.{option_or}
@@ -22,6 +22,7 @@ use Rattle.policy_class.proofs.ResolvedLaws.{resolved_formed}
 use Rattle.thread_swap.specs.Binding.{bound, declares_fault, first_fault, is_known, lock_of, thread_fault, unknown_fault, var_of, version_fault}
 use Rattle.thread_swap.specs.Inside.Over.{IsFitting, bare_lock, bare_var, over, threads_in}
 use Rattle.thread_swap.specs.Replacements.{IsNamed, IsReplacement, thread_names}
+use Rattle.thread_swap.specs.declared.swap_fault.SwapFault.{SwapFault}
 use Rattle.thread_swap.specs.declared.swap_fault.SwapFault.TheVariants.{NoMemory, NoThread, Unknown, Version}
 use Rattle.thread_swap.proofs.BindLaws.{all_named, silent_text}
 use Rattle.thread_swap.proofs.OverLaws.{alone_ready, bound_is, fitting, locks_same, one_differs, one_ready, over_ready, uses_first, vars_same}
@@ -37,12 +38,17 @@ not_mapped f None h = refl
 not_mapped f (Some x) h = cc
 
 -- A fault of a text isn't want of memory.
-one_lacks : {X : Type 0} (a b : Option X) (x : X) → option_or a b ≡ Some x → (a ≡ Some x) ⊎ (b ≡ Some x)
-one_lacks None b x h = inr h
-one_lacks (Some y) b x h = inl h
+neither_lacks : (a b : Option SwapFault) → (a ≡ Some NoMemory → ⊥) → (b ≡ Some NoMemory → ⊥) → option_or a b ≡ Some NoMemory → ⊥
+neither_lacks None b first second h = second h
+neither_lacks (Some x) b first second h = first h
 
 pub never_lacks : (p : Program) (e : Parsed) → first_fault p e ≡ Some NoMemory → ⊥
-never_lacks p e h = first (one_lacks (version_fault p e) (option_or (declares_fault e.vars e.locks) (option_or (thread_fault p e.threads) (unknown_fault p e))) NoMemory h)
+never_lacks p e h =
+    neither_lacks (version_fault p e) (option_or (declares_fault e.vars e.locks) (option_or (thread_fault p e.threads) (unknown_fault p e)))
+    (version (e.version == 2 && p.version == 1))
+    (neither_lacks (declares_fault e.vars e.locks) (option_or (thread_fault p e.threads) (unknown_fault p e)) (declares e.vars e.locks)
+    (neither_lacks (thread_fault p e.threads) (unknown_fault p e) (thread (find (λ (t : Thread). not (is_among (thread_names p) t.name)) e.threads))
+    (unknown (find (λ (u : NameUse). not (is_known p e u)) e.uses)))) h
   where
     version : (b : Bool) → cond b (Some Version) None ≡ Some NoMemory → ⊥
     version true k = cc
@@ -60,19 +66,6 @@ never_lacks p e h = first (one_lacks (version_fault p e) (option_or (declares_fa
     unknown : (o : Option NameUse) → option_map (λ (u : NameUse). Unknown u.at) o ≡ Some NoMemory → ⊥
     unknown None k = cc
     unknown (Some u) k = cc
-
-    last : (thread_fault p e.threads ≡ Some NoMemory) ⊎ (unknown_fault p e ≡ Some NoMemory) → ⊥
-    last (inl k) = thread (find (λ (t : Thread). not (is_among (thread_names p) t.name)) e.threads) k
-    last (inr k) = unknown (find (λ (u : NameUse). not (is_known p e u)) e.uses) k
-
-    later : (declares_fault e.vars e.locks ≡ Some NoMemory) ⊎ (option_or (thread_fault p e.threads) (unknown_fault p e) ≡ Some NoMemory) → ⊥
-    later (inl k) = declares e.vars e.locks k
-    later (inr k) = last (one_lacks (thread_fault p e.threads) (unknown_fault p e) NoMemory k)
-
-    first : (version_fault p e ≡ Some NoMemory)
-        ⊎ (option_or (declares_fault e.vars e.locks) (option_or (thread_fault p e.threads) (unknown_fault p e)) ≡ Some NoMemory) → ⊥
-    first (inl k) = version (e.version == 2 && p.version == 1) k
-    first (inr k) = later (one_lacks (declares_fault e.vars e.locks) (option_or (thread_fault p e.threads) (unknown_fault p e)) NoMemory k)
 
 -- Declarations of which the names alone are kept are of words.
 classes_of_words : (v l : ℕ → ℕ) (vs : List Var) → All (λ (w : Var). HasWords (class_term w.class)) (map (resolved_variable v l) (map bare_var vs))
