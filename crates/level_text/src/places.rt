@@ -30,6 +30,7 @@ pub fn first_outside(numbers: &[u32], names: &[NamedAt]) -> Option<u32>
     found
 }
 
+/// The place of a name, where its number isn't among the numbers.
 pub fn outside(numbers: &[u32], name: &NamedAt) -> Option<u32>
     ensures { result ≡ spec.failing (tree.has_number numbers.now) (views.named name.now) }
 {
