@@ -1,7 +1,8 @@
 //! What a command takes: the words of a command line, and files that are read as programs, starts and schedules, one behind the other.
 //!
-//! What a command does is a plan (`specs/Plans`): what it reads, one behind the other, and what it may reply then. Which calls of a shelf a
-//! reading makes, how it ends by them, and how it ends over files that are told, are said once (`specs/Readings`), by recursion.
+//! What a command does is a plan (`specs/Plans`): what it reads, one behind the other, what it may reply then, and of how many statements
+//! a judge of threads is asked for that. Which calls of a shelf a reading makes, how it ends by them, and how it ends over files that are
+//! told, are said once (`specs/Readings`), by recursion.
 //!
 //! | `src/` | `specs/` | what it has |
 //! |---|---|---|

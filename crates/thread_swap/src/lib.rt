@@ -1,5 +1,5 @@
-//! Threads of a program that are replaced, and the verdict after each: that from scratch, by what a judge says of threads, while only
-//! the threads that were replaced are judged.
+//! Threads of a program that are replaced, and the verdict after each: that from scratch, by what a judge says of threads, while a
+//! thread that was judged and isn't replaced isn't judged again.
 //!
 //! The definitions stand in `specs/`: `Judges` has what a judge means, `Swaps` the verdict from scratch and what a swapper keeps,
 //! `SwapLines` what is told after each replaced thread, `Replacements` which declarations may stand in the place of which thread, `Binding` what a text of threads means for a program and

@@ -1,4 +1,4 @@
-//! The top call, `covern`, with all that it promises.
+//! The top call, `covern`, and `covern_with` over any judge of threads, with all that they promise.
 
 ghost use Rattle.std.specs.Prelude.{◌≡◌, ◌≢◌, ◌⊎◌, IfSome, IsTrue, map, string_bytes, ◌≤◌};
 ghost use Rattle.call_inputs.specs.Plans.{IsMet, Performs, PerformsAsking};

@@ -15,8 +15,8 @@ ghost use Rattle.top_call.specs.Laws.{IsOneReply};
 use call_judge::accepted_programs_are_secure;
 use call_reports::Status;
 
-/// A law: over the same files a command has one reply at most. Together with the clauses of `covern`, whose replies are
-/// told as relations, it makes what a call answers a function of the words and the files.
+/// A law: over the same files, by the same judge, a command has one reply at most. Together with the clauses of `covern`, whose
+/// replies are told as relations, it makes what a call answers a function of the words and the files.
 pub fn one_outcome()
     ensures { IsOneReply }
 {}
