@@ -1,9 +1,10 @@
 //! Nodes of certificates, made of their children, which they own in memory of their own.
 
-ghost use Rattle.std.specs.Prelude.{◌≡◌, ◌+◌, IfOk};
+ghost use Rattle.std.specs.Prelude.{◌≡◌, ◌+◌, IfOk, Some, option_map};
 ghost use Rattle.cov_expr.specs.View.{term};
 ghost use Rattle.cov_ast.specs.Syntax as by;
 ghost use Rattle.cov_ast.specs.View as view;
+ghost use Rattle.cert_search.specs.Searching.{joined};
 
 use cov_ast::Cert;
 use cov_expr::{Expr, NoMemory};
@@ -27,13 +28,16 @@ fn boxed(alloc: Global, c: Cert) -> Result<Box<Cert>, NoMemory>
     Ok(Box::new(alloc, c)?)
 }
 
-/// `and c d`.
-pub fn both(alloc: Global, c: Cert, d: Cert) -> Result<Cert, NoMemory>
-    ensures { IfOk result (λ made. view.cert made ≡ by.and (view.cert c) (view.cert d)) }
+/// `and c d`, if there is the second part.
+pub fn both(alloc: Global, c: Cert, d: Option<Cert>) -> Result<Option<Cert>, NoMemory>
+    ensures { IfOk result (λ made. option_map view.cert made ≡ joined by.and (Some (view.cert c)) (option_map view.cert d)) }
 {
+    let Some(d) = d else {
+        return Ok(None);
+    };
     let left = boxed(alloc, c)?;
     let right = boxed(alloc, d)?;
-    Ok(Cert::And(left, right))
+    Ok(Some(Cert::And(left, right)))
 }
 
 /// `left c`.
@@ -60,13 +64,16 @@ pub fn unpacked(alloc: Global, n: u32, c: Cert) -> Result<Cert, NoMemory>
     Ok(Cert::Unpack(n, part))
 }
 
-/// `cases n c d`.
-pub fn cases(alloc: Global, n: u32, c: Cert, d: Cert) -> Result<Cert, NoMemory>
-    ensures { IfOk result (λ made. view.cert made ≡ by.cases n (view.cert c) (view.cert d)) }
+/// `cases n c d`, if there is the second part.
+pub fn cases(alloc: Global, n: u32, c: Cert, d: Option<Cert>) -> Result<Option<Cert>, NoMemory>
+    ensures { IfOk result (λ made. option_map view.cert made ≡ joined (by.cases n) (Some (view.cert c)) (option_map view.cert d)) }
 {
+    let Some(d) = d else {
+        return Ok(None);
+    };
     let left = boxed(alloc, c)?;
     let right = boxed(alloc, d)?;
-    Ok(Cert::Cases(n, left, right))
+    Ok(Some(Cert::Cases(n, left, right)))
 }
 
 /// `fwd n [template] c`.
@@ -88,8 +95,15 @@ pub fn lemma(
 ) -> Result<Cert, NoMemory>
     ensures { IfOk result (λ node. view.cert node ≡ by.have (term made) (by.rev i (term template) (by.hyp j)) (view.cert c)) }
 {
-    let named = boxed(alloc, Cert::Hyp(j))?;
-    let first = boxed(alloc, Cert::Rev(i, template, named))?;
+    let first = rewritten(alloc, i, template, j)?;
     let second = boxed(alloc, c)?;
     Ok(Cert::Have(made, first, second))
+}
+
+/// `rev i [template] (hyp j)`, as the child of a node.
+fn rewritten(alloc: Global, i: u32, template: Expr, j: u32) -> Result<Box<Cert>, NoMemory>
+    ensures { IfOk result (λ made. view.cert made.value ≡ by.rev i (term template) (by.hyp j)) }
+{
+    let named = boxed(alloc, Cert::Hyp(j))?;
+    boxed(alloc, Cert::Rev(i, template, named))
 }

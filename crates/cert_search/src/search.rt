@@ -124,11 +124,8 @@ fn by_both(alloc: Global, hyps: &[&Expr], goal: &Expr, below: u32) -> Result<Opt
     let Some(c) = search(alloc, hyps, 0, a, below)? else {
         return Ok(None);
     };
-    let Some(d) = search(alloc, hyps, 0, b, below)? else {
-        return Ok(None);
-    };
-    let made = nodes::both(alloc, c, d)?;
-    Ok(Some(made))
+    let d = search(alloc, hyps, 0, b, below)?;
+    nodes::both(alloc, c, d)
 }
 
 /// Where the goal is a disjunction, one of its parts.
@@ -246,11 +243,8 @@ fn by_cases(
     let Some(c) = search_with(alloc, hyps, a, goal, below)? else {
         return Ok(None);
     };
-    let Some(d) = search_with(alloc, hyps, b, goal, below)? else {
-        return Ok(None);
-    };
-    let made = nodes::cases(alloc, n, c, d)?;
-    Ok(Some(made))
+    let d = search_with(alloc, hyps, b, goal, below)?;
+    nodes::cases(alloc, n, c, d)
 }
 
 /// A replacement in the goal by an equation.
