@@ -1,7 +1,0 @@
-mod OrderLaws
-mod ShownFormed
-mod BlockLaws
-mod ShowLaws
-mod ShownSame
-mod CountLaws
-mod Examples

@@ -1,3 +1,0 @@
--- Words of private contracts. What is promised doesn't rest on them.
-pub mod Marked
-pub mod Refused

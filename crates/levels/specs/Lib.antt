@@ -1,4 +1,0 @@
-pub mod Order
-pub mod Projection
-pub mod Accepted
-pub mod Inside
