@@ -81,8 +81,11 @@ def write(folder, name, text):
 
 WRITER = (b"var mode: low; var buf: low when mode == 0; var key: high; lock l hide mode, buf; thread w { lock l; buf := key; mode := 1; "
           b"unlock l by { 1: have [1 == 0] (rev 1 [_ == 0] (hyp 2)) (clash 3) }; }")
+LEVELS = b"level pub; level sec: pub; level all: pub, sec; var key: sec when 1 else all;"
+UNSEEN = b"level sec; level pub; var mode: sec;"
 WORDS = [["check", "p"], ["fmt", "p"], ["migrate", "p"], ["compile", "p"], ["run", "p", "s", "k"], ["run-code", "p", "s", "k"],
-         ["run-until", "p", "s", "k", "mode == 1"], ["pair", "p", "s", "t", "k"], ["pair-code", "p", "s", "t", "k"], ["object", "p"], ["unobject", "o"], ["refute", "p", "20"], ["swap", "p", "e"]]
+         ["run-until", "p", "s", "k", "mode == 1"], ["pair", "p", "s", "t", "k"], ["pair-code", "p", "s", "t", "k"], ["object", "p"], ["unobject", "o"], ["refute", "p", "20"], ["swap", "p", "e"],
+         ["levels", "p", "l"], ["levels", "p", "u"]]
 
 
 def write_writer(folder):
@@ -91,6 +94,8 @@ def write_writer(folder):
         write(folder, name, b" " * 70_000 + json.dumps({"mode": 0, "buf": 0, "key": key}).encode())
     write(folder, "k", b" " * 70_000 + b"[0,0,0,0,0,0,0,0,0,0]")
     write(folder, "e", b" " * 70_000 + b"thread w { skip; } thread w { lock l; }")
+    write(folder, "l", b" " * 70_000 + LEVELS)
+    write(folder, "u", b" " * 70_000 + UNSEEN)
     write(folder, "o", object_of(code_of(b"code 1\nthread t 70000\n" + b"1 nop\n" * 70_000)))
 
 
@@ -457,6 +462,12 @@ def large_class(nodes, name="c"):
     return " || ".join(["(" + " && ".join([f"{name} == 0"] * 40) + ")"] * (nodes // 160))
 
 
+def spelled(number):
+    """A short name for a number."""
+    letters = b"abcdefghij"
+    return bytes(letters[int(digit)] for digit in str(number)) + b"_"
+
+
 def all_of(variables):
     return ", ".join(f"v{i}" for i in range(variables))
 
@@ -526,6 +537,31 @@ def limit_rows():
     one = "thread t0 { " + "skip; " * 1_250 + "} "
     yield row("`swap` of one of them 16 times", parts, "swap p e", e=(one * 16).encode())
     yield row("`swap` by a text of 1 MiB of `{`", parts, "swap p e", e=b"{" * most)
+    eight = "".join(f"level l{i}{': ' if i else ''}{', '.join(f'l{j}' for j in range(i))}; " for i in range(8))
+    listings = eight + "".join(f"var v{i}: l{i % 8}; " for i in range(256))
+    small = "var a: low; thread t { a := 1; }"
+    yield row("`levels` by a text of 1 MiB", small, "levels p l", l=repeated(b"level b; var a: b; //", b"/", b"", most))
+    yield row("`levels` by a text of 1 MiB and a byte", small, "levels p l", l=b"level b;" + b" " * (most - 7))
+    yield row("`levels` by a text of 1 MiB of `{`", small, "levels p l", l=b"{" * most)
+    yield row("`levels` by a text of 1 MiB of `!`", small, "levels p l", l=repeated(b"level b; var a: b when ", b"!", b"", most))
+    yield row("`levels` by an expression of 1 MiB that leans left", small, "levels p l", l=repeated(b"level b; var a: b when 1", b"+1", b" else b;", most))
+    yield row("`levels` by a text of 1 MiB of levels", small, "levels p l", l=repeated(b"", b"level b;", b"", most))
+    yield row("`levels` by a text of 1 MiB of listings", small, "levels p l", l=repeated(b"level b;", b"var a:b;", b"", most))
+    yield row("`levels` by a text of 1 MiB of listings that differ", small, "levels p l", l=b"level b;" + b"".join(b"var %s:b;" % spelled(i) for i in range(80_000)))
+    yield row("`levels` by a level that names another 70,000 times", small, "levels p l", l=b"level b; level c: " + b", ".join([b"b"] * 70_000) + b"; var a: c;")
+    yield row("`levels` by a text of 1 MiB of a level that names another", small, "levels p l", l=repeated(b"level b;level c:b", b",b", b";", most))
+    yield row("`levels` by a level that names 70,000 that aren't declared", small, "levels p l", l=b"level b; level c: " + b", ".join(map(spelled, range(70_000))) + b";")
+    yield row("`levels` of 20,000 statements in 16 threads and 256 variables, for 8 levels", low(256) + parts, "levels p l", l=listings.encode())
+    yield row("`levels` of 256 variables, 64 locks, 16 threads that take them all nine times, for 8 levels", low(256)
+              + "".join(f"lock k{i} nowrite {', '.join(f'v{4 * i + j}' for j in range(4))}; " for i in range(64))
+              + "".join(f"thread t{t} {{ " + ("".join(f"lock k{i}; " for i in range(64)) + "".join(f"unlock k{i}; " for i in range(64))) * 9 + "} " for t in range(16)),
+              "levels p l", l=listings.encode())
+    yield row("`levels` of 9,990 assignments of width 7, for 8 levels", code, "levels p l", l=(eight + "".join(f"var v{i}: l7; " for i in range(7))).encode())
+    yield row("`levels` of 1,200 notes of 64 predicates, for 8 levels", low(64) + f"thread t assume nowrite {all_of(64)} {{ " + "".join(f"v{i} := {i}; " for i in range(64))
+              + ("note { " + ", ".join(f"v{i} == {i}" for i in range(64)) + " }; ") * 1200 + "}", "levels p l", l=eight.encode())
+    yield row("`levels` by 250 classes of 964 nodes, and 10 assignments to their control, for 8 levels", "var c: low; " + low(250)
+              + f"thread t assume nowrite c, {all_of(250)} {{ " + "c := 1; " * 10 + "}", "levels p l",
+              l=(eight + "".join(f"var v{i}: l{i % 8} when {large_class(480)} else l7; " for i in range(250))).encode())
     yield row("a start of 4 MiB of blanks", loop, "run p s k", s=b" " * (longest - 8) + b'{"v0":0}', k=b"[]")
     yield row("a start of 4 MiB of one string", loop, "run p s k", s=b'{"' + b"a" * (longest - 6) + b'":0}', k=b"[]")
     yield row("a start of 4 MiB of keys", loop, "run p s k", s=repeated(b'{"v0":0', b',"a":0', b"}", longest), k=b"[]")
@@ -676,6 +712,9 @@ def allocations_part(options, folder, found):
     for title, text, starts in (("writer", WRITER, {"mode": 0, "buf": 0}), ("shared", SHARED, {"mode": 0, "buf": 0, "tmp": 0, "net": 0})):
         write(folder, "p", text)
         write(folder, "o", OBJECTS[0])
+        write(folder, "e", b"thread w { skip; } thread w { lock l; }")
+        write(folder, "l", LEVELS)
+        write(folder, "u", UNSEEN)
         write(folder, "k", entries if title == "shared" else b"[0,0,0,0,0,0,0,0,0,0]")
         for name, key in (("s", 5), ("t", 9)):
             write(folder, name, json.dumps({**starts, "key": key}).encode())

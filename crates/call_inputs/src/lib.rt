@@ -23,7 +23,7 @@ mod runs;
 mod words;
 
 pub use expressions::read_expression;
-pub use files::{fetch, parse_text, read_program, read_text, unread};
+pub use files::{fetch, parse_text, read_program, read_text, text_fault, unread};
 pub use inputs::{read_entries, read_pair, read_run};
 pub use runs::{PairInput, RunInput};
 pub use words::command_line;

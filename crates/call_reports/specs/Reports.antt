@@ -5,7 +5,7 @@ use Rattle.cov_ast.specs.declared.refusal.Rule.TheVariants as r
 use Rattle.cov_ast.specs.declared.refusal.Detail.{Detail}
 use Rattle.cov_ast.specs.declared.refusal.Detail.TheVariants as d
 use Rattle.cov_ast.specs.declared.refusal.Refusal.{Refusal}
-use Rattle.call_reports.specs.Replies.{Reply, usage, read_fault, too_long, malformed, refused, accepted, spelled, ran, bad_starts, differ, refuted}
+use Rattle.call_reports.specs.Replies.{Reply, usage, read_fault, too_long, malformed, refused, refused_for, accepted, spelled, ran, bad_starts, differ, refuted}
 use Rattle.call_reports.specs.declared.answers.Fault.{Fault}
 use Rattle.call_reports.specs.declared.answers.Fault.TheVariants as f
 use Rattle.call_reports.specs.declared.answers.FaultKind.{FaultKind}
@@ -35,6 +35,8 @@ misfit_text m.Version = codes "version"
 misfit_text m.Declares = codes "declares"
 misfit_text m.Thread = codes "thread"
 misfit_text m.Unknown = codes "unknown"
+misfit_text m.Same = codes "same"
+misfit_text m.Marker = codes "marker"
 
 -- what a fault of a file is, and where
 abbrev pub fault_text : Fault → List ℕ
@@ -102,6 +104,10 @@ refusal_words refusal thread =
 abbrev pub refusal_text : Refusal → (thread : Option (List ℕ)) → List ℕ
 refusal_text refusal thread = refusal_words refusal thread ++ codes "\n"
 
+-- a line for the observer at a level, and then that
+abbrev pub refusal_for_text : (level : List ℕ) → Refusal → (thread : Option (List ℕ)) → List ℕ
+refusal_for_text level refusal thread = codes "observer " ++ level ++ codes "\n" ++ refusal_text refusal thread
+
 -- Counts -------------------------------------------------------------------------------------------------------
 
 -- how much a program has that is accepted
@@ -118,6 +124,7 @@ report_of (read_fault name) = codes "read fault: " ++ name ++ 10 ∷ []
 report_of (too_long name) = codes "too long: " ++ name ++ 10 ∷ []
 report_of (malformed name fault) = codes "malformed " ++ name ++ codes ": " ++ fault_text fault ++ codes "\n"
 report_of (refused refusal thread) = refusal_text refusal thread
+report_of (refused_for level refusal thread) = refusal_for_text level refusal thread
 report_of (accepted threads statements entailments) = accepted_words threads statements entailments ++ codes "\n"
 report_of (spelled text) = text
 report_of (ran report) = report

@@ -74,17 +74,21 @@ pub enum FaultKind {
     Unknown,
 }
 
-/// What of a text of threads doesn't fit the program whose threads they are to replace.
+/// What of a text doesn't fit the program for which it is read: of threads that are to replace its own, or of levels.
 #[derive(Clone, Copy)]
 pub enum Misfit {
-    /// It is of version 2, and the program of version 1.
+    /// Threads of version 2, where the program is of version 1.
     Version,
-    /// A variable or a lock that it declares.
+    /// A variable or a lock that a text of threads declares.
     Declares,
     /// A thread whose name none of the program has.
     Thread,
-    /// A name that is that of no variable, or of no lock, of the program.
+    /// A name that is that of no variable, of no lock, or of no level, as which it is used.
     Unknown,
+    /// A level that is declared, or a variable that is listed, a second time.
+    Same,
+    /// A level with the name of a variable that is more than a marker.
+    Marker,
 }
 
 /// A fault of a file, as reports show it.
@@ -125,6 +129,8 @@ pub enum Answer<'w> {
     Malformed(&'w str, Fault),
     /// The first rule that is broken, and the name of the thread, for a rule of statements.
     Refused(Refusal, Option<Name>),
+    /// The name of the first level whose observer is shown a program that breaks a rule, and the same of that program.
+    RefusedFor(Name, Refusal, Option<Name>),
     Accepted(Totals),
     /// The canonical spelling of a program, or the listing or the object of a code.
     Spelled(Blob),
@@ -164,7 +170,7 @@ pub fn status_for(answer: &Answer<'_>) -> Status
         Answer::ReadFault(_) => Status::ReadFault,
         Answer::TooLong(_) => Status::TooLong,
         Answer::Malformed(_, _) => Status::Malformed,
-        Answer::Refused(_, _) => Status::Refused,
+        Answer::Refused(_, _) | Answer::RefusedFor(_, _, _) => Status::Refused,
         Answer::Accepted(_) | Answer::Spelled(_) | Answer::Ran(_) => Status::Done,
         Answer::BadStarts(_) => Status::BadStarts,
         Answer::Differ(_, _) | Answer::Refuted(_) => Status::Differ,

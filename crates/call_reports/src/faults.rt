@@ -64,6 +64,8 @@ fn misfit_text(what: Misfit) -> &'static str
         Misfit::Declares => "declares",
         Misfit::Thread => "thread",
         Misfit::Unknown => "unknown",
+        Misfit::Same => "same",
+        Misfit::Marker => "marker",
     }
 }
 

@@ -3,7 +3,7 @@
 ghost use Rattle.std.specs.Prelude.{◌≡◌, ◌++◌, IfOk, OnOk, codes};
 ghost use Rattle.call_reports.specs.Reports as spec;
 
-use crate::lines::{add_name, add_number_behind};
+use crate::lines::{add_between, add_name, add_number_behind};
 use cov_ast::{Detail, Refusal, Rule};
 use cov_expr::{Blob, List, Name, NoMemory};
 use std::alloc::Global;
@@ -20,6 +20,22 @@ pub fn refusal_line(
     add_refusal(refusal, thread, &mut line)?;
     line.extend_from_slice(b"\n")?;
     Ok(line)
+}
+
+/// The lines that say of the observer at which level a program is refused, and what.
+pub fn refusal_lines(
+    alloc: Global,
+    level: Name,
+    refusal: &Refusal,
+    thread: Option<Name>,
+) -> Result<Blob, NoMemory>
+    ensures { IfOk result (λ lines. lines ≡ spec.refusal_for_text level refusal.now thread) }
+{
+    let mut lines = List::new(alloc);
+    add_between(b"observer ", level.text(), b"\n", &mut lines)?;
+    add_refusal(refusal, thread, &mut lines)?;
+    lines.extend_from_slice(b"\n")?;
+    Ok(lines)
 }
 
 /// Adds what is refused, without the end of the line.

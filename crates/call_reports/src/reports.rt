@@ -10,7 +10,7 @@ use crate::answers::{Answer, Totals};
 use crate::differences::differ_line;
 use crate::faults::malformed_line;
 use crate::lines::add_between;
-use crate::refusals::refusal_line;
+use crate::refusals::{refusal_line, refusal_lines};
 use cov_expr::{Blob, List, NoMemory};
 use itoa::Buffer;
 use std::alloc::Global;
@@ -25,7 +25,7 @@ pub fn report(alloc: Global, answer: Answer<'_>) -> Result<Blob, NoMemory>
     }
 }
 
-/// The report of an answer that isn't its text: a line.
+/// The report of an answer that isn't its text: a line, or two.
 fn line(alloc: Global, answer: &Answer<'_>) -> Result<Blob, NoMemory>
     ensures { IfOk result (λ text. IsLine (seen answer.now) text) }
 {
@@ -35,6 +35,9 @@ fn line(alloc: Global, answer: &Answer<'_>) -> Result<Blob, NoMemory>
         Answer::TooLong(name) => line_of(alloc, b"too long: ", name.as_bytes()),
         Answer::Malformed(name, fault) => malformed_line(alloc, name, fault),
         Answer::Refused(refusal, thread) => refusal_line(alloc, refusal, *thread),
+        Answer::RefusedFor(level, refusal, thread) => refusal_lines(
+            alloc, *level, refusal, *thread,
+        ),
         Answer::Accepted(counts) => accepted_line(alloc, counts),
         Answer::BadStarts(name) => line_of(alloc, b"bad starts: ", name.as_slice()),
         Answer::Differ(step, what) => differ_line(alloc, *step, what),

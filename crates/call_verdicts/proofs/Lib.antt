@@ -1,1 +1,3 @@
 pub mod SwapLaws
+mod LevelWords
+pub mod LevelsLaws

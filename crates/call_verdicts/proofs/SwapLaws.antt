@@ -1,15 +1,13 @@
 -- Laws of replaced threads: there is one reply, and what is said of the texts holds of the program and its threads.
-use Rattle.std.proofs.Common.{◌≡◌, ℕ, ◌+◌, ◌≤◌, List, Bool, true, false, cond, length, map, refl, sym, ap, subst, ◌∙◌, arith, Option, Some, None, Result, Ok, Err, All, ◌==◌}
-use Rattle.std.specs.Prelude.{option_map, not}
-use Rattle.std.specs.List.{position_or_len}
+use Rattle.std.proofs.Common.{◌≡◌, ℕ, ◌≤◌, List, Bool, true, false, cond, length, refl, sym, ap, subst, ◌∙◌, arith, Option, Some, None, Result, Err, All, ◌==◌}
+use Rattle.std.specs.Prelude.{option_map}
 use Rattle.std.specs.Str.{bytes_eq}
 use Rattle.std.proofs.lemmas.Bool.{eqb-true}
 use Rattle.std.proofs.lemmas.List.{length-map}
 use Rattle.cov_expr.specs.Words.{IsWord}
 use Rattle.cov_expr.specs.declared.expr.TheConstants.{HOLE}
 use Rattle.cov_expr.specs.declared.limits.TheConstants.{MOST_BYTES}
-use Rattle.cov_grammar.specs.PlacedTrees as trees
-use Rattle.cov_ast.specs.Syntax.{Parsed, Program, Thread}
+use Rattle.cov_ast.specs.Syntax.{Parsed, Program}
 use Rattle.cov_ast.specs.WellFormed.{IsWellFormed}
 use Rattle.cov_text.proofs.ReadyLaws.{text_ready}
 use Rattle.cov_text.proofs.WordLaws.{names_few}
@@ -23,8 +21,8 @@ use Rattle.thread_swap.specs.declared.swap_fault.SwapFault.TheVariants.{Version,
 use Rattle.thread_swap.proofs.FitLaws.{bound_replace, never_lacks}
 use Rattle.call_inputs.specs.Programs.{SpellsProgram}
 use Rattle.call_inputs.specs.Plans.{CarriesOutAsking, CountsAt, GetsAt, LacksMemory, Rises, asks}
-use Rattle.call_inputs.specs.Readings.{End, gives, stopped, took, tries}
-use Rattle.call_inputs.specs.Rejections.{Rejection, misfit, rejected}
+use Rattle.call_inputs.specs.Readings.{End, gives, took, tries}
+use Rattle.call_inputs.specs.Rejections.{misfit}
 use Rattle.call_inputs.proofs.PlanLaws.{IsSoundReply, one_sound, stopped_unasked, tried_not, tried_on}
 use Rattle.call_judge.specs.Inside.{IsUnnamed}
 use Rattle.cov_io.specs.Shelves.{Shelved}
@@ -32,7 +30,7 @@ use Rattle.call_judge.proofs.FormedLaws.{position_most}
 use Rattle.call_judge.proofs.NumberWords.{text_words}
 use Rattle.call_judge.proofs.WordTrees.{program_words}
 use Rattle.call_reports.specs.AnswerViews.{Stops}
-use Rattle.call_reports.specs.Replies.{Reply, malformed, ran}
+use Rattle.call_reports.specs.Replies.{malformed, ran}
 use Rattle.call_reports.specs.declared.answers.Answer.{Answer}
 use Rattle.call_reports.specs.declared.answers.Fault.{Fault}
 use Rattle.call_reports.specs.declared.answers.Status.TheVariants as s

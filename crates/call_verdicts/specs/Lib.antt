@@ -1,2 +1,3 @@
 pub mod Swap
+pub mod Levels
 pub mod Inside

@@ -1,5 +1,5 @@
 -- `swap`: what is replied to a program and to a text of threads, each of which replaces the thread of its name, by what a judge says.
-use Rattle.std.specs.Prelude.{◌≡◌, ℕ, List, ◌++◌, length, map, flat_map, slice_get, codes, decimal, Option, Some, None, option_map}
+use Rattle.std.specs.Prelude.{◌≡◌, ℕ, List, ◌++◌, length, flat_map, slice_get, codes, decimal, Option, Some, None, option_map}
 use Rattle.cov_ast.specs.Syntax.{Parsed, Program, Thread}
 use Rattle.policy_class.specs.Resolved.{resolved}
 use Rattle.thread_swap.specs.Binding.{bound, first_fault}

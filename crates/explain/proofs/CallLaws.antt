@@ -1,6 +1,8 @@
 -- Laws of what is told of files, and of how a call ends.
 use Rattle.std.proofs.Common.{◌≡◌, ℕ, ◌+◌, ◌<◌, ◌==◌, Bool, true, false, List, [], ◌∷◌, ◌++◌, length, map, take, drop, get_or, Result, Option, Some, None, Ok, Err, IfOk, inl, inr, codes, refl, sym, ap, ◌∙◌, subst, append_assoc}
+use Rattle.std.proofs.lemmas.Bool.{and_parts, eqb-true}
 use Rattle.std.proofs.lemmas.List.{append-nil, drop_more, map-append, map_more, take-append-drop}
+use Rattle.std.specs.Str.{bytes_eq}
 use Rattle.call_inputs.specs.Programs.{IsShownFault, SpellsProgram}
 use Rattle.call_inputs.specs.Readings.{End, FollowsBytes, FollowsCall, HasRead, Reads, gives, lacks, stops, took, tries}
 use Rattle.call_inputs.specs.Rejections.{Rejection, UnlessRejected}
@@ -24,9 +26,9 @@ use Rattle.cov_io.specs.declared.shelf.ShelfFault.{ShelfFault}
 use Rattle.cov_io.specs.declared.shelf.ShelfFault.TheVariants as fails
 use Rattle.cov_io.proofs.ShelfLaws.{passes_none}
 use Rattle.explain.specs.Explanations.{explanation_at, where_is, sentence_of, place_of}
-use Rattle.explain.specs.FileCalls.{Answers, EndsAt, Explains, FollowsFile, IsChecked, Outcome, Tells, TellsAll, first_status, out_of_memory, told, usage_line}
+use Rattle.explain.specs.FileCalls.{Answers, AnswersTo, EndsAt, Explains, FollowsFile, FollowsOver, FollowsProgram, IsChecked, Outcome, Tells, TellsAll, TellsLevels, asks_for_levels, first_status, out_of_memory, told, usage_line}
 use Rattle.explain.specs.Inside.Told.{AddsTold, IsLeft}
-use Rattle.explain.specs.Tellings.{IsTold}
+use Rattle.explain.specs.LevelTellings.{malformed_lines}
 use Rattle.text_parts.specs.Excerpts.{excerpt}
 
 -- One file -----------------------------------------------------------------------------------------------------
@@ -141,25 +143,81 @@ module _ {A : Type 0} (seen : A → List ℕ) (names : List A) (i : ℕ) (a b c 
 
 -- How a call ends ----------------------------------------------------------------------------------------------
 
+-- what is said of the end is said of each that is it
+left_so : (last : Shelved) (outcome : Outcome) (left : Shelved → Outcome → Type 0) → left last outcome → (shelf : Shelved) (other : Outcome)
+    → IsLeft last outcome shelf other → left shelf other
+left_so last outcome left h shelf other e = subst (λ x. left x other) (sym e.0) (subst (left last) (sym e.1) h)
+
 module _ (left : Shelved → Outcome → Type 0) (last : Shelved) where
   nothing_next : (outcome : Outcome) → left last outcome → Onward left [] last outcome
   nothing_next (told text status) h = h
   nothing_next out_of_memory h = h
+
+  module _ (outcome : Outcome) (is_left : left last outcome) where
+    over_so : (name these : List ℕ) (p : Parsed) (over text : List ℕ) (shelf : Shelved) (end : End (List ℕ))
+        → FollowsOver (IsLeft last outcome) name these p over text shelf end → FollowsOver left name these p over text shelf end
+    over_so name these p over text shelf end (inl (reply, here, tells, e)) =
+        inl (reply, here, tells, left_so last outcome left is_left shelf (told (text ++ here) (status_of reply)) e)
+    over_so name these p over text shelf end (inr e) = inr (left_so last outcome left is_left shelf out_of_memory e)
+
+    program_so : (name over text : List ℕ) (shelf : Shelved) (end : End (List ℕ)) → FollowsProgram (IsLeft last outcome) name over text shelf end
+        → FollowsProgram left name over text shelf end
+    program_so name over text shelf (took these) (inl (p, spells, h)) =
+        inl (
+          p,
+          spells,
+          reads_onward (λ after end. FollowsOver (IsLeft last outcome) name these p over text after end)
+              (λ after end. FollowsOver left name these p over text after end) (over_so name these p over text) shelf (bytes over MOST_BYTES) h,
+        )
+    program_so name over text shelf (took these) (inr (inl (fault, is, e))) =
+        inr (inl (fault, is, left_so last outcome left is_left shelf (told (text ++ malformed_lines name these fault) s.Malformed) e))
+    program_so name over text shelf (took these) (inr (inr e)) = inr (inr (left_so last outcome left is_left shelf out_of_memory e))
+    program_so name over text shelf (stops reply) (inl e) = inl (left_so last outcome left is_left shelf (told (text ++ report_of reply) (status_of reply)) e)
+    program_so name over text shelf (stops reply) (inr e) = inr (left_so last outcome left is_left shelf out_of_memory e)
+    program_so name over text shelf lacks e = left_so last outcome left is_left shelf out_of_memory e
+
+    levels_so : (name over text : List ℕ) (shelf : Shelved) → TellsLevels (IsLeft last outcome) name over text shelf → TellsLevels left name over text shelf
+    levels_so name over text shelf h =
+        reads_onward (λ after end. FollowsProgram (IsLeft last outcome) name over text after end) (λ after end. FollowsProgram left name over text after end)
+        (program_so name over text) shelf (bytes name MOST_BYTES) h
+
+    files_so : (names : List (List ℕ)) (shelf : Shelved) → TellsAll (IsLeft last outcome) shelf names [] s.Done → TellsAll left shelf names [] s.Done
+    files_so names shelf all =
+        subst (λ ns. TellsAll left shelf ns [] s.Done) (append-nil names)
+        (tells_then left [] last outcome (nothing_next outcome is_left) names shelf [] s.Done all)
+
+    answers_to_so : (words : List (List ℕ)) (shelf : Shelved) (b : Bool) → AnswersTo (IsLeft last outcome) shelf words b → AnswersTo left shelf words b
+    answers_to_so words shelf true h = levels_so (get_or words 1 []) (get_or words 2 []) [] shelf h
+    answers_to_so words shelf false h = files_so words shelf h
 
   -- what is said of the end is said of it all
   pub answers_so : (names : List (List ℕ)) (shelf : Shelved) (outcome : Outcome) → left last outcome → Answers (IsLeft last outcome) shelf names
       → Answers left shelf names
   answers_so [] shelf outcome h (inl e) = inl (left_at left [] last outcome (nothing_next outcome h) shelf (told usage_line s.Usage) e)
   answers_so [] shelf outcome h (inr e) = inr (left_at left [] last outcome (nothing_next outcome h) shelf out_of_memory e)
-  answers_so (name ∷ names) shelf outcome h all =
-      subst (λ ns. TellsAll left shelf ns [] s.Done) (append-nil (name ∷ names))
-      (tells_then left [] last outcome (nothing_next outcome h) (name ∷ names) shelf [] s.Done all)
+  answers_so (name ∷ names) shelf outcome h all = answers_to_so outcome h (name ∷ names) shelf (asks_for_levels (name ∷ names)) all
 
 -- files of which one at least is named, and a text that is empty before
 pub answers_all : {A : Type 0} (seen : A → List ℕ) (left : Shelved → Outcome → Type 0) (names : List A) (shelf : Shelved) (text : List ℕ) (none : Bool)
-    → none ≡ (length names == 0) → none ≡ false → text ≡ [] → TellsAll left shelf (map seen names) text s.Done → Answers left shelf (map seen names)
-answers_all seen left [] shelf text none is some e h = let wrong : true ≡ false = sym is ∙ some in cc
-answers_all seen left (name ∷ names) shelf text none is some e h = subst (λ t. TellsAll left shelf (map seen (name ∷ names)) t s.Done) e h
+    → none ≡ (length names == 0) → none ≡ false → asks_for_levels (map seen names) ≡ false → text ≡ [] → TellsAll left shelf (map seen names) text s.Done
+    → Answers left shelf (map seen names)
+answers_all seen left [] shelf text none is some others e h = let wrong : true ≡ false = sym is ∙ some in cc
+answers_all seen left (name ∷ names) shelf text none is some others e h =
+    subst (AnswersTo left shelf (map seen (name ∷ names))) (sym others) (subst (λ t. TellsAll left shelf (map seen (name ∷ names)) t s.Done) e h)
+
+-- a program and levels
+pub answers_levels : {A : Type 0} (seen : A → List ℕ) (left : Shelved → Outcome → Type 0) (names : List A) (shelf : Shelved) (text name over : List ℕ) (none : Bool)
+    → none ≡ (length names == 0) → none ≡ false → asks_for_levels (map seen names) ≡ true → get_or (map seen names) 1 [] ≡ name
+    → get_or (map seen names) 2 [] ≡ over → text ≡ [] → TellsLevels left name over text shelf → Answers left shelf (map seen names)
+answers_levels seen left [] shelf text name over none is some asks first second e h = let wrong : true ≡ false = sym is ∙ some in cc
+answers_levels seen left (word ∷ words) shelf text name over none is some asks first second e h =
+    subst (AnswersTo left shelf (map seen (word ∷ words))) (sym asks)
+    (subst (λ n. TellsLevels left n (get_or (map seen (word ∷ words)) 2 []) [] shelf) (sym first)
+    (subst (λ o. TellsLevels left name o [] shelf) (sym second) (subst (λ t. TellsLevels left name over t shelf) e h)))
+
+-- how many words there are
+pub three_words : (words : List (List ℕ)) → asks_for_levels words ≡ true → length words ≡ 3
+three_words words h = eqb-true (length words) 3 (and_parts (length words == 3) (bytes_eq (get_or words 0 []) (codes "--levels")) h).0
 
 -- a call that ends so behind what its calls come to
 pub explained : (before after : Shelved) (old new : Sunk) (names : List (List ℕ)) (result : Status) (outcome : Outcome) → Answers (IsLeft after outcome) before names
@@ -189,10 +247,32 @@ module _ (last : Shelved) (outcome : Outcome) where
       (IsLeft last outcome after out_of_memory) end) last
       (turn_passes name names text status (λ after t st. tells_pass names after t st)) shelf (bytes name MOST_BYTES) h
 
+  over_pass : (name these : List ℕ) (p : Parsed) (over text : List ℕ) (shelf : Shelved) (end : End (List ℕ))
+      → FollowsOver (IsLeft last outcome) name these p over text shelf end → Passes shelf last
+  over_pass name these p over text shelf end (inl (reply, here, tells, e)) = left_passes shelf (told (text ++ here) (status_of reply)) e
+  over_pass name these p over text shelf end (inr e) = left_passes shelf out_of_memory e
+
+  program_passes : (name over text : List ℕ) (shelf : Shelved) (end : End (List ℕ)) → FollowsProgram (IsLeft last outcome) name over text shelf end
+      → Passes shelf last
+  program_passes name over text shelf (took these) (inl (p, spells, h)) =
+      reads_pass (λ after end. FollowsOver (IsLeft last outcome) name these p over text after end) last (over_pass name these p over text) shelf
+      (bytes over MOST_BYTES) h
+  program_passes name over text shelf (took these) (inr (inl (fault, is, e))) = left_passes shelf (told (text ++ malformed_lines name these fault) s.Malformed) e
+  program_passes name over text shelf (took these) (inr (inr e)) = left_passes shelf out_of_memory e
+  program_passes name over text shelf (stops reply) (inl e) = left_passes shelf (told (text ++ report_of reply) (status_of reply)) e
+  program_passes name over text shelf (stops reply) (inr e) = left_passes shelf out_of_memory e
+  program_passes name over text shelf lacks e = left_passes shelf out_of_memory e
+
+  answers_to_pass : (words : List (List ℕ)) (shelf : Shelved) (b : Bool) → AnswersTo (IsLeft last outcome) shelf words b → Passes shelf last
+  answers_to_pass words shelf true h =
+      reads_pass (λ after end. FollowsProgram (IsLeft last outcome) (get_or words 1 []) (get_or words 2 []) [] after end) last
+      (program_passes (get_or words 1 []) (get_or words 2 []) []) shelf (bytes (get_or words 1 []) MOST_BYTES) h
+  answers_to_pass words shelf false h = tells_pass words shelf [] s.Done h
+
   pub answers_pass : (names : List (List ℕ)) (shelf : Shelved) → Answers (IsLeft last outcome) shelf names → Passes shelf last
   answers_pass [] shelf (inl e) = left_passes shelf (told usage_line s.Usage) e
   answers_pass [] shelf (inr e) = left_passes shelf out_of_memory e
-  answers_pass (name ∷ names) shelf h = tells_pass (name ∷ names) shelf [] s.Done h
+  answers_pass (name ∷ names) shelf h = answers_to_pass (name ∷ names) shelf (asks_for_levels (name ∷ names)) h
 
 -- The report of `check` -----------------------------------------------------------------------------------------
 

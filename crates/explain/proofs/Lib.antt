@@ -1,4 +1,6 @@
 pub mod CallLaws
+pub mod LevelLaws
+pub mod LevelReplies
 pub mod TellingLaws
 pub mod UseLaws
 pub mod Marking

@@ -1,5 +1,5 @@
 -- Laws of what is told of bytes beside their explanation.
-use Rattle.std.proofs.Common.{◌≡◌, ℕ, List, [], ◌++◌, false, Some, None, inl, inr, refl, sym, ap, subst, ◌∙◌}
+use Rattle.std.proofs.Common.{◌≡◌, ℕ, List, [], ◌++◌, false, Some, None, inl, inr, sym, ap, subst, ◌∙◌}
 use Rattle.std.proofs.lemmas.Bool.{cases_Bool, cond-true, cond-false}
 use Rattle.call_judge.specs.Findings.{Finds, reply_to}
 use Rattle.call_judge.specs.declared.judge.Judged.{Judged}

@@ -1,18 +1,24 @@
 -- What a call tells of its files, and how it ends.
-use Rattle.std.specs.Prelude.{◌≡◌, ◌⊎◌, ℕ, List, [], ◌∷◌, ◌++◌, codes, Ok, Err}
+use Rattle.std.specs.Prelude.{◌≡◌, ◌⊎◌, ℕ, ◌==◌, List, [], ◌∷◌, ◌++◌, length, get_or, Bool, true, false, ◌&&◌, codes, Ok, Err}
+use Rattle.std.specs.Str.{bytes_eq}
 use Rattle.call_inputs.specs.Plans.{RepliesAt}
+use Rattle.call_inputs.specs.Programs.{IsShownFault, SpellsProgram}
 use Rattle.call_inputs.specs.Readings.{End, Reads, lacks, stops, took}
 use Rattle.call_inputs.specs.Steps.{bytes}
 use Rattle.call_judge.specs.Check.{accepted_program, verdict}
 use Rattle.call_judge.specs.Texts.{ChecksBytes}
 use Rattle.call_reports.specs.Replies.{Reply, status_of}
 use Rattle.call_reports.specs.Reports.{report_of}
+use Rattle.call_reports.specs.declared.answers.Fault.{Fault}
 use Rattle.call_reports.specs.declared.answers.Status.{Status}
 use Rattle.call_reports.specs.declared.answers.Status.TheVariants as s
+use Rattle.call_verdicts.specs.Levels.{AcceptsForAll, levels_reading}
+use Rattle.cov_ast.specs.Syntax.{Parsed}
 use Rattle.cov_expr.specs.declared.limits.TheConstants.{MOST_BYTES}
 use Rattle.cov_io.specs.Shelves.{Shelved}
 use Rattle.cov_io.specs.Sinks.{Sunk, Writes}
 use Rattle.cov_io.specs.declared.sink.Failed as sink
+use Rattle.explain.specs.LevelTellings.{TellsOver, malformed_lines}
 use Rattle.explain.specs.Tellings.{IsTold}
 
 -- What is told of a file to which `check` replies so, by how it was read: its bytes were fetched, and the reply to them is explained, with
@@ -26,6 +32,10 @@ Tells name lacks reply text = ⊥
 abbrev pub IsChecked : (before after : Shelved) (name : List ℕ) → Reply → Type 0
 IsChecked before after name reply =
     Reads (λ shelf end. (shelf ≡ after) × RepliesAt (λ p other. other ≡ verdict p) end reply) before (accepted_program name)
+
+-- `levels` of a program and levels replies so, by these calls of a shelf.
+abbrev pub IsLevelled : (before after : Shelved) (name over : List ℕ) → Reply → Type 0
+IsLevelled before after name over reply = Reads (λ shelf end. (shelf ≡ after) × RepliesAt AcceptsForAll end reply) before (levels_reading name over)
 
 -- a status, or where it says that all is done, the one that comes after it
 abbrev pub first_status : Status → Status → Status
@@ -45,6 +55,10 @@ usage_line = codes "usage: covern explain FILE..\n"
 abbrev pub FollowsFile : (name : List ℕ) (goes_on : Reply → List ℕ → Type 0) (Lacks : Type 0) → End (List ℕ) → Type 0
 FollowsFile name goes_on Lacks end = ((reply : Reply) × (here : List ℕ) × Tells name end reply here × goes_on reply here) ⊎ Lacks
 
+-- whether the words ask for levels: a first word, and then a program and levels for it; three files can't be named by such words
+abbrev pub asks_for_levels : List (List ℕ) → Bool
+asks_for_levels words = length words == 3 && bytes_eq (get_or words 0 []) (codes "--levels")
+
 -- What is said of the shelf as it is left, and of what the calls come to, holds.
 module _ (left : Shelved → Outcome → Type 0) where
   -- The shelf is called once for each of these files, in order, and not otherwise, and what is told of a file is added to a text that was
@@ -55,10 +69,36 @@ module _ (left : Shelved → Outcome → Type 0) where
       Reads (λ after end. FollowsFile name (λ reply here. TellsAll after names (text ++ here) (first_status status (status_of reply)))
       (left after out_of_memory) end) shelf (bytes name MOST_BYTES)
 
-  -- The words of a command line are the names of files.
+  -- What follows the file of levels for bytes that spell a text: what is told of them is added to a text that was told before, and the
+  -- status is that of `levels`; or memory ran out.
+  abbrev pub FollowsOver : (name these : List ℕ) → Parsed → (over text : List ℕ) → Shelved → End (List ℕ) → Type 0
+  FollowsOver name these p over text shelf end =
+      ((reply : Reply) × (here : List ℕ) × TellsOver name these p over end reply here × left shelf (told (text ++ here) (status_of reply)))
+      ⊎ left shelf out_of_memory
+
+  -- What follows the file of a program: its bytes were fetched and spell a text, and the shelf is called for the levels, and not otherwise; or they are
+  -- malformed, and that is told as without levels; or they weren't fetched, and the report of `levels` is all; or memory ran out.
+  abbrev pub FollowsProgram : (name over text : List ℕ) → Shelved → End (List ℕ) → Type 0
+  FollowsProgram name over text shelf (took these) =
+      ((p : Parsed) × SpellsProgram these p × Reads (λ after end. FollowsOver name these p over text after end) shelf (bytes over MOST_BYTES))
+      ⊎ ((fault : Fault) × IsShownFault these fault × left shelf (told (text ++ malformed_lines name these fault) s.Malformed))
+      ⊎ left shelf out_of_memory
+  FollowsProgram name over text shelf (stops reply) = left shelf (told (text ++ report_of reply) (status_of reply)) ⊎ left shelf out_of_memory
+  FollowsProgram name over text shelf lacks = left shelf out_of_memory
+
+  -- The shelf is called for a program and then for levels, as `levels` calls it, and what is told of them is added to a text.
+  abbrev pub TellsLevels : (name over text : List ℕ) → Shelved → Type 0
+  TellsLevels name over text shelf = Reads (λ after end. FollowsProgram name over text after end) shelf (bytes name MOST_BYTES)
+
+  -- what is told for words of which one at least is there, by whether they ask for levels
+  abbrev pub AnswersTo : Shelved → List (List ℕ) → (levels : Bool) → Type 0
+  AnswersTo shelf words true = TellsLevels (get_or words 1 []) (get_or words 2 []) [] shelf
+  AnswersTo shelf words false = TellsAll shelf words [] s.Done
+
+  -- The words of a command line ask for levels, or else they are the names of files.
   abbrev pub Answers : Shelved → List (List ℕ) → Type 0
   Answers shelf [] = left shelf (told usage_line s.Usage) ⊎ left shelf out_of_memory
-  Answers shelf (name ∷ names) = TellsAll shelf (name ∷ names) [] s.Done
+  Answers shelf (word ∷ words) = AnswersTo shelf (word ∷ words) (asks_for_levels (word ∷ words))
 
 -- How a call ends that tells so: the whole text is put; or the write failed, and a proper prefix of the text is put; or memory ran
 -- out before anything was put.
@@ -67,6 +107,6 @@ EndsAt old new result (told text status) =
     ((result ≡ status) × Writes old new text (Ok tt)) ⊎ ((result ≡ s.WriteFault) × (e : sink.Failed) × Writes old new text (Err e))
 EndsAt old new result out_of_memory = (result ≡ s.NoMemory) × (new ≡ old)
 
--- A call explains files: it calls the shelf for them, and ends with what is told of them.
+-- A call explains files, or levels: it calls the shelf for them, and ends with what is told of them.
 abbrev pub Explains : (before after : Shelved) (old new : Sunk) → List (List ℕ) → (result : Status) → Type 0
 Explains before after old new names result = Answers (λ shelf outcome. (shelf ≡ after) × EndsAt old new result outcome) before names

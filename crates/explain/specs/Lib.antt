@@ -4,6 +4,7 @@ pub mod FaultSentences
 pub mod Explanations
 pub mod WarningSentences
 pub mod Tellings
+pub mod LevelTellings
 pub mod FileCalls
 pub mod Inside
 pub mod StatementUses

@@ -2,17 +2,19 @@
 
 ghost use Rattle.std.specs.Prelude.{◌≡◌, ◌≤◌, [], map, string_bytes};
 ghost use Rattle.cov_io.specs.Shelves.{Passes};
+ghost use Rattle.explain.specs.FileCalls as spec;
 ghost use Rattle.explain.specs.FileCalls.{Answers, Explains};
 ghost use Rattle.explain.specs.Inside.Told.{IsLeft, outcome_of};
 
 use crate::files::tell_all;
+use crate::level_files::tell_levels;
 use call_reports::Status;
 use cov_expr::{Blob, List, NoMemory};
 use cov_io::{Shelf, Sink, write_whole};
 use std::alloc::Global;
 
-/// Explains what `check` says of files, and writes that. `names` are the words of the command line without the program's name;
-/// files are read from `shelf` by name, and the text goes to `sink`.
+/// Explains what `check` says of files, or what `levels` says of a program and levels, and writes that. `names` are the words of the command line without
+/// the program's name; files are read from `shelf` by name, and the text goes to `sink`.
 pub fn explain<S: Shelf, K: Sink>(
     alloc: Global,
     names: &[String],
@@ -20,7 +22,8 @@ pub fn explain<S: Shelf, K: Sink>(
     sink: &mut K,
 ) -> Status
     // The shelf is called once for each file, in order, and for fewer only where memory ran out. What is put is told of the files, in order;
-    // the status is the first of theirs that isn't Done.
+    // the status is the first of theirs that isn't Done. For `--levels`, a program and levels the shelf is called as by `levels`, what is put is
+    // told of what `levels` finds, and the status is that of `levels`.
     ensures does { Explains (S.shelved shelf.old) (S.shelved shelf.new) (K.sunk sink.old) (K.sunk sink.new) (map string_bytes names.now) result }
     // What a shelf tells stays, and no count falls.
     ensures passes { Passes (S.shelved shelf.old) (S.shelved shelf.new) }
@@ -50,5 +53,16 @@ fn answer<S: Shelf>(
         text.extend_from_slice(b"usage: covern explain FILE..\n")?;
         return Ok(Status::Usage);
     }
-    tell_all(alloc, names, shelf, text)
+    if asks_for_levels(names) {
+        tell_levels(alloc, names[1].as_str(), names[2].as_str(), shelf, text)
+    } else {
+        tell_all(alloc, names, shelf, text)
+    }
+}
+
+/// Whether words are `--levels`, a program and levels for it.
+fn asks_for_levels(names: &[String]) -> bool
+    ensures { result ≡ spec.asks_for_levels (map string_bytes names.now) }
+{
+    names.len() == 3 && names[0].as_str() == "--levels"
 }

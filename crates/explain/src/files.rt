@@ -66,7 +66,7 @@ fn tell<S: Shelf>(
 }
 
 /// Adds what is told of a file that isn't read, and gives the status of that.
-fn tell_unread(alloc: Global, answer: Answer<'_>, text: &mut Blob) -> Result<Status, NoMemory>
+pub fn tell_unread(alloc: Global, answer: Answer<'_>, text: &mut Blob) -> Result<Status, NoMemory>
     ensures { IfOk result (λ status. (status ≡ status_of (seen answer.entry)) × (text.new ≡ text.old ++ report_of (seen answer.entry))) }
 {
     let status = status_for(&answer);

@@ -6,7 +6,12 @@
 //! where a file is refused, what that is about (`refusal_names`, `entail_refused`) and what is warned of in its text, and
 //! where it is accepted, what is warned of in it, a line each.
 //!
-//! Laws have no body: [`told_as_checked`], what is told of a file has the report that `check` gives of it; [`answers_are_of_the_language`],
+//! The words `--levels P L` ask for what `levels` says of the program P and the levels L. Of the first observer for whom the program is refused it
+//! tells what stands for markers, and all that is told of a refusal, of the program as that observer is shown it. Three files can't be
+//! named by words of this form.
+//!
+//! Laws have no body: [`told_as_checked`], what is told of a file has the report that `check` gives of it; [`told_as_levelled`], what is told of a
+//! program and levels has the status that `levels` has for them; [`answers_are_of_the_language`],
 //! what is looked at for what could stand at a place is what the grammar says, whatever reads by it; [`no_start_meets`], where the invariant of
 //! a lock is warned of, no two memories are fit to start from; [`no_run_comes_to`], where a statement is warned of as never
 //! reached, its thread comes to it in no run; [`few_are_shown`], how many warnings of a text alone are shown.
@@ -16,6 +21,7 @@
 //! | `call`, `files` | `FileCalls` | the words of a command line; what is told of each file, and the status |
 //! | `explanation` | `Explanations` | what is told of the bytes of a file |
 //! | `more` | `Tellings` | what is told beside it: what could stand at the place of a token, and what a refusal is about |
+//! | `level_files`, `observers` | `FileCalls`, `LevelTellings` | how a program and levels are read, and what is told of them |
 //! | `next`, `fronts`, `places`, `line` | `ExpectedTokens`, `ExpectedLines` | what could stand at a place, in the order of the table of spellings, and the line that says so |
 //! | `warnings`, `sentences` | `WarningSentences` | what is warned of in a file, as text |
 //! | `warning`, `merged`, `uses`, `unused`, `unreached`, `hidden` | `Warnings`, `StatementUses`, `Unused`, `NeverReached`, `HiddenText` | what is warned of, each at its place: in declarations, statements and bytes |
@@ -34,10 +40,12 @@ mod files;
 mod fronts;
 mod hidden;
 mod laws;
+mod level_files;
 mod line;
 mod merged;
 mod more;
 mod next;
+mod observers;
 mod places;
 mod rules;
 mod sentences;
@@ -51,5 +59,5 @@ mod words;
 
 pub use call::explain;
 pub use expected_laws::answers_are_of_the_language;
-pub use laws::told_as_checked;
+pub use laws::{told_as_checked, told_as_levelled};
 pub use warning_laws::{few_are_shown, no_run_comes_to, no_start_meets};

@@ -43,7 +43,7 @@ pub fn add_more(
 }
 
 /// Adds what a refusal of a program is about, and what is warned of in the bytes of its text.
-fn add_refused(
+pub fn add_refused(
     alloc: Global,
     name: &str,
     bytes: &[u8],
@@ -76,7 +76,7 @@ fn add_refusal_lines(
 }
 
 /// Adds what could stand at the place of a fault, if that is a token with which no program goes on.
-fn add_stand_lines(
+pub fn add_stand_lines(
     alloc: Global,
     bytes: &[u8],
     fault: &Fault,

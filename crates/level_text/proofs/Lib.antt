@@ -1,12 +1,12 @@
 mod FindLaws
 mod TextItems
-mod TextSummaries
+pub mod TextSummaries
 mod TextAnswers
 mod PlaceLaws
 mod GivenLaws
 mod ReadLaws
 mod CalmLaws
 mod ScanLaws
-mod ReadyLaws
-mod OneReading
+pub mod ReadyLaws
+pub mod OneReading
 mod Examples

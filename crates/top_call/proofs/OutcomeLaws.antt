@@ -1,5 +1,5 @@
 -- What a call promises, for every command.
-use Rattle.std.proofs.Common.{◌≡◌, ◌⊎◌, ℕ, List, [], ◌∷◌, Bool, true, false, Option, Some, None, Result, Ok, Err, IfSome, ◌≤◌, length, map, refl, sym, ap, ◌∙◌, subst, inl, inr}
+use Rattle.std.proofs.Common.{◌≡◌, ◌⊎◌, ℕ, List, [], ◌∷◌, Bool, true, false, Option, Some, None, Result, Ok, Err, IfSome, ◌≤◌, length, map, refl, sym, ◌∙◌, subst, inl, inr}
 use Rattle.std.specs.Prelude.{codes}
 use Rattle.std.proofs.lemmas.List.{length-map}
 use Rattle.cov_expr.specs.Words.{IsMemory, IsSchedule}
@@ -24,12 +24,12 @@ use Rattle.call_code.specs.Objects.{RepliesObject}
 use Rattle.call_inputs.specs.Plans.{CarriesOutAsking, CountsAt, EndsAt, GetsAt, IsMet, LacksMemory, Performs, PerformsAsking, Plan, asks, does}
 use Rattle.call_inputs.specs.Programs.{SpellsProgram, SpellsTree}
 use Rattle.cov_grammar.specs.PlacedTrees as trees
-use Rattle.call_inputs.specs.Readings.{End, Reading, Reads, Takes, lacks, stops, took}
+use Rattle.call_inputs.specs.Readings.{End, Takes, lacks, stops, took}
 use Rattle.call_judge.specs.Check.{IsAcceptedText, accepted_program, verdict}
 use Rattle.call_judge.specs.Meaning.{AreNamesInOrder, meaning}
-use Rattle.call_reports.specs.AnswerViews.{Gets, seen}
+use Rattle.call_reports.specs.AnswerViews.{Gets}
 use Rattle.call_reports.specs.Ends.{Ends}
-use Rattle.call_reports.specs.Replies.{Reply, spelled, status_of}
+use Rattle.call_reports.specs.Replies.{Reply, spelled}
 use Rattle.call_reports.specs.Reports.{report_of}
 use Rattle.call_reports.specs.declared.answers.Answer.{Answer}
 use Rattle.call_reports.specs.declared.answers.Status.{Status}
@@ -42,9 +42,13 @@ use Rattle.top_call.specs.AcceptedRuns.{HoldsAccepted, RunsAccepted}
 use Rattle.top_call.specs.Commands.{command_of, of_trials, plan_of}
 use Rattle.thread_swap.specs.Judges.{Judging}
 use Rattle.thread_swap.specs.SwapLines.{AreSecureIfAccepted, swapped_programs}
+use Rattle.level_text.specs.LevelReads.{GivesLevels}
+use Rattle.levels.specs.Accepted.{IsSecureForAll}
+use Rattle.call_verdicts.specs.Levels.{AcceptsForAll, LevelsInput, level_rejection, levels_reading}
 use Rattle.call_verdicts.specs.Swap.{SwapInput, Swaps, due_by, lines_by, misfit_rejection, replacements, swap_reading}
 use Rattle.call_verdicts.proofs.SwapLaws.{names_ordered}
 use Rattle.top_call.specs.Headline.{HoldsSecure, PutsCode, PutsGoodCode, PutsObject}
+use Rattle.top_call.specs.LevelledPrograms.{HoldsLevels, HoldsSecureForAll}
 use Rattle.top_call.specs.SwappedPrograms.{HoldsSwapped, HoldsText}
 use Rattle.top_call.specs.Laws.{IsOneReply}
 use Rattle.top_call.specs.Outcome.{IsSuccess, Outcome, plan_for}
@@ -224,6 +228,30 @@ module _ (j : Judging) (before after : Shelved) (words : List (List ℕ)) (old n
       holds files told name replacing is =
           swapped name replacing files (performs_took before after old new status files (swap_reading name replacing) (Swaps j) (due_by j) told
           (subst IsResult (sym done) tt) (call_by (codes "swap" ∷ name ∷ replacing ∷ []) is))
+
+  -- what is accepted for every level
+  pub call_levels : ((bytes these : List ℕ) (i : LevelsInput) → length bytes ≤ MOST_BYTES → length these ≤ MOST_BYTES → SpellsProgram bytes i.program
+      → GivesLevels these i.program i.levels → AreNamesInOrder i.program → level_rejection i ≡ None → IsSecureForAll i.levels (resolved i.program))
+      → status ≡ s.Done → IfSome before.told (λ files. HoldsSecureForAll files words)
+  call_levels are_secure done = if_told before.told (λ files. HoldsSecureForAll files words) holds
+    where
+      secure : (name over : List ℕ) (files : List File) → Takes files (λ i. Puts (AcceptsForAll i) old new status) (levels_reading name over)
+          → (i : LevelsInput) × HoldsText files name i.program × HoldsLevels files over i × AreNamesInOrder i.program
+          × IsSecureForAll i.levels (resolved i.program)
+      secure name over files (bytes, at, fits, (p, spells, (these, there, brief, (l, given, (named, (none, puts)))))) =
+          let i : LevelsInput = record { program = p; levels = l } in
+          let ordered = names_ordered p named in (
+            i,
+            record { bytes = bytes; at = at; spelled = spells },
+            record { bytes = these; at = there; given = given },
+            ordered,
+            are_secure bytes these i fits brief spells given ordered none,
+          )
+
+      holds : (files : List File) → before.told ≡ Some files → HoldsSecureForAll files words
+      holds files told name over is =
+          secure name over files (performs_took before after old new status files (levels_reading name over) AcceptsForAll (λ i. 0) told
+          (subst IsResult (sym done) tt) (call_by (codes "levels" ∷ name ∷ over ∷ []) is))
 
   -- a reply that two runs differ is one of `pair` or of `refute`
   differs : (files : List File) → before.told ≡ Some files → status ≡ s.Differ → may_differ (command_of words) ≡ true

@@ -3,4 +3,5 @@ pub mod Outcome
 pub mod Headline
 pub mod AcceptedRuns
 pub mod SwappedPrograms
+pub mod LevelledPrograms
 pub mod Laws

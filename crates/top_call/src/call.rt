@@ -9,6 +9,7 @@ ghost use Rattle.thread_swap.specs.Judges as judges;
 ghost use Rattle.thread_swap.specs.RulesSay.{by_rules};
 ghost use Rattle.top_call.specs.AcceptedRuns.{RunsAccepted};
 ghost use Rattle.top_call.specs.Headline.{HoldsSecure, PutsCode, PutsObject};
+ghost use Rattle.top_call.specs.LevelledPrograms.{HoldsSecureForAll};
 ghost use Rattle.top_call.specs.Outcome.{IsSuccess, Outcome, plan_for};
 ghost use Rattle.top_call.specs.SwappedPrograms.{HoldsSwapped};
 
@@ -16,7 +17,7 @@ use crate::commands::answer;
 use call_code::accepted_programs_have_good_code;
 use call_judge::accepted_programs_are_secure;
 use call_reports::{Status, Stop, end};
-use call_verdicts::swapped_programs_are_secure;
+use call_verdicts::{shown_programs_are_secure, swapped_programs_are_secure};
 use cov_io::{Shelf, Sink};
 use std::alloc::Global;
 use thread_swap::{Judge, Rules};
@@ -48,6 +49,8 @@ pub fn covern<S: Shelf, K: Sink>(
         PutsObject files (map string_bytes words.now) (K.sunk sink.old) (K.sunk sink.new)) }
     // A program on which a line of `swap` accepts is secure.
     ensures swapped { result ≡ Status.Done → IfSome (S.shelved shelf.old).told (λ files. HoldsSwapped (by_rules 0) files (map string_bytes words.now)) }
+    // A program that `levels` accepts is secure as the observer at each level is shown it.
+    ensures levels { result ≡ Status.Done → IfSome (S.shelved shelf.old).told (λ files. HoldsSecureForAll files (map string_bytes words.now)) }
     // Two runs of a program that is accepted never differ, be they asked for or tried, nor do those of code, and no other command answers so.
     ensures agree { IfSome (S.shelved shelf.old).told (λ files. RunsAccepted files (map string_bytes words.now) → result ≢ Status.Differ) }
     // Where the shelf tells, no call of it and no put failed, and all that the words ask holds, all is done, or memory ran out.
@@ -94,6 +97,8 @@ pub fn covern_with<S: Shelf, K: Sink, J: Judge>(
     // A program on which a line of `swap` accepts, by an exact judge, is secure.
     ensures swapped { result ≡ Status.Done → IsTrue (J.judging judge.old).exact → IfSome (S.shelved shelf.old).told (λ files.
         HoldsSwapped (J.judging judge.old) files (map string_bytes words.now)) }
+    // A program that `levels` accepts is secure as the observer at each level is shown it.
+    ensures levels { result ≡ Status.Done → IfSome (S.shelved shelf.old).told (λ files. HoldsSecureForAll files (map string_bytes words.now)) }
     // Two runs of a program that is accepted never differ, be they asked for or tried, nor do those of code, and no other command answers so.
     ensures agree { IfSome (S.shelved shelf.old).told (λ files. RunsAccepted files (map string_bytes words.now) → result ≢ Status.Differ) }
     // Where the shelf tells, no call of it and no put failed, and all that the words ask holds, all is done, or memory ran out.
@@ -111,6 +116,7 @@ pub fn covern_with<S: Shelf, K: Sink, J: Judge>(
     accepted_programs_are_secure();
     accepted_programs_have_good_code();
     swapped_programs_are_secure();
+    shown_programs_are_secure();
     let answer = match answer(alloc, words, shelf, judge) {
         Ok(answer) | Err(Stop::Answer(answer)) => answer,
         Err(Stop::NoMemory) => return Status::NoMemory,

@@ -22,6 +22,7 @@ use call_run::run_until::run_until;
 use call_run::trials::refute;
 use call_text::fmt::format;
 use call_text::migrate::migrate;
+use call_verdicts::levels::levels;
 use call_verdicts::swap::swap;
 use cov_expr::{MOST_EXPRESSION_BYTES, MOST_ROUNDS, MOST_TRIALS};
 use cov_io::Shelf;
@@ -118,7 +119,7 @@ fn of_one<'w, S: Shelf>(
     }
 }
 
-/// The commands of a number and a file.
+/// The commands of two files, or of a number and a file.
 fn of_two<'w, S: Shelf>(
     alloc: Global,
     command: &str,
@@ -138,6 +139,8 @@ fn of_two<'w, S: Shelf>(
             Some(trials) => refute(alloc, first, trials, shelf),
             None => Ok(Answer::Usage),
         }
+    } else if command == "levels" {
+        levels(alloc, first, second, shelf)
     } else {
         Ok(Answer::Usage)
     }

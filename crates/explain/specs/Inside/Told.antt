@@ -1,11 +1,17 @@
 -- Words of private contracts: what steps add to a text. To believe what `explain` promises, nothing here need be read.
-use Rattle.std.specs.Prelude.{◌≡◌, ℕ, List, ◌++◌, Result, Ok, Err}
+use Rattle.std.specs.Prelude.{◌≡◌, ℕ, List, ◌++◌, Option, Some, None, Result, Ok, Err}
 use Rattle.call_inputs.specs.Readings.{End}
 use Rattle.call_reports.specs.Replies.{Reply, status_of}
 use Rattle.call_reports.specs.declared.answers.Status.{Status}
+use Rattle.call_reports.specs.declared.answers.Status.TheVariants as s
+use Rattle.call_verdicts.specs.Levels.{LevelsInput}
+use Rattle.cov_ast.specs.Syntax.{Parsed, Program}
+use Rattle.cov_ast.specs.declared.refusal.Refusal.{Refusal}
 use Rattle.cov_expr.specs.declared.list.NoMemory.{NoMemory}
 use Rattle.cov_io.specs.Shelves.{Shelved}
 use Rattle.explain.specs.FileCalls.{Outcome, Tells, out_of_memory, told}
+use Rattle.explain.specs.LevelTellings.{RepliesFor, TellsOver, level_lines, program_lines}
+use Rattle.level_text.specs.Lattice.{Levels}
 
 -- What is told of a file that was read so is added to a text, and its status is given; or memory ran out.
 abbrev pub AddsTold : (name : List ℕ) → End (List ℕ) → (old new : List ℕ) → Result Status NoMemory → Type 0
@@ -21,3 +27,24 @@ outcome_of text (Err e) = out_of_memory
 -- The shelf is left as this, and the calls come to this.
 abbrev pub IsLeft : (last : Shelved) → Outcome → Shelved → Outcome → Type 0
 IsLeft last outcome shelf other = (shelf ≡ last) × (other ≡ outcome)
+
+-- Levels -------------------------------------------------------------------------------------------------------
+
+-- The same of a file of levels.
+abbrev pub AddsOver : (name bytes : List ℕ) → Parsed → (over : List ℕ) → End (List ℕ) → (old new : List ℕ) → Result Status NoMemory → Type 0
+AddsOver name bytes p over end old new (Ok status) =
+    (reply : Reply) × (here : List ℕ) × TellsOver name bytes p over end reply here × (status ≡ status_of reply) × (new ≡ old ++ here)
+AddsOver name bytes p over end old new (Err e) = Unit {0}
+
+-- What is told of a text and levels is added to a text, with the status that `levels` has for them.
+abbrev pub IsToldFor : (name bytes : List ℕ) → LevelsInput → (old new : List ℕ) → Status → Type 0
+IsToldFor name bytes i old new status = (reply : Reply) × RepliesFor i reply × (status ≡ status_of reply) × (new ≡ old ++ level_lines name bytes i)
+
+-- the status, by the first observer for whom a program is refused
+abbrev pub status_by : Option (ℕ × Refusal) → Status
+status_by None = s.Done
+status_by (Some r) = s.Refused
+
+-- The same of a program, of which that is the first.
+abbrev pub IsToldBy : (name bytes : List ℕ) → Levels → Program → Option (ℕ × Refusal) → (old new : List ℕ) → Status → Type 0
+IsToldBy name bytes l p first old new status = (status ≡ status_by first) × (new ≡ old ++ program_lines name bytes l p first)

@@ -2,7 +2,7 @@ use Rattle.std.proofs.Common.{inl, inr, refl, map, string_bytes, rules}
 use Rattle.call_reports.specs.AnswerViews.{seen}
 use Rattle.call_reports.specs.declared.answers.Status.TheVariants as s
 use Rattle.top_call.specs.Outcome.{plan_for}
-use Rattle.top_call.proofs.OutcomeLaws.{answered, call_agree, call_code, call_complete, call_object, call_exact, call_fault, call_passes, call_secure, call_swapped, lacking}
+use Rattle.top_call.proofs.OutcomeLaws.{answered, call_agree, call_code, call_complete, call_object, call_exact, call_fault, call_levels, call_passes, call_secure, call_swapped, lacking}
 use Rattle.top_call.proofs.call.covern_with.Goals as goal
 
 -- Memory ran out before an answer ------------------------------------------------------------------------------
@@ -114,6 +114,14 @@ returns-clause-swapped g c done exact =
     call_swapped (judging c.args.judge.now) (shelved c.args.shelf.now) (shelved c.answer.new.shelf) (map string_bytes c.args.words.now) (sunk c.args.sink.now) (sunk c.end.new.sink) c.end.result
     (judging c.args.judge.now).judged (judging c.answer.new.judge).judged (returns-clause-does g c)
     (c.swapped_programs_are_secure.ensures (judging c.args.judge.now) (g.met.J.Judge.sound c.args.judge.now) exact) done
+
+pub returns-clause-levels : goal.returns-clause-levels
+returns-clause-levels g c done =
+    let shelved = g.S.Shelf.shelved in
+    let sunk = g.K.Sink.sunk in
+    let judging = g.J.Judge.judging in
+    call_levels (judging c.args.judge.now) (shelved c.args.shelf.now) (shelved c.answer.new.shelf) (map string_bytes c.args.words.now) (sunk c.args.sink.now) (sunk c.end.new.sink) c.end.result
+    (judging c.args.judge.now).judged (judging c.answer.new.judge).judged (returns-clause-does g c) c.shown_programs_are_secure.ensures done
 
 pub returns-clause-agree : goal.returns-clause-agree
 returns-clause-agree g c =

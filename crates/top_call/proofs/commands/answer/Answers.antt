@@ -1,4 +1,4 @@
-use Rattle.std.proofs.Common.{◌≡◌, ◌∙◌, ◌<◌, [], true, false, get_or, length, map, string_bytes, refl, sym, subst, rules, arith}
+use Rattle.std.proofs.Common.{◌≡◌, ◌∙◌, [], true, false, get_or, length, map, string_bytes, refl, sym, subst, arith}
 use Rattle.std.proofs.lemmas.List.{length-map}
 use Rattle.call_inputs.specs.Plans.{CarriesOutAsking}
 use Rattle.call_inputs.proofs.PlanLaws.{carried_unasked}

@@ -1,0 +1,221 @@
+#!/usr/bin/env python3
+"""Proves a program of the repository with all that it stands on, and builds it: for the launcher.
+
+usage: build.py CRATE PROGRAM        (as build.py covern_cli .build/covern)
+
+The kit's `rattle` proves the crates side by side, as many as there are processors, first those behind which most is still to be proved (by the bytes of their code, and how
+many crates are loaded for it). LLVM then builds the program CRATE, which is written to PROGRAM. What is proved is kept in the folder out/ of each crate, by a sum of the kit, of the
+crate's files and of all crates below it: a later build proves what has changed and what stands on that, and another program only what it needs besides. A line comes for
+each crate, and the status is 1, with what `rattle` said, where one isn't proved.
+
+This is no gate. `rt ci` proves every crate from nothing, whatever is kept, and also that contracts can be met; it tries the must-fail edits, and plays the cases.
+"""
+import concurrent.futures
+import hashlib
+import os
+import shutil
+import signal
+import subprocess
+import sys
+import tempfile
+import threading
+
+TOP = os.path.dirname(os.path.abspath(__file__))
+PARTS = ('src', 'specs', 'proofs')
+
+
+class Failed(Exception):
+    """A crate isn't proved, or a program isn't built; what `rattle` said of it."""
+
+
+class Kit:
+    """The toolchain that `rt` on the path belongs to."""
+
+    def __init__(self):
+        rt = shutil.which('rt')
+        if rt is None:
+            raise Failed("rt isn't on the path")
+        self.folder = os.path.dirname(os.path.dirname(os.path.realpath(rt)))
+        with open(os.path.join(self.folder, 'KIT-ID'), 'rb') as identity:
+            self.identity = identity.read()
+        self.running = set()
+        self.lock = threading.Lock()
+
+    def path(self, *parts):
+        return os.path.join(self.folder, *parts)
+
+    def run(self, program, words, folder):
+        """Runs a program of the kit, whose output is an error where it fails or proves nothing."""
+        with self.lock:
+            process = subprocess.Popen([self.path('bin', program), *words], cwd=folder, stdin=subprocess.DEVNULL, stdout=subprocess.PIPE,
+                                       stderr=subprocess.STDOUT, encoding='utf-8', errors='replace')
+            self.running.add(process)
+        said, _ = process.communicate()
+        with self.lock:
+            self.running.discard(process)
+        if process.returncode != 0:
+            raise Failed(said)
+        return said
+
+    def end(self, status):
+        """Ends what runs, and this program."""
+        for process in list(self.running):
+            process.kill()
+        sys.stdout.flush()
+        os._exit(status)
+
+
+def crates_of(root):
+    """The crates that a crate stands on, itself included, each behind those below it, with the libraries that its line names."""
+    with open(os.path.join(TOP, 'crates.txt'), encoding='utf-8') as text:
+        lines = [line.split('#')[0].split(':') for line in text if line.split('#')[0].strip()]
+    named = {name.strip(): libraries.split() for name, libraries in lines}
+    found = {}
+
+    def add(name):
+        for library in named[name]:
+            if library in named and library not in found:
+                add(library)
+        found[name] = named[name]
+
+    add(root)
+    return found
+
+
+def files_of(name, parts):
+    """The files in these folders of a crate, by their paths in it, in order."""
+    folder = os.path.join(TOP, 'crates', name)
+    for part in parts:
+        for at, _, files in sorted(os.walk(os.path.join(folder, part))):
+            for file in sorted(files):
+                yield os.path.relpath(os.path.join(at, file), folder)
+
+
+class Build:
+    """The crates of a program, with the sum of each, and what is left to prove behind it."""
+
+    def __init__(self, kit, root):
+        self.kit, self.root = kit, root
+        self.crates = crates_of(root)
+        self.sums, self.below, self.weight, self.behind = {}, {}, {}, {}
+        for name, libraries in self.crates.items():
+            self.below[name] = list(dict.fromkeys(it for library in self.ours(name) for it in [*self.below[library], library]))
+            self.sums[name] = self.sum_of(name)
+            self.weight[name] = 500 * len(self.below[name]) + sum(os.path.getsize(os.path.join(TOP, 'crates', name, it)) for it in files_of(name, PARTS[:1]))
+        for name in reversed(list(self.crates)):
+            self.behind[name] = self.weight[name] + max((self.behind[it] for it in self.crates if name in self.crates[it]), default=0)
+
+    def ours(self, name):
+        """The crates of the repository that a crate names."""
+        return [it for it in self.crates[name] if it in self.crates]
+
+    def sum_of(self, name):
+        """The sum of all that a crate is proved of."""
+        total = hashlib.sha256(self.kit.identity)
+        total.update(repr((name, self.crates[name], [self.sums[it] for it in self.ours(name)])).encode())
+        for file in files_of(name, PARTS):
+            with open(os.path.join(TOP, 'crates', name, file), 'rb') as its:
+                total.update(repr((file, its.read())).encode())
+        return total.hexdigest()
+
+    def kept(self, name):
+        """The folder in which a crate is kept. `rt ci` looks for no sources there, and leaves it as it is."""
+        return os.path.join(TOP, 'crates', name, 'out', 'rlib', 'proved')
+
+    def rlib(self, name):
+        return os.path.join(self.kept(name), self.sums[name], name + '.rlib')
+
+    def is_kept(self, name):
+        """Whether a crate is kept, and all below it, over which it was proved."""
+        return all(os.path.isdir(self.rlib(it)) for it in [name, *self.below[name]])
+
+    def words(self, name, jobs):
+        """What `rattle` is told of a crate."""
+        kit, libraries = self.kit, self.crates[name]
+        words = ['--crate-name', name, 'src/main.rt' if name == self.root else 'src/lib.rt']
+        for library in ['std', *libraries]:
+            found = self.rlib(library) if library in self.crates else kit.path('rlibs', library + '.rlib')
+            words += ['--extern', '%s=%s' % (library, found)]
+        for folder in [kit.path('rlibs'), *(os.path.dirname(self.rlib(it)) for it in self.below[name])]:
+            words += ['-L', 'dependency=' + folder]
+        words += ['--antt-project', kit.path('rattle', 'logic', 'antt-project.json'), '--links', name + '=']
+        return words, ['--logic-built', kit.path('logic_built'), '--jobs', str(jobs)]
+
+    def is_well(self, name, said):
+        """Fails where no proof is told, or the files that were proved aren't those of the sum."""
+        if '\nlogic=proved ' not in '\n' + said:
+            raise Failed(said)
+        if self.sum_of(name) != self.sums[name]:
+            raise Failed('its files were changed meanwhile')
+
+    def prove(self, name, jobs):
+        """Proves a library, and keeps its statements for the crates above it."""
+        words, how = self.words(name, jobs)
+        shutil.rmtree(self.kept(name), ignore_errors=True)
+        os.makedirs(os.path.join(self.kept(name), 'new'))
+        made = os.path.join(self.kept(name), 'new', name + '.rlib')
+        said = self.kit.run('rattle', ['build', *words, *how, '--statements', '-o', made], os.path.join(TOP, 'crates', name))
+        self.is_well(name, said)
+        os.rename(os.path.dirname(made), os.path.dirname(self.rlib(name)))
+
+    def program(self, jobs, to):
+        """Proves the program, and has it compiled and linked."""
+        folder, kit = os.path.join(TOP, 'crates', self.root), self.kit
+        words, how = self.words(self.root, jobs)
+        with tempfile.TemporaryDirectory() as made:
+            checked, compiled = os.path.join(made, 'checked'), os.path.join(made, 'program.o')
+            said = kit.run('rattle', ['check', *words, *how, '-o', checked], folder)
+            self.is_well(self.root, said)
+            kit.run('rattle', ['build', *words, '--crate-checked', checked, '--toolchain', kit.path('toolchain'), '--backend', 'llvm', '-o', compiled], folder)
+            kit.run('rattle-link', ['--target', 'x86_64-unknown-linux-gnu', '--toolchain', kit.path('toolchain'), '-o', os.path.join(made, 'program'), compiled,
+                                    kit.path('c', 'libos_c.a'), kit.path('c', 'liblibc_c.a')], folder)
+            shutil.move(os.path.join(made, 'program'), to)
+
+    def all(self, to):
+        """Proves all that isn't kept, side by side, and the program last."""
+        lanes = len(os.sched_getaffinity(0))
+        done = {it for it in self.crates if self.is_kept(it)}
+        left = sorted((it for it in self.crates if it not in done and it != self.root), key=lambda it: -self.behind[it])
+        for name in sorted(done):
+            print('%s is kept' % name, flush=True)
+        running = {}
+        with concurrent.futures.ThreadPoolExecutor(lanes) as pool:
+            while left or running:
+                ready = [it for it in left if all(below in done for below in self.below[it])]
+                for at, name in enumerate(ready):
+                    idle = lanes - sum(jobs for _, jobs in running.values())
+                    if idle > 0:
+                        # where nothing else waits, a proof gets the processors that are idle
+                        jobs = max(1, min(4, idle // (len(ready) - at)))
+                        left.remove(name)
+                        running[pool.submit(self.prove, name, jobs)] = name, jobs
+                for ended in concurrent.futures.wait(running, return_when=concurrent.futures.FIRST_COMPLETED).done:
+                    name, _ = running.pop(ended)
+                    try:
+                        ended.result()
+                    except Failed as failed:
+                        print('%s\n%s is not proved' % (failed, name), flush=True)
+                        self.kit.end(1)
+                    done.add(name)
+                    print('%s is proved' % name, flush=True)
+        self.program(lanes, to)
+        print('%s is proved' % self.root, flush=True)
+
+
+def main():
+    if len(sys.argv) != 3:
+        print(__doc__, file=sys.stderr)
+        return 2
+    root, to = sys.argv[1:]
+    try:
+        kit = Kit()
+        for number in (signal.SIGTERM, signal.SIGINT, signal.SIGHUP):
+            signal.signal(number, lambda number, _: kit.end(128 + number))
+        Build(kit, root).all(os.path.abspath(to))
+    except Failed as failed:
+        print(failed)
+        return 1
+    return 0
+
+
+sys.exit(main())

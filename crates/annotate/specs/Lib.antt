@@ -1,0 +1,4 @@
+pub mod WithCertificates
+pub mod Annotated
+pub mod AnnotatedText
+pub mod Inside

@@ -1,0 +1,4 @@
+-- Words of private contracts. What is promised doesn't rest on them.
+pub mod Marked
+pub mod Refused
+pub mod Alike

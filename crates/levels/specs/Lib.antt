@@ -1,0 +1,4 @@
+pub mod Order
+pub mod Projection
+pub mod Accepted
+pub mod Inside
