@@ -22,7 +22,7 @@ use call_run::run_until::run_until;
 use call_run::trials::refute;
 use call_text::fmt::format;
 use call_text::migrate::migrate;
-use call_verdicts::levels::levels;
+use call_verdicts::observers::levels;
 use call_verdicts::swap::swap;
 use cov_expr::{MOST_EXPRESSION_BYTES, MOST_ROUNDS, MOST_TRIALS};
 use cov_io::Shelf;

@@ -7,7 +7,7 @@ use Rattle.call_inputs.specs.Readings.{HasRead, ended, took}
 use Rattle.call_inputs.specs.Steps.{bytes}
 use Rattle.call_inputs.proofs.PlanLaws.{file_read, file_stopped}
 use Rattle.call_verdicts.specs.Levels.{IsShownLevelFault, levels_of}
-use Rattle.call_verdicts.proofs.levels.fetch_levels.Goals as goal
+use Rattle.call_verdicts.proofs.observers.fetch_levels.Goals as goal
 
 pub returns-in_err-bytes-clause-read : goal.returns-in_err-bytes-clause-read
 returns-in_err-bytes-clause-read g c =

@@ -6,7 +6,7 @@ use Rattle.call_reports.specs.Replies.{refused_for}
 use Rattle.level_text.specs.Views as level_view
 use Rattle.levels.proofs.FirstRefused.{first_is_refused, none_refused_for}
 use Rattle.levels.specs.Accepted.{DecidesForAll, IsFirstRefused}
-use Rattle.call_verdicts.proofs.levels.count_for_all.Goals as goal
+use Rattle.call_verdicts.proofs.observers.count_for_all.Goals as goal
 
 pub returns-in-Ok : goal.returns-in-Ok
 returns-in-Ok c =

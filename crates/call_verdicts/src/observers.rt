@@ -19,7 +19,7 @@ ghost use Rattle.levels.specs.Accepted.{first_refused};
 ghost use Rattle.levels.specs.Projection.{projected};
 ghost use Rattle.typing_law.specs.Verdicts.{counts};
 
-use crate::levels_reports::levels_line;
+use crate::observers_reports::levels_line;
 use call_inputs::{fetch, read_program, text_fault, unread};
 use call_judge::check::{named, thread_name};
 use call_reports::{Answer, Fault, FaultKind, Misfit, Stop, Totals};

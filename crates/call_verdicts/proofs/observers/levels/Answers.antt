@@ -12,7 +12,7 @@ use Rattle.call_judge.specs.Check.{name_rejection}
 use Rattle.call_reports.specs.declared.answers.Answer.{Answer}
 use Rattle.call_reports.specs.declared.answers.Stop.{Stop}
 use Rattle.call_verdicts.specs.Levels.{AcceptsForAll, LevelsInput, accepted_for_all, level_rejection, levels_of, levels_plan}
-use Rattle.call_verdicts.proofs.levels.levels.Goals as goal
+use Rattle.call_verdicts.proofs.observers.levels.Goals as goal
 
 -- what is asked behind a program and levels
 abbrev asked : Parsed → Levels → Reading LevelsInput

@@ -1,6 +1,6 @@
 use Rattle.cov_ast.specs.View as view
 use Rattle.call_verdicts.proofs.LevelsLaws.{levels_unread}
-use Rattle.call_verdicts.proofs.levels.given_levels.Goals as goal
+use Rattle.call_verdicts.proofs.observers.given_levels.Goals as goal
 
 pub returns-in-Err-clause-read : goal.returns-in-Err-clause-read
 returns-in-Err-clause-read c =

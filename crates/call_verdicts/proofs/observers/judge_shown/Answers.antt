@@ -8,7 +8,7 @@ use Rattle.level_text.specs.Views as level_view
 use Rattle.call_verdicts.specs.Inside.{JudgesForAll}
 use Rattle.call_verdicts.specs.Levels.{LevelsInput}
 use Rattle.call_verdicts.proofs.LevelsLaws.{accepted_for_each, as_many_vars, line_told, refused_for_all, unnamed_for_all}
-use Rattle.call_verdicts.proofs.levels.judge_shown.Goals as goal
+use Rattle.call_verdicts.proofs.observers.judge_shown.Goals as goal
 
 pub returns-in_err-program : goal.returns-in_err-program
 returns-in_err-program c =
