@@ -23,6 +23,9 @@ import threading
 TOP = os.path.dirname(os.path.abspath(__file__))
 PARTS = ('src', 'specs', 'proofs')
 
+# what a proof may take, in KiB: the largest were seen to take less
+MEMORY = 3_000_000
+
 
 class Failed(Exception):
     """A crate isn't proved, or a program isn't built; what `rattle` said of it."""
@@ -89,6 +92,13 @@ def files_of(name, parts):
         for at, _, files in sorted(os.walk(os.path.join(folder, part))):
             for file in sorted(files):
                 yield os.path.relpath(os.path.join(at, file), folder)
+
+
+def lanes_free():
+    """How many proofs run side by side: one a processor, as many as there is memory for."""
+    with open('/proc/meminfo', encoding='utf-8') as lines:
+        free = next(int(line.split()[1]) for line in lines if line.startswith('MemAvailable:'))
+    return max(1, min(len(os.sched_getaffinity(0)), free // MEMORY))
 
 
 class Build:
@@ -173,7 +183,7 @@ class Build:
 
     def all(self, to):
         """Proves all that isn't kept, side by side, and the program last."""
-        lanes = len(os.sched_getaffinity(0))
+        lanes = lanes_free()
         done = {it for it in self.crates if self.is_kept(it)}
         left = sorted((it for it in self.crates if it not in done and it != self.root), key=lambda it: -self.behind[it])
         for name in sorted(done):
