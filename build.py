@@ -1,12 +1,13 @@
 #!/usr/bin/env python3
 """Proves a program of the repository with all that it stands on, and builds it: for the launcher.
 
-usage: build.py CRATE PROGRAM        (as build.py covern_cli .build/covern)
+usage: build.py CRATE PROGRAM        (as build.py covern_cli /tmp/covern)
 
-The kit's `rattle` proves the crates side by side, as many as there are processors, first those behind which most is still to be proved (by the bytes of their code, and how
-many crates are loaded for it). LLVM then builds the program CRATE, which is written to PROGRAM. What is proved is kept in the folder out/ of each crate, by a sum of the kit, of the
-crate's files and of all crates below it: a later build proves what has changed and what stands on that, and another program only what it needs besides. A line comes for
-each crate, and the status is 1, with what `rattle` said, where one isn't proved.
+The kit's `rattle` proves the crates side by side, one a processor where there is memory for them, or as many as `RT_JOBS` says, first those behind which most is still to be
+proved (by the bytes of their code, and how many crates are loaded for it). LLVM then builds the program CRATE, which is written to PROGRAM, as old as the start of its build: what
+is edited meanwhile is newer. What is proved is kept in the folder out/ of each crate, by a sum of the kit, of the crate's files and of all crates below it: a later build proves
+what has changed and what stands on that, and another program only what it needs besides. A line comes for each crate, and the status is 1, with what `rattle` said, where one isn't
+proved, or takes a handle or has anything that nothing proves.
 
 This is no gate. `rt ci` proves every crate from nothing, whatever is kept, and also that contracts can be met; it tries the must-fail edits, and plays the cases.
 """
@@ -19,12 +20,16 @@ import subprocess
 import sys
 import tempfile
 import threading
+import time
 
 TOP = os.path.dirname(os.path.abspath(__file__))
 PARTS = ('src', 'specs', 'proofs')
 
 # what a proof may take, in KiB: the largest were seen to take less
 MEMORY = 3_000_000
+
+# words of a proof that no crate of this repository may have: each says that something is done which nothing proves, or which HANDLES doesn't allow
+REFUSED = {'foreign', 'hides', 'partial', 'may-abort', 'may-serve', 'may-wait', 'bugs'}
 
 
 class Failed(Exception):
@@ -51,19 +56,22 @@ class Kit:
         """Runs a program of the kit, whose output is an error where it fails or proves nothing."""
         with self.lock:
             process = subprocess.Popen([self.path('bin', program), *words], cwd=folder, stdin=subprocess.DEVNULL, stdout=subprocess.PIPE,
-                                       stderr=subprocess.STDOUT, encoding='utf-8', errors='replace')
+                                       stderr=subprocess.STDOUT, encoding='utf-8', errors='replace', start_new_session=True)
             self.running.add(process)
         said, _ = process.communicate()
         with self.lock:
             self.running.discard(process)
         if process.returncode != 0:
-            raise Failed(said)
+            raise Failed('%s%s ended with status %s' % (said, program, process.returncode))
         return said
 
     def end(self, status):
-        """Ends what runs, and this program."""
+        """Ends what runs, with all that it has begun, and this program."""
         for process in list(self.running):
-            process.kill()
+            try:
+                os.killpg(process.pid, signal.SIGKILL)
+            except ProcessLookupError:
+                pass  # it has ended
         sys.stdout.flush()
         os._exit(status)
 
@@ -73,6 +81,8 @@ def crates_of(root):
     with open(os.path.join(TOP, 'crates.txt'), encoding='utf-8') as text:
         lines = [line.split('#')[0].split(':') for line in text if line.split('#')[0].strip()]
     named = {name.strip(): libraries.split() for name, libraries in lines}
+    if root not in named:
+        raise Failed('crates.txt has no crate %s' % root)
     found = {}
 
     def add(name):
@@ -89,13 +99,19 @@ def files_of(name, parts):
     """The files in these folders of a crate, by their paths in it, in order."""
     folder = os.path.join(TOP, 'crates', name)
     for part in parts:
-        for at, _, files in sorted(os.walk(os.path.join(folder, part))):
+        for at, folders, files in sorted(os.walk(os.path.join(folder, part))):
+            for path in [at, *(os.path.join(at, it) for it in [*folders, *files])]:
+                if os.path.islink(path):
+                    raise Failed('%s is a symbolic link' % path)
             for file in sorted(files):
                 yield os.path.relpath(os.path.join(at, file), folder)
 
 
 def lanes_free():
-    """How many proofs run side by side: one a processor, as many as there is memory for."""
+    """How many proofs run side by side: one a processor, or what `RT_JOBS` says, as many as there is memory for."""
+    told = os.environ.get('RT_JOBS', '')
+    if told.isdecimal():
+        return max(1, int(told))
     with open('/proc/meminfo', encoding='utf-8') as lines:
         free = next(int(line.split()[1]) for line in lines if line.startswith('MemAvailable:'))
     return max(1, min(len(os.sched_getaffinity(0)), free // MEMORY))
@@ -152,23 +168,32 @@ class Build:
         return words, ['--logic-built', kit.path('logic_built'), '--jobs', str(jobs)]
 
     def is_well(self, name, said):
-        """Fails where no proof is told, or the files that were proved aren't those of the sum."""
-        if '\nlogic=proved ' not in '\n' + said:
+        """Fails where no proof is told, or one with a word that no crate may have, or the files aren't those of the sum."""
+        lines = [line for line in said.splitlines() if line.startswith('logic=proved ')]
+        words = dict(word.partition('=')[::2] for word in lines[-1].split()) if lines else {}
+        if not lines:
             raise Failed(said)
+        beyond = sorted(word for word in words if word in REFUSED or word == 'main' and words[word])
+        if beyond:
+            raise Failed('%sno crate of this repository may have the words %s' % (said, ', '.join(beyond)))
+        self.is_as_begun(name)
+
+    def is_as_begun(self, name):
+        """Fails where the files of a crate aren't those of its sum any more."""
         if self.sum_of(name) != self.sums[name]:
-            raise Failed('its files were changed meanwhile')
+            raise Failed('the files of %s were changed meanwhile' % name)
 
     def prove(self, name, jobs):
         """Proves a library, and keeps its statements for the crates above it."""
         words, how = self.words(name, jobs)
         shutil.rmtree(self.kept(name), ignore_errors=True)
-        os.makedirs(os.path.join(self.kept(name), 'new'))
-        made = os.path.join(self.kept(name), 'new', name + '.rlib')
+        os.makedirs(self.kept(name))
+        made = os.path.join(tempfile.mkdtemp(prefix='new.', dir=self.kept(name)), name + '.rlib')
         said = self.kit.run('rattle', ['build', *words, *how, '--statements', '-o', made], os.path.join(TOP, 'crates', name))
         self.is_well(name, said)
         os.rename(os.path.dirname(made), os.path.dirname(self.rlib(name)))
 
-    def program(self, jobs, to):
+    def program(self, jobs, to, began):
         """Proves the program, and has it compiled and linked."""
         folder, kit = os.path.join(TOP, 'crates', self.root), self.kit
         words, how = self.words(self.root, jobs)
@@ -179,9 +204,12 @@ class Build:
             kit.run('rattle', ['build', *words, '--crate-checked', checked, '--toolchain', kit.path('toolchain'), '--backend', 'llvm', '-o', compiled], folder)
             kit.run('rattle-link', ['--target', 'x86_64-unknown-linux-gnu', '--toolchain', kit.path('toolchain'), '-o', os.path.join(made, 'program'), compiled,
                                     kit.path('c', 'libos_c.a'), kit.path('c', 'liblibc_c.a')], folder)
+            for name in self.crates:
+                self.is_as_begun(name)
+            os.utime(os.path.join(made, 'program'), (began, began))
             shutil.move(os.path.join(made, 'program'), to)
 
-    def all(self, to):
+    def all(self, to, began):
         """Proves all that isn't kept, side by side, and the program last."""
         lanes = lanes_free()
         done = {it for it in self.crates if self.is_kept(it)}
@@ -203,12 +231,12 @@ class Build:
                     name, _ = running.pop(ended)
                     try:
                         ended.result()
-                    except Failed as failed:
+                    except (Failed, OSError) as failed:
                         print('%s\n%s is not proved' % (failed, name), flush=True)
                         self.kit.end(1)
                     done.add(name)
                     print('%s is proved' % name, flush=True)
-        self.program(lanes, to)
+        self.program(lanes, to, began)
         print('%s is proved' % self.root, flush=True)
 
 
@@ -216,13 +244,15 @@ def main():
     if len(sys.argv) != 3:
         print(__doc__, file=sys.stderr)
         return 2
-    root, to = sys.argv[1:]
+    root, to = sys.argv[1], os.path.abspath(sys.argv[2])
+    began = time.time()
     try:
         kit = Kit()
         for number in (signal.SIGTERM, signal.SIGINT, signal.SIGHUP):
             signal.signal(number, lambda number, _: kit.end(128 + number))
-        Build(kit, root).all(os.path.abspath(to))
-    except Failed as failed:
+        os.makedirs(os.path.dirname(to), exist_ok=True)
+        Build(kit, root).all(to, began)
+    except (Failed, OSError) as failed:
         print(failed)
         return 1
     return 0
