@@ -15,7 +15,7 @@ use Rattle.cert_search.specs.Classes.{IsFound, HasNone}
 use Rattle.cert_search.proofs.Sound.{search_sound}
 use Rattle.cert_search.proofs.Told.{told}
 use Rattle.annotate.specs.Annotated.{annotated, as_choice, cert_of, choices, choices_among, found_for, is_proved_in, IsAnnotated, IsChoice, open_in_thread, open_of, proofs_at, searched, unproved}
-use Rattle.annotate.specs.Inside.NotFound.{is_not_found, not_found, not_found_in_thread}
+use Rattle.annotate.specs.NotFound.{is_not_found, not_found, not_found_in_thread}
 use Rattle.annotate.specs.WithCertificates.{AreRisingAbove, chosen_for, put_in, put_in_stm, put_in_threads, with_certs}
 use Rattle.annotate.proofs.PutLaws.{certs_given}
 use Rattle.annotate.proofs.PlacedLaws.{numbered_put_in}

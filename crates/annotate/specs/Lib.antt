@@ -1,4 +1,4 @@
 pub mod WithCertificates
 pub mod Annotated
 pub mod AnnotatedText
-pub mod Inside
+pub mod NotFound

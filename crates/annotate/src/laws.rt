@@ -19,7 +19,7 @@ ghost use Rattle.typing_law.specs.Entailments.{cert_for};
 ghost use Rattle.typing_law.specs.ThreadEntailments.{thread_entailments};
 ghost use Rattle.annotate.specs.Annotated.{annotated, choices, first_refused, IsAnnotated, IsChoice, proofs_at, unproved};
 ghost use Rattle.annotate.specs.AnnotatedText.{annotated_text, AreKeptOrNew, IsAsRead, IsUseOfChosen, put_in_text, unresolved_cert, uses_at};
-ghost use Rattle.annotate.specs.Inside.NotFound.{not_found};
+ghost use Rattle.annotate.specs.NotFound.{not_found};
 ghost use Rattle.annotate.specs.WithCertificates.{AreRisingAbove, chosen_for, is_given, new_among, program_without_proofs, proof_of, thread_without_proofs, with_certs};
 
 /// Where certificates are put in among the proofs of a statement, each number has the one that is chosen for it, else the one that it had. Each proof keeps its

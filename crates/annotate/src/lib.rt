@@ -6,7 +6,7 @@
 //!   obligations is refused first.
 //! - `specs/AnnotatedText.antt`: the text of that program: certificates in the numbers of names, and every use of a name. What is asked of a text is that it is
 //!   as reading gives it (`IsAsRead`), so with its uses in order.
-//! - `specs/Inside` has words of private contracts: the entailments for which nothing is found.
+//! - `specs/NotFound.antt`: the entailments for which nothing is found.
 //! - [`chosen_certificates_stand`], [`choices_are_for_listed_entailments`], [`proofs_alone_change`], [`listed_entailments_are_annotated`],
 //!   [`unproved_entailments_are_not_found`], [`refusals_are_of_the_annotated_text`], [`annotated_programs_are_formed`]: laws of the program.
 //! - [`texts_are_as_read`], [`annotated_text_is_read`], [`uses_stay_in_order`]: laws of the text.

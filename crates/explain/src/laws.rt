@@ -18,8 +18,8 @@ pub fn told_as_checked()
         → IsChecked before after name reply × ((front : List ℕ) × (rest : List ℕ) × (text ≡ front ++ report_of reply ++ rest)) }
 {}
 
-/// What is told of a program and levels by these calls of a shelf is by the reply that `levels` gives to them by the same calls, and has the status
-/// of that.
+/// Where a program and levels are told of by these calls of a shelf, `levels` gives a reply to them by the same calls, and the status is that
+/// reply's.
 pub fn told_as_levelled()
     ensures { (before after : Shelved) (name over text : List ℕ) (status : Status)
         → TellsLevels (λ shelf outcome. (shelf ≡ after) × (outcome ≡ told text status)) name over [] before

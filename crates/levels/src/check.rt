@@ -25,8 +25,8 @@ use std::alloc::Global;
 use typing_law::Count;
 use verify::check_program;
 
-/// Checks what the observer at each level is shown. `Ok` comes exactly where all of it is accepted, and then all of it is secure;
-/// else the first level is refused for which it isn't, with the first obligation that doesn't hold.
+/// Checks what the observer at each level is shown. Unless memory runs out, `Ok` comes exactly where all of it is accepted, and then all of it is
+/// secure; else the first level is refused for which it isn't, with the first obligation that doesn't hold.
 ///
 /// One observer's program is in memory at a time.
 pub fn check_levels(alloc: Global, p: &Program, l: &Levels) -> Result<Count, LevelRefusal>

@@ -1,4 +1,4 @@
-//! Observers at the levels of a lattice: what each is shown of a program, and whether it is accepted for all of them.
+//! Observers at levels, of which some lie below others: what each is shown of a program, and whether it is accepted for all of them.
 //!
 //! What has to be believed is in `specs/`: `Order` has which level lies below which, `Projection` what an observer is shown, and `Accepted`
 //! which programs are accepted for every level, and what is answered of one. `specs/Inside` has words of private contracts, which no

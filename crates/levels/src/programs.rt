@@ -64,8 +64,23 @@ fn annotate(
     ensures { OnOk result (map view.thread threads.new ≡ map (spec.marked_thread marks.now) (map view.thread annotated.now)) }
 {
     for t in 0..threads.len() {
-        threads[t].body = marked_block(alloc, marks, annotated[t].body.as_slice())?;
+        annotate_thread(alloc, marks, &annotated[t], &mut threads[t])?;
     }
+    Ok(())
+}
+
+/// Gives a plain thread the annotations that one has. Its plain body goes first, so that the program and one copy of it are in memory.
+fn annotate_thread(
+    alloc: Global,
+    marks: &[Option<u32>],
+    annotated: &ThreadDecl,
+    thread: &mut ThreadDecl,
+) -> Result<(), NoMemory>
+    requires { view.thread thread.old ≡ bare_thread (view.thread annotated.now) }
+    ensures { OnOk result (view.thread thread.new ≡ spec.marked_thread marks.now (view.thread annotated.now)) }
+{
+    thread.body = List::new(alloc);
+    thread.body = marked_block(alloc, marks, annotated.body.as_slice())?;
     Ok(())
 }
 

@@ -1,2 +1,0 @@
--- Words of private contracts. What is promised doesn't rest on them.
-pub mod NotFound
