@@ -107,19 +107,14 @@ def files_of(name, parts):
                 yield os.path.relpath(os.path.join(at, file), folder)
 
 
-def memory_free():
-    """How many proofs there is memory for now."""
-    with open('/proc/meminfo', encoding='utf-8') as lines:
-        free = next(int(line.split()[1]) for line in lines if line.startswith('MemAvailable:'))
-    return max(1, free // MEMORY)
-
-
 def lanes_free():
     """How many proofs run side by side: one a processor, or what `RT_JOBS` says, as many as there is memory for."""
     told = os.environ.get('RT_JOBS', '')
     if told.isdecimal():
         return max(1, int(told))
-    return min(len(os.sched_getaffinity(0)), memory_free())
+    with open('/proc/meminfo', encoding='utf-8') as lines:
+        free = next(int(line.split()[1]) for line in lines if line.startswith('MemAvailable:'))
+    return max(1, min(len(os.sched_getaffinity(0)), free // MEMORY))
 
 
 class Build:
@@ -214,15 +209,6 @@ class Build:
             os.utime(os.path.join(made, 'program'), (began, began))
             shutil.move(os.path.join(made, 'program'), to)
 
-    def jobs(self, name, lanes, waiting, undone):
-        """How many parts of a crate are proved at once: four where no other crate waits for a processor. Else it is one part, or three where what is left behind
-        the crate, one crate after another, takes longer than all that is left takes on all processors. It is no more than there is memory for."""
-        if waiting < lanes:
-            jobs = 4
-        else:
-            jobs = 3 if self.behind[name] * lanes > sum(self.weight[it] for it in undone) else 1
-        return min(jobs, lanes, memory_free())
-
     def all(self, to, began):
         """Proves all that isn't kept, side by side, and the program last."""
         lanes = lanes_free()
@@ -234,13 +220,15 @@ class Build:
         with concurrent.futures.ThreadPoolExecutor(lanes) as pool:
             while left or running:
                 ready = [it for it in left if all(below in done for below in self.below[it])]
-                waiting = len(ready) + len(running)
-                for name in ready[:lanes - len(running)]:
-                    jobs = self.jobs(name, lanes, waiting, [self.root, *left, *running.values()])
-                    left.remove(name)
-                    running[pool.submit(self.prove, name, jobs)] = name
+                for at, name in enumerate(ready):
+                    idle = lanes - sum(jobs for _, jobs in running.values())
+                    if idle > 0:
+                        # where nothing else waits, a proof gets the processors that are idle
+                        jobs = max(1, min(4, idle // (len(ready) - at)))
+                        left.remove(name)
+                        running[pool.submit(self.prove, name, jobs)] = name, jobs
                 for ended in concurrent.futures.wait(running, return_when=concurrent.futures.FIRST_COMPLETED).done:
-                    name = running.pop(ended)
+                    name, _ = running.pop(ended)
                     try:
                         ended.result()
                     except (Failed, OSError) as failed:
