@@ -48,6 +48,8 @@ fn over_variables<'w>(spelled: ParsedExpr, vars: &[VarDecl]) -> Result<Expr, Sto
         uses,
         mut expr,
     } = spelled;
+    // That the table counts its names tells that the hole's number is that of none.
+    let _count = names.len();
     if let Some(at) = first_unknown(&names, vars, uses.as_slice()) {
         return Err(unread("expression", Some(Fault::Text(FaultKind::Unknown, at))));
     }

@@ -3,7 +3,6 @@
 use cov_expr::{Expr, List};
 
 /// A certificate: why a goal follows from hypotheses. Hypotheses are numbered from 1.
-#[derive(Drop)]
 pub enum Cert {
     /// A closed hypothesis is 0, or each conjunct of the goal is closed and not 0, or is a conjunct of a hypothesis.
     Auto,
@@ -47,9 +46,59 @@ pub enum Cert {
     Range,
 }
 
+impl Drop for Cert {
+    fn drop(self) {
+        match self {
+            Cert::Auto | Cert::Hyp(_) | Cert::Calc | Cert::Clash(_) => {}
+            Cert::Absurd(_, _) | Cert::Refl | Cert::Ring | Cert::Range => {}
+            Cert::Left(c) => drop(c),
+            Cert::Right(c) => drop(c),
+            Cert::Unpack(_, c) => drop(c),
+            Cert::Not(c) => drop(c),
+            Cert::Contra(c) => drop(c),
+            Cert::And(c, d) => {
+                drop(c);
+                drop(d);
+            }
+            Cert::Cases(_, c, d) => {
+                drop(c);
+                drop(d);
+            }
+            Cert::Split(e, c, d) => {
+                drop(e);
+                drop(c);
+                drop(d);
+            }
+            Cert::Have(e, c, d) => {
+                drop(e);
+                drop(c);
+                drop(d);
+            }
+            Cert::Fwd(_, e, c) => {
+                drop(e);
+                drop(c);
+            }
+            Cert::Rev(_, e, c) => {
+                drop(e);
+                drop(c);
+            }
+            Cert::Axiom(_, es, c) => {
+                drop(es);
+                drop(c);
+            }
+        }
+    }
+}
+
 /// The certificate of an entailment of a statement. Entailments are numbered from 1 in the order in which they arise.
-#[derive(Drop)]
 pub struct Proof {
     pub number: u32,
     pub cert: Cert,
+}
+
+impl Drop for Proof {
+    fn drop(self) {
+        let Proof { number: _, cert } = self;
+        drop(cert);
+    }
 }

@@ -13,7 +13,6 @@ use cov_expr::{Expr, List, Name, NoMemory, has_number};
 use std::alloc::Global;
 
 /// What an observer may learn of a variable (value-dependent classification, as in COVERN).
-#[derive(Drop)]
 pub enum Class {
     /// Its word: two runs are compared on it.
     Low,
@@ -23,16 +22,34 @@ pub enum Class {
     When(Expr),
 }
 
+impl Drop for Class {
+    fn drop(self) {
+        match self {
+            Class::Low | Class::High => {}
+            Class::When(e) => drop(e),
+        }
+    }
+}
+
 /// A variable: its name, the byte offset of the name, and its class.
-#[derive(Drop)]
 pub struct VarDecl {
     pub name: Name,
     pub at: u32,
     pub class: Class,
 }
 
+impl Drop for VarDecl {
+    fn drop(self) {
+        let VarDecl {
+            name: _,
+            at: _,
+            class,
+        } = self;
+        drop(class);
+    }
+}
+
 /// A lock, with what it stands for.
-#[derive(Drop)]
 pub struct LockDecl {
     pub name: Name,
     pub at: u32,
@@ -44,9 +61,23 @@ pub struct LockDecl {
     pub inv: Option<Expr>,
 }
 
+impl Drop for LockDecl {
+    fn drop(self) {
+        let LockDecl {
+            name: _,
+            at: _,
+            nowrite,
+            hide,
+            inv,
+        } = self;
+        drop(nowrite);
+        drop(hide);
+        drop(inv);
+    }
+}
+
 /// What a thread assumes of the others and guarantees to them, for its whole life (the modes of Mantel, Sands and
 /// Sudbrock; `hide`, as in COVERN, is about reading and writing).
-#[derive(Drop)]
 pub struct Modes {
     /// Others don't write these.
     pub assume_nowrite: List<u32>,
@@ -58,8 +89,22 @@ pub struct Modes {
     pub guarantee_hide: List<u32>,
 }
 
+impl Drop for Modes {
+    fn drop(self) {
+        let Modes {
+            assume_nowrite,
+            assume_hide,
+            guarantee_nowrite,
+            guarantee_hide,
+        } = self;
+        drop(assume_nowrite);
+        drop(assume_hide);
+        drop(guarantee_nowrite);
+        drop(guarantee_hide);
+    }
+}
+
 /// A thread: its name with the byte offset, its modes, its statements, and the byte offset of its closing brace.
-#[derive(Drop)]
 pub struct ThreadDecl {
     pub name: Name,
     pub at: u32,
@@ -68,14 +113,41 @@ pub struct ThreadDecl {
     pub end: u32,
 }
 
+impl Drop for ThreadDecl {
+    fn drop(self) {
+        let ThreadDecl {
+            name: _,
+            at: _,
+            modes,
+            body,
+            end: _,
+        } = self;
+        drop(modes);
+        drop(body);
+    }
+}
+
 /// A program, in which variables, locks and threads are named by id: how many of their kind are declared before.
-#[derive(Drop)]
 pub struct Program {
     /// The version of the language, 1 or 2; in version 1 nothing is put out.
     pub version: u8,
     pub vars: List<VarDecl>,
     pub locks: List<LockDecl>,
     pub threads: List<ThreadDecl>,
+}
+
+impl Drop for Program {
+    fn drop(self) {
+        let Program {
+            version: _,
+            vars,
+            locks,
+            threads,
+        } = self;
+        drop(vars);
+        drop(locks);
+        drop(threads);
+    }
 }
 
 impl LockDecl {

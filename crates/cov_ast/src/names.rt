@@ -14,9 +14,15 @@ use std::marker::Model;
 ///
 /// Names are looked up by hashing. The hash has a fixed seed, so somebody who picks names can make look-ups slow;
 /// what they answer stays the same.
-#[derive(Drop)]
 pub struct NameTable {
     names: IndexSet<Name>,
+}
+
+impl Drop for NameTable {
+    fn drop(self) {
+        let NameTable { names } = self;
+        drop(names);
+    }
 }
 
 impl Model for NameTable {

@@ -1,5 +1,7 @@
 //! What a text spells: a program, its names and where each is used.
 
+ghost use Rattle.std.specs.Prelude.{◌≡◌};
+
 use crate::decl::{LockDecl, ThreadDecl, VarDecl};
 use crate::names::NameTable;
 use cov_expr::List;
@@ -14,7 +16,6 @@ pub struct NameUse {
 
 /// What a text spells. Each variable and each lock is named by the number of its name in the name table, since which
 /// declaration it means, if any, isn't known yet.
-#[derive(Drop)]
 pub struct Parsed {
     /// The version of the language, 1 or 2.
     pub version: u8,
@@ -24,4 +25,41 @@ pub struct Parsed {
     pub vars: List<VarDecl>,
     pub locks: List<LockDecl>,
     pub threads: List<ThreadDecl>,
+}
+
+impl Drop for Parsed {
+    fn drop(self) {
+        let Parsed {
+            version: _,
+            names,
+            uses,
+            vars,
+            locks,
+            threads,
+        } = self;
+        drop(names);
+        drop(uses);
+        drop(vars);
+        drop(locks);
+        drop(threads);
+    }
+}
+
+impl Parsed {
+    /// Its version, variables, locks and threads. Names and their uses are dropped.
+    pub fn into_parts(self) -> (u8, List<VarDecl>, List<LockDecl>, List<ThreadDecl>)
+        ensures { result ≡ (self.version, self.vars, self.locks, self.threads) }
+    {
+        let Parsed {
+            version,
+            names,
+            uses,
+            vars,
+            locks,
+            threads,
+        } = self;
+        drop(names);
+        drop(uses);
+        (version, vars, locks, threads)
+    }
 }

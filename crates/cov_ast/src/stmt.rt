@@ -5,7 +5,6 @@ use crate::state::State;
 use cov_expr::{Expr, List};
 
 /// A statement with the byte offset of its first token and the proofs of its entailments.
-#[derive(Drop)]
 #[cycle(stmt)]
 pub struct Stmt {
     pub at: u32,
@@ -13,8 +12,20 @@ pub struct Stmt {
     pub proofs: List<Proof>,
 }
 
+impl Drop for Stmt {
+    #[cycle(stmt)]
+    fn drop(self) {
+        let Stmt {
+            at: _,
+            kind,
+            proofs,
+        } = self;
+        drop(kind);
+        drop(proofs);
+    }
+}
+
 /// What a statement does. A variable and a lock are named by number.
-#[derive(Drop)]
 #[cycle(stmt)]
 pub enum StmtKind {
     /// Nothing, in one step.
@@ -36,9 +47,42 @@ pub enum StmtKind {
     Output(Expr),
 }
 
+impl Drop for StmtKind {
+    #[cycle(stmt)]
+    fn drop(self) {
+        match self {
+            StmtKind::Skip | StmtKind::Lock(_) | StmtKind::Unlock(_) => {}
+            StmtKind::Assign(_, e, class, retypes) => {
+                drop(e);
+                drop(class);
+                drop(retypes);
+            }
+            StmtKind::If(e, yes, no, join) => {
+                drop(e);
+                drop(yes);
+                drop(no);
+                drop(join);
+            }
+            StmtKind::While(e, inv, body) => {
+                drop(e);
+                drop(inv);
+                drop(body);
+            }
+            StmtKind::Note(state) => drop(state),
+            StmtKind::Output(e) => drop(e),
+        }
+    }
+}
+
 /// A new type of a tracked variable, given where a control is assigned.
-#[derive(Drop)]
 pub struct Retype {
     pub var: u32,
     pub class: Expr,
+}
+
+impl Drop for Retype {
+    fn drop(self) {
+        let Retype { var: _, class } = self;
+        drop(class);
+    }
 }

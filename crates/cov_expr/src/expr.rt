@@ -36,7 +36,6 @@ pub enum Op {
 }
 
 /// An expression over variables, which are named by number.
-#[derive(Drop)]
 pub enum Expr {
     /// A number.
     Const(u32),
@@ -46,6 +45,22 @@ pub enum Expr {
     Not(Box<Expr>),
     /// An operator between two expressions.
     Bin(Op, Box<Expr>, Box<Expr>),
+}
+
+// Operators group to the left, as many as a text has, so the left side is taken apart in a loop; the calls nest no deeper than brackets and levels do.
+impl Drop for Expr {
+    fn drop(mut self) {
+        loop {
+            match self {
+                Expr::Const(_) | Expr::Var(_) => return,
+                Expr::Not(inner) => self = Box::into_inner(inner),
+                Expr::Bin(_, first, second) => {
+                    drop(second);
+                    self = Box::into_inner(first);
+                }
+            }
+        }
+    }
 }
 
 /// The variable that stands for the hole `_` of a template.

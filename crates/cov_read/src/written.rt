@@ -1,4 +1,4 @@
-//! Expressions as they are read, with their measures, and how they are given back to memory.
+//! Expressions as they are read, with their measures.
 
 ghost use Rattle.std.specs.Prelude.{◌≡◌, ◌+◌, min, IfOk};
 ghost use Rattle.cov_expr.specs.declared.limits.TheConstants.{MOST_HEIGHT, MOST_NODES};
@@ -24,23 +24,7 @@ pub struct Written {
 
 impl Drop for Written {
     fn drop(self) {
-        take_apart(self.into_expr());
-    }
-}
-
-/// Gives back the memory of an expression. Operators group to the left, as many as a text has, so the left side is taken
-/// apart in a loop; the calls nest no deeper than brackets and levels do.
-fn take_apart(expr: Expr) {
-    let mut left = expr;
-    loop {
-        match left {
-            Expr::Const(_) | Expr::Var(_) => return,
-            Expr::Not(inner) => left = Box::into_inner(inner),
-            Expr::Bin(_, first, second) => {
-                take_apart(Box::into_inner(second));
-                left = Box::into_inner(first);
-            }
-        }
+        drop(self.into_expr());
     }
 }
 

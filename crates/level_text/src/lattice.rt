@@ -15,11 +15,23 @@ pub enum LevelClass {
 }
 
 /// Levels, named by number in the order of their declarations, and classes of variables over them.
-#[derive(Drop)]
 pub struct Levels {
     pub names: List<Name>,
     /// For each level those that it is declared to lie above. They are declared earlier.
     pub below: List<List<u32>>,
     /// The variables that are listed, each with its class.
     pub classes: List<(u32, LevelClass)>,
+}
+
+impl Drop for Levels {
+    fn drop(self) {
+        let Levels {
+            names,
+            below,
+            classes,
+        } = self;
+        drop(names);
+        drop(below);
+        drop(classes);
+    }
 }

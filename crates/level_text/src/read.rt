@@ -23,11 +23,23 @@ use cov_text::{Counted, Excess, Limit, ParseFault, deep};
 use std::alloc::Global;
 
 /// A text with its tree.
-#[derive(Drop)]
 pub struct ReadText {
     pub names: NameTable,
     pub tokens: List<Token>,
     pub text: PlacedLevels,
+}
+
+impl Drop for ReadText {
+    fn drop(self) {
+        let ReadText {
+            names,
+            tokens,
+            text,
+        } = self;
+        drop(names);
+        drop(tokens);
+        drop(text);
+    }
 }
 
 /// The tree that a text of at most 1 MiB spells, or its first fault.

@@ -11,10 +11,16 @@ pub struct NamedAt {
 }
 
 /// A level, and those that it is declared to lie above.
-#[derive(Drop)]
 pub struct LevelDecl {
     pub name: NamedAt,
     pub lower: List<NamedAt>,
+}
+
+impl Drop for LevelDecl {
+    fn drop(self) {
+        let LevelDecl { name: _, lower } = self;
+        drop(lower);
+    }
 }
 
 /// An expression that decides, and the level where it doesn't hold.
@@ -25,16 +31,33 @@ pub struct Choice {
 }
 
 /// A variable with its class.
-#[derive(Drop)]
 pub struct ListedVar {
     pub var: NamedAt,
     pub level: NamedAt,
     pub choice: Option<Choice>,
 }
 
+impl Drop for ListedVar {
+    fn drop(self) {
+        let ListedVar {
+            var: _,
+            level: _,
+            choice,
+        } = self;
+        drop(choice);
+    }
+}
+
 /// A text of levels with its places.
-#[derive(Drop)]
 pub struct PlacedLevels {
     pub levels: List<LevelDecl>,
     pub listings: List<ListedVar>,
+}
+
+impl Drop for PlacedLevels {
+    fn drop(self) {
+        let PlacedLevels { levels, listings } = self;
+        drop(levels);
+        drop(listings);
+    }
 }

@@ -143,13 +143,7 @@ pub fn resolved_program(ids: &Ids, p: Parsed) -> Program
     ensures resolved { view.program result ≡ spec.resolved (view.parsed p) }
     ensures words { AreOfWords (view.program result).vars (view.program result).locks (view.program result).threads }
 {
-    let Parsed {
-        version,
-        mut vars,
-        mut locks,
-        mut threads,
-        ..
-    } = p;
+    let (version, mut vars, mut locks, mut threads) = p.into_parts();
     resolve_vars(ids, vars.as_mut_slice());
     resolve_locks(ids, locks.as_mut_slice());
     resolve_threads(ids, threads.as_mut_slice());

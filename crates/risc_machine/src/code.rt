@@ -8,9 +8,15 @@ use crate::parts::{CodeBad, Parts};
 use std::marker::Model;
 
 /// Code: parts without a fault. Contracts see it as its parts.
-#[derive(Drop)]
 pub struct Code {
     parts: Parts,
+}
+
+impl Drop for Code {
+    fn drop(self) {
+        let Code { parts } = self;
+        drop(parts);
+    }
 }
 
 impl Model for Code {

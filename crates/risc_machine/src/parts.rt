@@ -38,19 +38,38 @@ pub struct Line {
 }
 
 /// The code of a thread.
-#[derive(Drop)]
 pub struct ThreadCode {
     pub name: Name,
     pub lines: List<Line>,
 }
 
+impl Drop for ThreadCode {
+    fn drop(self) {
+        let ThreadCode { name: _, lines } = self;
+        drop(lines);
+    }
+}
+
 /// The parts of a code. Only code of version 2 puts out words.
-#[derive(Drop)]
 pub struct Parts {
     pub version: u8,
     pub vars: List<Name>,
     pub locks: List<Name>,
     pub threads: List<ThreadCode>,
+}
+
+impl Drop for Parts {
+    fn drop(self) {
+        let Parts {
+            version: _,
+            vars,
+            locks,
+            threads,
+        } = self;
+        drop(vars);
+        drop(locks);
+        drop(threads);
+    }
 }
 
 /// A fault of parts. Where there are two numbers, these are the thread and the position of a line.

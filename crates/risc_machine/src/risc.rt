@@ -15,10 +15,16 @@ use std::alloc::Global;
 use std::marker::Model;
 
 /// Code that runs. It takes memory when it starts, and none from then on.
-#[derive(Drop)]
 pub struct Risc<'c> {
     code: &'c Code,
     state: State,
+}
+
+impl Drop for Risc<'_> {
+    fn drop(self) {
+        let Risc { code: _, state } = self;
+        drop(state);
+    }
 }
 
 impl<'c> Model for Risc<'c> {

@@ -14,13 +14,29 @@ use cov_expr::{List, apply};
 use flow_model::{Holder, Stepped};
 
 /// What a machine keeps while it runs: what threads share, and the registers and the position of each.
-#[derive(Drop)]
 pub struct State {
     pub memory: List<u32>,
     pub holders: List<Holder>,
     pub said: Vec<u32>,
     pub registers: List<[u32; 8]>,
     pub positions: List<u32>,
+}
+
+impl Drop for State {
+    fn drop(self) {
+        let State {
+            memory,
+            holders,
+            said,
+            registers,
+            positions,
+        } = self;
+        drop(memory);
+        drop(holders);
+        drop(said);
+        drop(registers);
+        drop(positions);
+    }
 }
 
 impl State {

@@ -10,11 +10,23 @@ use flow_model::Holder;
 use std::alloc::Global;
 
 /// What the threads of a machine share: the memory, the holder of each lock, and what was put out, with room for more.
-#[derive(Drop)]
 pub struct Shared {
     pub memory: List<u32>,
     pub holders: List<Holder>,
     pub said: Vec<u32>,
+}
+
+impl Drop for Shared {
+    fn drop(self) {
+        let Shared {
+            memory,
+            holders,
+            said,
+        } = self;
+        drop(memory);
+        drop(holders);
+        drop(said);
+    }
 }
 
 impl Shared {

@@ -20,11 +20,22 @@ use std::alloc::Global;
 use std::marker::Model;
 
 /// A program that runs. It takes memory when it starts, and none from then on.
-#[derive(Drop)]
 pub struct Source<'p> {
     program: &'p Program,
     shared: Shared,
     threads: Vec<Thread<'p>>,
+}
+
+impl Drop for Source<'_> {
+    fn drop(self) {
+        let Source {
+            program: _,
+            shared,
+            threads,
+        } = self;
+        drop(shared);
+        drop(threads);
+    }
 }
 
 impl<'p> Model for Source<'p> {

@@ -28,10 +28,16 @@ use std::alloc::Global;
 /// A frame is what is left of a block, as a place in the program. The last frame is the innermost. Each begins with a
 /// statement that takes a step, so none is empty. A frame below the body of a loop begins with that loop, which is thus
 /// tried again where the body ends.
-#[derive(Drop)]
 pub struct Thread<'p> {
     frames: Vec<&'p [Stmt]>,
     word: Option<u32>,
+}
+
+impl Drop for Thread<'_> {
+    fn drop(self) {
+        let Thread { frames, word: _ } = self;
+        drop(frames);
+    }
 }
 
 impl<'p> Thread<'p> {

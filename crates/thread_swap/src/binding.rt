@@ -14,6 +14,7 @@ use crate::swap_fault::SwapFault;
 use cov_ast::{Parsed, Program, ThreadDecl};
 use cov_expr::List;
 use std::alloc::Global;
+use std::mem::replace;
 
 /// The threads of a text, in its order, by the variables and locks of a program: each may stand in the place of the thread of the
 /// program that has its name. Names of threads may repeat. Else the first fault of the text, kind by kind.
@@ -34,22 +35,8 @@ pub fn bind(alloc: Global, p: &Program, e: Parsed) -> Result<List<ThreadDecl>, S
     if let Some(at) = no_thread_at(p, e.threads.as_slice()) {
         return Err(SwapFault::NoThread(at));
     }
-    let Parsed {
-        version,
-        names,
-        uses,
-        vars,
-        locks,
-        threads,
-    } = e;
-    let rest = Parsed {
-        version,
-        names,
-        uses,
-        vars,
-        locks,
-        threads: List::new(alloc),
-    };
+    let mut rest = e;
+    let threads = replace(&mut rest.threads, List::new(alloc));
     bound_threads(alloc, p, &rest, threads)
 }
 

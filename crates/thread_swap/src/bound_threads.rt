@@ -20,6 +20,7 @@ use cov_ast::{
 use cov_expr::{List, NoMemory};
 use policy_class::resolve;
 use std::alloc::Global;
+use std::mem::replace;
 
 /// Threads, in their order, by the ids of a program, or else where the names of their text are first used as what the program doesn't
 /// have. Names of threads may repeat.
@@ -120,8 +121,8 @@ fn bound_apart(
     let text = text_over(alloc, p, names, threads)?;
     match resolve(alloc, text) {
         Ok(made) => {
-            let Program { threads, .. } = made;
-            Ok(threads)
+            let mut made = made;
+            Ok(replace(&mut made.threads, List::new(alloc)))
         }
         Err(CheckFault::Refused(refusal)) => Err(SwapFault::Unknown(refusal.place)),
         Err(CheckFault::NoMemory) => Err(SwapFault::NoMemory),

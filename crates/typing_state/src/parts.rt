@@ -24,12 +24,26 @@ use std::alloc::Global;
 use std::rc::Rc;
 
 /// What a point keeps. It is large, and a point has it behind a box: so it is changed where it stands, and moved as one address.
-#[derive(Drop)]
 pub struct Parts {
     pub modes: ModeState,
     pub variables: Rc<Variables, Global>,
     pub types: Types,
     pub preds: Predicates,
+}
+
+impl Drop for Parts {
+    fn drop(self) {
+        let Parts {
+            modes,
+            variables,
+            types,
+            preds,
+        } = self;
+        drop(modes);
+        drop(variables);
+        drop(types);
+        drop(preds);
+    }
 }
 
 impl Parts {

@@ -29,7 +29,6 @@ const FEW: usize = 8;
 
 /// Expressions, each once. Where there are more than a few, their keys are kept in the same order, by which the index of one is
 /// found. Contracts see the list of the expressions.
-#[derive(Drop)]
 pub struct Predicates {
     list: List<Expr>,
     keys: Option<IndexSet<Key>>,
@@ -37,6 +36,19 @@ pub struct Predicates {
     false_ones: usize,
     /// How many of them have more than 1,000 nodes.
     large_ones: usize,
+}
+
+impl Drop for Predicates {
+    fn drop(self) {
+        let Predicates {
+            list,
+            keys,
+            false_ones: _,
+            large_ones: _,
+        } = self;
+        drop(list);
+        drop(keys);
+    }
 }
 
 impl Model for Predicates {

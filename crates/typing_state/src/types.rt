@@ -22,13 +22,24 @@ use std::marker::Model;
 use std::rc::Rc;
 
 /// A type of a variable, whether it is small, and what it mentions. Contracts see it as its expression.
-#[derive(Drop)]
 pub struct Type {
     expr: Expr,
     small: bool,
     closed: bool,
     /// The variables that it mentions, of as many as a program may have.
     mentioned: Mask,
+}
+
+impl Drop for Type {
+    fn drop(self) {
+        let Type {
+            expr,
+            small: _,
+            closed: _,
+            mentioned: _,
+        } = self;
+        drop(expr);
+    }
 }
 
 impl Model for Type {
@@ -108,7 +119,6 @@ impl Type {
 
 /// Of each variable its type, if it has one, and how many of them are large. Copies share the types. Contracts see the list of
 /// the types.
-#[derive(Drop)]
 pub struct Types {
     known: List<Option<Rc<Type, Global>>>,
     large: usize,
@@ -116,6 +126,19 @@ pub struct Types {
     varying: Mask,
     /// Those that the types mention.
     groups: Groups,
+}
+
+impl Drop for Types {
+    fn drop(self) {
+        let Types {
+            known,
+            large: _,
+            varying: _,
+            groups,
+        } = self;
+        drop(known);
+        drop(groups);
+    }
 }
 
 impl Model for Types {
