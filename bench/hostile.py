@@ -85,7 +85,7 @@ LEVELS = b"level pub; level sec: pub; level all: pub, sec; var key: sec when 1 e
 UNSEEN = b"level sec; level pub; var mode: sec;"
 WORDS = [["check", "p"], ["fmt", "p"], ["migrate", "p"], ["compile", "p"], ["run", "p", "s", "k"], ["run-code", "p", "s", "k"],
          ["run-until", "p", "s", "k", "mode == 1"], ["pair", "p", "s", "t", "k"], ["pair-code", "p", "s", "t", "k"], ["object", "p"], ["unobject", "o"], ["refute", "p", "20"], ["swap", "p", "e"],
-         ["levels", "p", "l"], ["levels", "p", "u"]]
+         ["levels", "p", "l"], ["levels", "p", "u"], ["annotate", "p", "1"]]
 
 
 def write_writer(folder):
@@ -562,6 +562,14 @@ def limit_rows():
     yield row("`levels` by 250 classes of 964 nodes, and 10 assignments to their control, for 8 levels", "var c: low; " + low(250)
               + f"thread t assume nowrite c, {all_of(250)} {{ " + "c := 1; " * 10 + "}", "levels p l",
               l=(eight + "".join(f"var v{i}: l{i % 8} when {large_class(480)} else l7; " for i in range(250))).encode())
+    yield row("`annotate` of 9,990 assignments of width 7, of up to 2 steps", code, "annotate p 2")
+    yield row("`annotate` of 1,200 notes of 64 predicates, of up to 2 steps", low(64) + f"thread t assume nowrite {all_of(64)} {{ " + "".join(f"v{i} := {i}; " for i in range(64))
+              + ("note { " + ", ".join(f"v{i} == {i}" for i in range(64)) + " }; ") * 1200 + "}", "annotate p 2")
+    sums = [(f"v{i}", f"{i} + v0") for i in range(1, 64)]
+    for steps, notes in ((1, 900), (2, 4)):
+        yield row(f"`annotate` of {notes} predicates that don't follow from 63 equations, of up to {steps} steps", low(65) + f"thread t assume nowrite {all_of(65)} {{ "
+                  + "".join(f"{x} := {e}; " for x, e in sums)
+                  + "".join(f"note {{ {', '.join(f'{x} == {e}' for x, e in sums)}, v64 == v1 * {i} }}; " for i in range(2, notes + 2)) + "}", f"annotate p {steps}")
     yield row("a start of 4 MiB of blanks", loop, "run p s k", s=b" " * (longest - 8) + b'{"v0":0}', k=b"[]")
     yield row("a start of 4 MiB of one string", loop, "run p s k", s=b'{"' + b"a" * (longest - 6) + b'":0}', k=b"[]")
     yield row("a start of 4 MiB of keys", loop, "run p s k", s=repeated(b'{"v0":0', b',"a":0', b"}", longest), k=b"[]")

@@ -10,11 +10,11 @@ use Rattle.cov_ast.specs.WellFormed.{are_distinct, places, places_within, IsWell
 use Rattle.entail_cert.specs.Valid.{is_valid}
 use Rattle.mode_compat.specs.Compatible.{no_thread, numbered, threads_of}
 use Rattle.typing_law.specs.Entailments.{Entailment, cert_for}
-use Rattle.typing_law.specs.ThreadEntailments.{PlacedEntailment, placed_from, placed_proofs, proofs_among, proofs_within, thread_entailments}
+use Rattle.typing_law.specs.ThreadEntailments.{PlacedEntailment, is_proved_in, placed_from, placed_proofs, proofs_among, proofs_at, proofs_within, thread_entailments}
 use Rattle.cert_search.specs.Classes.{IsFound, HasNone}
 use Rattle.cert_search.proofs.Sound.{search_sound}
 use Rattle.cert_search.proofs.Told.{told}
-use Rattle.annotate.specs.Annotated.{annotated, as_choice, cert_of, choices, choices_among, found_for, is_proved_in, IsAnnotated, IsChoice, open_in_thread, open_of, proofs_at, searched, unproved}
+use Rattle.annotate.specs.Annotated.{annotated, as_choice, cert_of, choices, choices_among, found_for, IsAnnotated, IsChoice, open_in_thread, open_of, searched, unproved}
 use Rattle.annotate.specs.NotFound.{is_not_found, not_found, not_found_in_thread}
 use Rattle.annotate.specs.WithCertificates.{AreRisingAbove, chosen_for, put_in, put_in_stm, put_in_threads, with_certs}
 use Rattle.annotate.proofs.PutLaws.{certs_given}
@@ -98,7 +98,7 @@ module _ (depth : ℕ) (body : Block) where
       go (Some c) k l = (h, l)
 
 -- the places of the statements of each thread differ
-places_differ : (p : Program) → IsWellFormed p → (t : ℕ) → IsTrue (are_distinct (◌==◌) (places (numbered p t).body))
+pub places_differ : (p : Program) → IsWellFormed p → (t : ℕ) → IsTrue (are_distinct (◌==◌) (places (numbered p t).body))
 places_differ p formed t =
     elim (cases_lt t (length p.threads)) [
       | inl h ↦ (formed.bodies t no_thread h).places_differ

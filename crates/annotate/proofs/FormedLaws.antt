@@ -37,7 +37,7 @@ module _ (depth : ℕ) (p : Program) (formed : IsWellFormed p) (t : ℕ) where
   pub choices_in_range : (x : ℕ) → All (λ c. IsCertInRange (length p.vars) (length p.locks) c.1) (choices depth p t x)
   choices_in_range x = λ k d lt. (choice_in_range x _ (choices_are depth p t x k d lt)).0
 
-  choices_have_words : (x : ℕ) → All (λ c. CertHasWords c.1) (choices depth p t x)
+  pub choices_have_words : (x : ℕ) → All (λ c. CertHasWords c.1) (choices depth p t x)
   choices_have_words x = λ k d lt. (choice_in_range x _ (choices_are depth p t x k d lt)).1
 
 -- Blocks -------------------------------------------------------------------------------------------------------

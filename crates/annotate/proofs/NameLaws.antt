@@ -99,7 +99,7 @@ module _ (p : Parsed) (named : AreVariablesNamed p) where
       (each_named (var_names p) p.names named x (subst (λ n. x < n) (sym (names_length p.vars)) h))
 
   module _ (small : length p.vars ≤ HOLE) where
-    var_below : (x : ℕ) → x < length p.vars → resolved_var (name_number p) (λ l. l) x < length p.names
+    pub var_below : (x : ℕ) → x < length p.vars → resolved_var (name_number p) (λ l. l) x < length p.names
     var_below x h =
         let no_hole : (x == HOLE) ≡ false = ne_eqb x HOLE (λ e. omega (arith, h, small, e)) in
         subst (λ b. (if b then x else name_number p x) < length p.names) (sym no_hole) (name_is x h).1
@@ -148,7 +148,7 @@ module _ (p : Parsed) (named : AreVariablesNamed p) where
 -- Obligations --------------------------------------------------------------------------------------------------
 
 -- first refusals behind obligations that hold
-first_behind : (os rest : List Obligation) → IsTrue (all_hold os) → first_false (os ++ rest) ≡ first_false rest
+pub first_behind : (os rest : List Obligation) → IsTrue (all_hold os) → first_false (os ++ rest) ≡ first_false rest
 first_behind [] rest h = refl
 first_behind (o ∷ os) rest h = go o.holds h (first_behind os rest)
   where
@@ -164,7 +164,7 @@ none_refused_is_accepted depth p =
     (none_refused os, λ h. ap first_false (sym (append-nil os)) ∙ first_behind os [] h)
 
 module _ (p : Parsed) where
-  all_declared : (us : List NameUse) → IsTrue (all_hold (map (use_obligation p) us)) → All (λ u. IsTrue (is_declared p u)) us
+  pub all_declared : (us : List NameUse) → IsTrue (all_hold (map (use_obligation p) us)) → All (λ u. IsTrue (is_declared p u)) us
   all_declared [] h = All-nil (λ u. IsTrue (is_declared p u))
   all_declared (u ∷ us) h =
       let both = and_parts (is_declared p u) (all_hold (map (use_obligation p) us)) h in

@@ -2,31 +2,24 @@
 --
 -- An entailment keeps its certificate where that is valid. Where it isn't, and the class of a depth has a valid one, it has the first that the search
 -- comes to. Else it keeps what it has, and is open.
-use Rattle.std.specs.Prelude.{◌≡◌, ◌⊎◌, ℕ, ◌==◌, List, [], ◌∷◌, ◌++◌, map, filter, flat_map, Contains, Bool, true, false, not, if◌then◌else◌, Option, Some, None}
+use Rattle.std.specs.Prelude.{◌≡◌, ◌⊎◌, ℕ, ◌==◌, List, [], ◌∷◌, ◌++◌, map, filter, flat_map, Contains, true, false, not, if◌then◌else◌, Option, Some, None}
 use Rattle.cov_ast.specs.Obligations.{first_false}
 use Rattle.cov_ast.specs.Syntax.{Cert, Proof, Block, Program}
 use Rattle.cov_ast.specs.declared.refusal.Refusal.{Refusal}
 use Rattle.mode_compat.specs.Compatible.{numbered, threads_of}
 use Rattle.typing_law.specs.Accepted.{program_obligations}
 use Rattle.typing_law.specs.Entailments.{cert_for, is_proved}
-use Rattle.typing_law.specs.ThreadEntailments.{PlacedEntailment, placed_proofs, proofs_among, thread_entailments}
+use Rattle.typing_law.specs.ThreadEntailments.{PlacedEntailment, is_proved_in, proofs_at, thread_entailments}
 use Rattle.cert_search.specs.Classes.{IsFound, HasNone}
 use Rattle.cert_search.specs.Searching.{search}
 use Rattle.annotate.specs.WithCertificates.{put_in_program}
+use Rattle.annotate.specs.declared.outcome.Open.{Open}
 
 -- What a body has for an entailment ----------------------------------------------------------------------------
-
--- the proofs of the statement at a place
-abbrev pub proofs_at : Block → (place : ℕ) → List Proof
-proofs_at body place = proofs_among (placed_proofs body) place
 
 -- the certificate of an entailment
 abbrev pub cert_of : Block → PlacedEntailment → Cert
 cert_of body g = cert_for (proofs_at body g.place) g.number
-
--- whether it is proved there: that certificate is valid
-abbrev pub is_proved_in : Block → PlacedEntailment → Bool
-is_proved_in body g = is_proved (proofs_at body g.place) g.number g.entailment
 
 -- What is chosen -----------------------------------------------------------------------------------------------
 
@@ -77,13 +70,7 @@ IsAnnotated depth before after g =
 
 -- What is open -------------------------------------------------------------------------------------------------
 
--- an entailment of a program, by its thread, the place of its statement, and its number there
-pub record Open : Type 0 where
-  pub thread : ℕ
-  pub place : ℕ
-  pub number : ℕ
-
--- an entailment of a thread in this way
+-- an entailment of a thread, by its thread, the place of its statement, and its number there
 abbrev pub open_of : (t : ℕ) → PlacedEntailment → Open
 open_of t g = record { thread = t; place = g.place; number = g.number }
 

@@ -2,8 +2,9 @@
 use Rattle.std.specs.Prelude.{ℕ, ◌&&◌, List, map, filter, flat_map, Bool, not, is_none}
 use Rattle.cov_ast.specs.Syntax.{Block, Program}
 use Rattle.mode_compat.specs.Compatible.{numbered, threads_of}
-use Rattle.typing_law.specs.ThreadEntailments.{PlacedEntailment, thread_entailments}
-use Rattle.annotate.specs.Annotated.{is_proved_in, Open, open_of, searched}
+use Rattle.typing_law.specs.ThreadEntailments.{PlacedEntailment, is_proved_in, thread_entailments}
+use Rattle.annotate.specs.Annotated.{open_of, searched}
+use Rattle.annotate.specs.declared.outcome.Open.{Open}
 
 -- whether an entailment of a body has no valid certificate, and none is found
 abbrev pub is_not_found : (depth : ℕ) → Block → PlacedEntailment → Bool

@@ -10,14 +10,19 @@ ghost use Rattle.cov_ast.specs.WellFormed.{IsCertInRange, IsWellFormed, places};
 ghost use Rattle.cov_grammar.specs.Grammar as grammar;
 ghost use Rattle.cov_grammar.specs.PlacedTrees as placed;
 ghost use Rattle.cov_text.specs.Limits as limits;
-ghost use Rattle.cov_text.specs.Text.{IsText, program_of};
+ghost use Rattle.cov_text.specs.GivenTrees.{parsed_of};
+ghost use Rattle.cov_text.specs.Text.{IsText, names_of, program_of};
+ghost use Rattle.cov_ast.specs.declared.parsed.NameUse.{NameUse};
+ghost use Rattle.cov_print.specs.ReadBack.{SpellsProgram};
+ghost use Rattle.cov_print.specs.Spelling.{spelling};
+ghost use Rattle.cov_print.specs.Unplaced.{unplaced};
 ghost use Rattle.mode_compat.specs.Compatible.{no_thread, numbered};
 ghost use Rattle.mode_compat.specs.Declared.{declaration_obligations};
 ghost use Rattle.policy_class.specs.Resolved.{lock_id, name_obligations, resolved, resolved_cert, var_id};
 ghost use Rattle.typing_law.specs.Accepted.{IsAccepted, program_obligations};
 ghost use Rattle.typing_law.specs.Entailments.{cert_for};
-ghost use Rattle.typing_law.specs.ThreadEntailments.{thread_entailments};
-ghost use Rattle.annotate.specs.Annotated.{annotated, choices, first_refused, IsAnnotated, IsChoice, proofs_at, unproved};
+ghost use Rattle.typing_law.specs.ThreadEntailments.{proofs_at, thread_entailments};
+ghost use Rattle.annotate.specs.Annotated.{annotated, choices, first_refused, IsAnnotated, IsChoice, unproved};
 ghost use Rattle.annotate.specs.AnnotatedText.{annotated_text, AreKeptOrNew, IsAsRead, IsUseOfChosen, put_in_text, unresolved_cert, uses_at};
 ghost use Rattle.annotate.specs.NotFound.{not_found};
 ghost use Rattle.annotate.specs.WithCertificates.{AreRisingAbove, chosen_for, is_given, new_among, program_without_proofs, proof_of, thread_without_proofs, with_certs};
@@ -113,4 +118,20 @@ pub fn uses_stay_in_order()
     ensures new { (chosen : (t : ℕ) → (place : ℕ) → List (ℕ × syntax.Cert)) → (p : syntax.Parsed) → (t : ℕ) → (place : ℕ)
         → Contains (places (get_or p.threads t no_thread).body) place → (n : ℕ) → (c : syntax.Cert) → chosen_for (chosen t place) n ≡ Some c
         → All (Contains (put_in_text chosen p).uses) (uses_at place c) }
+{}
+
+/// Where a text is read, each tree of the annotated text is within the limits of a text, places aside, at depths of at most 2.
+pub fn annotated_texts_are_within_limits()
+    ensures { (text : List ℕ) → (tree : placed.Program) → IsText grammar.program limits.in_program text tree → (depth : ℕ) → depth ≤ 2
+        → (made : placed.Program) → (uses : List NameUse) → unplaced (parsed_of (names_of text) uses made) ≡ unplaced (annotated_text depth (program_of text tree))
+        → limits.in_program made ≡ None }
+{}
+
+/// Where a text is read, its names are in order and its program is well formed, the canonical spelling of the annotated text, of a depth of at most 2, is read as
+/// the annotated text, places aside, unless it is longer than a text may be.
+pub fn annotated_spelling_is_read()
+    ensures { (text : List ℕ) → length text ≤ MOST_BYTES → (tree : placed.Program) → IsText grammar.program limits.in_program text tree
+        → IsWellFormed (resolved (program_of text tree)) → IsTrue (all_hold (name_obligations (program_of text tree))) → (depth : ℕ) → depth ≤ 2
+        → length (spelling (annotated_text depth (program_of text tree))) ≤ MOST_BYTES
+        → SpellsProgram (spelling (annotated_text depth (program_of text tree))) (annotated_text depth (program_of text tree)) }
 {}

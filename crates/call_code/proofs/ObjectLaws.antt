@@ -17,7 +17,7 @@ use Rattle.call_inputs.proofs.TextLaws.{program_reading, not_some}
 use Rattle.call_inputs.specs.Plans.{RepliesAt, RepliesOver}
 use Rattle.call_inputs.specs.Programs.{IsShownFault, SpellsProgram}
 use Rattle.call_inputs.specs.Readings.{FollowsBytes, FollowsCall, Over, answer_by, gives, tries}
-use Rattle.call_inputs.specs.Rejections.{Rejection, by_rule, by_rule_for, misfit, no_form, rejected, unfit}
+use Rattle.call_inputs.specs.Rejections.{Rejection, by_rule, by_rule_for, by_rule_open, misfit, no_form, rejected, unfit}
 use Rattle.call_judge.specs.Check.{rejection}
 use Rattle.call_reports.specs.Replies.{Reply, malformed, spelled, status_of}
 use Rattle.call_reports.specs.declared.answers.Fault.{Fault}
@@ -68,6 +68,7 @@ never_rejected : (text : List ℕ) (rejection : Rejection) → spelled text ≡ 
 never_rejected text no_form e = cc
 never_rejected text (by_rule refusal thread) e = cc
 never_rejected text (by_rule_for level refusal thread) e = cc
+never_rejected text (by_rule_open refusal thread lines) e = cc
 never_rejected text (unfit name) e = cc
 never_rejected text (misfit name fault) e = cc
 

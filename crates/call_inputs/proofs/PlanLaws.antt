@@ -22,7 +22,7 @@ use Rattle.call_reports.proofs.EndLaws.{ends_onward}
 use Rattle.call_inputs.specs.Plans.{CarriesOut, CarriesOutAsking, CountsAt, EndsAt, GetsAt, IsMet, LacksMemory, Performs, PerformsAsking, Plan, RepliesAt, RepliesOver, Rises, asks, does}
 use Rattle.call_inputs.specs.Readings.{End, FollowsBytes, FollowsCall, HasRead, Over, Reading, Reads, Takes, answer_by, argument, ended, file, gives, lacks, stopped, stops, then_read, took, tries}
 use Rattle.call_inputs.specs.Steps.{bytes}
-use Rattle.call_inputs.specs.Rejections.{Rejection, UnlessRejected, by_rule, by_rule_for, misfit, no_form, rejected, unfit}
+use Rattle.call_inputs.specs.Rejections.{Rejection, UnlessRejected, by_rule, by_rule_for, by_rule_open, misfit, no_form, rejected, unfit}
 use Rattle.call_inputs.proofs.ReadingLaws.{AreReadings, LeftAt, Onward, Reliable, answer_whole, bytes_read, call_one, bytes_one, left_passes, reads_exact, reads_onward, reads_pass, reads_rose, reads_then, reads_took}
 
 -- How a call ends ----------------------------------------------------------------------------------------------
@@ -69,6 +69,7 @@ rejected_no_result : (rejection : Rejection) → NoResult (rejected rejection)
 rejected_no_result no_form h = h
 rejected_no_result (by_rule refusal thread) h = h
 rejected_no_result (by_rule_for level refusal thread) h = h
+rejected_no_result (by_rule_open refusal thread lines) h = h
 rejected_no_result (unfit name) h = h
 rejected_no_result (misfit name fault) h = h
 
@@ -218,6 +219,7 @@ module _ (before after : Shelved) (old new : Sunk) (status : Status) where
       rejects no_form e = cc
       rejects (by_rule refusal thread) e = cc
       rejects (by_rule_for level refusal thread) e = cc
+      rejects (by_rule_open refusal thread lines) e = cc
       rejects (unfit name) e = cc
       rejects (misfit name fault) e = cc
 

@@ -1,6 +1,6 @@
 -- An answer of the code as the reply that it is, and what a step of the code gives: the words of public calls that hand an answer on.
 use Rattle.std.specs.Prelude.{Result, Ok, Err}
-use Rattle.call_reports.specs.Replies.{Reply, usage, read_fault, too_long, malformed, refused, refused_for, accepted, spelled, ran, bad_starts, differ, refuted}
+use Rattle.call_reports.specs.Replies.{Reply, usage, read_fault, too_long, malformed, refused, refused_for, refused_open, accepted, spelled, ran, bad_starts, differ, refuted}
 use Rattle.call_reports.specs.declared.answers.Answer.{Answer}
 use Rattle.call_reports.specs.declared.answers.Answer.TheVariants as a
 use Rattle.call_reports.specs.declared.answers.Stop.{Stop}
@@ -14,6 +14,7 @@ seen (a.TooLong name) = too_long name.now
 seen (a.Malformed name fault) = malformed name.now fault
 seen (a.Refused refusal thread) = refused refusal thread
 seen (a.RefusedFor level refusal thread) = refused_for level refusal thread
+seen (a.RefusedOpen refusal thread lines) = refused_open refusal thread lines
 seen (a.Accepted counts) = accepted counts.threads counts.statements counts.entailments
 seen (a.Spelled text) = spelled text
 seen (a.Ran report) = ran report

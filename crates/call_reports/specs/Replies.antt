@@ -6,7 +6,8 @@ use Rattle.call_reports.specs.declared.answers.Status.{Status}
 use Rattle.call_reports.specs.declared.answers.Status.TheVariants as s
 
 -- what a call answers, the want of memory and a failed write aside; a name is a word of the command line, but for that of
--- the thread in which a rule of statements is broken, that of a level, and those of declarations on which two starts or two runs differ
+-- the thread in which a rule of statements is broken, that of a level, and those of declarations on which two starts or two runs differ;
+-- behind a refusal there may stand lines of what is left unproved
 pub data Reply : Type 0 where
   usage : Reply
   read_fault : (name : List ℕ) → Reply
@@ -14,6 +15,7 @@ pub data Reply : Type 0 where
   malformed : (name : List ℕ) → Fault → Reply
   refused : Refusal → (thread : Option (List ℕ)) → Reply
   refused_for : (level : List ℕ) → Refusal → (thread : Option (List ℕ)) → Reply
+  refused_open : Refusal → (thread : Option (List ℕ)) → (lines : List ℕ) → Reply
   accepted : (threads statements entailments : ℕ) → Reply
   spelled : (text : List ℕ) → Reply
   ran : (report : List ℕ) → Reply
@@ -28,6 +30,7 @@ status_of (too_long name) = s.TooLong
 status_of (malformed name fault) = s.Malformed
 status_of (refused refusal thread) = s.Refused
 status_of (refused_for level refusal thread) = s.Refused
+status_of (refused_open refusal thread lines) = s.Refused
 status_of (accepted threads statements entailments) = s.Done
 status_of (spelled text) = s.Done
 status_of (ran report) = s.Done

@@ -5,7 +5,7 @@ use Rattle.cov_ast.specs.declared.refusal.Rule.TheVariants as r
 use Rattle.cov_ast.specs.declared.refusal.Detail.{Detail}
 use Rattle.cov_ast.specs.declared.refusal.Detail.TheVariants as d
 use Rattle.cov_ast.specs.declared.refusal.Refusal.{Refusal}
-use Rattle.call_reports.specs.Replies.{Reply, usage, read_fault, too_long, malformed, refused, refused_for, accepted, spelled, ran, bad_starts, differ, refuted}
+use Rattle.call_reports.specs.Replies.{Reply, usage, read_fault, too_long, malformed, refused, refused_for, refused_open, accepted, spelled, ran, bad_starts, differ, refuted}
 use Rattle.call_reports.specs.declared.answers.Fault.{Fault}
 use Rattle.call_reports.specs.declared.answers.Fault.TheVariants as f
 use Rattle.call_reports.specs.declared.answers.FaultKind.{FaultKind}
@@ -108,6 +108,10 @@ refusal_text refusal thread = refusal_words refusal thread ++ codes "\n"
 abbrev pub refusal_for_text : (level : List ℕ) → Refusal → (thread : Option (List ℕ)) → List ℕ
 refusal_for_text level refusal thread = codes "observer " ++ level ++ codes "\n" ++ refusal_text refusal thread
 
+-- a line of that, and then lines of what is left unproved
+abbrev pub refusal_open_text : Refusal → (thread : Option (List ℕ)) → (lines : List ℕ) → List ℕ
+refusal_open_text refusal thread lines = refusal_text refusal thread ++ lines
+
 -- Counts -------------------------------------------------------------------------------------------------------
 
 -- how much a program has that is accepted
@@ -125,6 +129,7 @@ report_of (too_long name) = codes "too long: " ++ name ++ 10 ∷ []
 report_of (malformed name fault) = codes "malformed " ++ name ++ codes ": " ++ fault_text fault ++ codes "\n"
 report_of (refused refusal thread) = refusal_text refusal thread
 report_of (refused_for level refusal thread) = refusal_for_text level refusal thread
+report_of (refused_open refusal thread lines) = refusal_open_text refusal thread lines
 report_of (accepted threads statements entailments) = accepted_words threads statements entailments ++ codes "\n"
 report_of (spelled text) = text
 report_of (ran report) = report

@@ -131,6 +131,8 @@ pub enum Answer<'w> {
     Refused(Refusal, Option<Name>),
     /// The name of the first level whose observer is shown a program that breaks a rule, and the same of that program.
     RefusedFor(Name, Refusal, Option<Name>),
+    /// The first rule that is broken where no certificate was found, the name of the thread, and the lines of what is left unproved.
+    RefusedOpen(Refusal, Option<Name>, Blob),
     Accepted(Totals),
     /// The canonical spelling of a program, or the listing or the object of a code.
     Spelled(Blob),
@@ -170,7 +172,9 @@ pub fn status_for(answer: &Answer<'_>) -> Status
         Answer::ReadFault(_) => Status::ReadFault,
         Answer::TooLong(_) => Status::TooLong,
         Answer::Malformed(_, _) => Status::Malformed,
-        Answer::Refused(_, _) | Answer::RefusedFor(_, _, _) => Status::Refused,
+        Answer::Refused(_, _) | Answer::RefusedFor(_, _, _) | Answer::RefusedOpen(_, _, _) => {
+            Status::Refused
+        }
         Answer::Accepted(_) | Answer::Spelled(_) | Answer::Ran(_) => Status::Done,
         Answer::BadStarts(_) => Status::BadStarts,
         Answer::Differ(_, _) | Answer::Refuted(_) => Status::Differ,

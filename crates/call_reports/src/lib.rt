@@ -27,8 +27,8 @@ pub use answers::{Answer, Fault, FaultKind, Misfit, Status, Stop, Totals, status
 pub use code_reports::{code_pair_report, code_report};
 pub use differences::{bad_name, differ_line, differ_text};
 pub use ends::end;
-pub use lines::{add_number, add_numbered};
+pub use lines::{add_number, add_number_behind, add_numbered};
 pub use refusals::add_refusal;
 pub use reports::{add_accepted, add_counted, report};
-pub use run_reports::{add_pairs, pair_report, run_report, stop_report};
+pub use run_reports::{add_pairs, add_thread_name, pair_report, run_report, stop_report};
 pub use trial_reports::{apart_report, none_report};

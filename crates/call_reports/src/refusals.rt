@@ -38,6 +38,20 @@ pub fn refusal_lines(
     Ok(lines)
 }
 
+/// The line of a refusal, and then those of what is left unproved.
+pub fn refusal_open_lines(
+    alloc: Global,
+    refusal: &Refusal,
+    thread: Option<Name>,
+    unproved: &Blob,
+) -> Result<Blob, NoMemory>
+    ensures { IfOk result (λ lines. lines ≡ spec.refusal_open_text refusal.now thread unproved.now) }
+{
+    let mut lines = refusal_line(alloc, refusal, thread)?;
+    lines.extend_from_slice(unproved.as_slice())?;
+    Ok(lines)
+}
+
 /// Adds what is refused, without the end of the line.
 pub fn add_refusal(refusal: &Refusal, thread: Option<Name>, line: &mut Blob) -> Result<(), NoMemory>
     ensures { OnOk result (line.new ≡ line.old ++ spec.refusal_words refusal.now thread) }

@@ -10,7 +10,7 @@ use crate::answers::{Answer, Totals};
 use crate::differences::differ_line;
 use crate::faults::malformed_line;
 use crate::lines::add_between;
-use crate::refusals::{refusal_line, refusal_lines};
+use crate::refusals::{refusal_line, refusal_lines, refusal_open_lines};
 use cov_expr::{Blob, List, NoMemory};
 use itoa::Buffer;
 use std::alloc::Global;
@@ -25,7 +25,7 @@ pub fn report(alloc: Global, answer: Answer<'_>) -> Result<Blob, NoMemory>
     }
 }
 
-/// The report of an answer that isn't its text: a line, or two.
+/// The report of an answer that isn't its text: a line, or more that are refused.
 fn line(alloc: Global, answer: &Answer<'_>) -> Result<Blob, NoMemory>
     ensures { IfOk result (λ text. IsLine (seen answer.now) text) }
 {
@@ -37,6 +37,9 @@ fn line(alloc: Global, answer: &Answer<'_>) -> Result<Blob, NoMemory>
         Answer::Refused(refusal, thread) => refusal_line(alloc, refusal, *thread),
         Answer::RefusedFor(level, refusal, thread) => refusal_lines(
             alloc, *level, refusal, *thread,
+        ),
+        Answer::RefusedOpen(refusal, thread, lines) => refusal_open_lines(
+            alloc, refusal, *thread, lines,
         ),
         Answer::Accepted(counts) => accepted_line(alloc, counts),
         Answer::BadStarts(name) => line_of(alloc, b"bad starts: ", name.as_slice()),

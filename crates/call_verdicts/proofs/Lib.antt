@@ -1,3 +1,4 @@
 pub mod SwapLaws
 mod LevelWords
 pub mod LevelsLaws
+pub mod AnnotationsLaws

@@ -1,3 +1,4 @@
 pub mod Swap
 pub mod Levels
+pub mod Annotations
 pub mod Inside

@@ -1,11 +1,13 @@
-//! The laws of what is judged of programs made from a program: of each on which a line of `swap` accepts, and of what the observer at each level is
-//! shown.
+//! The laws of what is judged of programs made from a program: of each on which a line of `swap` accepts, of what the observer at each level is
+//! shown, and of each that `annotate` puts.
 
 ghost use Rattle.std.specs.Prelude.{◌≡◌, ◌≤◌, ℕ, List, IsTrue, None, length};
 ghost use Rattle.call_inputs.specs.Programs.{SpellsProgram};
 ghost use Rattle.call_judge.specs.Meaning.{AreNamesInOrder};
+ghost use Rattle.call_verdicts.specs.Annotations.{IsSecureAnnotated, annotation_rejection};
 ghost use Rattle.call_verdicts.specs.Levels.{LevelsInput, level_rejection};
 ghost use Rattle.call_verdicts.specs.Swap.{SwapInput, lines_by, misfit_rejection, replacements};
+ghost use Rattle.cov_ast.specs.Syntax as syntax;
 ghost use Rattle.cov_expr.specs.declared.limits.TheConstants.{MOST_BYTES};
 ghost use Rattle.level_text.specs.Lattice.{AreLevels};
 ghost use Rattle.level_text.specs.LevelReads.{GivesLevels};
@@ -14,9 +16,14 @@ ghost use Rattle.policy_class.specs.Resolved.{resolved};
 ghost use Rattle.thread_swap.specs.Judges.{IsSound, Judging};
 ghost use Rattle.thread_swap.specs.SwapLines.{AreSecureIfAccepted, swapped_programs};
 
+use annotate::{
+    annotated_programs_are_formed, annotated_text_is_read, proofs_alone_change,
+    refusals_are_of_the_annotated_text, texts_are_as_read,
+};
 use call_judge::spelled_programs_are_formed;
 use levels::{accepted_are_secure, first_refused_is_first};
 use thread_swap::accepted_lines_are_secure;
+use verify::accepted_is_secure;
 
 /// Where bytes spell a program whose names are in order, and other bytes a text of threads that has no fault beside it, each line on the
 /// program, and on it after a replaced thread, that accepts by an exact judge is on a program that is secure.
@@ -47,4 +54,19 @@ pub fn shown_programs_are_secure()
     spelled_programs_are_formed();
     first_refused_is_first();
     accepted_are_secure();
+}
+
+/// Where bytes spell a program whose names are in order, and of the annotated program every obligation holds, the annotated text is accepted and means what the
+/// program does, which is secure.
+pub fn annotated_programs_are_secure()
+    ensures { (bytes : List ℕ) (depth : ℕ) (p : syntax.Parsed) → length bytes ≤ MOST_BYTES → SpellsProgram bytes p → AreNamesInOrder p
+        → annotation_rejection depth p ≡ None → IsSecureAnnotated depth p }
+{
+    spelled_programs_are_formed();
+    texts_are_as_read();
+    refusals_are_of_the_annotated_text();
+    annotated_text_is_read();
+    annotated_programs_are_formed();
+    proofs_alone_change();
+    accepted_is_secure();
 }

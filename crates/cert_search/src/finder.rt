@@ -39,7 +39,7 @@ pub fn find(
     find_lent(alloc, given.as_slice(), goal, depth)
 }
 
-/// The same of hypotheses that are lent one by one.
+/// The same of hypotheses that are lent one by one, for each depth. At a greater one it looks at as many steps more behind each.
 #[tactic(auto, using(crate::proofs::Told::told))]
 pub fn find_lent(
     alloc: Global,
@@ -47,7 +47,6 @@ pub fn find_lent(
     goal: &Expr,
     depth: u32,
 ) -> Result<Option<Cert>, NoMemory>
-    requires { depth ≤ MOST_DEPTH }
     ensures finds { Finds depth (map lent hyps.now) (term goal.now) result }
     ensures first { IfOk result (λ found. option_map view.cert found ≡ spec.search depth (map lent hyps.now) (term goal.now)) }
 {
@@ -55,7 +54,7 @@ pub fn find_lent(
 }
 
 /// Expressions, each lent.
-fn lent_each<'a>(alloc: Global, exprs: &'a [Expr]) -> Result<List<&'a Expr>, NoMemory>
+pub fn lent_each<'a>(alloc: Global, exprs: &'a [Expr]) -> Result<List<&'a Expr>, NoMemory>
     ensures { IfOk result (λ made. map lent made ≡ map term exprs.now) }
 {
     let mut made = List::with_capacity(alloc, exprs.len())?;

@@ -1,6 +1,6 @@
 //! Programs without their annotations: neither notes, states nor proofs, of which the semantics speaks.
 
-ghost use Rattle.std.specs.Prelude.{◌≡◌, [], ◌++◌, IfOk, None, OnOk, Some, map, option_map};
+ghost use Rattle.std.specs.Prelude.{◌≡◌, [], IfOk, None, OnOk, Some, map, option_map};
 ghost use Rattle.cov_expr.specs.View.{term};
 ghost use Rattle.cov_ast.specs.Plain as spec;
 ghost use Rattle.cov_ast.specs.Syntax as syntax;
@@ -8,7 +8,8 @@ ghost use Rattle.cov_ast.specs.View as view;
 ghost use Rattle.cov_ast.specs.View.{onto};
 ghost use Rattle.cov_ast.specs.WellFormed.{IsWellFormed};
 
-use crate::decl::{Class, LockDecl, Modes, Program, ThreadDecl, VarDecl};
+use crate::copies::{copy_locks, copy_modes, copy_vars};
+use crate::decl::{Program, ThreadDecl};
 use crate::state::State;
 use crate::stmt::{Stmt, StmtKind};
 use cov_expr::{Expr, List, NoMemory, copy};
@@ -29,81 +30,6 @@ pub fn plain(alloc: Global, program: &Program) -> Result<Program, NoMemory>
         vars,
         locks,
         threads,
-    })
-}
-
-fn copy_vars(alloc: Global, vars: &[VarDecl]) -> Result<List<VarDecl>, NoMemory>
-    ensures { IfOk result (λ copies. map view.var copies ≡ map view.var vars.now) }
-{
-    let mut copies = List::new(alloc);
-    for var in vars {
-        copies.push(VarDecl {
-            name: var.name,
-            at: var.at,
-            class: copy_class(alloc, &var.class)?,
-        })?;
-    }
-    Ok(copies)
-}
-
-fn copy_class(alloc: Global, class: &Class) -> Result<Class, NoMemory>
-    ensures { IfOk result (λ copied. view.class copied ≡ view.class class.now) }
-{
-    match class {
-        Class::Low => Ok(Class::Low),
-        Class::High => Ok(Class::High),
-        Class::When(e) => Ok(Class::When(copy(alloc, e)?)),
-    }
-}
-
-fn copy_locks(alloc: Global, locks: &[LockDecl]) -> Result<List<LockDecl>, NoMemory>
-    ensures { IfOk result (λ copies. map view.lock copies ≡ map view.lock locks.now) }
-{
-    let mut copies = List::new(alloc);
-    for lock in locks {
-        let copied = copy_lock(alloc, lock)?;
-        copies.push(copied)?;
-    }
-    Ok(copies)
-}
-
-fn copy_lock(alloc: Global, lock: &LockDecl) -> Result<LockDecl, NoMemory>
-    ensures { IfOk result (λ copied. view.lock copied ≡ view.lock lock.now) }
-{
-    Ok(LockDecl {
-        name: lock.name,
-        at: lock.at,
-        nowrite: copy_numbers(alloc, &lock.nowrite)?,
-        hide: copy_numbers(alloc, &lock.hide)?,
-        inv: copy_option(alloc, &lock.inv)?,
-    })
-}
-
-fn copy_option(alloc: Global, e: &Option<Expr>) -> Result<Option<Expr>, NoMemory>
-    ensures { IfOk result (λ copied. option_map term copied ≡ option_map term e.now) }
-{
-    match e {
-        Some(e) => Ok(Some(copy(alloc, e)?)),
-        None => Ok(None),
-    }
-}
-
-fn copy_numbers(alloc: Global, numbers: &List<u32>) -> Result<List<u32>, NoMemory>
-    ensures { IfOk result (λ copies. copies ≡ numbers.now) }
-{
-    let mut copies = List::new(alloc);
-    copies.extend_from_slice(numbers.as_slice())?;
-    Ok(copies)
-}
-
-fn copy_modes(alloc: Global, modes: &Modes) -> Result<Modes, NoMemory>
-    ensures { IfOk result (λ copied. view.modes copied ≡ view.modes modes.now) }
-{
-    Ok(Modes {
-        assume_nowrite: copy_numbers(alloc, &modes.assume_nowrite)?,
-        assume_hide: copy_numbers(alloc, &modes.assume_hide)?,
-        guarantee_nowrite: copy_numbers(alloc, &modes.guarantee_nowrite)?,
-        guarantee_hide: copy_numbers(alloc, &modes.guarantee_hide)?,
     })
 }
 

@@ -4,6 +4,7 @@
 //!   [`State`]: what a join, a loop or a note states; [`Cert`]: a certificate of an entailment.
 //! - [`NameTable`]: the names of a text, each with its number; [`Parsed`]: what a text spells.
 //! - [`plain`]: the program without annotations.
+//! - [`copy_vars`], [`copy_locks`], [`copy_modes`], [`copy_option`], [`copy_uses`]: equal parts of texts.
 //! - [`Rule`], [`Detail`], [`Refusal`], [`CheckFault`]: why a program isn't accepted.
 //!
 //! Contracts see a tree as plain data: `specs/Syntax.antt` has that data, `specs/View.antt` the views, and
@@ -12,6 +13,7 @@
 
 mod bare;
 mod cert;
+mod copies;
 mod decl;
 mod names;
 mod parsed;
@@ -22,6 +24,7 @@ mod stmt;
 
 pub use bare::{annotations_do_nothing, plain};
 pub use cert::{Cert, Proof};
+pub use copies::{copy_locks, copy_modes, copy_option, copy_uses, copy_vars};
 pub use decl::{Class, LockDecl, Modes, Program, ThreadDecl, VarDecl};
 pub use names::NameTable;
 pub use parsed::{NameUse, Parsed};

@@ -84,4 +84,16 @@ impl NameTable {
             None => None,
         }
     }
+
+    /// An equal table.
+    pub fn copy(&self, alloc: Global) -> Result<NameTable, NoMemory>
+        ensures { IfOk result (λ made. made ≡ self.now) }
+    {
+        let mut made = NameTable::new(alloc);
+        for number in 0..self.len() {
+            let name = self.name(number);
+            made.add(name)?;
+        }
+        Ok(made)
+    }
 }

@@ -4,6 +4,7 @@ mod WalkLaws
 mod BlockLaws
 pub mod NameLaws
 mod IdLaws
+mod CertLaws
 mod UseLaws
 mod Each
 mod Formed

@@ -20,7 +20,8 @@ pub fn resolve_proofs(ids: &Ids, proofs: &mut [Proof])
     }
 }
 
-fn resolve_cert(ids: &Ids, cert: &mut Cert)
+/// Gives each variable of a certificate its id.
+pub fn resolve_cert(ids: &Ids, cert: &mut Cert)
     ensures resolved { view.cert cert.new ≡ spec.resolved_cert (var_in ids.now) (lock_in ids.now) (view.cert cert.old) }
     ensures words { CertHasWords (view.cert cert.new) }
 {

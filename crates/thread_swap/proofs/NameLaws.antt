@@ -1,15 +1,11 @@
--- Names that differ, as the first rule of names and tables of names want them.
-use Rattle.std.proofs.Common.{◌≡◌, ℕ, suc, zero, ◌+◌, ◌<◌, List, [], ◌∷◌, ◌++◌, Bool, true, false, not, cond, take, refl, sym, ap, ◌∙◌, Some, None, if◌then◌else◌}
-use Rattle.std.specs.Prelude.{length, map, slice_get}
-use Rattle.std.specs.List.{AllByRecursion, IsDistinct, list_any}
+-- Names that differ, as the first rule of names wants them.
+use Rattle.std.proofs.Common.{◌≡◌, ℕ, List, [], ◌∷◌, ◌++◌, Bool, true, false, not, cond, refl, sym, ap, ◌∙◌, Some, None}
+use Rattle.std.specs.Prelude.{map}
 use Rattle.std.specs.Str.{bytes_eq}
 use Rattle.std.proofs.lemmas.Bool.{and_from, and_parts, not-true, not_from_false, or_parts, or_from, true≢false}
 use Rattle.std.proofs.lemmas.Cmp.{nat_list_eq_equiv}
-use Rattle.std.proofs.lemmas.List.{take_more}
 use Rattle.std.proofs.lemmas.List.Folds.{list_any-append}
-use Rattle.std.proofs.lemmas.Option.{get_or_from_slice_get}
 use Rattle.std.proofs.lemmas.Slice.Eq.{bytes_eq-Decides}
-use Rattle.cov_ast.specs.NameTables.{with_name}
 use Rattle.cov_ast.specs.Obligations.{first_false}
 use Rattle.cov_ast.specs.WellFormed.{are_distinct}
 use Rattle.policy_class.specs.Resolved.{Named, is_among, w1_from, w1_obligation}
@@ -80,30 +76,3 @@ distinct_among (x ∷ xs) ys ns h there differ =
     list_any-append (bytes_eq x) xs ns ∙ or_from (is_among xs x) (is_among ns x) apart.0 (none_among x ns ys apart.1 there) in
     and_from (not (is_among (xs ++ ns) x)) (are_distinct bytes_eq (xs ++ ns)) (not_from_false (is_among (xs ++ ns) x) absent)
     (distinct_among xs ys ns parts.1 there differ)
-
--- A table of names, copied ---------------------------------------------------------------------------------------------
-
--- of keys that another isn't equal to
-not_that : (x : List ℕ) (ks : List (List ℕ)) (i : ℕ) (k : List ℕ) → AllByRecursion (λ y. bytes_eq x y ≡ false) ks → slice_get ks i ≡ Some k → bytes_eq k x ≡ false
-not_that x [] i k h at = cc
-not_that x (y ∷ ks) zero k h at =
-    let same : y ≡ k = cc in
-    ap (λ z. bytes_eq z x) (sym same) ∙ nat_list_eq_equiv.symm y x ∙ h.0
-not_that x (y ∷ ks) (suc i) k h at = not_that x ks i k h.1 at
-
--- a name isn't among those in front of it
-not_before : (ks : List (List ℕ)) (i : ℕ) (k : List ℕ) → IsDistinct bytes_eq ks → slice_get ks i ≡ Some k → list_any (bytes_eq k) (take i ks) ≡ false
-unfolding IsDistinct
-not_before [] zero k h at = refl
-not_before [] (suc i) k h at = refl
-not_before (x ∷ ks) zero k h at = refl
-not_before (x ∷ ks) (suc i) k h at =
-    or_from (bytes_eq k x) (list_any (bytes_eq k) (take i ks)) (not_that x ks i k h.0 at) (not_before ks i k h.1 at)
-
-pub name_copied : (ks made new : List (List ℕ)) (i : ℕ) (k : List ℕ) → i < length ks → IsDistinct bytes_eq ks → slice_get ks i ≡ Some k → made ≡ take i ks
-    → new ≡ with_name made k → new ≡ take (i + 1) ks
-name_copied ks made new i k inside distinct at so_far added =
-    added ∙ ap (λ m. with_name m k) so_far
-    ∙ ap (λ b. if b then take i ks else take i ks ++ k ∷ []) (not_before ks i k distinct at)
-    ∙ ap (λ z. take i ks ++ z ∷ []) (sym (get_or_from_slice_get ks i k k at))
-    ∙ sym (take_more ks i k inside)

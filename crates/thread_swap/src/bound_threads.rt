@@ -14,9 +14,7 @@ ghost use Rattle.thread_swap.specs.Replacements.{IsNamed};
 
 use crate::names::names_differ;
 use crate::swap_fault::SwapFault;
-use cov_ast::{
-    CheckFault, Class, LockDecl, NameTable, NameUse, Parsed, Program, ThreadDecl, VarDecl,
-};
+use cov_ast::{CheckFault, Class, LockDecl, Parsed, Program, ThreadDecl, VarDecl, copy_uses};
 use cov_expr::{List, NoMemory};
 use policy_class::resolve;
 use std::alloc::Global;
@@ -140,8 +138,8 @@ fn text_over(
 {
     let vars = bare_vars(alloc, p.vars.as_slice())?;
     let locks = bare_locks(alloc, p.locks.as_slice())?;
-    let uses = copied_uses(alloc, names.uses.as_slice())?;
-    let table = copied_names(alloc, &names.names)?;
+    let uses = copy_uses(alloc, names.uses.as_slice())?;
+    let table = names.names.copy(alloc)?;
     Ok(Parsed {
         version: names.version,
         names: table,
@@ -178,25 +176,6 @@ fn bare_locks(alloc: Global, locks: &[LockDecl]) -> Result<List<LockDecl>, NoMem
             hide: List::new(alloc),
             inv: None,
         })?;
-    }
-    Ok(made)
-}
-
-fn copied_uses(alloc: Global, uses: &[NameUse]) -> Result<List<NameUse>, NoMemory>
-    ensures { IfOk result (λ made. made ≡ uses.now) }
-{
-    let mut made = List::new(alloc);
-    made.extend_from_slice(uses)?;
-    Ok(made)
-}
-
-fn copied_names(alloc: Global, names: &NameTable) -> Result<NameTable, NoMemory>
-    ensures { IfOk result (λ made. made ≡ names.now) }
-{
-    let mut made = NameTable::new(alloc);
-    for number in 0..names.len() {
-        let name = names.name(number);
-        made.add(name)?;
     }
     Ok(made)
 }

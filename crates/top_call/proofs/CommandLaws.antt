@@ -7,7 +7,7 @@ use Rattle.std.proofs.lemmas.List.{get_or-map}
 use Rattle.std.proofs.lemmas.Slice.Eq.{bytes_eq-Decides}
 use Rattle.cov_expr.specs.declared.limits.TheConstants.{MOST_EXPRESSION_BYTES, MOST_ROUNDS, MOST_TRIALS}
 use Rattle.thread_swap.specs.Judges.{Judging}
-use Rattle.top_call.specs.Commands.{Command, command_of, is_swap, plan_of, number_of, of_four, of_rounds, of_trials, unjudged, check, compile, fmt, migrate, object, unobject, refute, run, run_code, run_until, pair, pair_code, big, levels, swap, nothing}
+use Rattle.top_call.specs.Commands.{Command, command_of, is_swap, plan_of, depth_of, number_of, of_depth, of_four, of_rounds, of_trials, unjudged, check, compile, fmt, migrate, object, unobject, refute, run, run_code, run_until, pair, pair_code, big, levels, annotate, swap, nothing}
 use Rattle.call_code.proofs.BigLaws.{sum_sound}
 use Rattle.call_code.proofs.CodeLaws.{compile_sound}
 use Rattle.call_code.proofs.ObjectLaws.{code_reading, object_sound, unobject_sound}
@@ -23,6 +23,7 @@ use Rattle.call_run.proofs.PairLaws.{pair_sound}
 use Rattle.call_run.proofs.RefuteLaws.{refute_sound}
 use Rattle.call_run.proofs.RunLaws.{run_sound, until_sound}
 use Rattle.call_code.proofs.CodeRunLaws.{pair_code_sound, run_code_sound}
+use Rattle.call_verdicts.proofs.AnnotationsLaws.{annotations_sound}
 use Rattle.call_verdicts.proofs.LevelsLaws.{levels_reading_is_one, levels_sound}
 use Rattle.call_verdicts.proofs.SwapLaws.{swap_sound}
 use Rattle.cov_print.specs.ReadBack.{in_second}
@@ -46,6 +47,7 @@ may_differ (pair name first second schedule) = true
 may_differ (pair_code name first second schedule) = false
 may_differ (big rounds schedule) = false
 may_differ (levels name over) = false
+may_differ (annotate name depth) = false
 may_differ (swap name replacing) = false
 may_differ nothing = false
 
@@ -78,6 +80,7 @@ sound j (pair_code name first second schedule) =
     ((program_reading, λ p. (start_reading p, λ l. (start_reading p, λ r. (schedule_reading p, λ k. tt)))), pair_code_sound)
 sound j (big rounds schedule) = ((program_reading, λ p. (schedule_reading p, λ k. tt)), sum_sound rounds)
 sound j (levels name over) = ((program_reading, λ p. (levels_reading_is_one p, λ l. tt)), levels_sound)
+sound j (annotate name depth) = ((program_reading, λ p. tt), annotations_sound depth)
 sound j (swap name replacing) = ((program_reading, λ p. (program_reading, λ e. tt)), swap_sound j)
 sound j nothing = (tt, λ x. record { one = λ reply other h k. absurd h; success = λ reply h. absurd h })
 
@@ -94,15 +97,18 @@ one name false false false false true f h = cc
 one name false false false false false true h = cc
 one name false false false false false false h = cc
 
-two : (first second : List ℕ) (a b c : Bool) (rounds trials : Option ℕ)
-    → may_differ (if a then of_rounds rounds second else (if b then of_trials first trials else (if c then levels first second else nothing))) ≡ true
+two : (first second : List ℕ) (a b c d : Bool) (rounds trials depth : Option ℕ)
+    → may_differ (if a then of_rounds rounds second else (if b then of_trials first trials
+    else (if c then levels first second else (if d then of_depth first depth else nothing)))) ≡ true
     → (b ≡ true) × (n : ℕ) × (trials ≡ Some n)
-two first second true b c (Some rounds) trials h = cc
-two first second true b c None trials h = cc
-two first second false true c rounds (Some n) h = (refl, n, refl)
-two first second false true c rounds None h = cc
-two first second false false true rounds trials h = cc
-two first second false false false rounds trials h = cc
+two first second true b c d (Some rounds) trials depth h = cc
+two first second true b c d None trials depth h = cc
+two first second false true c d rounds (Some n) depth h = (refl, n, refl)
+two first second false true c d rounds None depth h = cc
+two first second false false true d rounds trials depth h = cc
+two first second false false false true rounds trials (Some depth) h = cc
+two first second false false false true rounds trials None h = cc
+two first second false false false false rounds trials depth h = cc
 
 three : (program start schedule : List ℕ) (a b : Bool)
     → may_differ (if a then run program start schedule else (if b then run_code program start schedule else nothing)) ≡ true → ⊥
@@ -135,8 +141,8 @@ unjudged_differing (word ∷ name ∷ []) h =
     (bytes_eq word (codes "object")) (bytes_eq word (codes "unobject")) h)
 unjudged_differing (word ∷ first ∷ second ∷ []) h =
     let (is_refute, trials, some) =
-    two first second (bytes_eq word (codes "big")) (bytes_eq word (codes "refute")) (bytes_eq word (codes "levels")) (number_of MOST_ROUNDS first)
-    (number_of MOST_TRIALS second) h in
+    two first second (bytes_eq word (codes "big")) (bytes_eq word (codes "refute")) (bytes_eq word (codes "levels")) (bytes_eq word (codes "annotate"))
+    (number_of MOST_ROUNDS first) (number_of MOST_TRIALS second) (depth_of second) h in
     inr (first, second, trials, some, ap (λ w. w ∷ first ∷ second ∷ []) ((bytes_eq-Decides word (codes "refute")).0 is_refute))
 unjudged_differing (word ∷ program ∷ start ∷ schedule ∷ []) h =
     absurd (three program start schedule (bytes_eq word (codes "run")) (bytes_eq word (codes "run-code")) h)
@@ -194,14 +200,17 @@ module _ (j : Judging) where
   one_unasked name false false false false false true = λ x. refl
   one_unasked name false false false false false false = λ x. refl
 
-  two_unasked : (first second : List ℕ) (a b c : Bool) (rounds trials : Option ℕ)
-      → AsksNothing (plan_of j (if a then of_rounds rounds second else (if b then of_trials first trials else (if c then levels first second else nothing))))
-  two_unasked first second true b c (Some rounds) trials = λ x. refl
-  two_unasked first second true b c None trials = λ x. refl
-  two_unasked first second false true c rounds (Some n) = λ x. refl
-  two_unasked first second false true c rounds None = λ x. refl
-  two_unasked first second false false true rounds trials = λ x. refl
-  two_unasked first second false false false rounds trials = λ x. refl
+  two_unasked : (first second : List ℕ) (a b c d : Bool) (rounds trials depth : Option ℕ)
+      → AsksNothing (plan_of j (if a then of_rounds rounds second else (if b then of_trials first trials
+      else (if c then levels first second else (if d then of_depth first depth else nothing)))))
+  two_unasked first second true b c d (Some rounds) trials depth = λ x. refl
+  two_unasked first second true b c d None trials depth = λ x. refl
+  two_unasked first second false true c d rounds (Some n) depth = λ x. refl
+  two_unasked first second false true c d rounds None depth = λ x. refl
+  two_unasked first second false false true d rounds trials depth = λ x. refl
+  two_unasked first second false false false true rounds trials (Some depth) = λ x. refl
+  two_unasked first second false false false true rounds trials None = λ x. refl
+  two_unasked first second false false false false rounds trials depth = λ x. refl
 
   three_unasked : (program start schedule : List ℕ) (a b : Bool)
       → AsksNothing (plan_of j (if a then run program start schedule else (if b then run_code program start schedule else nothing)))
@@ -226,8 +235,8 @@ module _ (j : Judging) where
       one_unasked name (bytes_eq word (codes "check")) (bytes_eq word (codes "compile")) (bytes_eq word (codes "fmt")) (bytes_eq word (codes "migrate"))
       (bytes_eq word (codes "object")) (bytes_eq word (codes "unobject"))
   none_asked (word ∷ first ∷ second ∷ []) =
-      two_unasked first second (bytes_eq word (codes "big")) (bytes_eq word (codes "refute")) (bytes_eq word (codes "levels")) (number_of MOST_ROUNDS first)
-      (number_of MOST_TRIALS second)
+      two_unasked first second (bytes_eq word (codes "big")) (bytes_eq word (codes "refute")) (bytes_eq word (codes "levels")) (bytes_eq word (codes "annotate"))
+      (number_of MOST_ROUNDS first) (number_of MOST_TRIALS second) (depth_of second)
   none_asked (word ∷ program ∷ start ∷ schedule ∷ []) =
       three_unasked program start schedule (bytes_eq word (codes "run")) (bytes_eq word (codes "run-code"))
   none_asked (word ∷ program ∷ start ∷ next ∷ last ∷ []) =

@@ -24,7 +24,8 @@ use Rattle.call_code.specs.Objects.{RepliesObject}
 use Rattle.call_inputs.specs.Plans.{CarriesOutAsking, CountsAt, EndsAt, GetsAt, IsMet, LacksMemory, Performs, PerformsAsking, Plan, asks, does}
 use Rattle.call_inputs.specs.Programs.{SpellsProgram, SpellsTree}
 use Rattle.cov_grammar.specs.PlacedTrees as trees
-use Rattle.call_inputs.specs.Readings.{End, Takes, lacks, stops, took}
+use Rattle.call_inputs.specs.Readings.{End, Takes, gives, lacks, stops, took, tries}
+use Rattle.call_inputs.specs.Rejections.{no_form}
 use Rattle.call_judge.specs.Check.{IsAcceptedText, accepted_program, verdict}
 use Rattle.call_judge.specs.Meaning.{AreNamesInOrder, meaning}
 use Rattle.call_reports.specs.AnswerViews.{Gets}
@@ -39,11 +40,13 @@ use Rattle.call_reports.specs.declared.answers.Stop.TheVariants as stop
 use Rattle.call_run.specs.Pairs.{Pairs, pair_reading}
 use Rattle.call_run.specs.Refutes.{Refutes, refute_reading}
 use Rattle.top_call.specs.AcceptedRuns.{HoldsAccepted, RunsAccepted}
-use Rattle.top_call.specs.Commands.{command_of, of_trials, plan_of}
+use Rattle.top_call.specs.AnnotatedPrograms.{PutsAnnotated, PutsAnnotatedText}
+use Rattle.top_call.specs.Commands.{command_of, depth_of, of_depth, of_trials, plan_of}
 use Rattle.thread_swap.specs.Judges.{Judging}
 use Rattle.thread_swap.specs.SwapLines.{AreSecureIfAccepted, swapped_programs}
 use Rattle.level_text.specs.LevelReads.{GivesLevels}
 use Rattle.levels.specs.Accepted.{IsSecureForAll}
+use Rattle.call_verdicts.specs.Annotations.{Annotates, IsSecureAnnotated, annotate_reading, annotation_rejection}
 use Rattle.call_verdicts.specs.Levels.{AcceptsForAll, LevelsInput, level_rejection, levels_reading}
 use Rattle.call_verdicts.specs.Swap.{SwapInput, Swaps, due_by, lines_by, misfit_rejection, replacements, swap_reading}
 use Rattle.call_verdicts.proofs.SwapLaws.{names_ordered}
@@ -252,6 +255,43 @@ module _ (j : Judging) (before after : Shelved) (words : List (List ℕ)) (old n
       holds files told name over is =
           secure name over files (performs_took before after old new status files (levels_reading name over) AcceptsForAll (λ i. 0) told
           (subst IsResult (sym done) tt) (call_by (codes "levels" ∷ name ∷ over ∷ []) is))
+
+  -- what is put of a program that is annotated
+  pub call_annotated : ((bytes : List ℕ) (depth : ℕ) (p : Parsed) → length bytes ≤ MOST_BYTES → SpellsProgram bytes p → AreNamesInOrder p
+      → annotation_rejection depth p ≡ None → IsSecureAnnotated depth p)
+      → status ≡ s.Done → IfSome before.told (λ files. PutsAnnotated files words old new)
+  call_annotated are_secure done = if_told before.told (λ files. PutsAnnotated files words old new) holds
+    where
+      puts : (name : List ℕ) (depth : ℕ) (files : List File) → Takes files (λ p. Puts (Annotates depth p) old new status) (annotate_reading name depth)
+          → PutsAnnotatedText files name depth old new
+      puts name depth files (bytes, at, fits, (p, spells, (named, (declared, (none, (reply, replied, is, put)))))) =
+          let ordered = names_ordered p named in
+          record {
+            program = p;
+            there = record { bytes = bytes; at = at; spelled = spells };
+            named = ordered;
+            text = are_secure bytes depth p fits spells ordered none;
+            put = subst (λ r. Writes old new (report_of r) (Ok tt)) replied put;
+          }
+
+      -- by the depth that a word spells, if it spells one
+      by : (files : List File) (name word : List ℕ) → before.told ≡ Some files → (o : Option ℕ) → depth_of word ≡ o
+          → Performs before after old new (plan_of j (of_depth name o)) status
+          → (depth : ℕ) × (depth_of word ≡ Some depth) × PutsAnnotatedText files name depth old new
+      by files name word told (Some depth) e performs = (
+        depth,
+        e,
+        puts name depth files (performs_took before after old new status files (annotate_reading name depth) (Annotates depth) (λ p. 0) told
+            (subst IsResult (sym done) tt) performs),
+      )
+      by files name word told None e performs =
+          let (wrong, end) = performs_took before after old new status files (tries (Some no_form) (gives (tt {0}))) (λ x reply. ⊥) (λ x. 0) told
+          (subst IsResult (sym done) tt) performs in
+          absurd end.1
+
+      holds : (files : List File) → before.told ≡ Some files → PutsAnnotated files words old new
+      holds files told name word is =
+          by files name word told (depth_of word) refl (call_by (codes "annotate" ∷ name ∷ word ∷ []) is)
 
   -- a reply that two runs differ is one of `pair` or of `refute`
   differs : (files : List File) → before.told ≡ Some files → status ≡ s.Differ → may_differ (command_of words) ≡ true

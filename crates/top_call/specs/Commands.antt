@@ -14,12 +14,13 @@ use Rattle.call_run.specs.Refutes.{refute_plan}
 use Rattle.call_run.specs.Runs.{run_plan, run_until_plan}
 use Rattle.call_code.specs.CodeRuns.{pair_code_plan, run_code_plan}
 use Rattle.call_text.specs.Format.{fmt_plan, migrate_plan}
+use Rattle.call_verdicts.specs.Annotations.{annotate_plan}
 use Rattle.call_verdicts.specs.Levels.{levels_plan}
 use Rattle.call_verdicts.specs.Swap.{swap_plan}
 use Rattle.cov_expr.specs.declared.limits.TheConstants.{MOST_EXPRESSION_BYTES, MOST_ROUNDS, MOST_TRIALS}
 use Rattle.thread_swap.specs.Judges.{Judging}
 
--- a command, with the words that it takes: names of files, an expression, and a number of rounds or of trials
+-- a command, with the words that it takes: names of files, an expression, a number of rounds or of trials, and the depth of a search
 pub data Command : Type 0 where
   check : (name : List ℕ) → Command
   compile : (name : List ℕ) → Command
@@ -35,6 +36,7 @@ pub data Command : Type 0 where
   pair_code : (program first second schedule : List ℕ) → Command
   big : (rounds : ℕ) (schedule : List ℕ) → Command
   levels : (name over : List ℕ) → Command
+  annotate : (name : List ℕ) (depth : ℕ) → Command
   swap : (name replacing : List ℕ) → Command
   nothing : Command
 
@@ -54,6 +56,7 @@ plan_of j (pair name first second schedule) = pair_plan name first second schedu
 plan_of j (pair_code name first second schedule) = pair_code_plan name first second schedule
 plan_of j (big rounds schedule) = big_plan rounds schedule
 plan_of j (levels name over) = levels_plan name over
+plan_of j (annotate name depth) = annotate_plan name depth
 plan_of j (swap name replacing) = swap_plan j name replacing
 plan_of j nothing = does (tries (Some no_form) (gives (tt {0}))) (λ x reply. ⊥)
 
@@ -85,12 +88,24 @@ abbrev pub of_trials : (name : List ℕ) → Option ℕ → Command
 of_trials name (Some trials) = refute name trials
 of_trials name None = nothing
 
--- the commands of two files, or of a number and a file
+-- the depth of a search that a word spells, if it spells one
+abbrev pub depth_of : List ℕ → Option ℕ
+depth_of word =
+    if bytes_eq word (codes "0") then Some 0
+    else (if bytes_eq word (codes "1") then Some 1
+    else (if bytes_eq word (codes "2") then Some 2 else None))
+
+abbrev pub of_depth : (name : List ℕ) → Option ℕ → Command
+of_depth name (Some depth) = annotate name depth
+of_depth name None = nothing
+
+-- the commands of two files, or of a number and a file, in this order or the other
 abbrev pub of_two : (word first second : List ℕ) → Command
 of_two word first second =
     if bytes_eq word (codes "big") then of_rounds (number_of MOST_ROUNDS first) second
     else (if bytes_eq word (codes "refute") then of_trials first (number_of MOST_TRIALS second)
-    else (if bytes_eq word (codes "levels") then levels first second else nothing))
+    else (if bytes_eq word (codes "levels") then levels first second
+    else (if bytes_eq word (codes "annotate") then of_depth first (depth_of second) else nothing)))
 
 -- the commands of three files
 abbrev pub of_three : (word program start schedule : List ℕ) → Command

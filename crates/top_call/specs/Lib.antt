@@ -4,4 +4,5 @@ pub mod Headline
 pub mod AcceptedRuns
 pub mod SwappedPrograms
 pub mod LevelledPrograms
+pub mod AnnotatedPrograms
 pub mod Laws

@@ -8,6 +8,7 @@ ghost use Rattle.cov_io.specs.Shelves.{Passes};
 ghost use Rattle.thread_swap.specs.Judges as judges;
 ghost use Rattle.thread_swap.specs.RulesSay.{by_rules};
 ghost use Rattle.top_call.specs.AcceptedRuns.{RunsAccepted};
+ghost use Rattle.top_call.specs.AnnotatedPrograms.{PutsAnnotated};
 ghost use Rattle.top_call.specs.Headline.{HoldsSecure, PutsCode, PutsObject};
 ghost use Rattle.top_call.specs.LevelledPrograms.{HoldsSecureForAll};
 ghost use Rattle.top_call.specs.Outcome.{IsSuccess, Outcome, plan_for};
@@ -17,7 +18,9 @@ use crate::commands::answer;
 use call_code::accepted_programs_have_good_code;
 use call_judge::accepted_programs_are_secure;
 use call_reports::{Status, Stop, end};
-use call_verdicts::{shown_programs_are_secure, swapped_programs_are_secure};
+use call_verdicts::{
+    annotated_programs_are_secure, shown_programs_are_secure, swapped_programs_are_secure,
+};
 use cov_io::{Shelf, Sink};
 use std::alloc::Global;
 use thread_swap::{Judge, Rules};
@@ -51,6 +54,9 @@ pub fn covern<S: Shelf, K: Sink>(
     ensures swapped { result ≡ Status.Done → IfSome (S.shelved shelf.old).told (λ files. HoldsSwapped (by_rules 0) files (map string_bytes words.now)) }
     // A program that `levels` accepts is secure as the observer at each level is shown it.
     ensures levels { result ≡ Status.Done → IfSome (S.shelved shelf.old).told (λ files. HoldsSecureForAll files (map string_bytes words.now)) }
+    // What `annotate` puts spells a text that is accepted and means what the program of the file does, which is secure.
+    ensures annotated { result ≡ Status.Done → IfSome (S.shelved shelf.old).told (λ files.
+        PutsAnnotated files (map string_bytes words.now) (K.sunk sink.old) (K.sunk sink.new)) }
     // Two runs of a program that is accepted never differ, be they asked for or tried, nor do those of code, and no other command answers so.
     ensures agree { IfSome (S.shelved shelf.old).told (λ files. RunsAccepted files (map string_bytes words.now) → result ≢ Status.Differ) }
     // Where the shelf tells, no call of it and no put failed, and all that the words ask holds, all is done, or memory ran out.
@@ -99,6 +105,9 @@ pub fn covern_with<S: Shelf, K: Sink, J: Judge>(
         HoldsSwapped (J.judging judge.old) files (map string_bytes words.now)) }
     // A program that `levels` accepts is secure as the observer at each level is shown it.
     ensures levels { result ≡ Status.Done → IfSome (S.shelved shelf.old).told (λ files. HoldsSecureForAll files (map string_bytes words.now)) }
+    // What `annotate` puts spells a text that is accepted and means what the program of the file does, which is secure.
+    ensures annotated { result ≡ Status.Done → IfSome (S.shelved shelf.old).told (λ files.
+        PutsAnnotated files (map string_bytes words.now) (K.sunk sink.old) (K.sunk sink.new)) }
     // Two runs of a program that is accepted never differ, be they asked for or tried, nor do those of code, and no other command answers so.
     ensures agree { IfSome (S.shelved shelf.old).told (λ files. RunsAccepted files (map string_bytes words.now) → result ≢ Status.Differ) }
     // Where the shelf tells, no call of it and no put failed, and all that the words ask holds, all is done, or memory ran out.
@@ -117,6 +126,7 @@ pub fn covern_with<S: Shelf, K: Sink, J: Judge>(
     accepted_programs_have_good_code();
     swapped_programs_are_secure();
     shown_programs_are_secure();
+    annotated_programs_are_secure();
     let answer = match answer(alloc, words, shelf, judge) {
         Ok(answer) | Err(Stop::Answer(answer)) => answer,
         Err(Stop::NoMemory) => return Status::NoMemory,

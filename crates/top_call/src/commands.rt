@@ -2,6 +2,7 @@
 
 ghost use Rattle.std.specs.Prelude.{◌≡◌, ◌≤◌, IfSome, map, string_bytes};
 ghost use Rattle.call_inputs.specs.Plans.{CarriesOut, CarriesOutAsking};
+ghost use Rattle.cert_search.specs.declared.finder.TheConstants.{MOST_DEPTH};
 ghost use Rattle.cov_expr.specs.declared.limits.TheConstants.{MOST_TRIALS};
 ghost use Rattle.thread_swap.specs.Judges.{Judging, Passes};
 ghost use Rattle.top_call.specs.Commands as spec;
@@ -22,6 +23,7 @@ use call_run::run_until::run_until;
 use call_run::trials::refute;
 use call_text::fmt::format;
 use call_text::migrate::migrate;
+use call_verdicts::annotations::annotate;
 use call_verdicts::observers::levels;
 use call_verdicts::swap::swap;
 use cov_expr::{MOST_EXPRESSION_BYTES, MOST_ROUNDS, MOST_TRIALS};
@@ -119,7 +121,7 @@ fn of_one<'w, S: Shelf>(
     }
 }
 
-/// The commands of two files, or of a number and a file.
+/// The commands of two files, or of a number and a file, in this order or the other.
 fn of_two<'w, S: Shelf>(
     alloc: Global,
     command: &str,
@@ -141,8 +143,29 @@ fn of_two<'w, S: Shelf>(
         }
     } else if command == "levels" {
         levels(alloc, first, second, shelf)
+    } else if command == "annotate" {
+        match depth_of(second) {
+            Some(depth) => annotate(alloc, first, depth, shelf),
+            None => Ok(Answer::Usage),
+        }
     } else {
         Ok(Answer::Usage)
+    }
+}
+
+/// The depth of a search that a word spells, if it spells one.
+fn depth_of(word: &str) -> Option<u32>
+    ensures is { result ≡ spec.depth_of word.now }
+    ensures within { IfSome result (λ depth. depth ≤ MOST_DEPTH) }
+{
+    if word == "0" {
+        Some(0)
+    } else if word == "1" {
+        Some(1)
+    } else if word == "2" {
+        Some(2)
+    } else {
+        None
     }
 }
 

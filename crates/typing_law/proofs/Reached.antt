@@ -9,16 +9,16 @@ use Rattle.typing_law.specs.Counts.{entailment_count}
 use Rattle.typing_law.specs.ThreadEntailments.{PlacedEntailment, is_passed, reached, reached_entailments}
 use Rattle.typing_law.proofs.Counting.{count_append, count_cons}
 
-reached_passed : (a b : List Obligation) → list_all is_passed a ≡ true → reached (a ++ b) ≡ a ++ reached b
+pub reached_passed : (a b : List Obligation) → list_all is_passed a ≡ true → reached (a ++ b) ≡ a ++ reached b
 reached_passed [] b h = refl
 reached_passed (e ∷ es) b h =
     let parts = and_parts (is_passed e) (list_all is_passed es) h in
     ap (λ v. cond v (e ∷ reached (es ++ b)) []) parts.0 ∙ ap (λ fs. e ∷ fs) (reached_passed es b parts.1)
 
-reached_all : (a : List Obligation) → list_all is_passed a ≡ true → reached a ≡ a
+pub reached_all : (a : List Obligation) → list_all is_passed a ≡ true → reached a ≡ a
 reached_all a h = ap reached (sym (append-nil a)) ∙ reached_passed a [] h ∙ append-nil a
 
-reached_stopped : (a b : List Obligation) → list_all is_passed a ≡ false → reached (a ++ b) ≡ reached a
+pub reached_stopped : (a b : List Obligation) → list_all is_passed a ≡ false → reached (a ++ b) ≡ reached a
 reached_stopped [] b h = cc
 reached_stopped (e ∷ es) b h = go (reached_stopped es b) (is_passed e) h
   where
@@ -27,7 +27,7 @@ reached_stopped (e ∷ es) b h = go (reached_stopped es b) (is_passed e) h
     go rest true h = ap (λ fs. e ∷ fs) (rest h)
     go rest false h = refl
 
-reached_few : (es : List Obligation) → entailment_count (reached es) ≤ entailment_count es
+pub reached_few : (es : List Obligation) → entailment_count (reached es) ≤ entailment_count es
 reached_few [] = omega arith
 reached_few (e ∷ es) = go (reached_few es) (is_passed e)
   where

@@ -136,11 +136,17 @@ abbrev pub proofs_among : List (ℕ × List Proof) → (place : ℕ) → List Pr
 proofs_among [] place = []
 proofs_among (q ∷ qs) place = if q.0 == place then q.1 else proofs_among qs place
 
--- V9 of an entailment of a body: the first certificate that the statement at its place gives for its number, else `auto`, is
--- valid
+-- the proofs of the statement at a place
+abbrev pub proofs_at : Block → (place : ℕ) → List Proof
+proofs_at body place = proofs_among (placed_proofs body) place
+
+-- whether an entailment of a body is proved: the first certificate that the statement at its place gives for its number, else `auto`, is valid
+abbrev pub is_proved_in : Block → PlacedEntailment → Bool
+is_proved_in body g = is_proved (proofs_at body g.place) g.number g.entailment
+
+-- V9 of an entailment of a body: it is proved
 abbrev pub entailment_obligation : (t : ℕ) → Block → PlacedEntailment → Obligation
-entailment_obligation t body g =
-    thread_obligation t g.place V9 (Number g.number) (is_proved (proofs_among (placed_proofs body) g.place) g.number g.entailment)
+entailment_obligation t body g = thread_obligation t g.place V9 (Number g.number) (is_proved_in body g)
 
 -- of obligations, those of V9
 abbrev pub entailment_obligations : List Obligation → List Obligation

@@ -11,7 +11,7 @@ use Rattle.typing_law.specs.Blocks.{after_stm, value_type}
 use Rattle.typing_law.specs.Entailments.{Entailment, assign_entailments}
 use Rattle.typing_law.specs.ThreadEntailments.{PlacedEntailment, stm_entailments}
 use Rattle.typing_law.specs.ThreadObligations.{few_preds, flat, numbers, proved, small_terms, stm_parts}
-use Rattle.typing_law.specs.declared.entail.Entail.{Entail}
+use Rattle.typing_rules.specs.declared.kept.Kept.{Kept}
 use Rattle.typing_rules.specs.Keeping.{are_others}
 use Rattle.typing_rules.specs.Inside.Passing.{Stops}
 use Rattle.typing_rules.specs.Inside.Walking.{Walks, last_parts, value_parts}
@@ -50,11 +50,11 @@ module _ (u : Purpose) (p : Plain) (t at : ℕ) (proofs : List Proof) (a : Point
   whole = sym (flat-append value (few ∷ last))
 
   -- what is asked of the value doesn't hold
-  pub value_stops : (k : List Entail) (fault : CheckFault) → Decides (flat value) (Err fault) → Stops u obligations asks k k fault
+  pub value_stops : (k : List Kept) (fault : CheckFault) → Decides (flat value) (Err fault) → Stops u obligations asks k k fault
   value_stops k fault h = subst (λ o. Stops u o asks k k fault) whole (front_stops u (flat value) (few ++ flat last) value_others asks k fault h)
 
   -- it holds, and then the rest is walked
-  pub value_walks : (counted : ℕ) (k0 k1 : List Entail) (r : Result Walked CheckFault) → first_false (flat value) ≡ None
+  pub value_walks : (counted : ℕ) (k0 k1 : List Kept) (r : Result Walked CheckFault) → first_false (flat value) ≡ None
       → Walks u p t (few ++ flat last) asks after counted k0 k1 r
       → Walks u p t obligations asks (after_stm p t (assign x e written rs) a) counted k0 k1 r
   value_walks counted k0 k1 r h w =
@@ -77,7 +77,7 @@ module _ (u : Purpose) (p : Plain) (t at : ℕ) (proofs : List Proof) (a : Point
       subst (λ o. are_others o ≡ true) (sym (flat-append (value_parts p t at a x e q rs) last))
       (others-append (flat (value_parts p t at a x e q rs)) (flat last) (others_value p t at a x e q rs) refl)
 
-  pub large_stops : (k : List Entail) (fault : CheckFault) → Decides (flat sized) (Err fault)
+  pub large_stops : (k : List Kept) (fault : CheckFault) → Decides (flat sized) (Err fault)
       → Stops u (flat (stm_parts p t (assign x e None rs) at proofs a)) (stm_entailments p t (assign x e None rs) at a) k k fault
   large_stops k fault h =
       subst (λ o. Stops u o (stm_entailments p t (assign x e None rs) at a) k k fault) (sym (flat-append sized certified))

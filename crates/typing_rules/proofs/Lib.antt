@@ -1,4 +1,6 @@
 mod TryLaws
+mod AskedLaws
+mod SearchedLaws
 mod Threads
 mod ReadTypes
 mod Parts

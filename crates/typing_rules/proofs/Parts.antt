@@ -13,10 +13,9 @@ use Rattle.cov_ast.proofs.ObligationLaws.{append_decided, append_refused}
 use Rattle.typing_law.specs.Entailments.{Entailment, is_small_entailment}
 use Rattle.point_law.specs.Point.{Point, has_small_types}
 use Rattle.typing_law.specs.ThreadObligations.{obligation, flat, proved, small_terms}
-use Rattle.typing_law.specs.ThreadEntailments.{placed_from}
-use Rattle.typing_law.specs.declared.entail.Entail.{Entail}
+use Rattle.typing_rules.specs.declared.kept.Kept.{Kept}
 use Rattle.typing_rules.specs.Keeping.{kept_for}
-use Rattle.typing_rules.specs.Inside.Walking.{Tries}
+use Rattle.typing_rules.specs.Inside.Walking.{asked_from, Tries}
 use Rattle.typing_rules.specs.Unproved.{unproved_for}
 use Rattle.typing_rules.specs.declared.purpose.Purpose.{Purpose}
 use Rattle.typing_rules.specs.declared.entailments_tried.Tried.{Tried}
@@ -70,9 +69,9 @@ proved-append p t at proofs n (g ∷ gs) hs =
     (proved-append p t at proofs (suc n) gs hs ∙ ap (λ m. proved p t at proofs (suc n) gs ++ proved p t at proofs m hs) e)
 
 -- where entailments and the types after them are small, what came of the entailments is known
-pub tried_decided : (u : Purpose) (p : Plain) (t at : ℕ) (proofs : List Proof) (n : ℕ) (gs : List Entailment) (points : List Point) (k0 k1 : List Entail) (tried : Tried)
+pub tried_decided : (u : Purpose) (p : Plain) (t at : ℕ) (proofs : List Proof) (n : ℕ) (gs : List Entailment) (points : List Point) (k0 k1 : List Kept) (tried : Tried)
     → (h : Tries u at proofs n gs k0 k1 tried) → first_false (small_terms p t at gs points) ≡ None
-    → (tried.count ≡ length gs) × (tried.unproved ≡ unproved_for u proofs n gs) × (h.added ≡ kept_for u (placed_from at n gs))
+    → (tried.count ≡ length gs) × (tried.unproved ≡ unproved_for u proofs n gs) × (h.added ≡ kept_for u (asked_from at proofs n gs))
 tried_decided u p t at proofs n gs points k0 k1 tried h sizes =
     let small = list_all is_small_entailment gs && list_all has_small_types points in
     h.decided (h.small ∙ (and_parts (list_all is_small_entailment gs) (list_all has_small_types points) (held_is p t at small sizes)).0)

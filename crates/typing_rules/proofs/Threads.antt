@@ -19,15 +19,14 @@ use Rattle.point_law.specs.After.{start}
 use Rattle.typing_law.specs.Counts.{counts, entailment_count}
 use Rattle.typing_law.specs.Blocks.{after_block}
 use Rattle.point_law.specs.Point.{Point}
-use Rattle.typing_law.specs.ThreadEntailments.{all_entailments, block_entailments, reached_entailments, thread_entailments, view_entail}
+use Rattle.typing_law.specs.ThreadEntailments.{all_entailments, block_entailments}
 use Rattle.typing_law.specs.ThreadObligations.{block_obligations, end_obligation, end_point, thread_obligations}
-use Rattle.typing_law.specs.declared.entail.Entail.{Entail}
+use Rattle.typing_rules.specs.declared.kept.Kept.{Kept}
 use Rattle.typing_law.proofs.Bounds.{few_entailments, few_places}
 use Rattle.typing_law.proofs.Counting.{block_counted, count_append}
-use Rattle.typing_rules.specs.Keeping.{wanted_among}
+use Rattle.typing_rules.specs.Keeping.{asked_among, asked_in_thread, kept_for, view_kept}
 use Rattle.typing_rules.specs.Inside.Passing.{Adds, Passes, Stops}
-use Rattle.typing_rules.specs.declared.purpose.Purpose.TheVariants.{Collect}
-use Rattle.typing_rules.specs.declared.purpose.Wanted.{Wanted}
+use Rattle.typing_rules.specs.declared.purpose.Purpose.{Purpose}
 use Rattle.typing_rules.proofs.Reaching.{adds_none, adds_stop, adds_then, no_entailments}
 
 -- Obligations ----------------------------------------------------------------------------------------------------
@@ -64,7 +63,7 @@ module _ (p : Program) (t : ℕ) (b : Block) (place : ℕ) (body : b ≡ (number
 
 -- What is kept ------------------------------------------------------------------------------------------------------
 
-module _ (wanted : Wanted) (p : Program) (t : ℕ) (b : Block) (body : b ≡ (numbered p t).body) (k0 k1 : List Entail) (none : k0 ≡ []) where
+module _ (u : Purpose) (p : Program) (t : ℕ) (b : Block) (body : b ≡ (numbered p t).body) (k0 k1 : List Kept) (none : k0 ≡ []) where
   abbrev from : Point
   from = start (plain p) t
 
@@ -75,24 +74,24 @@ module _ (wanted : Wanted) (p : Program) (t : ℕ) (b : Block) (body : b ≡ (nu
   of_end = end_obligation (plain p) t (numbered p t).end (end_point p t).held ∷ []
 
   -- the end of a thread asks nothing to follow
-  at_end : Adds (Collect wanted) (of_body ++ of_end) (all_entailments p t ++ []) k0 k1 → map view_entail k1 ≡ wanted_among wanted (thread_entailments p t)
+  at_end : Adds u (of_body ++ of_end) (all_entailments p t ++ []) k0 k1 → map view_kept k1 ≡ kept_for u (asked_in_thread p t)
   at_end h =
-      h ∙ ap (λ k. map view_entail k ++ wanted_among wanted (reached_entailments (of_body ++ of_end) (all_entailments p t ++ []))) none
-      ∙ ap (λ gs. wanted_among wanted (reached_entailments (of_body ++ of_end) gs)) (append-nil (all_entailments p t))
+      h ∙ ap (λ k. map view_kept k ++ kept_for u (asked_among (of_body ++ of_end) (all_entailments p t ++ []))) none
+      ∙ ap (λ gs. kept_for u (asked_among (of_body ++ of_end) gs)) (append-nil (all_entailments p t))
 
-  pub kept_held : Passes (Collect wanted) (block_obligations (plain p) t b (start (plain p) t)) (block_entailments (plain p) t b (start (plain p) t)) k0 k1
-      → map view_entail k1 ≡ wanted_among wanted (thread_entailments p t)
+  pub kept_held : Passes u (block_obligations (plain p) t b (start (plain p) t)) (block_entailments (plain p) t b (start (plain p) t)) k0 k1
+      → map view_kept k1 ≡ kept_for u (asked_in_thread p t)
   kept_held h =
       at_end
-      (adds_then (Collect wanted) of_body of_end (all_entailments p t) [] (block_counted (plain p) t (numbered p t).body from) k0 k1 k1
-      (subst (λ c. Passes (Collect wanted) (block_obligations (plain p) t c from) (block_entailments (plain p) t c from) k0 k1) body h)
-      (adds_none (Collect wanted) of_end [] k1 (no_entailments (Collect wanted) of_end)))
+      (adds_then u of_body of_end (all_entailments p t) [] (block_counted (plain p) t (numbered p t).body from) k0 k1 k1
+      (subst (λ c. Passes u (block_obligations (plain p) t c from) (block_entailments (plain p) t c from) k0 k1) body h)
+      (adds_none u of_end [] k1 (no_entailments u of_end)))
 
-  pub kept_refused : (r : Refusal) → Stops (Collect wanted) (block_obligations (plain p) t b (start (plain p) t)) (block_entailments (plain p) t b (start (plain p) t)) k0 k1 (Refused r)
-      → map view_entail k1 ≡ wanted_among wanted (thread_entailments p t)
+  pub kept_refused : (r : Refusal) → Stops u (block_obligations (plain p) t b (start (plain p) t)) (block_entailments (plain p) t b (start (plain p) t)) k0 k1 (Refused r)
+      → map view_kept k1 ≡ kept_for u (asked_in_thread p t)
   kept_refused r h =
-      let same = subst (λ c. Stops (Collect wanted) (block_obligations (plain p) t c from) (block_entailments (plain p) t c from) k0 k1 (Refused r)) body h in
-      at_end (adds_stop (Collect wanted) of_body of_end (all_entailments p t) [] (block_counted (plain p) t (numbered p t).body from) k0 k1 r same.0 same.1)
+      let same = subst (λ c. Stops u (block_obligations (plain p) t c from) (block_entailments (plain p) t c from) k0 k1 (Refused r)) body h in
+      at_end (adds_stop u of_body of_end (all_entailments p t) [] (block_counted (plain p) t (numbered p t).body from) k0 k1 r same.0 same.1)
 
 -- Threads of the code ----------------------------------------------------------------------------------------------
 

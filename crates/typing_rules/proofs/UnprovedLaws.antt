@@ -1,6 +1,7 @@
 -- Laws of entailments that are small, and of the first without a valid certificate.
 use Rattle.std.proofs.Common.{◌≡◌, ℕ, suc, ◌+◌, ◌<◌, ◌≤◌, List, [], ◌∷◌, ◌++◌, Bool, true, false, cond, if◌then◌else◌, ◌&&◌, ◌==◌, length, drop, get_or, refl, sym, ap, subst, arith, ◌∙◌, Option, Some, None, option_map, Err}
 use Rattle.std.specs.List.{list_all}
+use Rattle.std.specs.Prelude.{filter}
 use Rattle.std.specs.Option.{option_or}
 use Rattle.std.proofs.lemmas.List.{at_drop_all, at_drop_more}
 use Rattle.std.proofs.lemmas.List.Folds.{list_all-append}
@@ -17,13 +18,12 @@ use Rattle.typing_rules.specs.declared.asked.Entailment as rust
 use Rattle.entail_cert.specs.declared.held.Held.{Held}
 use Rattle.entail_cert.specs.HeldTerms.{held_term}
 use Rattle.typing_rules.specs.Listed.{entailment_of, entailment_from, entailments_of}
-use Rattle.typing_rules.specs.Keeping.{looked_at}
-use Rattle.typing_rules.specs.declared.purpose.Wanted.{Wanted}
+use Rattle.typing_rules.specs.Keeping.{is_other, looked_at}
 use Rattle.typing_law.specs.Entailments.{Entailment, is_proved, is_small_entailment}
 use Rattle.typing_law.specs.ThreadObligations.{obligation, proved}
 use Rattle.typing_rules.specs.Unproved.{first_unproved, unproved_for}
 use Rattle.typing_rules.specs.declared.purpose.Purpose.{Purpose}
-use Rattle.typing_rules.specs.declared.purpose.Purpose.TheVariants.{Judge, Collect}
+use Rattle.typing_rules.specs.declared.purpose.Purpose.TheVariants.{Judge, Collect, Search}
 use Rattle.point_law.specs.Terms.{is_small}
 
 regroup : (a b c : Bool) → ((a && (b && true)) && c) ≡ (a && ((b && true) && c))
@@ -72,9 +72,9 @@ module _ (p : Plain) (t at : ℕ) (proofs : List Proof) where
   unproved_none : (n : ℕ) (gs : List Entailment) → None ≡ first_unproved proofs n gs → first_false (proved p t at proofs n gs) ≡ None
   unproved_none n gs first = unproved_is n gs ∙ ap (option_map refusal) (sym first)
 
-module _ (p : Plain) (t at : ℕ) (wanted : Wanted) (proofs : List Proof) where
-  -- a walk that collects looks at none of them
-  pub proved_silent : (n : ℕ) (gs : List Entailment) → looked_at (Collect wanted) (proved p t at proofs n gs) ≡ []
+module _ (p : Plain) (t at : ℕ) (proofs : List Proof) where
+  -- a walk that doesn't judge looks at none of them
+  pub proved_silent : (n : ℕ) (gs : List Entailment) → filter is_other (proved p t at proofs n gs) ≡ []
   proved_silent n [] = refl
   proved_silent n (g ∷ gs) = proved_silent (suc n) gs
 
@@ -85,12 +85,14 @@ some_number m h = cc
 pub unproved_for_none : (u : Purpose) (p : Plain) (t at : ℕ) (proofs : List Proof) (n : ℕ) (gs : List Entailment) → None ≡ unproved_for u proofs n gs
     → first_false (looked_at u (proved p t at proofs n gs)) ≡ None
 unproved_for_none Judge p t at proofs n gs h = unproved_none p t at proofs n gs h
-unproved_for_none (Collect wanted) p t at proofs n gs h = ap first_false (proved_silent p t at wanted proofs n gs)
+unproved_for_none (Collect wanted) p t at proofs n gs h = ap first_false (proved_silent p t at proofs n gs)
+unproved_for_none (Search depth) p t at proofs n gs h = ap first_false (proved_silent p t at proofs n gs)
 
 pub unproved_for_refused : (u : Purpose) (p : Plain) (t at : ℕ) (proofs : List Proof) (n : ℕ) (gs : List Entailment) (m : ℕ) (fault : CheckFault) → Some m ≡ unproved_for u proofs n gs
     → fault ≡ Refused (obligation p t at V9 (Number m) false).refusal → Decides (looked_at u (proved p t at proofs n gs)) (Err fault)
 unproved_for_refused Judge p t at proofs n gs m fault h is = unproved_refused p t at proofs n gs m fault h is
 unproved_for_refused (Collect wanted) p t at proofs n gs m fault h is = absurd (some_number m h)
+unproved_for_refused (Search depth) p t at proofs n gs m fault h is = absurd (some_number m h)
 
 module _ (proofs : List Proof) where
   unproved-append : (n : ℕ) (gs hs : List Entailment)
@@ -107,6 +109,7 @@ module _ (proofs : List Proof) where
       → unproved_for u proofs n (gs ++ hs) ≡ option_or (unproved_for u proofs n gs) (unproved_for u proofs (n + length gs) hs)
   unproved_for-append Judge n gs hs = unproved-append n gs hs
   unproved_for-append (Collect wanted) n gs hs = refl
+  unproved_for-append (Search depth) n gs hs = refl
 
   -- one entailment more is tried
   module _ (preds : List Term) (n : ℕ) (xs : List rust.Entailment) (i : ℕ) (x : rust.Entailment) (whole : Option ℕ) (inside : i < length xs) (is : x ≡ get_or xs i x)

@@ -16,7 +16,7 @@ use Rattle.point_law.specs.Point.{Point}
 use Rattle.typing_state.specs.declared.point.Point as declared
 use Rattle.typing_law.specs.Counts.{entailment_count}
 use Rattle.typing_law.specs.ThreadEntailments.{block_entailments, stm_entailments}
-use Rattle.typing_law.specs.declared.entail.Entail.{Entail}
+use Rattle.typing_rules.specs.declared.kept.Kept.{Kept}
 use Rattle.typing_law.specs.Blocks.{after_block, after_stm}
 use Rattle.typing_law.specs.ThreadObligations.{block_obligations, flat, stm_parts}
 use Rattle.typing_law.proofs.Counting.{count_more, stm_counted}
@@ -37,28 +37,28 @@ one_point p t a b kept h k =
 
 -- What is left of a block, at the point that was reached, is walked like the whole and leads to the same end; so many
 -- entailments were counted.
-pub record Reaches (u : Purpose) (p : Plain) (t : ℕ) (whole : Block) (a : Point) (rest : Block) (b : Point) (counted : ℕ) (before here : List Entail) : Type 0 where
+pub record Reaches (u : Purpose) (p : Plain) (t : ℕ) (whole : Block) (a : Point) (rest : Block) (b : Point) (counted : ℕ) (before here : List Kept) : Type 0 where
   pub after : after_block p t rest b ≡ after_block p t whole a
   pub count : counted + entailment_count (block_obligations p t rest b) ≡ entailment_count (block_obligations p t whole a)
-  pub walks : (end : Point) (n : ℕ) (kept : List Entail) (r : Result Walked CheckFault) → Walks u p t (block_obligations p t rest b) (block_entailments p t rest b) end n here kept r
+  pub walks : (end : Point) (n : ℕ) (kept : List Kept) (r : Result Walked CheckFault) → Walks u p t (block_obligations p t rest b) (block_entailments p t rest b) end n here kept r
       → Walks u p t (block_obligations p t whole a) (block_entailments p t whole a) end n before kept r
 
-module _ (u : Purpose) (p : Plain) (t : ℕ) (whole : Block) (a : Point) (before : List Entail) where
+module _ (u : Purpose) (p : Plain) (t : ℕ) (whole : Block) (a : Point) (before : List Kept) where
   -- the answer about the whole
-  abbrev WholeWalks : List Entail → Result Walked CheckFault → Type 0
+  abbrev WholeWalks : List Kept → Result Walked CheckFault → Type 0
   WholeWalks kept r =
       Walks u p t (block_obligations p t whole a) (block_entailments p t whole a) (after_block p t whole a) (entailment_count (block_obligations p t whole a)) before kept r
 
   pub reaches_start : Reaches u p t whole a whole a 0 before before
   reaches_start = record { after = refl; count = omega arith; walks = λ end n kept r h. h }
 
-  module _ (at : ℕ) (s : Stm) (proofs : List Proof) (rest : Block) (b : Point) (counted : ℕ) (here : List Entail)
+  module _ (at : ℕ) (s : Stm) (proofs : List Proof) (rest : Block) (b : Point) (counted : ℕ) (here : List Kept)
       (h : Reaches u p t whole a (more at s proofs rest) b counted before here) where
     -- the statement has no more entailments than are left
     pub reaches_few : counted + entailment_count (flat (stm_parts p t s at proofs b)) ≤ entailment_count (block_obligations p t whole a)
     reaches_few = omega (arith, h.count, count_more p t at s proofs rest b)
 
-    pub reaches_more : (next : Walked) (kept : List Entail)
+    pub reaches_more : (next : Walked) (kept : List Kept)
         → Walks u p t (flat (stm_parts p t s at proofs b)) (stm_entailments p t s at b) (after_stm p t s b) (entailment_count (flat (stm_parts p t s at proofs b))) here kept (Ok next)
         → Reaches u p t whole a rest (after_stm p t s b) (counted + next.entailments) before kept
     reaches_more next kept w = record {
@@ -70,14 +70,14 @@ module _ (u : Purpose) (p : Plain) (t : ℕ) (whole : Block) (a : Point) (before
           (stm_counted p t s at proofs b) p t end n here kept last r w.0 k);
     }
 
-    pub reaches_refused : (fault : CheckFault) (kept : List Entail) → Stops u (flat (stm_parts p t s at proofs b)) (stm_entailments p t s at b) here kept fault
+    pub reaches_refused : (fault : CheckFault) (kept : List Kept) → Stops u (flat (stm_parts p t s at proofs b)) (stm_entailments p t s at b) here kept fault
         → WholeWalks kept (Err fault)
     reaches_refused fault kept k =
         h.walks (after_block p t whole a) (entailment_count (block_obligations p t whole a)) kept (Err fault)
         (stops_behind u (flat (stm_parts p t s at proofs b)) (block_obligations p t rest (after_stm p t s b)) (stm_entailments p t s at b) (block_entailments p t rest (after_stm p t s b))
         (stm_counted p t s at proofs b) here kept fault k)
 
-  pub reaches_end : (b : Point) (here : List Entail) (walked : Walked) → Reaches u p t whole a done b walked.entailments before here → Keeps p t b walked.point
+  pub reaches_end : (b : Point) (here : List Kept) (walked : Walked) → Reaches u p t whole a done b walked.entailments before here → Keeps p t b walked.point
       → WholeWalks here (Ok walked)
   reaches_end b here walked h k =
       h.walks (after_block p t whole a) (entailment_count (block_obligations p t whole a)) here (Ok walked) (

@@ -1,4 +1,5 @@
 pub mod Inside
 pub mod Keeping
 pub mod Listed
+pub mod Searched
 pub mod Unproved

@@ -17,9 +17,9 @@ ghost use Rattle.typing_rules.specs.Keeping.{are_others};
 ghost use Rattle.typing_rules.specs.Inside.Walking.{Guards, GuardsAt, IsWalk, Stands, Tries, Walks, Wherever, first_parts, fork_parts, head_parts, join_parts, plain_of, starts_of, turn_parts};
 
 use crate::certificates::require_proved;
-use crate::entail::cut;
 use crate::entailments_tried::Tried;
 use crate::evaluation::check_guard;
+use crate::kept::{Kept, cut};
 use crate::locks::check_same_locks;
 use crate::sizes::{check_both_few_preds, require_small};
 use crate::types::check_state;
@@ -27,7 +27,6 @@ use crate::walk::{Guarded, Walk, Walked, both};
 use cov_ast::{CheckFault, Proof, State};
 use cov_expr::{Expr, List, NoMemory, boxed, copy};
 use std::alloc::Global;
-use typing_law::Entail;
 use typing_state::Point;
 
 impl Walk<'_> {
@@ -38,7 +37,7 @@ impl Walk<'_> {
         e: &Expr,
         proofs: &[Proof],
         point: Point,
-        kept: &mut List<Entail>,
+        kept: &mut List<Kept>,
     ) -> Result<Guarded, CheckFault>
         requires guard { HasVarsBelow (term e.now) (length self.now.program.now.vars) }
         requires point { Stands self.now point }
@@ -59,7 +58,7 @@ impl Walk<'_> {
         e: &Expr,
         proofs: &[Proof],
         point: Point,
-        kept: &mut List<Entail>,
+        kept: &mut List<Kept>,
     ) -> Result<Guarded, CheckFault>
         requires walk { IsWalk self.now }
         requires guard { HasVarsBelow (term e.now) (length self.now.program.now.vars) }
@@ -99,12 +98,12 @@ impl Walk<'_> {
         before: Result<(), CheckFault>,
         entered: Tried,
         mark: usize,
-        kept: &mut List<Entail>,
+        kept: &mut List<Kept>,
     ) -> Result<Guarded, CheckFault>
         requires guard { HasVarsBelow (term e.now) (length self.now.program.now.vars) }
         requires point { Stands self.now point }
         requires few { entered.count < 4294967294 }
-        ensures { Wherever self.now point (λ a. (front : List Obligation) → (gs : List Entailment) → (start : List Entail)
+        ensures { Wherever self.now point (λ a. (front : List Obligation) → (gs : List Entailment) → (start : List Kept)
             → are_others front ≡ true → Decides front before → length start ≡ mark → Tries self.now.purpose at (map view.proof proofs.now) 1 gs start kept.old entered
             → GuardsAt self.now at
             (front ++ flat (first_parts (plain_of self.now) self.now.thread at (map view.proof proofs.now)
@@ -147,9 +146,9 @@ impl Walk<'_> {
         holds: Point,
         fails: Point,
         mark: usize,
-        kept: &mut List<Entail>,
+        kept: &mut List<Kept>,
     ) -> Result<Guarded, CheckFault>
-        ensures { Wherever self.now holds (λ a. Wherever self.now fails (λ b. (front : List Obligation) → (proofs : List syntax.Proof) → (gs : List Entailment) → (start : List Entail)
+        ensures { Wherever self.now holds (λ a. Wherever self.now fails (λ b. (front : List Obligation) → (proofs : List syntax.Proof) → (gs : List Entailment) → (start : List Kept)
             → are_others front ≡ true → Decides front before → length start ≡ mark → Tries self.now.purpose at proofs 1 gs start kept.old tried
             → Guards self.now.purpose (plain_of self.now) self.now.thread (front ++ flat (first_parts (plain_of self.now) self.now.thread at proofs gs (a ∷ b ∷ [])))
             (placed_from at 1 gs) a b (length gs) start kept.new result)) }
@@ -179,7 +178,7 @@ impl Walk<'_> {
         before: u32,
         yes: Walked,
         no: Walked,
-        kept: &mut List<Entail>,
+        kept: &mut List<Kept>,
     ) -> Result<Walked, CheckFault>
         requires walk { IsWalk self.now }
         requires range { IsStateInRange (length self.now.program.now.vars) (length self.now.program.now.locks) (view.state join.now) }
@@ -230,7 +229,7 @@ impl Walk<'_> {
         join: &State,
         proofs: &[Proof],
         from: u32,
-        kept: &mut List<Entail>,
+        kept: &mut List<Kept>,
     ) -> Result<Tried, NoMemory>
         requires yes { Stands self.now yes.now }
         requires no { Stands self.now no.now }
@@ -252,7 +251,7 @@ impl Walk<'_> {
         before: u32,
         end: Walked,
         after: Point,
-        kept: &mut List<Entail>,
+        kept: &mut List<Kept>,
     ) -> Result<Walked, CheckFault>
         requires walk { IsWalk self.now }
         requires end { Stands self.now end.point }

@@ -91,7 +91,7 @@ pub fn require_proved(site: Site, unproved: Option<u32>) -> Result<(), CheckFaul
 
 /// Whether the certificate that is given for the number of an entailment is valid, else `auto`. The predicate at the place
 /// `next` is looked at first.
-fn is_proved(
+pub fn is_proved(
     alloc: Global,
     point: &Point,
     proofs: &[Proof],

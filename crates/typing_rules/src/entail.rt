@@ -1,14 +1,18 @@
 //! Copies of entailments, with their place and number, as they are handed out.
 
-ghost use Rattle.std.specs.Prelude.{◌≡◌, ◌<◌, ◌+◌, ◌^◌, ◌++◌, [], ◌∷◌, ℕ, length, map, take, IfOk, OnOk};
+ghost use Rattle.std.specs.Prelude.{◌≡◌, ◌<◌, ◌+◌, ◌^◌, ◌++◌, [], ◌∷◌, ℕ, List, length, map, IfOk, OnOk};
 ghost use Rattle.cov_expr.specs.View.{term};
 ghost use Rattle.cov_ast.specs.Plain.{Plain};
-ghost use Rattle.typing_law.specs.ThreadEntailments.{placed_from, view_entail};
-ghost use Rattle.typing_rules.specs.Keeping.{wanted_among};
+ghost use Rattle.cov_ast.specs.Syntax as syntax;
+ghost use Rattle.typing_law.specs.ThreadEntailments.{view_entail};
+ghost use Rattle.typing_rules.specs.Inside.Walking.{asked_from};
+ghost use Rattle.typing_rules.specs.Keeping.{kept_for, view_kept};
+ghost use Rattle.typing_rules.specs.declared.purpose.Purpose.TheVariants.{Collect};
 ghost use Rattle.typing_rules.specs.Listed.{entailment_of, entailments_of};
 ghost use Rattle.typing_state.specs.KeptPoints.{AtPoint};
 
 use crate::asked::Entailment;
+use crate::kept::Kept;
 use crate::purpose::Wanted;
 use cov_expr::{Expr, List, NoMemory, copy};
 use std::alloc::Global;
@@ -23,11 +27,11 @@ pub fn add_copies(
     from: u32,
     entailments: &[Entailment<'_>],
     wanted: Wanted,
-    kept: &mut List<Entail>,
+    kept: &mut List<Kept>,
 ) -> Result<(), NoMemory>
     requires { from + length entailments.now < 2 ^ 32 }
-    ensures { OnOk result ((p : Plain) → (t : ℕ) → AtPoint p t point.now (λ a.
-        map view_entail kept.new ≡ map view_entail kept.old ++ wanted_among wanted (placed_from site.place from (entailments_of a.preds entailments.now)))) }
+    ensures { OnOk result ((proofs : List syntax.Proof) → (p : Plain) → (t : ℕ) → AtPoint p t point.now (λ a. map view_kept kept.new
+        ≡ map view_kept kept.old ++ kept_for (Collect wanted) (asked_from site.place proofs from (entailments_of a.preds entailments.now)))) }
 {
     let mut number = from;
     for entailment in entailments {
@@ -45,15 +49,14 @@ fn add_copy(
     number: u32,
     entailment: &Entailment<'_>,
     wanted: Wanted,
-    copies: &mut List<Entail>,
+    kept: &mut List<Kept>,
 ) -> Result<(), NoMemory>
-    ensures { OnOk result ((p : Plain) → (t : ℕ) → AtPoint p t point.now (λ a.
-        map view_entail copies.new ≡ map view_entail copies.old
-        ++ wanted_among wanted (record { place = site.place; number = number; entailment = entailment_of a.preds entailment.now } ∷ []))) }
+    ensures { OnOk result ((proofs : List syntax.Proof) → (p : Plain) → (t : ℕ) → AtPoint p t point.now (λ a. map view_kept kept.new
+        ≡ map view_kept kept.old ++ kept_for (Collect wanted) (asked_from site.place proofs number (entailment_of a.preds entailment.now ∷ [])))) }
 {
     if wanted.has(site.place, number) {
         let made = copied(alloc, site, point, number, entailment)?;
-        copies.push(made)?;
+        kept.push(Kept::Copy(made))?;
     }
     Ok(())
 }
@@ -109,13 +112,4 @@ fn copied_all(alloc: Global, exprs: &[Expr]) -> Result<List<Expr>, NoMemory>
         made.push(copied)?;
     }
     Ok(made)
-}
-
-/// Drops the entailments behind the first so many.
-pub fn cut(kept: &mut List<Entail>, mark: usize)
-    ensures { kept.new ≡ take mark kept.old }
-{
-    while kept.len() > mark {
-        let _ = kept.pop();
-    }
 }

@@ -24,15 +24,17 @@ use crate::asked::{
     written_entailments,
 };
 use crate::certificates::{are_small, check_numbers, first_unproved, require_proved};
-use crate::entail::{add_copies, cut};
+use crate::entail::add_copies;
 use crate::entailments_of_assignments::shown_entailment;
+use crate::kept::{Kept, cut};
 use crate::purpose::Purpose;
+use crate::searched::add_searched;
 use crate::sizes::require_small;
 use crate::walk::{Walk, Walked, both};
 use cov_ast::{CheckFault, Proof, Retype, State};
 use cov_expr::{Expr, List, NoMemory};
 use std::slice::from_ref;
-use typing_law::{Entail, Site};
+use typing_law::Site;
 use typing_state::Point;
 
 /// How many entailments there were, and what came of them. Large ones aren't tried.
@@ -49,7 +51,7 @@ pub struct Tried {
 impl Tried {
     /// What came of no entailments.
     pub fn none() -> Tried
-        ensures tried { (u : Purpose) → (at : ℕ) → (proofs : List syntax.Proof) → (n : ℕ) → (kept : List Entail) → Tries u at proofs n [] kept kept result }
+        ensures tried { (u : Purpose) → (at : ℕ) → (proofs : List syntax.Proof) → (n : ℕ) → (kept : List Kept) → Tries u at proofs n [] kept kept result }
         ensures empty { result.count ≡ 0 }
     {
         Tried {
@@ -61,7 +63,7 @@ impl Tried {
 
     /// What came of entailments one of which is large.
     fn large() -> Tried
-        ensures { (u : Purpose) → (at : ℕ) → (proofs : List syntax.Proof) → (n : ℕ) → (gs : List spec.Entailment) → (kept : List Entail)
+        ensures { (u : Purpose) → (at : ℕ) → (proofs : List syntax.Proof) → (n : ℕ) → (gs : List spec.Entailment) → (kept : List Kept)
             → list_all spec.is_small_entailment gs ≡ false → Tries u at proofs n gs kept kept result }
     {
         Tried {
@@ -74,7 +76,7 @@ impl Tried {
     /// What came of these entailments and then of others.
     pub fn and(self, next: Tried) -> Tried
         requires { self.count + next.count < 2 ^ 32 }
-        ensures { (u : Purpose) → (at : ℕ) → (proofs : List syntax.Proof) → (n : ℕ) → (gs hs : List spec.Entailment) → (a b c : List Entail) → Tries u at proofs n gs a b self
+        ensures { (u : Purpose) → (at : ℕ) → (proofs : List syntax.Proof) → (n : ℕ) → (gs hs : List spec.Entailment) → (a b c : List Kept) → Tries u at proofs n gs a b self
             → Tries u at proofs (n + self.count) hs b c next → Tries u at proofs n (gs ++ hs) a c result }
     {
         let small = self.small && next.small;
@@ -96,7 +98,7 @@ impl Walk<'_> {
         s: &State,
         proofs: &[Proof],
         from: u32,
-        kept: &mut List<Entail>,
+        kept: &mut List<Kept>,
     ) -> Result<Tried, NoMemory>
         requires point { Stands self.now point.now }
         requires few { from + state_size (view.state s.now) < 2 ^ 32 }
@@ -115,7 +117,7 @@ impl Walk<'_> {
         e: &Expr,
         proofs: &[Proof],
         from: u32,
-        kept: &mut List<Entail>,
+        kept: &mut List<Kept>,
     ) -> Result<Tried, NoMemory>
         requires point { Stands self.now point.now }
         requires guard { HasVarsBelow (term e.now) (length self.now.program.now.vars) }
@@ -138,7 +140,7 @@ impl Walk<'_> {
         q: &Expr,
         retypes: &[Retype],
         proofs: &[Proof],
-        kept: &mut List<Entail>,
+        kept: &mut List<Kept>,
     ) -> Result<Tried, NoMemory>
         requires walk { IsWalk self.now }
         requires point { Stands self.now point.now }
@@ -169,7 +171,7 @@ impl Walk<'_> {
         q: &Expr,
         proofs: &[Proof],
         from: u32,
-        kept: &mut List<Entail>,
+        kept: &mut List<Kept>,
     ) -> Result<Tried, NoMemory>
         requires variable { x < length self.now.program.now.vars }
         requires few { from + 1 < 2 ^ 32 }
@@ -196,7 +198,7 @@ impl Walk<'_> {
         point: &Point,
         l: u32,
         proofs: &[Proof],
-        kept: &mut List<Entail>,
+        kept: &mut List<Kept>,
     ) -> Result<Tried, NoMemory>
         requires walk { IsWalk self.now }
         requires point { Stands self.now point.now }
@@ -216,7 +218,7 @@ impl Walk<'_> {
         proofs: &[Proof],
         from: u32,
         entailments: &Option<List<Entailment<'_>>>,
-        kept: &mut List<Entail>,
+        kept: &mut List<Kept>,
     ) -> Result<Tried, NoMemory>
         requires { MatchOption entailments.now (Unit {0}) (λ made. from + length made < 2 ^ 32) }
         ensures { IfOk result (λ tried. Wherever self.now point.now (λ a. (gs : List spec.Entailment) → AreListed a.preds gs entailments.now
@@ -243,7 +245,7 @@ impl Walk<'_> {
         proofs: &[Proof],
         from: u32,
         entailments: &[Entailment<'_>],
-        kept: &mut List<Entail>,
+        kept: &mut List<Kept>,
     ) -> Result<Tried, NoMemory>
         requires { from + length entailments.now < 2 ^ 32 }
         ensures { IfOk result (λ tried. Wherever self.now point.now (λ a.
@@ -255,7 +257,7 @@ impl Walk<'_> {
         self.try_small(at, point, proofs, from, entailments, kept)
     }
 
-    /// Tries entailments that are small, or adds copies of them to others where the walk collects them.
+    /// Tries entailments that are small, or adds to what is kept what the walk keeps of them.
     fn try_small(
         &self,
         at: u32,
@@ -263,13 +265,13 @@ impl Walk<'_> {
         proofs: &[Proof],
         from: u32,
         entailments: &[Entailment<'_>],
-        kept: &mut List<Entail>,
+        kept: &mut List<Kept>,
     ) -> Result<Tried, NoMemory>
         requires { from + length entailments.now < 2 ^ 32 }
         ensures { IfOk result (λ tried. Wherever self.now point.now (λ a. list_all spec.is_small_entailment (entailments_of a.preds entailments.now) ≡ true
             → Tries self.now.purpose at (map view.proof proofs.now) from (entailments_of a.preds entailments.now) kept.old kept.new tried)) }
     {
-        let alloc = self.alloc;
+        let (alloc, site) = (self.alloc, self.site(at));
         let count = entailments.len() as u32;
         match self.purpose {
             Purpose::Judge => {
@@ -281,7 +283,15 @@ impl Walk<'_> {
                 })
             }
             Purpose::Collect(wanted) => {
-                add_copies(alloc, self.site(at), point, from, entailments, wanted, kept)?;
+                add_copies(alloc, site, point, from, entailments, wanted, kept)?;
+                Ok(Tried {
+                    count,
+                    small: true,
+                    unproved: None,
+                })
+            }
+            Purpose::Search(depth) => {
+                add_searched(alloc, site, point, proofs, from, entailments, depth, kept)?;
                 Ok(Tried {
                     count,
                     small: true,
@@ -291,8 +301,8 @@ impl Walk<'_> {
         }
     }
 
-    /// The point after a statement whose last entailments were tried, if each of its obligations holds. Else the copies of these entailments
-    /// are dropped: the first so many of what is kept stay. So many entailments came before in the statement itself, and so many in its
+    /// The point after a statement whose last entailments were tried, if each of its obligations holds. Else what is kept of these entailments
+    /// is dropped: the first so many of what is kept stay. So many entailments came before in the statement itself, and so many in its
     /// blocks.
     pub fn conclude(
         &self,
@@ -304,10 +314,10 @@ impl Walk<'_> {
         tried: Tried,
         after: Point,
         mark: usize,
-        kept: &mut List<Entail>,
+        kept: &mut List<Kept>,
     ) -> Result<Walked, CheckFault>
         requires few { inside < 2 ^ 32 }
-        ensures { Wherever self.now after (λ b. (asked : List Obligation) → (gs : List spec.Entailment) → (start : List Entail) → (count counted : ℕ) → are_others asked ≡ true
+        ensures { Wherever self.now after (λ b. (asked : List Obligation) → (gs : List spec.Entailment) → (start : List Kept) → (count counted : ℕ) → are_others asked ≡ true
             → Decides asked front → length start ≡ mark → Tries self.now.purpose at (map view.proof proofs.now) (suc before) gs start kept.old tried
             → before + length gs ≡ count → before + inside + length gs ≡ counted
             → Walks self.now.purpose (plain_of self.now) self.now.thread
@@ -337,7 +347,7 @@ impl Walk<'_> {
         tried: Tried,
         types: bool,
     ) -> Result<(), CheckFault>
-        ensures { (gs : List spec.Entailment) → (points : List typing.Point) → (count : ℕ) → (a b : List Entail)
+        ensures { (gs : List spec.Entailment) → (points : List typing.Point) → (count : ℕ) → (a b : List Kept)
             → Tries self.now.purpose at (map view.proof proofs.now) (suc before) gs a b tried
             → types ≡ list_all has_small_types points → before + length gs ≡ count
             → Decides (looked_at self.now.purpose
@@ -361,6 +371,7 @@ impl Walk<'_> {
         match self.purpose {
             Purpose::Judge => check_numbers(self.program, site, count, proofs),
             Purpose::Collect(_) => Ok(()),
+            Purpose::Search(_) => Ok(()),
         }
     }
 }

@@ -2,19 +2,21 @@
 //!
 //! What has to hold, and that a thread of which all of it holds is secure, stands in `typing_law`: obligations (V1 to V16),
 //! entailments and laws. Here each is tried, and here is the walk over the statements. `specs/` has how the code keeps what has to
-//! follow (`Listed`), which of it has no certificate (`Unproved`), and what a walk looks at and keeps (`Keeping`); `specs/Inside` has words
-//! of private contracts.
+//! follow (`Listed`), which of it has no certificate (`Unproved`), what a walk looks at and keeps (`Keeping`), and what a search comes to
+//! (`Searched`); `specs/Inside` has words of private contracts.
 //!
 //! - [`check_thread`]: whether every obligation of a thread holds, else the first that doesn't; and then the thread is secure.
 //! - [`entailments`]: what has to follow at the statements of a thread, whatever certificates it has. [`entailment_at`]: one of
-//!   them alone, by its place and number.
+//!   them alone, by its place and number. [`searched_entailments`]: what a search for certificates comes to for those that have no
+//!   valid one ([`Searched`]).
 //! - [`subst_nodes_left`]: how many nodes an expression would have with a part in the place of a variable, counted
 //!   without making it. [`statements`]: how many statements a block has.
 //!
 //! `Walk` of `walk.rt` goes over the statements: those without blocks stand in `single_statements.rt`, branches and loops in
-//! `branches.rt`. There is one walk for two purposes (`Purpose`). To judge, it tries each obligation and keeps
+//! `branches.rt`. There is one walk for three purposes (`Purpose`). To judge, it tries each obligation and keeps
 //! nothing. To collect what has to follow, it looks at no certificate, and keeps copies of what is wanted of the entailments of
-//! each statement that holds but for its certificates. Where each rule is tried:
+//! each statement that holds but for its certificates. To search, it keeps what a search comes to for those of them that have no
+//! valid certificate. Where each rule is tried:
 //!
 //! | rule | function | file |
 //! | --- | --- | --- |
@@ -37,7 +39,7 @@
 //!
 //! What a statement asks to follow is collected by `asked.rt` (its parts by
 //! `entailments_of_states.rt` and `entailments_of_assignments.rt`) and tried by `entailments_tried.rt`; `known.rt` sees at once which of it needs no
-//! walk over the predicates, and `entail.rt` keeps copies of it. `large.rt` has assignments
+//! walk over the predicates, `entail.rt` keeps copies of it, and `searched.rt` searches for its certificates (`kept.rt` has both). `large.rt` has assignments
 //! whose type is too large to be built.
 #![tactic(auto)]
 
@@ -51,10 +53,12 @@ mod entailments_of_assignments;
 mod entailments_of_states;
 mod entailments_tried;
 mod evaluation;
+mod kept;
 mod known;
 mod large;
 mod locks;
 mod purpose;
+mod searched;
 mod single_statements;
 mod sizes;
 mod subst_nodes;
@@ -64,5 +68,6 @@ mod walk;
 mod writes;
 
 pub use count::statements;
+pub use kept::Searched;
 pub use subst_nodes::subst_nodes_left;
-pub use thread::{check_thread, entailment_at, entailments};
+pub use thread::{check_thread, entailment_at, entailments, searched_entailments};

@@ -11,6 +11,9 @@ pub enum Purpose {
     /// To collect what has to follow: copies are kept of what is wanted. No certificate is looked at, and the walk goes on
     /// past obligations about them (V9, V13).
     Collect(Wanted),
+    /// To search for certificates: for each entailment without a valid one it is kept what a search of a depth comes to. As where entailments are collected, the
+    /// walk goes on past obligations about certificates.
+    Search(u32),
 }
 
 /// Which entailments of a thread are wanted.

@@ -10,22 +10,23 @@ ghost use Rattle.cov_ast.specs.Syntax as syntax;
 ghost use Rattle.cov_ast.specs.View as view;
 ghost use Rattle.cov_ast.specs.WellFormed.{AreTypesInRange, IsStateInRange, IsStmInRange, IsTypeInRange, state_size, stm_size, most_size};
 ghost use Rattle.typing_law.specs.ThreadObligations.{flat};
-ghost use Rattle.typing_law.specs.declared.entail.Entail.{Entail};
+ghost use Rattle.typing_rules.specs.declared.kept.Kept.{Kept};
 ghost use Rattle.typing_rules.specs.Inside.Walking.{IsWalk, Stands, WalksStm, Wherever, plain_of, value_parts};
 
 use crate::evaluation::check_guard;
+use crate::kept::Kept;
 use crate::sizes::{check_few_preds, require_small};
 use crate::types::check_state;
 use crate::walk::{Walk, Walked, both, finish};
 use cov_ast::{CheckFault, Detail, Program, Proof, Retype, Rule, State};
 use cov_expr::{Expr, List, Name};
-use typing_law::{Entail, require_at};
+use typing_law::require_at;
 use typing_state::Point;
 
 impl Walk<'_> {
     /// Checks a skip.
     pub fn skip(&self, at: u32, proofs: &[Proof], point: Point) -> Result<Walked, CheckFault>
-        ensures { (kept : List Entail) → WalksStm self.now at syntax.skip (map view.proof proofs.now) point kept kept result }
+        ensures { (kept : List Kept) → WalksStm self.now at syntax.skip (map view.proof proofs.now) point kept kept result }
     {
         finish(point, self.check_given(self.site(at), 0, proofs))
     }
@@ -34,7 +35,7 @@ impl Walk<'_> {
     pub fn lock(&self, at: u32, l: u32, point: Point) -> Result<Walked, CheckFault>
         requires walk { IsWalk self.now }
         requires lock { l < length self.now.program.now.locks }
-        ensures { (proofs : List syntax.Proof) → (kept : List Entail) → WalksStm self.now at (syntax.lock l) proofs point kept kept result }
+        ensures { (proofs : List syntax.Proof) → (kept : List Kept) → WalksStm self.now at (syntax.lock l) proofs point kept kept result }
     {
         let (p, site) = (self.program, self.site(at));
         let held = point.modes().holds(l);
@@ -52,7 +53,7 @@ impl Walk<'_> {
         l: u32,
         proofs: &[Proof],
         point: Point,
-        kept: &mut List<Entail>,
+        kept: &mut List<Kept>,
     ) -> Result<Walked, CheckFault>
         requires walk { IsWalk self.now }
         requires lock { l < length self.now.program.now.locks }
@@ -75,7 +76,7 @@ impl Walk<'_> {
         j: &State,
         proofs: &[Proof],
         point: Point,
-        kept: &mut List<Entail>,
+        kept: &mut List<Kept>,
     ) -> Result<Walked, CheckFault>
         requires range { IsStateInRange (length self.now.program.now.vars) (length self.now.program.now.locks) (view.state j.now) }
         requires small { state_size (view.state j.now) < most_size }
@@ -96,7 +97,7 @@ impl Walk<'_> {
         e: &Expr,
         proofs: &[Proof],
         point: Point,
-        kept: &mut List<Entail>,
+        kept: &mut List<Kept>,
     ) -> Result<Walked, CheckFault>
         requires range { HasVarsBelow (term e.now) (length self.now.program.now.vars) }
         requires point { Stands self.now point }
@@ -118,7 +119,7 @@ impl Walk<'_> {
         retypes: &List<Retype>,
         proofs: &[Proof],
         point: Point,
-        kept: &mut List<Entail>,
+        kept: &mut List<Kept>,
     ) -> Result<Walked, CheckFault>
         requires walk { IsWalk self.now }
         requires range { IsStmInRange (length self.now.program.now.vars) (length self.now.program.now.locks)

@@ -1,4 +1,4 @@
-//! A whole thread: its check, and the entailments that it has.
+//! A whole thread: its check, the entailments that it has, and a search for certificates of them.
 
 ghost use Rattle.std.specs.Prelude.{◌≡◌, ◌<◌, ◌^◌, length, map, option_map, slice_get, Err, IfOk, IsTrue, MatchResult, None};
 ghost use Rattle.cov_ast.specs.Obligations.{Decides, all_hold, first_false};
@@ -10,16 +10,18 @@ ghost use Rattle.mode_compat.specs.Declared.{declaration_obligations};
 ghost use Rattle.typing_law.specs.Counts.{DecidesWith, counts};
 ghost use Rattle.typing_law.specs.ThreadEntailments.{entailment_among, thread_entailments, view_entail};
 ghost use Rattle.typing_law.specs.ThreadObligations.{thread_obligations};
-ghost use Rattle.typing_rules.specs.Keeping.{wanted_among};
+ghost use Rattle.typing_rules.specs.Keeping.{asked_in_thread, kept_for, view_kept, view_searched, wanted_among};
+ghost use Rattle.typing_rules.specs.Searched.{searched_in_thread};
 
 use crate::count::statements;
+use crate::kept::{Kept, Searched, copies, searches};
 use crate::locks::check_end;
 use crate::purpose::{Purpose, Wanted};
 use crate::walk::Walk;
 use cov_ast::{CheckFault, Program};
 use cov_expr::{List, NoMemory};
 use std::alloc::Global;
-use typing_law::{Count, Entail, Site, true_obligations_are_secure};
+use typing_law::{Count, Entail, Site, entailments_are_obligations, true_obligations_are_secure};
 use typing_state::Point;
 
 /// Checks the statements of a thread of a program whose declarations keep the rules.
@@ -139,11 +141,46 @@ fn wanted_entailments(
     requires thread { t < length p.now.threads }
     ensures { IfOk result (λ listed. map view_entail listed ≡ wanted_among wanted (thread_entailments (view.program p.now) t)) }
 {
+    let kept = kept_of_thread(alloc, p, t, Purpose::Collect(wanted))?;
+    copies(alloc, kept)
+}
+
+/// What a search of a depth comes to for each of the entailments that `entailments` lists and that have no valid certificate, in their order.
+///
+/// No entailment is copied, so it takes memory for what it finds, and while it searches.
+pub fn searched_entailments(
+    alloc: Global,
+    p: &Program,
+    t: u32,
+    depth: u32,
+) -> Result<List<Searched>, NoMemory>
+    requires formed { IsWellFormed (view.program p.now) }
+    requires declared { IsTrue (all_hold (declaration_obligations (view.program p.now))) }
+    requires thread { t < length p.now.threads }
+    ensures { IfOk result (λ made. map view_searched made ≡ searched_in_thread depth (view.program p.now) t) }
+{
+    let kept = kept_of_thread(alloc, p, t, Purpose::Search(depth))?;
+    entailments_are_obligations();
+    searches(alloc, kept)
+}
+
+/// What a walk over a thread keeps.
+fn kept_of_thread(
+    alloc: Global,
+    p: &Program,
+    t: u32,
+    purpose: Purpose,
+) -> Result<List<Kept>, NoMemory>
+    requires formed { IsWellFormed (view.program p.now) }
+    requires declared { IsTrue (all_hold (declaration_obligations (view.program p.now))) }
+    requires thread { t < length p.now.threads }
+    ensures { IfOk result (λ kept. map view_kept kept ≡ kept_for purpose (asked_in_thread (view.program p.now) t)) }
+{
     let walk = Walk {
         alloc,
         program: p,
         thread: t,
-        purpose: Purpose::Collect(wanted),
+        purpose,
     };
     let thread = &p.threads.as_slice()[t as usize];
     let start = Point::start(alloc, p, t)?;

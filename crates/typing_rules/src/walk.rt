@@ -9,19 +9,20 @@ ghost use Rattle.cov_ast.specs.View as view;
 ghost use Rattle.cov_ast.specs.WellFormed.{IsBlockInRange, IsStmInRange, block_size, stm_size, most_size};
 ghost use Rattle.typing_state.specs.KeptPoints.{Keeps};
 ghost use Rattle.point_law.specs.Point as typing;
-ghost use Rattle.typing_law.specs.declared.entail.Entail.{Entail};
+ghost use Rattle.typing_rules.specs.declared.kept.Kept.{Kept};
 ghost use Rattle.typing_rules.specs.Keeping.{looked_at};
 ghost use Rattle.typing_rules.specs.Inside.Walking.{IsWalk, Stands, Walks, WalksBlock, WalksStm};
 ghost use Rattle.typing_rules.specs.declared.purpose.Purpose.{Purpose};
 
+use crate::kept::Kept;
 use crate::purpose::Purpose;
 use cov_ast::{CheckFault, Program, Proof, State, Stmt, StmtKind};
 use cov_expr::{Expr, List};
 use std::alloc::Global;
-use typing_law::{Entail, Site};
+use typing_law::Site;
 use typing_state::Point;
 
-/// A walk over the statements of a thread of a program, to judge them or to collect what has to follow at them.
+/// A walk over the statements of a thread of a program, to judge them, to collect what has to follow at them, or to search for certificates of it.
 #[derive(Clone, Copy)]
 pub struct Walk<'p> {
     pub alloc: Global,
@@ -57,7 +58,7 @@ pub fn both(first: Result<(), CheckFault>, second: Result<(), CheckFault>) -> Re
 
 /// The point after a statement that asks nothing to follow, if each of its obligations holds.
 pub fn finish(point: Point, verdict: Result<(), CheckFault>) -> Result<Walked, CheckFault>
-    ensures { (u : Purpose) → (p : Plain) → (t : ℕ) → (obligations : List Obligation) → (a : typing.Point) → (kept : List Entail) → Keeps p t a point
+    ensures { (u : Purpose) → (p : Plain) → (t : ℕ) → (obligations : List Obligation) → (a : typing.Point) → (kept : List Kept) → Keeps p t a point
         → Decides (looked_at u obligations) verdict → Walks u p t obligations [] a 0 kept kept result }
 {
     match verdict {
@@ -80,13 +81,13 @@ impl Walk<'_> {
         }
     }
 
-    /// Checks the statements of a block, from a point on. Copies of entailments that the walk keeps are added to others.
+    /// Checks the statements of a block, from a point on. What the walk keeps of their entailments is added to what it kept before.
     #[cycle(walk)]
     pub fn block(
         &self,
         body: &[Stmt],
         point: Point,
-        kept: &mut List<Entail>,
+        kept: &mut List<Kept>,
     ) -> Result<Walked, CheckFault>
         requires walk { IsWalk self.now }
         requires range { IsBlockInRange (length self.now.program.now.vars) (length self.now.program.now.locks) (view.block body.now) }
@@ -119,7 +120,7 @@ impl Walk<'_> {
         kind: &StmtKind,
         proofs: &[Proof],
         point: Point,
-        kept: &mut List<Entail>,
+        kept: &mut List<Kept>,
     ) -> Result<Walked, CheckFault>
         requires walk { IsWalk self.now }
         requires range { IsStmInRange (length self.now.program.now.vars) (length self.now.program.now.locks) (view.kind kind.now) }
@@ -165,7 +166,7 @@ impl Walk<'_> {
         join: &State,
         proofs: &[Proof],
         point: Point,
-        kept: &mut List<Entail>,
+        kept: &mut List<Kept>,
     ) -> Result<Walked, CheckFault>
         requires walk { IsWalk self.now }
         requires range { IsStmInRange (length self.now.program.now.vars) (length self.now.program.now.locks)
@@ -194,7 +195,7 @@ impl Walk<'_> {
         body: &[Stmt],
         proofs: &[Proof],
         point: Point,
-        kept: &mut List<Entail>,
+        kept: &mut List<Kept>,
     ) -> Result<Walked, CheckFault>
         requires walk { IsWalk self.now }
         requires range { IsStmInRange (length self.now.program.now.vars) (length self.now.program.now.locks)

@@ -1,5 +1,5 @@
 -- What a walk over a certificate has found.
-use Rattle.std.specs.Prelude.{◌≡◌, ℕ, ◌+◌, List, ◌++◌, map, Option, Some, None, Result, Ok, Err, option_map, IfSome, Bool, true, false}
+use Rattle.std.specs.Prelude.{◌≡◌, ℕ, List, ◌++◌, map, Option, Some, None, Result, Ok, Err, option_map, IfSome, Bool, true, false}
 use Rattle.std.specs.Borrow.{Bor}
 use Rattle.cov_expr.specs.declared.expr.Expr.{Expr}
 use Rattle.cov_expr.specs.Term.{Term}
@@ -75,29 +75,6 @@ children (by.rev i t c) = 1
 children (by.instance k es c) = 1
 children by.ring = 0
 children by.range = 0
-
--- how many nodes a certificate has
-abbrev pub nodes : Cert → ℕ
-nodes by.auto = 1
-nodes (by.hyp i) = 1
-nodes by.calc = 1
-nodes (by.clash i) = 1
-nodes (by.and c d) = nodes c + nodes d + 1
-nodes (by.left c) = nodes c + 1
-nodes (by.right c) = nodes c + 1
-nodes (by.unpack i c) = nodes c + 1
-nodes (by.cases i c d) = nodes c + nodes d + 1
-nodes (by.split e c d) = nodes c + nodes d + 1
-nodes (by.have e c d) = nodes c + nodes d + 1
-nodes (by.absurdity i j) = 1
-nodes (by.negation c) = nodes c + 1
-nodes (by.contra c) = nodes c + 1
-nodes by.reflexive = 1
-nodes (by.fwd i t c) = nodes c + 1
-nodes (by.rev i t c) = nodes c + 1
-nodes (by.instance k es c) = nodes c + 1
-nodes by.ring = 1
-nodes by.range = 1
 
 -- each instance of an axiom in a certificate is made of words
 abbrev pub InstancesHaveWords : Cert → Type 0

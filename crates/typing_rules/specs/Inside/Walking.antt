@@ -21,14 +21,14 @@ use Rattle.point_law.specs.Point.{is_tracked}
 use Rattle.typing_state.specs.declared.point.Point.{Point}
 use Rattle.typing_law.specs.Counts.{entailment_count}
 use Rattle.typing_law.specs.Blocks.{after_block, after_stm}
-use Rattle.typing_law.specs.Entailments.{Entailment, is_small_entailment, guard_follows, state_follows}
+use Rattle.typing_law.specs.Entailments.{Entailment, is_proved, is_small_entailment, guard_follows, state_follows}
 use Rattle.typing_law.specs.ThreadObligations.{block_obligations, few_preds, flat, guard_obligations, narrow, numbers, of_var, one_unstable, over_controls, proved, reads, same_locks, small_terms, state_obligations, stm_parts, type_obligations}
-use Rattle.typing_law.specs.ThreadEntailments.{PlacedEntailment, block_entailments, placed_from, stm_entailments, view_entail}
-use Rattle.typing_law.specs.declared.entail.Entail.{Entail}
-use Rattle.typing_rules.specs.Keeping.{kept_for}
+use Rattle.typing_law.specs.ThreadEntailments.{PlacedEntailment, block_entailments, placed_from, stm_entailments}
+use Rattle.typing_rules.specs.Keeping.{Asked, Item, kept_for, view_kept}
 use Rattle.typing_rules.specs.Unproved.{unproved_for}
 use Rattle.typing_rules.specs.Inside.Passing.{Passes, Stops}
 use Rattle.typing_rules.specs.declared.entailments_tried.Tried.{Tried}
+use Rattle.typing_rules.specs.declared.kept.Kept.{Kept}
 use Rattle.typing_rules.specs.declared.purpose.Purpose.{Purpose}
 use Rattle.typing_rules.specs.declared.walk.Guarded.{Guarded}
 use Rattle.typing_rules.specs.declared.walk.Walk.{Walk}
@@ -36,7 +36,7 @@ use Rattle.typing_rules.specs.declared.walk.Walked.{Walked}
 
 -- All obligations hold that the walk looks at, and this is the point after them, with how many entailments were counted; or this
 -- is the first of them that doesn't hold, unless memory ran out.
-abbrev pub Walks : Purpose → Plain → (t : ℕ) → List Obligation → List PlacedEntailment → (end : spec.Point) → (counted : ℕ) → (before after : List Entail)
+abbrev pub Walks : Purpose → Plain → (t : ℕ) → List Obligation → List PlacedEntailment → (end : spec.Point) → (counted : ℕ) → (before after : List Kept)
     → Result Walked CheckFault → Type 0
 Walks u p t obligations entailments end counted before after (Ok walked) =
     Passes u obligations entailments before after × Keeps p t end walked.point × (walked.entailments ≡ counted)
@@ -69,14 +69,14 @@ Wherever w kept P = AtPoint (plain_of w) w.thread kept P
 -- Statements and blocks ------------------------------------------------------------------------------------------
 
 -- the answer about a statement
-abbrev pub WalksStm : Walk → (at : ℕ) → Stm → List Proof → Point → (before after : List Entail) → Result Walked CheckFault → Type 0
+abbrev pub WalksStm : Walk → (at : ℕ) → Stm → List Proof → Point → (before after : List Kept) → Result Walked CheckFault → Type 0
 WalksStm w at s proofs kept before after result =
     Wherever w kept (λ a. let obligations = flat (stm_parts (plain_of w) w.thread s at proofs a) in
     Walks w.purpose (plain_of w) w.thread obligations (stm_entailments (plain_of w) w.thread s at a) (after_stm (plain_of w) w.thread s a)
     (entailment_count obligations) before after result)
 
 -- the answer about a block
-abbrev pub WalksBlock : Walk → Block → Point → (before after : List Entail) → Result Walked CheckFault → Type 0
+abbrev pub WalksBlock : Walk → Block → Point → (before after : List Kept) → Result Walked CheckFault → Type 0
 WalksBlock w b kept before after result =
     Wherever w kept (λ a. let obligations = block_obligations (plain_of w) w.thread b a in
     Walks w.purpose (plain_of w) w.thread obligations (block_entailments (plain_of w) w.thread b a) (after_block (plain_of w) w.thread b a)
@@ -84,15 +84,21 @@ WalksBlock w b kept before after result =
 
 -- Entailments ----------------------------------------------------------------------------------------------------
 
+-- entailments of the statement at a place that are numbered from a number on, each with whether it is proved
+abbrev pub asked_from : (at : ℕ) → List Proof → (n : ℕ) → List Entailment → List Asked
+asked_from at proofs n [] = []
+asked_from at proofs n (g ∷ gs) =
+    record { listed = record { place = at; number = n; entailment = g }; proved = is_proved proofs n g } ∷ asked_from at proofs (suc n) gs
+
 -- What came of entailments of the statement at a place that are numbered from a number on: whether they are small, and, if so, how
--- many there are, which has no valid certificate, and that copies of those that the walk keeps are all that was added to others.
-pub record Tries (u : Purpose) (at : ℕ) (proofs : List Proof) (n : ℕ) (gs : List Entailment) (before after : List Entail) (tried : Tried) : Type 0 where
+-- many there are, which has no valid certificate, and that what the walk keeps is all that was added to others.
+pub record Tries (u : Purpose) (at : ℕ) (proofs : List Proof) (n : ℕ) (gs : List Entailment) (before after : List Kept) (tried : Tried) : Type 0 where
   pub few : tried.count ≤ length gs
   pub small : tried.small ≡ list_all is_small_entailment gs
-  pub added : List PlacedEntailment
-  pub grown : map view_entail after ≡ map view_entail before ++ added
+  pub added : List Item
+  pub grown : map view_kept after ≡ map view_kept before ++ added
   pub decided : tried.small ≡ true
-      → (tried.count ≡ length gs) × (tried.unproved ≡ unproved_for u proofs n gs) × (added ≡ kept_for u (placed_from at n gs))
+      → (tried.count ≡ length gs) × (tried.unproved ≡ unproved_for u proofs n gs) × (added ≡ kept_for u (asked_from at proofs n gs))
 
 -- Parts of branches and loops ------------------------------------------------------------------------------------
 
@@ -148,7 +154,7 @@ module _ (p : Plain) (t at : ℕ) where
 
 -- All obligations hold that the walk looks at, and these are the points where a guard holds and where it doesn't, with how many
 -- entailments were counted; or this is the first of them that doesn't hold, unless memory ran out.
-abbrev pub Guards : Purpose → Plain → (t : ℕ) → List Obligation → List PlacedEntailment → (holds fails : spec.Point) → (counted : ℕ) → (before after : List Entail)
+abbrev pub Guards : Purpose → Plain → (t : ℕ) → List Obligation → List PlacedEntailment → (holds fails : spec.Point) → (counted : ℕ) → (before after : List Kept)
     → Result Guarded CheckFault → Type 0
 Guards u p t obligations entailments holds fails counted before after (Ok guarded) =
     Passes u obligations entailments before after × Keeps p t holds guarded.holds × Keeps p t fails guarded.fails × (guarded.count ≡ counted)
@@ -159,7 +165,7 @@ abbrev pub starts_of : Walk → spec.Point → Term → List spec.Point
 starts_of w a e = with_guard (plain_of w) w.thread a e ∷ with_guard (plain_of w) w.thread a (neg e) ∷ []
 
 -- the answer about what stands before a guard that is tried at a point of a statement with these entailments so far
-abbrev pub GuardsAt : Walk → (at : ℕ) → List Obligation → List Entailment → spec.Point → Term → (before after : List Entail) → Result Guarded CheckFault → Type 0
+abbrev pub GuardsAt : Walk → (at : ℕ) → List Obligation → List Entailment → spec.Point → Term → (before after : List Kept) → Result Guarded CheckFault → Type 0
 GuardsAt w at obligations gs a e before after result =
     Guards w.purpose (plain_of w) w.thread obligations (placed_from at 1 gs) (with_guard (plain_of w) w.thread a e)
     (with_guard (plain_of w) w.thread a (neg e)) (length gs) before after result

@@ -1,6 +1,6 @@
 use Rattle.std.proofs.Common.{◌+◌, ◌*◌}
 use Rattle.cov_ast.specs.View.{cert}
-use Rattle.entail_cert.specs.Inside.Findings.{nodes}
+use Rattle.cov_ast.proofs.CertSizes.{nodes}
 use Rattle.levels.proofs.certs.+cert.Given as goal
 
 -- a certificate has more nodes than its parts, and a function calls only those of a lower rank at one of the same size

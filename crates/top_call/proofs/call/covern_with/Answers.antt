@@ -2,7 +2,7 @@ use Rattle.std.proofs.Common.{inl, inr, refl, map, string_bytes, rules}
 use Rattle.call_reports.specs.AnswerViews.{seen}
 use Rattle.call_reports.specs.declared.answers.Status.TheVariants as s
 use Rattle.top_call.specs.Outcome.{plan_for}
-use Rattle.top_call.proofs.OutcomeLaws.{answered, call_agree, call_code, call_complete, call_object, call_exact, call_fault, call_levels, call_passes, call_secure, call_swapped, lacking}
+use Rattle.top_call.proofs.OutcomeLaws.{answered, call_agree, call_annotated, call_code, call_complete, call_object, call_exact, call_fault, call_levels, call_passes, call_secure, call_swapped, lacking}
 use Rattle.top_call.proofs.call.covern_with.Goals as goal
 
 -- Memory ran out before an answer ------------------------------------------------------------------------------
@@ -122,6 +122,14 @@ returns-clause-levels g c done =
     let judging = g.J.Judge.judging in
     call_levels (judging c.args.judge.now) (shelved c.args.shelf.now) (shelved c.answer.new.shelf) (map string_bytes c.args.words.now) (sunk c.args.sink.now) (sunk c.end.new.sink) c.end.result
     (judging c.args.judge.now).judged (judging c.answer.new.judge).judged (returns-clause-does g c) c.shown_programs_are_secure.ensures done
+
+pub returns-clause-annotated : goal.returns-clause-annotated
+returns-clause-annotated g c done =
+    let shelved = g.S.Shelf.shelved in
+    let sunk = g.K.Sink.sunk in
+    let judging = g.J.Judge.judging in
+    call_annotated (judging c.args.judge.now) (shelved c.args.shelf.now) (shelved c.answer.new.shelf) (map string_bytes c.args.words.now) (sunk c.args.sink.now) (sunk c.end.new.sink) c.end.result
+    (judging c.args.judge.now).judged (judging c.answer.new.judge).judged (returns-clause-does g c) c.annotated_programs_are_secure.ensures done
 
 pub returns-clause-agree : goal.returns-clause-agree
 returns-clause-agree g c =

@@ -1,7 +1,9 @@
-use Rattle.std.proofs.Common.{◌≡◌, ◌+◌, ◌++◌, ℕ, drop, map}
+use Rattle.std.proofs.Common.{◌≡◌, ◌+◌, ◌++◌, ℕ, List, drop, map}
 use Rattle.cov_ast.specs.Plain.{Plain}
-use Rattle.typing_law.specs.ThreadEntailments.{placed_from, view_entail}
-use Rattle.typing_rules.specs.Keeping.{wanted_among}
+use Rattle.cov_ast.specs.Syntax.{Proof}
+use Rattle.typing_rules.specs.Inside.Walking.{asked_from}
+use Rattle.typing_rules.specs.Keeping.{kept_for, view_kept}
+use Rattle.typing_rules.specs.declared.purpose.Purpose.TheVariants.{Collect}
 use Rattle.typing_state.specs.KeptPoints.{AtPoint}
 use Rattle.typing_rules.specs.Listed.{entailments_of}
 use Rattle.typing_rules.proofs.entail.add_copies.Given as goal
@@ -9,7 +11,7 @@ use Rattle.typing_rules.proofs.entail.add_copies.Given as goal
 abbrev pub invariant-loop-entailment : goal.invariant-loop-entailment
 invariant-loop-entailment l = record {
   counted : l.number ≡ l.from + l.entailment-index;
-  kept : (p : Plain) → (t : ℕ) → AtPoint p t l.point (λ a.
-      map view_entail l.kept ++ wanted_among l.wanted (placed_from l.site.place l.number (entailments_of a.preds (drop l.entailment-index l.entailments)))
-      ≡ map view_entail l.fn.kept ++ wanted_among l.wanted (placed_from l.site.place l.from (entailments_of a.preds l.entailments)));
+  kept : (proofs : List Proof) → (p : Plain) → (t : ℕ) → AtPoint p t l.point (λ a.
+      map view_kept l.kept ++ kept_for (Collect l.wanted) (asked_from l.site.place proofs l.number (entailments_of a.preds (drop l.entailment-index l.entailments)))
+      ≡ map view_kept l.fn.kept ++ kept_for (Collect l.wanted) (asked_from l.site.place proofs l.from (entailments_of a.preds l.entailments)));
 }

@@ -1,6 +1,6 @@
 use Rattle.std.proofs.Common.{◌+◌, ◌*◌}
 use Rattle.cov_ast.specs.View.{cert}
-use Rattle.entail_cert.specs.Inside.Findings.{nodes}
+use Rattle.cov_ast.proofs.CertSizes.{nodes}
 use Rattle.entail_cert.proofs.walk.Walk.+check.Given as goal
 
 -- a node is larger than its children, and a function calls only those of a lower rank at a certificate of the same size

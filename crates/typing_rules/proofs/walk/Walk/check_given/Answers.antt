@@ -19,4 +19,12 @@ returns-in-Collect c =
     let proofs = map view.proof c.args.proofs.now in
     let given = numbers (plain_of w) c.args.site.thread c.args.site.place c.args.count proofs in
     subst (λ u. first_false (looked_at u given) ≡ None) (sym c.in-Collect.is)
-    (ap first_false (numbers_silent (plain_of w) c.args.site.thread c.args.site.place c.in-Collect.field-0 proofs c.args.count))
+    (ap first_false (numbers_silent (plain_of w) c.args.site.thread c.args.site.place proofs c.args.count))
+
+pub returns-in-Search : goal.returns-in-Search
+returns-in-Search c =
+    let w = c.args.self.now in
+    let proofs = map view.proof c.args.proofs.now in
+    let given = numbers (plain_of w) c.args.site.thread c.args.site.place c.args.count proofs in
+    subst (λ u. first_false (looked_at u given) ≡ None) (sym c.in-Search.is)
+    (ap first_false (numbers_silent (plain_of w) c.args.site.thread c.args.site.place proofs c.args.count))

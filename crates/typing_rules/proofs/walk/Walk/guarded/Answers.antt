@@ -11,7 +11,7 @@ use Rattle.typing_law.specs.ThreadObligations.{obligation, few_preds, proved, sm
 use Rattle.typing_rules.specs.Keeping.{looked_at}
 use Rattle.typing_rules.specs.Inside.Passing.{Passes, Stops}
 use Rattle.typing_rules.specs.Inside.Walking.{plain_of}
-use Rattle.typing_rules.proofs.Concluding.{all_tried, asked_counted, asked_silent, concludes, cut_back, last_stops, looked_front}
+use Rattle.typing_rules.proofs.Concluding.{all_tried, asked_asks, asked_silent, concludes, cut_back, last_stops, looked_front}
 use Rattle.typing_rules.proofs.Parts.{held_is}
 use Rattle.typing_rules.proofs.Reaching.{others-append}
 use Rattle.typing_rules.proofs.walk.Walk.guarded.Goals as goal
@@ -41,7 +41,7 @@ returns-in-Ok c a k b kb front proofs gs start others before marked tries =
     let held = subst (λ o. Decides o (Ok tt)) (sym looked) (subst (λ r. Decides (front ++ (few ++ (small ++ looked_at u asked))) r) c.in-Ok.is verdict) in
     let all = all_tried u p t at proofs 1 gs [] first asked first_others start c.args.kept.now c.args.tried tries held in (
       subst (λ o. Passes u o (placed_from at 1 gs) start c.args.kept.now) (append_assoc front few (small ++ asked))
-          (concludes u p t at proofs 1 gs [] first asked first_others start c.args.kept.now c.args.tried tries held (asked_counted p t at proofs 1 gs)),
+          (concludes u p t at proofs 1 gs [] first asked first_others start c.args.kept.now c.args.tried tries held (asked_asks p t at proofs 1 gs)),
       k,
       kb,
       all.0,
@@ -70,6 +70,6 @@ returns-in-Err c a k b kb front proofs gs start others before marked tries =
     (λ _. c.both-2.ensures few (small ++ looked_at u asked) few_ok (λ _. c.both.ensures small (looked_at u asked) small_ok proved_ok)) in
     let looked = looked_front u first (small ++ asked) first_others ∙ ap (λ o. first ++ o) (looked_front u small asked refl) ∙ append_assoc front few (small ++ looked_at u asked) in
     subst (λ o. Stops u o (placed_from at 1 gs) start c.cut.new.kept c.in-Err.fault) (append_assoc front few (small ++ asked))
-    (last_stops u p t at proofs 1 gs [] first asked first_others (λ wanted. asked_silent p t at wanted proofs 1 gs) start c.cut.new.kept
+    (last_stops u p t at proofs 1 gs [] first asked first_others (asked_silent p t at proofs 1 gs) start c.cut.new.kept
     (cut_back start c.args.kept.now c.cut.new.kept tries.added c.args.mark marked tries.grown c.cut.ensures) c.in-Err.fault
     (subst (λ o. Decides o (Err c.in-Err.fault)) (sym looked) (subst (λ r. Decides (front ++ (few ++ (small ++ looked_at u asked))) r) c.in-Err.is verdict)))

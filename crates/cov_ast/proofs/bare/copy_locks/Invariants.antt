@@ -1,6 +1,0 @@
-use Rattle.std.proofs.Common.{◌≡◌, ◌++◌, drop, map}
-use Rattle.cov_ast.specs.View as view
-use Rattle.cov_ast.proofs.bare.copy_locks.Given as goal
-
-abbrev pub invariant-loop-lock : goal.invariant-loop-lock
-invariant-loop-lock l = map view.lock l.copies ++ map view.lock (drop l.lock-index l.locks) ≡ map view.lock l.locks

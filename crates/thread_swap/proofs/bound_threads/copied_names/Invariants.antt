@@ -1,9 +1,0 @@
-use Rattle.std.proofs.Common.{◌≡◌, length, take}
-use Rattle.thread_swap.proofs.bound_threads.copied_names.Given as goal
-
--- the names so far
-abbrev pub invariant-loop-number : goal.invariant-loop-number
-invariant-loop-number l = record {
-  count : length l.made ≡ l.number;
-  names : l.made ≡ take l.number l.names;
-}
