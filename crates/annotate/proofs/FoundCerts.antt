@@ -54,19 +54,16 @@ use Rattle.annotate.proofs.SpeltCerts.{CertFits, IsNewProof}
 
 -- Certificates -------------------------------------------------------------------------------------------------
 
-below_true : (x n : ℕ) → x < n → nat_lt x n ≡ true
-below_true x n h = go (nat_lt x n) refl
-  where
-    go : (b : Bool) → nat_lt x n ≡ b → b ≡ true
-    go true e = refl
-    go false e = absurd (grind (arith, e, h))
-
 module _ (p : Parsed) (named : AreVariablesNamed p) (small : length p.vars ≤ HOLE) where
   abbrev with_names : Term → Term
   with_names e = resolved_term (name_number p) (λ l. l) e
 
   var_fits : (x : ℕ) → x < length p.vars → known p.names (resolved_var (name_number p) (λ l. l) x) ≡ true
-  var_fits x h = below_true (resolved_var (name_number p) (λ l. l) x) (length p.names) (var_below p named small x h)
+  var_fits x h = below (known p.names (resolved_var (name_number p) (λ l. l) x)) refl
+    where
+      below : (b : Bool) → known p.names (resolved_var (name_number p) (λ l. l) x) ≡ b → b ≡ true
+      below true e = refl
+      below false e = absurd (grind (arith, e, var_below p named small x h))
 
   term_fits : (e : Term) → HasVarsBelow e (length p.vars) → HasWords e → IsFine (known p.names) false (with_names e)
   term_fits (const n) h k = omega (arith, k)

@@ -33,6 +33,7 @@ use Rattle.cov_print.proofs.Leaves.{AreNames}
 use Rattle.cov_print.proofs.Named.{Every, every_at, AreDistinct, added, added_distinct, added_every, added_all, IsIn}
 use Rattle.cov_print.proofs.Source.{IsSound, sound_tokens}
 use Rattle.cov_print.proofs.SameNames.{name_bytes, names_added, all_names, spelled, good_words, own_names, written_names, are_words}
+use Rattle.cov_print.proofs.PrintLaws.{at_none, map_map, of_seen, uses_are, uses_unplaced}
 use Rattle.cov_print.proofs.Declarations.{program_kept, program_words, seen_lock, seen_program, seen_thread, seen_var}
 use Rattle.cov_print.proofs.Sizes.{fine, fine_none, program_fine, limits_same}
 use Rattle.cov_print.proofs.Programs.{program_, program_calm}
@@ -182,50 +183,7 @@ module _ (text : List ℕ) (raw : List lexed.Token) (lexes : tokens_of text ≡ 
       unfolding tokens_of
       read_back = back read.0 read.1 read.2
 
--- Uses without places ------------------------------------------------------------------------------------------
-
-flat_map_same : {A B C : Type 0} (f : A → B) (g : B → List C) (h : A → List C) → ((x : A) → g (f x) ≡ h x) → (xs : List A) → flat_map g (map f xs) ≡ flat_map h xs
-flat_map_same f g h e [] = refl
-flat_map_same f g h e (x ∷ xs) = λ i. e x i ++ flat_map_same f g h e xs i
-
-mutual
-  stm_uses : (x : s.Stm) (ps : List s.Proof) → uses_in_stm (unplaced_stm x) ps ≡ uses_in_stm x ps
-  stm_uses s.skip ps = refl
-  stm_uses (s.assign x e q rs) ps = refl
-  stm_uses (s.lock l) ps = refl
-  stm_uses (s.unlock l) ps = refl
-  stm_uses (s.branch e a b j) ps = ap₂ (λ x y. ready.uses_in e ++ x ++ y ++ ready.uses_in_state j ++ flat_map ready.uses_in_proof ps) (block_uses a) (block_uses b)
-  stm_uses (s.loop e j b) ps = ap (λ x. ready.uses_in e ++ ready.uses_in_state j ++ x ++ flat_map ready.uses_in_proof ps) (block_uses b)
-  stm_uses (s.note j) ps = refl
-  stm_uses (s.output e) ps = refl
-
-  block_uses : (b : s.Block) → uses_in_block (unplaced_block b) ≡ uses_in_block b
-  block_uses s.done = refl
-  block_uses (s.more at x ps rest) = ap₂ (λ c d. c ++ d) (stm_uses x ps) (block_uses rest)
-
-uses_unplaced : (p : s.Parsed) → uses_in_declarations (unplaced p) ≡ uses_in_declarations p
-uses_unplaced p =
-    ap₂ (λ a b. a ++ b)
-    (ap₂ (λ a b. a ++ b) (flat_map_same unplaced_var (λ v. uses_in_class v.class) (λ v. uses_in_class v.class) (λ x. refl) p.vars) (flat_map_same unplaced_lock uses_in_lock uses_in_lock (λ x. refl) p.locks))
-    (flat_map_same unplaced_thread uses_in_thread uses_in_thread (λ x. ap (λ u. ready.uses_in_modes x.modes ++ u) (block_uses x.body)) p.threads)
-
-at_none : Use → NameUse
-at_none u = record { name = u.name; lock = u.lock; at = 0 }
-
-map_map : {A B C : Type 0} (f : A → B) (g : B → C) (xs : List A) → map g (map f xs) ≡ map (λ x. g (f x)) xs
-map_map f g [] = refl
-map_map f g (x ∷ xs) = ap (λ l. g (f x) ∷ l) (map_map f g xs)
-
-uses_are : (us : List NameUse) (vs : List Use) → map ready.use_of us ≡ vs → map unplaced_use us ≡ map at_none vs
-unfolding at_none
-uses_are us vs e = sym (map_map ready.use_of at_none us) ∙ ap (map at_none) e
-
--- What stands of the uses and the declarations is the program without places.
-abbrev pub Seen : Type 0
-Seen = ℕ × (List s.Var × (List s.Lock × List s.Thread))
-
-abbrev pub of_seen : List (List ℕ) → List NameUse → Seen → s.Parsed
-of_seen names uses x = record { version = x.0; names = names; uses = uses; vars = x.1.0; locks = x.1.1.0; threads = x.1.1.1 }
+-- Programs that look alike --------------------------------------------------------------------------------------
 
 -- two programs that look alike, each with its uses in order, are alike
 pub alike : (p q : s.Parsed) → p.names ≡ q.names → seen_of (unplaced p) ≡ seen_of (unplaced q) → HasUsesInOrder p → HasUsesInOrder q → unplaced p ≡ unplaced q

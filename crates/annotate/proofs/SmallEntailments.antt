@@ -3,7 +3,7 @@ use Rattle.std.proofs.Common.{ℕ, zero, suc, ◌+◌, ◌*◌, ◌≤◌, ◌&&
 use Rattle.std.specs.Prelude.{filter, option_to_list, sum_by}
 use Rattle.std.proofs.lemmas.List.{length-map}
 use Rattle.std.proofs.lemmas.List.FromFn.{length-range_with_len}
-use Rattle.std.proofs.lemmas.List.Sums.{sum_by-cons}
+use Rattle.std.proofs.lemmas.List.Sums.{count_by-le-length, length-filter, sum_by-cons}
 use Rattle.cov_expr.specs.Term.{Term, var, neg, bin}
 use Rattle.cov_expr.specs.Trees.{has_term, mentions, nodes}
 use Rattle.cov_expr.specs.declared.expr.Op.TheVariants.{Eq}
@@ -20,14 +20,6 @@ use Rattle.typing_law.specs.Entailments.{assign_entailments, controlled_follows,
 use Rattle.typing_law.specs.ThreadEntailments.{block_entailments, PlacedEntailment, placed_from, stm_entailments}
 
 -- Lists --------------------------------------------------------------------------------------------------------
-
-filter_fewer : {X : Type 0} (test : X → Bool) (xs : List X) → length (filter test xs) ≤ length xs
-filter_fewer test [] = omega arith
-filter_fewer test (x ∷ xs) = go (test x) (filter_fewer test xs)
-  where
-    go : (b : Bool) → length (filter test xs) ≤ length xs → length (if b then x ∷ filter test xs else filter test xs) ≤ suc (length xs)
-    go true h = omega (arith, h)
-    go false h = omega (arith, h)
 
 with_one : (es : List Term) (e : Term) → length (with_term es e) ≤ length es + 1
 with_one es e = go (has_term es e)
@@ -48,16 +40,12 @@ with_any : (es : List Term) (o : Option Term) → length (with_option es o) ≤ 
 with_any es None = omega arith
 with_any es (Some e) = with_one es e
 
-preds_few : (es : List Term) → length es ≤ sum_by (λ e. nodes e + 1) es
-preds_few [] = omega arith
-preds_few (e ∷ es) = omega (arith, preds_few es, sum_by-cons (λ e. nodes e + 1) e es)
-
-types_few : (ts : List (ℕ × Term)) → length ts ≤ types_size ts
-types_few [] = omega arith
-types_few (t ∷ ts) = omega (arith, types_few ts, sum_by-cons (λ t. nodes t.1 + 1) t ts)
+few_by : {X : Type 0} (f : X → ℕ) (xs : List X) → length xs ≤ sum_by (λ x. f x + 1) xs
+few_by f [] = omega arith
+few_by f (x ∷ xs) = omega (arith, few_by f xs, sum_by-cons (λ x. f x + 1) x xs)
 
 state_few : (j : State) → length j.preds + length j.types ≤ state_size j
-state_few j = omega (arith, preds_few j.preds, types_few j.types)
+state_few j = omega (arith, few_by nodes j.preds, few_by (λ t. nodes t.1) j.types)
 
 -- Points -------------------------------------------------------------------------------------------------------
 
@@ -74,9 +62,9 @@ module _ (P : Plain) (u : ℕ) where
   after_few : (c : Stm) (a : Point) → held_few (after_stm P u c a) ≤ held_few a + 1 + stm_size c
   after_few skip a = omega arith
   after_few (assign x e q retypes) a =
-      omega (arith, with_one_if (keeps_value P u a.held x e) (filter (λ r. not (mentions r x)) a.preds) (bin Eq (var x) e), filter_fewer (λ r. not (mentions r x)) a.preds)
+      omega (arith, with_one_if (keeps_value P u a.held x e) (filter (λ r. not (mentions r x)) a.preds) (bin Eq (var x) e), length-filter (λ r. not (mentions r x)) a.preds, count_by-le-length (λ r. not (mentions r x)) a.preds)
   after_few (lock l) a = omega (arith, with_any a.preds (lock_at P l).inv)
-  after_few (unlock l) a = omega (arith, filter_fewer (is_over_stable P u (after_unlock P u a l).held) a.preds)
+  after_few (unlock l) a = omega (arith, length-filter (is_over_stable P u (after_unlock P u a l).held) a.preds, count_by-le-length (is_over_stable P u (after_unlock P u a l).held) a.preds)
   after_few (branch e yes_block no_block join) a = omega (arith, meet_few (after_block P u yes_block (with_guard P u a e)) join)
   after_few (loop e inv b) a = omega (arith, guard_few (meet P u a inv) (neg e), meet_few a inv)
   after_few (note j) a = omega (arith, with_more [] j.preds, state_few j)
@@ -172,7 +160,8 @@ module _ (P : Plain) (u hidden : ℕ) (few_hidden : (l : ℕ) → length (lock_a
         arith,
         pick_length (is_control P x) (map (controlled_follows P u a x e) (shown_controlled P u a x)),
         length-map (shown_controlled P u a x) (controlled_follows P u a x e),
-        filter_fewer (λ y. mentions (class_of P y) x && not (is_hidden P u a.held y)) (vars_of P),
+        length-filter (λ y. mentions (class_of P y) x && not (is_hidden P u a.held y)) (vars_of P),
+        count_by-le-length (λ y. mentions (class_of P y) x && not (is_hidden P u a.held y)) (vars_of P),
         length-range_with_len 0 (length P.vars),
       )
 
@@ -192,7 +181,7 @@ module _ (P : Plain) (u hidden : ℕ) (few_hidden : (l : ℕ) → length (lock_a
         pick_length {X = Entailment} (is_control P x || not (is_hidden P u a.held x)) (record { hyps = a.preds ++ class_of P x ∷ []; goal = v } ∷ []),
         controlled_length a x e,
         length-map rs (retype_follows P u a x e),
-        types_few rs,
+        few_by (λ r. nodes r.1) rs,
       )
 
   unlock_few : (m : ℕ) (a : Point) (l : ℕ) → held_few a + 1 ≤ m → HaveFew m (unlock_entailments P u a l)
@@ -214,7 +203,8 @@ module _ (P : Plain) (u hidden : ℕ) (few_hidden : (l : ℕ) → length (lock_a
         length-map (option_to_list (lock_at P l).inv) (from_preds a.preds),
         length-map free (freed_value P u a),
         list_length (lock_at P l).inv,
-        filter_fewer (λ x. not (is_control P x)) (lock_at P l).hide,
+        length-filter (λ x. not (is_control P x)) (lock_at P l).hide,
+        count_by-le-length (λ x. not (is_control P x)) (lock_at P l).hide,
         few_hidden l,
       )
 

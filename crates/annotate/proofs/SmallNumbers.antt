@@ -11,6 +11,7 @@ use Rattle.entail_cert.specs.Axioms.{numbered}
 use Rattle.entail_cert.specs.Valid.{filled, first_bad, in_child, is_negation, is_some_and, one, only_if, only_with, operands, operands_of, two}
 use Rattle.cert_search.specs.Classes.{definition_in, hypothesis_named, is_in_class, is_lemma, is_of_another, is_step, is_within, opened, replacement}
 use Rattle.cert_search.proofs.Choices.{definition_sides}
+use Rattle.cert_search.proofs.Complete.{child_free, only_if_free, two_free}
 
 -- Each number is one of so many, and a search finds certificates of its kind.
 abbrev pub IsNumbered : (most : ℕ) → Cert → Type 0
@@ -60,20 +61,8 @@ of_definition hyps i x h = of_operands Eq hyps i (var x.0, x.1) (definition_side
 
 -- What no node of which fails ----------------------------------------------------------------------------------
 
-in_none : (n : ℕ) (x : Option (List ℕ)) → in_child n x ≡ None → x ≡ None
-in_none n None h = refl
-in_none n (Some x) h = cc
-
-two_none : (x y : Option (List ℕ)) → two x y ≡ None → (x ≡ None) × (y ≡ None)
-two_none None y h = (refl, in_none 2 y h)
-two_none (Some x) y h = cc
-
 with_none : {A : Type 0} (o : Option A) (x : A) (f : A → Option (List ℕ)) → o ≡ Some x → only_with o f ≡ None → f x ≡ None
 with_none o x f e h = ap (λ p. only_with p f) (sym e) ∙ h
-
-if_none : (b : Bool) (x : Option (List ℕ)) → only_if b x ≡ None → (b ≡ true) × (x ≡ None)
-if_none true x h = (refl, h)
-if_none false x h = cc
 
 negation_some : (hyps : List Term) (i j : ℕ) → is_negation (numbered hyps i) (numbered hyps j) ≡ true → (i ≤ length hyps) × (j ≤ length hyps)
 negation_some hyps i j h = go (numbered hyps i) refl (numbered hyps j) refl h
@@ -91,7 +80,7 @@ leaf_numbered hyps goal by.reflexive m few h v = tt
 leaf_numbered hyps goal by.ring m few h v = tt
 leaf_numbered hyps goal by.range m few h v = tt
 leaf_numbered hyps goal (by.absurdity i j) m few h v =
-    let b = negation_some hyps i j (if_none (is_negation (numbered hyps i) (numbered hyps j)) None v).0 in (omega (arith, b.0, few), omega (arith, b.1, few))
+    let b = negation_some hyps i j (only_if_free (is_negation (numbered hyps i) (numbered hyps j)) None v).0 in (omega (arith, b.0, few), omega (arith, b.1, few))
 leaf_numbered hyps goal _ m few h v = absurd (true≢false (sym h))
 
 module _ (d : ℕ) (rest : (hyps : List Term) (goal : Term) (c : Cert) (m : ℕ) → length hyps + 2 * d ≤ m → is_in_class d hyps goal c ≡ true → first_bad hyps goal c ≡ None → IsNumbered m c)
@@ -135,25 +124,25 @@ module _ (d : ℕ) (rest : (hyps : List Term) (goal : Term) (c : Cert) (m : ℕ)
   step_numbered (by.and c e) g v =
       let o = some_and (λ (a, b). child hyps a c && child hyps b e) (operands Both goal) g in
       let both = and_parts (child hyps o.0.0 c) (child hyps o.0.1 e) o.2 in
-      let w = two_none (first_bad hyps o.0.0 c) (first_bad hyps o.0.1 e) (with_none (operands Both goal) o.0 (λ (a, b). two (first_bad hyps a c) (first_bad hyps b e)) o.1 v) in
+      let w = two_free (first_bad hyps o.0.0 c) (first_bad hyps o.0.1 e) (with_none (operands Both goal) o.0 (λ (a, b). two (first_bad hyps a c) (first_bad hyps b e)) o.1 v) in
       (rest hyps o.0.0 c m none_more both.0 w.0, rest hyps o.0.1 e m none_more both.1 w.1)
   step_numbered (by.left c) g v =
       let o = some_and (λ (a, b). child hyps a c) (operands Either goal) g in
-      rest hyps o.0.0 c m none_more o.2 (in_none 1 (first_bad hyps o.0.0 c) (with_none (operands Either goal) o.0 (λ (a, b). one (first_bad hyps a c)) o.1 v))
+      rest hyps o.0.0 c m none_more o.2 (child_free 1 (first_bad hyps o.0.0 c) (with_none (operands Either goal) o.0 (λ (a, b). one (first_bad hyps a c)) o.1 v))
   step_numbered (by.right c) g v =
       let o = some_and (λ (a, b). child hyps b c) (operands Either goal) g in
-      rest hyps o.0.1 c m none_more o.2 (in_none 1 (first_bad hyps o.0.1 c) (with_none (operands Either goal) o.0 (λ (a, b). one (first_bad hyps b c)) o.1 v))
+      rest hyps o.0.1 c m none_more o.2 (child_free 1 (first_bad hyps o.0.1 c) (with_none (operands Either goal) o.0 (λ (a, b). one (first_bad hyps b c)) o.1 v))
   step_numbered (by.unpack i c) g v =
       let o = some_and (λ (a, b). child (hyps ++ a ∷ b ∷ []) goal c) (operands_of Both (numbered hyps i)) g in (
         omega (arith, of_operands Both hyps i o.0 o.1, few),
         rest (hyps ++ o.0.0 ∷ o.0.1 ∷ []) goal c m (two_more o.0.0 o.0.1) o.2
-            (in_none 1 (first_bad (hyps ++ o.0.0 ∷ o.0.1 ∷ []) goal c)
+            (child_free 1 (first_bad (hyps ++ o.0.0 ∷ o.0.1 ∷ []) goal c)
             (with_none (operands_of Both (numbered hyps i)) o.0 (λ (a, b). one (first_bad (hyps ++ a ∷ b ∷ []) goal c)) o.1 v)),
       )
   step_numbered (by.cases i c e) g v =
       let o = some_and (λ (a, b). child (hyps ++ a ∷ []) goal c && child (hyps ++ b ∷ []) goal e) (operands_of Either (numbered hyps i)) g in
       let both = and_parts (child (hyps ++ o.0.0 ∷ []) goal c) (child (hyps ++ o.0.1 ∷ []) goal e) o.2 in
-      let w = two_none (first_bad (hyps ++ o.0.0 ∷ []) goal c) (first_bad (hyps ++ o.0.1 ∷ []) goal e)
+      let w = two_free (first_bad (hyps ++ o.0.0 ∷ []) goal c) (first_bad (hyps ++ o.0.1 ∷ []) goal e)
       (with_none (operands_of Either (numbered hyps i)) o.0 (λ (a, b). two (first_bad (hyps ++ a ∷ []) goal c) (first_bad (hyps ++ b ∷ []) goal e)) o.1 v) in (
         omega (arith, of_operands Either hyps i o.0 o.1, few),
         rest (hyps ++ o.0.0 ∷ []) goal c m (one_more o.0.0) both.0 w.0,
@@ -166,9 +155,9 @@ module _ (d : ℕ) (rest : (hyps : List Term) (goal : Term) (c : Cert) (m : ℕ)
       let w = with_none (operands_of Eq (numbered hyps i)) (var o.0.0, o.0.1) (λ (a, b). only_if (same (filled t a) goal) (one (first_bad hyps (filled t b) c))) s v in (
         omega (arith, of_definition hyps i o.0 o.1, few),
         rest hyps (filled t o.0.1) c m none_more a.1
-            (in_none 1 (first_bad hyps (filled t o.0.1) c) (if_none (same (filled t (var o.0.0)) goal) (one (first_bad hyps (filled t o.0.1) c)) w).1),
+            (child_free 1 (first_bad hyps (filled t o.0.1) c) (only_if_free (same (filled t (var o.0.0)) goal) (one (first_bad hyps (filled t o.0.1) c)) w).1),
       )
-  step_numbered (by.have f c e) g v = replaced_numbered f c e g (two_none (first_bad hyps f c) (first_bad (hyps ++ f ∷ []) goal e) v).1
+  step_numbered (by.have f c e) g v = replaced_numbered f c e g (two_free (first_bad hyps f c) (first_bad (hyps ++ f ∷ []) goal e) v).1
   step_numbered _ g v = absurd (true≢false (sym g))
 
 pub class_numbered : (d : ℕ) (hyps : List Term) (goal : Term) (c : Cert) (m : ℕ) → length hyps + 2 * d ≤ m → is_in_class d hyps goal c ≡ true → first_bad hyps goal c ≡ None → IsNumbered m c

@@ -24,6 +24,7 @@ use Rattle.cov_print.specs.Spelling as spec
 use Rattle.cov_print.specs.Unplaced.{unplaced, unplaced_block, unplaced_lock, unplaced_stm, unplaced_thread, unplaced_use, unplaced_var}
 use Rattle.cov_print.proofs.Declarations.{seen_program}
 use Rattle.cov_print.proofs.Named.{get_same, IsIn}
+use Rattle.cov_print.proofs.PrintLaws.{of_seen, spelling_unplaced}
 use Rattle.cov_print.proofs.Readings.{known}
 use Rattle.policy_class.specs.Resolved.{declared_names, is_among, is_declared, lock_names, name_obligations, resolved, text_of, use_obligation, var_names, w1_from}
 use Rattle.annotate.specs.AnnotatedText.{annotated_text, IsAsRead, unresolved_choices}
@@ -31,43 +32,10 @@ use Rattle.annotate.specs.WithCertificates.{put_in, put_in_threads}
 use Rattle.annotate.proofs.Changes.{AreNewProofs, program_looks, program_shown, Remade}
 use Rattle.annotate.proofs.FineTexts.{annotated_fine, seen_is, seen_of}
 use Rattle.annotate.proofs.NameLaws.{all_declared, annotated_as_read, names_stay}
-use Rattle.annotate.proofs.PrintedTexts.{alike, AreQuiet, Back, no_name, of_seen, put_seen, read_back, remade}
+use Rattle.annotate.proofs.PrintedTexts.{alike, AreQuiet, Back, no_name, put_seen, read_back, remade}
 use Rattle.annotate.proofs.ReadTexts.{read_as_read}
 use Rattle.annotate.proofs.SameTables.{names_of_vars, ThreadsIn}
 use Rattle.annotate.proofs.TextNames.{uses_left, uses_right, UsesIn}
-
--- Spellings without places -------------------------------------------------------------------------------------
-
-flat_map_same : {A B C : Type 0} (f : A → B) (g : B → List C) (h : A → List C) → ((x : A) → g (f x) ≡ h x) → (xs : List A) → flat_map g (map f xs) ≡ flat_map h xs
-flat_map_same f g h e [] = refl
-flat_map_same f g h e (x ∷ xs) = λ i. e x i ++ flat_map_same f g h e xs i
-
-mutual
-  stm_spelled : (names : List (List ℕ)) (x : s.Stm) (margin : List ℕ) (ps : List s.Proof) → spec.stm names margin (unplaced_stm x) ps ≡ spec.stm names margin x ps
-  stm_spelled names s.skip margin ps = refl
-  stm_spelled names (s.assign x e q rs) margin ps = refl
-  stm_spelled names (s.lock l) margin ps = refl
-  stm_spelled names (s.unlock l) margin ps = refl
-  stm_spelled names (s.branch e a b j) margin ps =
-      ap₂ (λ x y. codes "if " ++ spec.whole names e ++ codes " {\n" ++ x ++ margin ++ codes "} else {\n" ++ y ++ margin ++ codes "}" ++ spec.stated names (codes " join ") j ++ spec.by names ps)
-      (block_spelled names a (spec.deeper margin)) (block_spelled names b (spec.deeper margin))
-  stm_spelled names (s.loop e j b) margin ps =
-      ap (λ x. codes "while " ++ spec.whole names e ++ spec.stated names (codes " inv ") j ++ codes " {\n" ++ x ++ margin ++ codes "}" ++ spec.by names ps) (block_spelled names b (spec.deeper margin))
-  stm_spelled names (s.note j) margin ps = refl
-  stm_spelled names (s.output e) margin ps = refl
-
-  block_spelled : (names : List (List ℕ)) (b : s.Block) (margin : List ℕ) → spec.block names margin (unplaced_block b) ≡ spec.block names margin b
-  block_spelled names s.done margin = refl
-  block_spelled names (s.more at x ps rest) margin = ap₂ (λ c d. margin ++ c ++ codes "\n" ++ d) (stm_spelled names x margin ps) (block_spelled names rest margin)
-
-thread_spelled : (names : List (List ℕ)) (t : s.Thread) → spec.thread_lines names (unplaced_thread t) ≡ spec.thread_lines names t
-thread_spelled names t = ap (λ b. codes "thread " ++ t.name ++ spec.modes names t.modes ++ codes " {\n" ++ b ++ codes "}\n") (block_spelled names t.body (spec.deeper []))
-
-spelling_unplaced : (p : s.Parsed) → spec.spelling (unplaced p) ≡ spec.spelling p
-spelling_unplaced p =
-    ap₂ (λ a b. a ++ b)
-    (ap₂ (λ a b. spec.version_line p.version ++ a ++ b) (flat_map_same unplaced_var (spec.var_line p.names) (spec.var_line p.names) (λ x. refl) p.vars) (flat_map_same unplaced_lock (spec.lock_line p.names) (spec.lock_line p.names) (λ x. refl) p.locks))
-    (flat_map_same unplaced_thread (spec.thread_lines p.names) (spec.thread_lines p.names) (thread_spelled p.names) p.threads)
 
 -- Declared names -----------------------------------------------------------------------------------------------
 

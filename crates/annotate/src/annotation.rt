@@ -6,6 +6,7 @@ ghost use Rattle.cov_ast.specs.Ready.{IsReady};
 ghost use Rattle.cov_ast.specs.View as view;
 ghost use Rattle.cov_ast.specs.WellFormed.{IsWellFormed};
 ghost use Rattle.cert_search.specs.declared.finder.TheConstants.{MOST_DEPTH};
+ghost use Rattle.cov_print.specs.Spelling.{spelling};
 ghost use Rattle.mode_compat.specs.Declared.{declaration_obligations};
 ghost use Rattle.policy_class.specs.Resolved.{name_obligations, resolved};
 ghost use Rattle.typing_law.specs.Accepted.{program_obligations};
@@ -24,23 +25,23 @@ use crate::outcome::{Open, Outcome};
 use crate::put_in::put_in_threads;
 use cov_ast::{CheckFault, Parsed, Program, Refusal};
 use cov_expr::{List, NoMemory};
+use cov_print::print;
 use policy_class::resolve;
 use std::alloc::Global;
-use tree_copies::copy_text;
 use verify::check_program;
 
-/// The text of a program with a certificate for each entailment that has no valid one and for which a search of a depth finds one; what is refused first of it; and
-/// which of its entailments stay open. The names of the text are in order, and so are the declarations of the program.
+/// The text of a program with a certificate for each entailment that has no valid one and for which a search of a depth finds one, as it is spelled; what is refused
+/// first of it; and which of its entailments stay open. The names of the text are in order, and so are the declarations of the program.
 ///
-/// The text is copied, and so it takes memory for two more of it.
-pub fn annotate(alloc: Global, p: &Parsed, q: &Program, depth: u32) -> Result<Outcome, NoMemory>
-    requires read { IsAsRead (view.parsed p.now) }
-    requires names { IsTrue (all_hold (name_obligations (view.parsed p.now))) }
-    requires resolved { view.program q.now ≡ resolved (view.parsed p.now) }
+/// The text is changed in place. It takes memory for what is found, and for the spelling.
+pub fn annotate(alloc: Global, p: Parsed, q: &Program, depth: u32) -> Result<Outcome, NoMemory>
+    requires read { IsAsRead (view.parsed p) }
+    requires names { IsTrue (all_hold (name_obligations (view.parsed p))) }
+    requires resolved { view.program q.now ≡ resolved (view.parsed p) }
     requires formed { IsWellFormed (view.program q.now) }
     requires declared { IsTrue (all_hold (declaration_obligations (view.program q.now))) }
     requires depth { depth ≤ MOST_DEPTH }
-    ensures text { IfOk result (λ made. view.parsed made.text ≡ annotated_text depth (view.parsed p.now)) }
+    ensures spelled { IfOk result (λ made. made.spelled ≡ spelling (annotated_text depth (view.parsed p))) }
     ensures first { IfOk result (λ made. made.first ≡ spec.first_refused depth (view.program q.now)) }
     ensures unproved { IfOk result (λ made. made.unproved ≡ spec.unproved depth (view.program q.now)) }
 {
@@ -48,9 +49,10 @@ pub fn annotate(alloc: Global, p: &Parsed, q: &Program, depth: u32) -> Result<Ou
     refusals_are_of_the_annotated_text();
     let mut unproved = List::new(alloc);
     let text = searched_text(alloc, p, q, depth, &mut unproved)?;
-    let first = first_refusal(alloc, &text)?;
+    let spelled = print(alloc, &text)?;
+    let first = first_refusal(alloc, text)?;
     Ok(Outcome {
-        text,
+        spelled,
         first,
         unproved,
     })
@@ -59,42 +61,41 @@ pub fn annotate(alloc: Global, p: &Parsed, q: &Program, depth: u32) -> Result<Ou
 /// The text with what a search of a depth finds. Entailments that stay open are added to others.
 fn searched_text(
     alloc: Global,
-    p: &Parsed,
+    p: Parsed,
     q: &Program,
     depth: u32,
     unproved: &mut List<Open>,
 ) -> Result<Parsed, NoMemory>
-    requires resolved { view.program q.now ≡ resolved (view.parsed p.now) }
+    requires resolved { view.program q.now ≡ resolved (view.parsed p) }
     requires formed { IsWellFormed (view.program q.now) }
     requires declared { IsTrue (all_hold (declaration_obligations (view.program q.now))) }
-    ensures text { IfOk result (λ made. view.parsed made ≡ annotated_text depth (view.parsed p.now)) }
+    ensures text { IfOk result (λ made. view.parsed made ≡ annotated_text depth (view.parsed p)) }
     ensures unproved { OnOk result (unproved.new ≡ unproved.old ++ spec.unproved depth (view.program q.now)) }
 {
-    let numbers = name_numbers(alloc, p)?;
+    let numbers = name_numbers(alloc, &p)?;
     let chosen = choose(alloc, q, depth, &numbers, unproved)?;
     unproved_entailments_are_not_found();
     text_with(alloc, p, chosen.as_slice())
 }
 
 /// The text with what is chosen for each of its threads.
-fn text_with(alloc: Global, p: &Parsed, chosen: &[ThreadChoices]) -> Result<Parsed, NoMemory>
-    requires { length chosen.now ≡ length p.now.threads }
-    ensures { IfOk result (λ made. view.parsed made ≡ put_in_text (chosen_in chosen.now) (view.parsed p.now)) }
+fn text_with(alloc: Global, p: Parsed, chosen: &[ThreadChoices]) -> Result<Parsed, NoMemory>
+    requires { length chosen.now ≡ length p.threads }
+    ensures { IfOk result (λ made. view.parsed made ≡ put_in_text (chosen_in chosen.now) (view.parsed p)) }
 {
-    let uses = made_uses(alloc, p, chosen)?;
-    let mut made = copy_text(alloc, p)?;
+    let mut made = p;
+    let uses = made_uses(alloc, &made, chosen)?;
     made.uses = uses;
     put_in_threads(alloc, chosen, made.threads.as_mut_slice())?;
     Ok(made)
 }
 
 /// The first obligation of a text that doesn't hold, if there is one: of its names, and then of its program.
-fn first_refusal(alloc: Global, text: &Parsed) -> Result<Option<Refusal>, NoMemory>
-    requires { IsReady (view.parsed text.now) }
-    ensures { IfOk result (λ first. first ≡ first_false (name_obligations (view.parsed text.now) ++ program_obligations (resolved (view.parsed text.now)))) }
+fn first_refusal(alloc: Global, text: Parsed) -> Result<Option<Refusal>, NoMemory>
+    requires { IsReady (view.parsed text) }
+    ensures { IfOk result (λ first. first ≡ first_false (name_obligations (view.parsed text) ++ program_obligations (resolved (view.parsed text)))) }
 {
-    let copied = copy_text(alloc, text)?;
-    match resolve(alloc, copied) {
+    match resolve(alloc, text) {
         Ok(program) => first_of_program(alloc, &program),
         Err(CheckFault::Refused(refusal)) => Ok(Some(refusal)),
         Err(CheckFault::NoMemory) => Err(NoMemory),

@@ -1,6 +1,6 @@
 //! Programs with certificates put in by a search: the annotated program, which of its entailments are open, and its text.
 //!
-//! - [`annotate`]: the text of a program with what a search of a depth finds, what is refused first of it, and which of its entailments stay open ([`Outcome`], [`Open`]).
+//! - [`annotate`]: the text of a program with what a search of a depth finds, as it is spelled, what is refused first of it, and which of its entailments stay open ([`Outcome`], [`Open`]).
 //! - `specs/WithCertificates.antt`: certificates put in among the proofs of statements.
 //! - `specs/Annotated.antt`: which certificates a search of a depth chooses for a program, which entailments of the annotated program are open, and which of its
 //!   obligations is refused first.
@@ -14,7 +14,7 @@
 //! - [`texts_are_as_read`], [`annotated_text_is_read`], [`annotated_texts_are_within_limits`], [`annotated_spelling_is_read`], [`uses_stay_in_order`]: laws of the text.
 //!
 //! `annotation.rt` goes from one to the next: `numbers.rt` has the numbers of the names of variables, `choosing.rt` searches for what is chosen, `choices.rt` keeps it by
-//! places, `made_uses.rt` makes the uses of the text (by `uses.rt` and `kept_uses.rt`), and `put_in.rt` puts certificates into a copy of it. `placing.rt` has what both walks ask
+//! places, `made_uses.rt` makes the uses of the text (by `uses.rt` and `kept_uses.rt`), and `put_in.rt` puts certificates into it. `placing.rt` has what both walks ask
 //! of what is chosen for a statement. `proofs/Examples.antt` computes worked rows.
 #![tactic(auto)]
 

@@ -1,7 +1,7 @@
 //! What comes of putting certificates into a text.
 
-use cov_ast::{Parsed, Refusal};
-use cov_expr::List;
+use cov_ast::Refusal;
+use cov_expr::{Blob, List};
 
 /// An entailment of a program without a valid certificate.
 #[derive(Clone, Copy, PartialEq, Eq)]
@@ -15,22 +15,12 @@ pub struct Open {
 }
 
 /// A text into which certificates are put.
+#[derive(Drop)]
 pub struct Outcome {
-    pub text: Parsed,
+    /// Its canonical spelling.
+    pub spelled: Blob,
     /// The first obligation of the program of that text that doesn't hold. `None` comes exactly where the program is accepted.
     pub first: Option<Refusal>,
     /// Its entailments that stay without a valid certificate, in the order in which they are tried.
     pub unproved: List<Open>,
-}
-
-impl Drop for Outcome {
-    fn drop(self) {
-        let Outcome {
-            text,
-            first: _,
-            unproved,
-        } = self;
-        drop(text);
-        drop(unproved);
-    }
 }

@@ -9,7 +9,6 @@ use Rattle.cov_ast.specs.declared.refusal.Refusal.{Refusal}
 use Rattle.level_text.specs.Lattice.{Levels}
 use Rattle.levels.specs.Accepted.{first_refused}
 use Rattle.annotate.specs.declared.outcome.Open.{Open}
-use Rattle.cov_print.specs.Spelling.{spelling}
 use Rattle.call_verdicts.specs.Annotations.{Annotates, annotation_rejection, declared_rejection, unproved_lines}
 use Rattle.call_verdicts.specs.Levels.{AcceptsForAll, LevelsInput, level_rejection}
 use Rattle.call_verdicts.specs.Swap.{misfit_rejection}
@@ -31,9 +30,9 @@ JudgesForAll i reply = UnlessRejected (name_rejection i.program) (UnlessRejected
 abbrev pub IsUndeclared : Parsed → Reply → Type 0
 IsUndeclared p reply = (q : Rejection) × (declared_rejection p ≡ Some q) × (reply ≡ rejected q)
 
--- the reply by an annotated text, by what is left unproved of it, and by the first obligation that doesn't hold, if one doesn't
-abbrev pub reply_by : List Thread → (text : Parsed) → (unproved : List Open) → (first : Option Refusal) → Reply
-reply_by threads text unproved None = spelled (spelling text)
+-- the reply by an annotated text, as it is spelled, by what is left unproved of it, and by the first obligation that doesn't hold, if one doesn't
+abbrev pub reply_by : List Thread → (text : List ℕ) → (unproved : List Open) → (first : Option Refusal) → Reply
+reply_by threads text unproved None = spelled text
 reply_by threads text unproved (Some refusal) = refused_open refusal (name_in threads refusal.thread) (unproved_lines threads unproved)
 
 -- the reply to a program that is annotated, of which names, then declarations, are asked first

@@ -21,7 +21,6 @@ use call_reports::{Answer, Stop};
 use cov_ast::{CheckFault, Parsed, Program, ThreadDecl};
 use cov_expr::NoMemory;
 use cov_io::Shelf;
-use cov_print::print;
 use std::alloc::Global;
 use tree_copies::copy_text;
 use verify::check_declared;
@@ -38,20 +37,20 @@ pub fn annotate<'w, S: Shelf>(
 {
     texts_are_as_read();
     let parsed = read_program(alloc, name, shelf)?;
-    annotated(alloc, &parsed, depth)
+    annotated(alloc, parsed, depth)
 }
 
 /// The answer to what a text spells.
-fn annotated<'w>(alloc: Global, parsed: &Parsed, depth: u32) -> Result<Answer<'w>, Stop<'w>>
-    requires read { IsAsRead (view.parsed parsed.now) }
+fn annotated<'w>(alloc: Global, parsed: Parsed, depth: u32) -> Result<Answer<'w>, Stop<'w>>
+    requires read { IsAsRead (view.parsed parsed) }
     requires depth { depth ≤ MOST_DEPTH }
-    ensures { Gets (JudgesAnnotated depth (view.parsed parsed.now)) result }
+    ensures { Gets (JudgesAnnotated depth (view.parsed parsed)) result }
 {
-    let again = copy_text(alloc, parsed)?;
+    let again = copy_text(alloc, &parsed)?;
     let program = named(alloc, again)?;
-    declared(alloc, parsed, &program)?;
+    declared(alloc, &parsed, &program)?;
     let outcome = put_certificates(alloc, parsed, &program, depth)?;
-    Ok(answer_by(alloc, parsed.threads.as_slice(), &outcome)?)
+    Ok(answer_by(alloc, program.threads.as_slice(), outcome)?)
 }
 
 /// Whether the declarations of the program that a text stands for are in order.
@@ -75,17 +74,21 @@ fn declared<'w>(alloc: Global, parsed: &Parsed, program: &Program) -> Result<(),
 fn answer_by<'w>(
     alloc: Global,
     threads: &[ThreadDecl],
-    outcome: &Outcome,
+    outcome: Outcome,
 ) -> Result<Answer<'w>, NoMemory>
-    ensures { IfOk result (λ answer. seen answer
-        ≡ reply_by (map view.thread threads.now) (view.parsed outcome.now.text) outcome.now.unproved outcome.now.first) }
+    ensures { IfOk result (λ answer. seen answer ≡ reply_by (map view.thread threads.now) outcome.spelled outcome.unproved outcome.first) }
 {
-    match &outcome.first {
-        None => Ok(Answer::Spelled(print(alloc, &outcome.text)?)),
+    let Outcome {
+        spelled,
+        first,
+        unproved,
+    } = outcome;
+    match first {
+        None => Ok(Answer::Spelled(spelled)),
         Some(refusal) => {
             let thread = thread_name(threads, refusal.thread);
-            let lines = unproved_lines(alloc, threads, outcome.unproved.as_slice())?;
-            Ok(Answer::RefusedOpen(*refusal, thread, lines))
+            let lines = unproved_lines(alloc, threads, unproved.as_slice())?;
+            Ok(Answer::RefusedOpen(refusal, thread, lines))
         }
     }
 }

@@ -20,15 +20,15 @@ use Rattle.cert_search.proofs.Choices.{none_some, some_left, some_right, some_ma
 wrong : (C : Type 0) → false ≡ true → C
 wrong C h = cc
 
-only_if_free : (b : Bool) (x : Option (List ℕ)) → only_if b x ≡ None → (b ≡ true) × (x ≡ None)
+pub only_if_free : (b : Bool) (x : Option (List ℕ)) → only_if b x ≡ None → (b ≡ true) × (x ≡ None)
 only_if_free true x h = (refl, h)
 only_if_free false x h = none_some ((false ≡ true) × (x ≡ None)) [] (sym h)
 
-child_free : (n : ℕ) (x : Option (List ℕ)) → in_child n x ≡ None → x ≡ None
+pub child_free : (n : ℕ) (x : Option (List ℕ)) → in_child n x ≡ None → x ≡ None
 child_free n None h = refl
 child_free n (Some p) h = none_some (Some p ≡ None) (n ∷ p) (sym h)
 
-two_free : (x y : Option (List ℕ)) → two x y ≡ None → (x ≡ None) × (y ≡ None)
+pub two_free : (x y : Option (List ℕ)) → two x y ≡ None → (x ≡ None) × (y ≡ None)
 two_free None y h = (refl, child_free 2 y h)
 two_free (Some p) y h = none_some ((Some p ≡ None) × (y ≡ None)) (1 ∷ p) (sym h)
 

@@ -19,7 +19,7 @@ use Rattle.cov_print.specs.ReadBack.{SpellsProgram, SpellsAgain, in_second, Spel
 use Rattle.cov_print.proofs.Declarations.{seen_program, second}
 use Rattle.cov_print.proofs.ReadBack as back
 
-map_map : {A B C : Type 0} (f : A → B) (g : B → C) (xs : List A) → map g (map f xs) ≡ map (λ x. g (f x)) xs
+pub map_map : {A B C : Type 0} (f : A → B) (g : B → C) (xs : List A) → map g (map f xs) ≡ map (λ x. g (f x)) xs
 map_map f g [] = refl
 map_map f g (x ∷ xs) = ap (λ l. g (f x) ∷ l) (map_map f g xs)
 
@@ -51,7 +51,7 @@ mutual
 thread_spelled : (names : List (List ℕ)) (t : s.Thread) → spec.thread_lines names (unplaced_thread t) ≡ spec.thread_lines names t
 thread_spelled names t = ap (λ b. codes "thread " ++ t.name ++ spec.modes names t.modes ++ codes " {\n" ++ b ++ codes "}\n") (block_spelled names t.body (spec.deeper []))
 
-spelling_unplaced : (p : s.Parsed) → spec.spelling (unplaced p) ≡ spec.spelling p
+pub spelling_unplaced : (p : s.Parsed) → spec.spelling (unplaced p) ≡ spec.spelling p
 spelling_unplaced p =
     ap₂ (λ a b. a ++ b)
     (ap₂ (λ a b. spec.version_line p.version ++ a ++ b) (flat_map_same unplaced_var (spec.var_line p.names) (spec.var_line p.names) (λ x. refl) p.vars) (flat_map_same unplaced_lock (spec.lock_line p.names) (spec.lock_line p.names) (λ x. refl) p.locks))
@@ -73,7 +73,7 @@ mutual
   block_uses s.done = refl
   block_uses (s.more at x ps rest) = ap₂ (λ c d. c ++ d) (stm_uses x ps) (block_uses rest)
 
-uses_unplaced : (p : s.Parsed) → uses_in_declarations (unplaced p) ≡ uses_in_declarations p
+pub uses_unplaced : (p : s.Parsed) → uses_in_declarations (unplaced p) ≡ uses_in_declarations p
 uses_unplaced p =
     ap₂ (λ a b. a ++ b)
     (ap₂ (λ a b. a ++ b) (flat_map_same unplaced_var (λ v. uses_in_class v.class) (λ v. uses_in_class v.class) (λ x. refl) p.vars) (flat_map_same unplaced_lock uses_in_lock uses_in_lock (λ x. refl) p.locks))
@@ -81,11 +81,11 @@ uses_unplaced p =
 
 -- Declarations and uses ----------------------------------------------------------------------------------------
 
-abbrev Seen : Type 0
+abbrev pub Seen : Type 0
 Seen = ℕ × (List s.Var × (List s.Lock × List s.Thread))
 
 -- the program of declarations without places
-abbrev of_seen : List (List ℕ) → List NameUse → Seen → s.Parsed
+abbrev pub of_seen : List (List ℕ) → List NameUse → Seen → s.Parsed
 of_seen names uses x = record { version = x.0; names = names; uses = uses; vars = x.1.0; locks = x.1.1.0; threads = x.1.1.1 }
 
 seen_is : (names : List (List ℕ)) (uses : List NameUse) (p : Program) → unplaced (parsed_of names uses p) ≡ of_seen names (map unplaced_use uses) (seen_program names p)
@@ -99,10 +99,10 @@ seen_is names uses p = λ i. record {
 }
 
 -- a use at no place
-abbrev at_none : Use → NameUse
+abbrev pub at_none : Use → NameUse
 at_none u = record { name = u.name; lock = u.lock; at = 0 }
 
-uses_are : (us : List NameUse) (vs : List Use) → map ready.use_of us ≡ vs → map unplaced_use us ≡ map at_none vs
+pub uses_are : (us : List NameUse) (vs : List Use) → map ready.use_of us ≡ vs → map unplaced_use us ≡ map at_none vs
 uses_are us vs e = sym (map_map ready.use_of at_none us) ∙ ap (map at_none) e
 
 -- uses of declarations that look alike are alike

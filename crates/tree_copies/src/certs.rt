@@ -13,7 +13,7 @@ use std::alloc::Global;
 pub fn copy_exprs(alloc: Global, es: &[Expr]) -> Result<List<Expr>, NoMemory>
     ensures { IfOk result (λ copies. map term copies ≡ map term es.now) }
 {
-    let mut copies = List::new(alloc);
+    let mut copies = List::with_capacity(alloc, es.len())?;
     for e in es {
         copies.push(copy(alloc, e)?)?;
     }
@@ -24,7 +24,7 @@ pub fn copy_exprs(alloc: Global, es: &[Expr]) -> Result<List<Expr>, NoMemory>
 pub fn copy_proofs(alloc: Global, proofs: &[Proof]) -> Result<List<Proof>, NoMemory>
     ensures { IfOk result (λ copies. map view.proof copies ≡ map view.proof proofs.now) }
 {
-    let mut copies = List::new(alloc);
+    let mut copies = List::with_capacity(alloc, proofs.len())?;
     for proof in proofs {
         let cert = copy_cert(alloc, &proof.cert)?;
         copies.push(Proof {

@@ -35,7 +35,7 @@ pub fn copy_text(alloc: Global, text: &Parsed) -> Result<Parsed, NoMemory>
 fn copy_threads(alloc: Global, threads: &[ThreadDecl]) -> Result<List<ThreadDecl>, NoMemory>
     ensures { IfOk result (λ copies. map view.thread copies ≡ map view.thread threads.now) }
 {
-    let mut copies = List::new(alloc);
+    let mut copies = List::with_capacity(alloc, threads.len())?;
     for thread in threads {
         let copied = copy_thread(alloc, thread)?;
         copies.push(copied)?;
@@ -59,7 +59,7 @@ fn copy_thread(alloc: Global, thread: &ThreadDecl) -> Result<ThreadDecl, NoMemor
 fn copy_block(alloc: Global, body: &[Stmt]) -> Result<List<Stmt>, NoMemory>
     ensures { IfOk result (λ copies. map view.stmt copies ≡ map view.stmt body.now) }
 {
-    let mut copies = List::new(alloc);
+    let mut copies = List::with_capacity(alloc, body.len())?;
     for stmt in body {
         let copied = copy_stmt(alloc, stmt)?;
         copies.push(copied)?;
@@ -155,7 +155,7 @@ fn copy_state(alloc: Global, state: &State) -> Result<State, NoMemory>
 fn copy_types(alloc: Global, types: &[(u32, Expr)]) -> Result<List<(u32, Expr)>, NoMemory>
     ensures { IfOk result (λ copies. map view.typed copies ≡ map view.typed types.now) }
 {
-    let mut copies = List::new(alloc);
+    let mut copies = List::with_capacity(alloc, types.len())?;
     for typed in types {
         let class = copy(alloc, &typed.1)?;
         copies.push((typed.0, class))?;
@@ -166,7 +166,7 @@ fn copy_types(alloc: Global, types: &[(u32, Expr)]) -> Result<List<(u32, Expr)>,
 fn copy_retypes(alloc: Global, retypes: &[Retype]) -> Result<List<Retype>, NoMemory>
     ensures { IfOk result (λ copies. map view.retype copies ≡ map view.retype retypes.now) }
 {
-    let mut copies = List::new(alloc);
+    let mut copies = List::with_capacity(alloc, retypes.len())?;
     for retype in retypes {
         let class = copy(alloc, &retype.class)?;
         copies.push(Retype {

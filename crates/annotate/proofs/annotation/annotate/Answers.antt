@@ -10,13 +10,13 @@ use Rattle.annotate.proofs.annotation.annotate.Goals as goal
 
 pub first_refusal-requires : goal.first_refusal-requires
 first_refusal-requires c =
-    let p = view.parsed c.args.p.now in
+    let p = view.parsed c.args.p in
     let formed = subst IsWellFormed c.requires.resolved c.requires.formed in
     subst IsReady (sym c.in_ok-text.ensures.text) (c.annotated_text_is_read.ensures.read c.args.depth p formed c.requires.read).ready
 
 pub returns-clause-first : goal.returns-clause-first
 returns-clause-first c =
-    let p = view.parsed c.args.p.now in
+    let p = view.parsed c.args.p in
     let formed = subst IsWellFormed c.requires.resolved c.requires.formed in
     c.in_ok-first.ensures
     ∙ ap (λ r. first_false (name_obligations r ++ program_obligations (resolved r))) c.in_ok-text.ensures.text

@@ -8,7 +8,7 @@ use Rattle.annotate.proofs.annotation.searched_text.Goals as goal
 
 pub text_with-requires : goal.text_with-requires
 text_with-requires c =
-    let p = view.parsed c.args.p.now in
+    let p = view.parsed c.args.p in
     let q = c.args.q.now in
     omega (
       arith,
@@ -17,7 +17,7 @@ text_with-requires c =
       ap (λ r. length r.threads) c.requires.resolved,
       length-map q.threads view.thread,
       length-map p.threads (resolved_thread (var_id p) (lock_id p)),
-      length-map c.args.p.now.threads view.thread,
+      length-map c.args.p.threads view.thread,
     )
 
 pub returns-clause-unproved : goal.returns-clause-unproved
@@ -28,6 +28,6 @@ returns-clause-unproved c =
 
 pub returns-clause-text : goal.returns-clause-text
 returns-clause-text c =
-    text_given c.args.depth (view.parsed c.args.p.now) (view.program c.args.q.now) c.in_ok-numbers.numbers (chosen_in c.as_slice.result.now) c.text_with.result
+    text_given c.args.depth (view.parsed c.args.p) (view.program c.args.q.now) c.in_ok-numbers.numbers (chosen_in c.as_slice.result.now) c.text_with.result
     c.in_ok-numbers.ensures c.requires.resolved
     (λ t place. ap (λ cs. chosen_in cs t place) c.as_slice.ensures ∙ c.in_ok-chosen.ensures.chosen t place) c.text_with.ensures

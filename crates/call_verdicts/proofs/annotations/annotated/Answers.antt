@@ -16,13 +16,13 @@ annotate-requires-clause-names c =
 
 pub returns : goal.returns
 returns c =
-    let p = view.parsed c.args.parsed.now in
+    let p = view.parsed c.args.parsed in
     let same = c.in_ok-again.ensures in
     let program = c.in_ok-program.ensures in
     let outcome = c.in_ok-outcome.outcome in
     let reply = seen c.in_ok-answer_by.field-0 in
     annotated_judged c.args.depth p (subst (λ q. name_rejection q ≡ None) same program.unnamed) c.in_ok-declared.ensures.rejection reply
-    (view.program c.in_ok-program.program) (view.parsed outcome.text) outcome.unproved outcome.first (program.named.is ∙ ap resolved same)
-    c.in_ok-outcome.ensures.text c.in_ok-outcome.ensures.unproved c.in_ok-outcome.ensures.first
-    (subst (λ threads. reply ≡ reply_by (map view.thread threads) (view.parsed outcome.text) outcome.unproved outcome.first) c.as_slice.ensures
+    (view.program c.in_ok-program.program) outcome.spelled outcome.unproved outcome.first (program.named.is ∙ ap resolved same)
+    c.in_ok-outcome.ensures.spelled c.in_ok-outcome.ensures.unproved c.in_ok-outcome.ensures.first
+    (subst (λ threads. reply ≡ reply_by (map view.thread threads) outcome.spelled outcome.unproved outcome.first) c.as_slice.ensures
     c.in_ok-answer_by.ensures)
