@@ -6,3 +6,4 @@ mod SitePoints
 mod SiteLaws
 mod WholeProgram
 mod Examples
+pub mod DeclaredLaws

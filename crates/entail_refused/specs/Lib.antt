@@ -6,3 +6,4 @@ pub mod Remarked
 pub mod RefusedEntailment
 pub mod SiteHypotheses
 pub mod GivenCertificates
+pub mod OtherRefusals

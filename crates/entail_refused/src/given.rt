@@ -1,18 +1,19 @@
-//! The certificates that a statement gives, for an entailment and for others.
+//! The certificates that a statement gives, for an entailment and for others, and what is suggested for one.
 
 ghost use Rattle.std.specs.Prelude.{◌≡◌, ◌<◌, ◌++◌, IfOk, OnOk, flat_map, length, map, option_map};
 ghost use Rattle.cov_ast.specs.View as view;
+ghost use Rattle.cov_ast.specs.WellFormed.{IsWellFormed};
 ghost use Rattle.mode_compat.specs.Compatible.{numbered};
 ghost use Rattle.typing_law.specs.ThreadEntailments.{view_entail};
 ghost use Rattle.entail_refused.specs.GivenCertificates as certificates;
 ghost use Rattle.entail_refused.specs.GivenElsewhere as spec;
 
-use cov_ast::{Cert, Program, Proof};
+use cov_ast::{Cert, NameTable, Program, Proof};
 use cov_expr::{Blob, NoMemory};
-use entail_text::{add_other, cert_for};
+use entail_text::{add_other, add_suggestion, cert_for};
 use statement_paths::way_to;
 use std::alloc::Global;
-use text_parts::add_number;
+use text_parts::{add_number, variable_names};
 use typing_law::Entail;
 
 /// The certificate that a thread gives for an entailment. `None` comes where it gives none.
@@ -32,7 +33,7 @@ pub fn cert_of<'p>(
 }
 
 /// Adds what the statement of an entailment of a thread gives for others: for which certificates are given, where none is given for this one,
-/// and which of these would show it. Nothing is added where the statement gives none.
+/// and which of these would show it. Then adds what is suggested for it.
 pub fn add_given(
     alloc: Global,
     p: &Program,
@@ -40,11 +41,15 @@ pub fn add_given(
     e: &Entail,
     text: &mut Blob,
 ) -> Result<(), NoMemory>
+    requires formed { IsWellFormed (view.program p.now) }
     requires thread { t < length p.now.threads }
     ensures { OnOk result (text.new ≡ text.old ++ spec.given_lines (view.program p.now) t (view_entail e.now)) }
 {
     match way_to(alloc, p.body_of(t), e.place)? {
-        Some(way) => add_of_proofs(alloc, way.stmt.proofs.as_slice(), e, text),
+        Some(way) => {
+            let names = variable_names(alloc, p)?;
+            add_of_proofs(alloc, &names, way.stmt.proofs.as_slice(), e, text)
+        }
         None => Ok(()),
     }
 }
@@ -52,14 +57,16 @@ pub fn add_given(
 /// The same of a statement with these proofs.
 fn add_of_proofs(
     alloc: Global,
+    names: &NameTable,
     proofs: &[Proof],
     e: &Entail,
     text: &mut Blob,
 ) -> Result<(), NoMemory>
-    ensures { OnOk result (text.new ≡ text.old ++ spec.lines_of (map view.proof proofs.now) (view_entail e.now)) }
+    ensures { OnOk result (text.new ≡ text.old ++ spec.lines_of names.now (map view.proof proofs.now) (view_entail e.now)) }
 {
     add_without(proofs, e.number, text)?;
-    add_other(alloc, proofs, e.number, &e.hyps, &e.goal, text)
+    add_other(alloc, proofs, e.number, &e.hyps, &e.goal, text)?;
+    add_suggestion(alloc, names, proofs, e.number, &e.hyps, &e.goal, text)
 }
 
 /// Adds the numbers of certificates, where none has a number.

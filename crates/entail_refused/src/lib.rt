@@ -3,6 +3,7 @@
 //! - [`add_asked`]: of the entailment for which a program is refused what it asks, its goal, its hypotheses, each with
 //!   where it comes from (`entail_origins`), and its certificate (`entail_text`); then where the types come from that make up the goal
 //!   (there too), which hypotheses the state drops that is asked of, and what would be a hypothesis, had a state listed it.
+//! - [`other_refusals`]: the others of its thread that have no valid certificate, as refusals.
 //! - [`refused_entailment_is_listed`] and [`refusal_is_told`], which are laws: there is always such an entailment, and it is the one
 //!   whose certificate isn't valid. `specs/RefusedEntailment.antt` says so.
 //! - [`hypotheses_are_of_the_site`], a law too: the hypotheses of an entailment are what is known at the point of its site, with one
@@ -11,7 +12,7 @@
 //!
 //! `specs/Asked.antt` says which entailment that is, `specs/Sites.antt` the point of which it asks and the steps to it, by
 //! which its hypotheses, types and what was left out are sought, and
-//! `specs/GivenElsewhere.antt` which certificates of other entailments are told of.
+//! `specs/GivenElsewhere.antt` which certificates of other entailments are told of, and `specs/OtherRefusals.antt` which others of the thread are refused.
 #![tactic(auto)]
 
 mod dropped;
@@ -19,10 +20,12 @@ mod entailment;
 mod further;
 mod given;
 mod laws;
+mod others;
 mod remarked;
 mod site;
 mod site_laws;
 
 pub use entailment::add_asked;
 pub use laws::{refusal_is_told, refused_entailment_is_listed};
+pub use others::other_refusals;
 pub use site_laws::{hypotheses_are_of_the_site, sites_lead_to_the_point_asked};

@@ -5,3 +5,4 @@ pub mod Inside
 pub mod Dropped
 pub mod OtherCertificates
 pub mod ZeroGoals
+pub mod Suggestions

@@ -6,6 +6,7 @@
 //! - [`cert_for`]: the certificate that a statement gives for an entailment.
 //! - [`add_other`]: which certificate that is given for another entailment would show this one.
 //! - [`add_dropped`]: the hypotheses that the state which is to be met doesn't list.
+//! - [`add_suggestion`]: a certificate that a search finds, and where it is to be written; [`suggested_certificates_are_valid`] is a law of it.
 //!
 //! | `src/` | `specs/` | what it has |
 //! |---|---|---|
@@ -15,7 +16,8 @@
 //! | `other` | `OtherCertificates` | the certificates of other numbers |
 //! | `dropped` | `Dropped` | the hypotheses that a state drops |
 //! | `zero` | `ZeroGoals` | goals that are 0 |
-//! | `laws` | `Nodes` | the node of which is told is there, and fails |
+//! | `suggestion` | `Suggestions` | certificates that a search finds |
+//! | `laws` | `Nodes`, `Suggestions` | the node of which is told is there, and fails; what is suggested is valid |
 #![tactic(auto)]
 
 mod dropped;
@@ -24,11 +26,13 @@ mod given;
 mod laws;
 mod node;
 mod other;
+mod suggestion;
 mod zero;
 
 pub use dropped::add_dropped;
 pub use entailment::add_told;
 pub use given::cert_for;
-pub use laws::failing_node_is_there;
+pub use laws::{failing_node_is_there, suggested_certificates_are_valid};
 pub use other::add_other;
+pub use suggestion::add_suggestion;
 pub use zero::add_zero;

@@ -1,12 +1,11 @@
 -- Laws of what is told of bytes beside their explanation.
-use Rattle.std.proofs.Common.{◌≡◌, ℕ, List, [], ◌++◌, false, Some, None, inl, inr, sym, ap, subst, ◌∙◌}
-use Rattle.std.proofs.lemmas.Bool.{cases_Bool, cond-true, cond-false}
+use Rattle.std.proofs.Common.{◌≡◌, ℕ, List, [], ◌++◌, Some, None, sym, ap, subst, ◌∙◌}
+use Rattle.std.proofs.lemmas.Bool.{cond-true, cond-false}
 use Rattle.call_judge.specs.Findings.{Finds, reply_to}
 use Rattle.call_judge.specs.declared.judge.Judged.{Judged}
 use Rattle.call_judge.specs.declared.judge.Judged.TheVariants as j
-use Rattle.call_judge.proofs.CheckLaws.{none_false}
 use Rattle.call_reports.specs.declared.answers.Totals.{Totals}
-use Rattle.cov_ast.specs.Obligations.{Obligation, all_hold, first_false}
+use Rattle.cov_ast.specs.Obligations.{all_hold, first_false}
 use Rattle.cov_ast.specs.Plain.{plain}
 use Rattle.cov_ast.specs.Syntax.{Parsed, Program}
 use Rattle.cov_ast.specs.View as view
@@ -14,28 +13,22 @@ use Rattle.cov_ast.specs.declared.decl.Program as declared
 use Rattle.cov_ast.specs.declared.refusal.Refusal.{Refusal}
 use Rattle.cov_ast.proofs.ObligationLaws.{none_refused}
 use Rattle.policy_class.specs.Resolved.{name_obligations, resolved}
+use Rattle.entail_refused.proofs.DeclaredLaws.{some_refused}
 use Rattle.explain.specs.HiddenText.{text_warnings}
 use Rattle.explain.specs.Warnings.{warnings}
 use Rattle.explain.specs.Tellings.{Adds, asked_lines, refusal_lines}
 use Rattle.explain.specs.WarningSentences.{warning_lines}
 
--- where one doesn't hold, not all hold
-not_all : (es : List Obligation) (refusal : Refusal) → first_false es ≡ Some refusal → all_hold es ≡ false
-not_all es refusal first =
-    elim (cases_Bool (all_hold es)) [
-      | inl held ↦ (let wrong : None ≡ Some refusal = sym (none_false es held) ∙ first in cc)
-      | inr other ↦ other
-    ]
-
 -- what a refusal is about where the names of a text are in order, and where they aren't
-named_lines : (p : Parsed) (q : Program) (bytes : List ℕ) (refusal : Refusal) → first_false (name_obligations p) ≡ None → q ≡ resolved p
-    → asked_lines p bytes refusal ≡ refusal_lines q bytes refusal
-named_lines p q bytes refusal named is =
+named_lines : (name : List ℕ) (p : Parsed) (q : Program) (bytes : List ℕ) (refusal : Refusal) → first_false (name_obligations p) ≡ None → q ≡ resolved p
+    → asked_lines name p bytes refusal ≡ refusal_lines name q bytes refusal
+named_lines name p q bytes refusal named is =
     cond-true (all_hold (name_obligations p)) _ [] (none_refused (name_obligations p) named)
-    ∙ ap (λ r. refusal_lines r bytes refusal) (sym is)
+    ∙ ap (λ r. refusal_lines name r bytes refusal) (sym is)
 
-unnamed_lines : (p : Parsed) (bytes : List ℕ) (refusal first : Refusal) → first_false (name_obligations p) ≡ Some first → asked_lines p bytes refusal ≡ []
-unnamed_lines p bytes refusal first is = cond-false (all_hold (name_obligations p)) _ [] (not_all (name_obligations p) first is)
+unnamed_lines : (name : List ℕ) (p : Parsed) (bytes : List ℕ) (refusal first : Refusal) → first_false (name_obligations p) ≡ Some first
+    → asked_lines name p bytes refusal ≡ []
+unnamed_lines name p bytes refusal first is = cond-false (all_hold (name_obligations p)) _ [] (some_refused (name_obligations p) first is)
 
 -- What was added is what is told of bytes of which this was found, beside the explanation.
 abbrev pub IsAdded : (name bytes : List ℕ) → Judged → (old new : List ℕ) → Type 0
@@ -47,18 +40,18 @@ module _ (name bytes : List ℕ) (judged : Judged) (old new : List ℕ) (found :
       let h = subst (Finds bytes) e found in
       let lines = warning_lines name bytes (text_warnings bytes) in
       subst (λ x. IsAdded name bytes x old new) (sym e)
-      (lines, (h.0, h.1, sym (ap (λ asked. asked ++ lines) (unnamed_lines h.0 bytes refusal refusal h.2))), is)
+      (lines, (h.0, h.1, sym (ap (λ asked. asked ++ lines) (unnamed_lines name h.0 bytes refusal refusal h.2))), is)
 
   pub added_refused : (refusal : Refusal) (program : _) → judged ≡ j.Refused refusal program → (lent : declared.Program) → lent ≡ program.value
-      → new ≡ old ++ (refusal_lines (view.program lent) bytes refusal ++ warning_lines name bytes (text_warnings bytes)) → IsAdded name bytes judged old new
+      → new ≡ old ++ (refusal_lines name (view.program lent) bytes refusal ++ warning_lines name bytes (text_warnings bytes)) → IsAdded name bytes judged old new
   added_refused refusal program e lent same is =
       let h = subst (Finds bytes) e found in
       let lines = warning_lines name bytes (text_warnings bytes) in
       let named = h.2.0 in
       subst (λ x. IsAdded name bytes x old new) (sym e) (
-        refusal_lines (view.program program.value) bytes refusal ++ lines,
-        (h.0, h.1, sym (ap (λ asked. asked ++ lines) (named_lines h.0 (view.program program.value) bytes refusal named.held named.is))),
-        subst (λ q. new ≡ old ++ (refusal_lines (view.program q) bytes refusal ++ lines)) same is,
+        refusal_lines name (view.program program.value) bytes refusal ++ lines,
+        (h.0, h.1, sym (ap (λ asked. asked ++ lines) (named_lines name h.0 (view.program program.value) bytes refusal named.held named.is))),
+        subst (λ q. new ≡ old ++ (refusal_lines name (view.program q) bytes refusal ++ lines)) same is,
       )
 
   pub added_accepted : (counts : Totals) (program : _) → judged ≡ j.Accepted counts program → (lent : declared.Program) → lent ≡ program.value

@@ -65,6 +65,10 @@ nothing_is_used : of_program (program None none)
     ≡ warned 4 (c.NeverRead (97 ∷ [])) ∷ warned 4 (c.NeverWritten (97 ∷ [])) ∷ warned 16 (c.NeverRead (115 ∷ [])) ∷ warned 16 (c.NeverWritten (115 ∷ [])) ∷ []
 nothing_is_used = refl
 
+-- no declaration and no thread, as in an empty file
+no_thread : of_program (record { vars = []; locks = []; threads = [] }) ≡ record { place = 0; cause = c.NoThread } ∷ []
+no_thread = refl
+
 -- Statements that no run comes to ------------------------------------------------------------------------------
 
 abbrev a_store : ℕ → Cmds → Cmds

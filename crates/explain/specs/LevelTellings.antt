@@ -51,7 +51,7 @@ mark_lines seen levels vars = flat_map (mark_line seen levels) vars
 unfoldable pub refused_lines : (name bytes : List ℕ) → Program → Refusal → List ℕ
 refused_lines name bytes p refusal =
     explanation name bytes (refused refusal (name_in p.threads refusal.thread))
-    ++ (refusal_lines p bytes refusal ++ warning_lines name bytes (text_warnings bytes))
+    ++ (refusal_lines name p bytes refusal ++ warning_lines name bytes (text_warnings bytes))
 
 -- what is told of a program for an observer for whom it is refused
 abbrev pub observer_lines : (name bytes : List ℕ) → Levels → Program → (observer : ℕ) → Refusal → List ℕ

@@ -14,3 +14,5 @@ pub mod HiddenText
 pub mod Warnings
 pub mod ExpectedTokens
 pub mod ExpectedLines
+pub mod ByteSentences
+pub mod OtherTellings

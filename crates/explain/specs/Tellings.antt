@@ -12,6 +12,7 @@ use Rattle.explain.specs.HiddenText.{text_warnings}
 use Rattle.explain.specs.Warnings.{warnings}
 use Rattle.refusal_names.specs.RefusalNames.{refusal_names}
 use Rattle.explain.specs.Explanations.{explanation}
+use Rattle.explain.specs.OtherTellings.{other_lines}
 use Rattle.explain.specs.WarningSentences.{warning_lines}
 use Rattle.call_judge.specs.Meaning.{meaning}
 use Rattle.call_inputs.specs.Programs.{SpellsProgram}
@@ -20,14 +21,16 @@ use Rattle.call_reports.specs.declared.answers.Fault.{Fault}
 use Rattle.call_reports.specs.declared.answers.Fault.TheVariants as f
 use Rattle.call_reports.specs.declared.answers.FaultKind.TheVariants as k
 
--- what a refusal of a program is about: by name, and where a certificate isn't valid, what was asked; the bytes are those of its text
-abbrev pub refusal_lines : Program → (bytes : List ℕ) → Refusal → List ℕ
-refusal_lines p bytes refusal =
-    refusal_names p bytes refusal.rule refusal.thread refusal.place refusal.detail ++ asked p bytes refusal.rule refusal.thread refusal.place refusal.detail
+-- what a refusal of a program is about: by name, and where a certificate isn't valid, what was asked, and what is told of others of the
+-- thread that aren't; the bytes are those of its text
+abbrev pub refusal_lines : (name : List ℕ) → Program → (bytes : List ℕ) → Refusal → List ℕ
+refusal_lines name p bytes refusal =
+    refusal_names p bytes refusal.rule refusal.thread refusal.place refusal.detail
+    ++ (asked p bytes refusal.rule refusal.thread refusal.place refusal.detail ++ other_lines name bytes p refusal)
 
 -- the same in the program that a text stands for, if its names are in order
-abbrev pub asked_lines : Parsed → (bytes : List ℕ) → Refusal → List ℕ
-asked_lines p bytes refusal = if all_hold (name_obligations p) then refusal_lines (resolved p) bytes refusal else []
+abbrev pub asked_lines : (name : List ℕ) → Parsed → (bytes : List ℕ) → Refusal → List ℕ
+asked_lines name p bytes refusal = if all_hold (name_obligations p) then refusal_lines name (resolved p) bytes refusal else []
 
 -- what could stand at the place of a token with which no program goes on; nothing where another fault is the first
 abbrev pub stand_lines : (bytes : List ℕ) → Fault → List ℕ
@@ -40,7 +43,7 @@ stand_lines bytes fault = []
 abbrev pub Adds : (name bytes : List ℕ) → Reply → (text : List ℕ) → Type 0
 Adds name bytes (malformed file fault) text = text ≡ stand_lines bytes fault
 Adds name bytes (refused refusal thread) text =
-    (p : Parsed) × SpellsProgram bytes p × (text ≡ asked_lines p bytes refusal ++ warning_lines name bytes (text_warnings bytes))
+    (p : Parsed) × SpellsProgram bytes p × (text ≡ asked_lines name p bytes refusal ++ warning_lines name bytes (text_warnings bytes))
 Adds name bytes (accepted threads statements entailments) text =
     (p : Parsed) × SpellsProgram bytes p × (text ≡ warning_lines name bytes (warnings (meaning p) bytes))
 Adds name bytes reply text = text ≡ []

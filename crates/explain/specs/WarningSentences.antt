@@ -7,6 +7,7 @@ use Rattle.explain.specs.Explanations.{where_is}
 
 -- what stands in front of the name, or of the number; all of it where there is none
 abbrev pub front : Cause → List ℕ
+front c.NoThread = codes "there is no thread: the verdict says nothing of any run"
 front (c.FalseInvariant l) = codes "the invariant of the lock "
 front (c.NeverRead x) = codes "no statement reads the variable "
 front (c.NeverWritten x) = codes "no statement writes the variable "
@@ -19,6 +20,7 @@ front (c.More n) = codes "from here on there are "
 
 -- the name or the number
 abbrev pub subject : Cause → List ℕ
+subject c.NoThread = []
 subject (c.FalseInvariant l) = l
 subject (c.NeverRead x) = x
 subject (c.NeverWritten x) = x
@@ -31,6 +33,7 @@ subject (c.More n) = decimal n
 
 -- what stands behind the name, or the number
 abbrev pub rest : Cause → List ℕ
+rest c.NoThread = []
 rest (c.FalseInvariant l) = codes " holds in no memory: no start meets it, and the verdict says nothing of any run"
 rest (c.NeverRead x) = codes ": it is in no value that is assigned, in no guard and in no output (types, invariants, notes and certificates don't count)"
 rest (c.NeverWritten x) = codes ": none assigns it"

@@ -1,14 +1,20 @@
 -- What is warned of in a program and its text.
 use Rattle.std.specs.Prelude.{ℕ, nat_lt, List, [], ◌∷◌, ◌++◌, flat_map, if◌then◌else◌}
-use Rattle.cov_ast.specs.Plain.{Plain}
+use Rattle.cov_ast.specs.Plain.{Plain, PlainThread}
 use Rattle.explain.specs.HiddenText.{text_warnings}
 use Rattle.explain.specs.NeverReached.{of_thread}
 use Rattle.explain.specs.Unused.{of_declarations}
+use Rattle.explain.specs.declared.warning.Cause.TheVariants.{NoThread}
 use Rattle.explain.specs.declared.warning.Warning.{Warning}
 
--- what is warned of in a program: in its declarations, and then in the statements of its threads
+-- of a program without threads that, at the head of its text
+abbrev pub of_count : List PlainThread → List Warning
+of_count [] = record { place = 0; cause = NoThread } ∷ []
+of_count (t ∷ ts) = []
+
+-- what is warned of in a program: that it has no thread, in its declarations, and then in the statements of its threads
 abbrev pub of_program : Plain → List Warning
-of_program p = of_declarations p ++ flat_map of_thread p.threads
+of_program p = of_count p.threads ++ of_declarations p ++ flat_map of_thread p.threads
 
 -- of warnings in order, those in front of a place, and the rest
 abbrev pub warnings_before : (place : ℕ) → List Warning → List Warning

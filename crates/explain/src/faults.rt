@@ -3,6 +3,7 @@
 ghost use Rattle.std.specs.Prelude.{◌≡◌, ◌++◌, OnOk};
 ghost use Rattle.explain.specs.FaultSentences as spec;
 
+use crate::bytes::add_byte_sentence;
 use crate::words::add_token_sentence;
 use call_reports::FaultKind;
 use cov_expr::{Blob, NoMemory};
@@ -13,7 +14,7 @@ pub fn add_fault_sentence(kind: FaultKind, rest: &[u8], text: &mut Blob) -> Resu
 {
     match kind {
         FaultKind::Token => add_token_sentence(rest, text),
-        FaultKind::Byte => text.extend_from_slice(b"this byte begins no token, blank or comment"),
+        FaultKind::Byte => add_byte_sentence(rest, text),
         FaultKind::Number => text.extend_from_slice(b"this number is above 4294967295"),
         FaultKind::Name => text.extend_from_slice(b"this word has more than 32 bytes"),
         FaultKind::Limit => {

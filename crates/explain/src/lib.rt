@@ -21,17 +21,19 @@
 //! | `call`, `files` | `FileCalls` | the words of a command line; what is told of each file, and the status |
 //! | `explanation` | `Explanations` | what is told of the bytes of a file |
 //! | `more` | `Tellings` | what is told beside it: what could stand at the place of a token, and what a refusal is about |
+//! | `others` | `OtherTellings` | what is told of the other entailments for which a thread would be refused |
 //! | `level_files`, `observers` | `FileCalls`, `LevelTellings` | how a program and levels are read, and what is told of them |
 //! | `next`, `fronts`, `places`, `line` | `ExpectedTokens`, `ExpectedLines` | what could stand at a place, in the order of the table of spellings, and the line that says so |
 //! | `warnings`, `sentences` | `WarningSentences` | what is warned of in a file, as text |
 //! | `warning`, `merged`, `uses`, `unused`, `unreached`, `hidden` | `Warnings`, `StatementUses`, `Unused`, `NeverReached`, `HiddenText` | what is warned of, each at its place: in declarations, statements and bytes |
 //! | `rules` | `RuleSentences` | the sentence of each rule |
-//! | `faults`, `words` | `FaultSentences`, `TokenSentences` | the sentence of each fault of a text; reserved words |
+//! | `faults`, `bytes`, `words` | `FaultSentences`, `ByteSentences`, `TokenSentences` | the sentence of each fault of a text; bytes that begin no token; reserved words |
 //! | `laws`, `expected_laws`, `warning_laws` | | the laws |
 //!
 //! `specs/Inside` has the words of private contracts, which no promise cites.
 #![tactic(auto)]
 
+mod bytes;
 mod call;
 mod expected_laws;
 mod explanation;
@@ -46,6 +48,7 @@ mod merged;
 mod more;
 mod next;
 mod observers;
+mod others;
 mod places;
 mod rules;
 mod sentences;

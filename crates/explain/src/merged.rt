@@ -1,6 +1,6 @@
 //! All warnings of a program and its text, in the order of their places.
 
-ghost use Rattle.std.specs.Prelude.{◌≡◌, ◌++◌, ◌≤◌, length, MatchResult, IfOk};
+ghost use Rattle.std.specs.Prelude.{◌≡◌, ◌++◌, ◌≤◌, length, MatchResult, IfOk, OnOk};
 ghost use Rattle.cov_ast.specs.Plain.{plain};
 ghost use Rattle.cov_ast.specs.View as view;
 ghost use Rattle.cov_expr.specs.declared.limits.TheConstants.{MOST_BYTES};
@@ -9,7 +9,7 @@ ghost use Rattle.explain.specs.Warnings as spec;
 use crate::hidden::text_warnings;
 use crate::unreached::add_threads;
 use crate::unused::of_declarations;
-use crate::warning::Warning;
+use crate::warning::{Cause, Warning};
 use cov_ast::Program;
 use cov_expr::{List, NoMemory};
 use std::alloc::Global;
@@ -28,9 +28,25 @@ pub fn warnings(alloc: Global, program: &Program, bytes: &[u8]) -> Result<List<W
 fn of_program(alloc: Global, program: &Program) -> Result<List<Warning>, NoMemory>
     ensures { IfOk result (λ found. found ≡ spec.of_program (plain (view.program program.now))) }
 {
-    let mut found = of_declarations(alloc, program)?;
+    let mut found = List::new(alloc);
+    add_no_thread(program, &mut found)?;
+    let declared = of_declarations(alloc, program)?;
+    found.extend_from_slice(declared.as_slice())?;
     add_threads(program.threads.as_slice(), &mut found)?;
     Ok(found)
+}
+
+/// Adds that a program has no thread, where it has none.
+fn add_no_thread(program: &Program, found: &mut List<Warning>) -> Result<(), NoMemory>
+    ensures { OnOk result (found.new ≡ found.old ++ spec.of_count (plain (view.program program.now)).threads) }
+{
+    match program.threads.as_slice() {
+        [] => found.push(Warning {
+            place: 0,
+            cause: Cause::NoThread,
+        }),
+        [_, ..] => Ok(()),
+    }
 }
 
 /// The warnings of two lists, each in the order of the places, in that order.

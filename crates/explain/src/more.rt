@@ -11,11 +11,13 @@ ghost use Rattle.explain.specs.WarningSentences.{warning_lines};
 ghost use Rattle.explain.specs.HiddenText.{text_warnings};
 
 use crate::line::add_expected;
+use crate::others::add_others;
 use crate::warnings::{add_text_warnings, add_warnings};
 use call_judge::judge::Judged;
 use call_reports::{Fault, FaultKind};
 use cov_ast::{Program, Refusal};
 use cov_expr::{Blob, NoMemory};
+use entail_refused::add_asked;
 use refusal_names::add_names;
 use std::alloc::Global;
 
@@ -54,25 +56,28 @@ pub fn add_refused(
     requires length { length bytes.now ≤ MOST_BYTES }
     requires formed { IsWellFormed (view.program program.now) }
     ensures { OnOk result (text.new ≡ text.old
-        ++ (spec.refusal_lines (view.program program.now) bytes.now refusal.now ++ warning_lines name.now bytes.now (text_warnings bytes.now))) }
+        ++ (spec.refusal_lines name.now (view.program program.now) bytes.now refusal.now ++ warning_lines name.now bytes.now (text_warnings bytes.now))) }
 {
-    add_refusal_lines(alloc, bytes, refusal, program, text)?;
+    add_refusal_lines(alloc, name, bytes, refusal, program, text)?;
     add_text_warnings(alloc, name, bytes, text)
 }
 
-/// Adds what a refusal of a program is about: of W9, V1, V2, V3, V4, V8, V12, V15 and V16 names, of V9 the entailment, of other rules nothing.
+/// Adds what a refusal of a program is about: of W9, V1, V2, V3, V4, V8, V12, V15 and V16 names, of V9 the entailment and others of the thread, of other
+/// rules nothing.
 fn add_refusal_lines(
     alloc: Global,
+    name: &str,
     bytes: &[u8],
     refusal: &Refusal,
     program: &Program,
     text: &mut Blob,
 ) -> Result<(), NoMemory>
     requires { IsWellFormed (view.program program.now) }
-    ensures { OnOk result (text.new ≡ text.old ++ spec.refusal_lines (view.program program.now) bytes.now refusal.now) }
+    ensures { OnOk result (text.new ≡ text.old ++ spec.refusal_lines name.now (view.program program.now) bytes.now refusal.now) }
 {
     add_names(alloc, program, bytes, refusal, text)?;
-    entail_refused::add_asked(alloc, program, bytes, refusal, text)
+    add_asked(alloc, program, bytes, refusal, text)?;
+    add_others(alloc, name, bytes, refusal, program, text)
 }
 
 /// Adds what could stand at the place of a fault, if that is a token with which no program goes on.

@@ -25,7 +25,11 @@ fn add_subject(cause: &Cause, text: &mut Blob) -> Result<(), NoMemory>
         Cause::NeverRead(x) | Cause::NeverWritten(x) => text.extend_from_slice(x.text()),
         Cause::Control(byte) => add_number(*byte as usize, text),
         Cause::More(n) => add_number(*n, text),
-        Cause::NeverReached | Cause::LoneReturn | Cause::Direction | Cause::Separator => Ok(()),
+        Cause::NoThread
+        | Cause::NeverReached
+        | Cause::LoneReturn
+        | Cause::Direction
+        | Cause::Separator => Ok(()),
     }
 }
 
@@ -34,6 +38,7 @@ fn front(cause: &Cause) -> &'static str
     ensures { result.now ≡ spec.front cause.now }
 {
     match cause {
+        Cause::NoThread => "there is no thread: the verdict says nothing of any run",
         Cause::FalseInvariant(_) => "the invariant of the lock ",
         Cause::NeverRead(_) => "no statement reads the variable ",
         Cause::NeverWritten(_) => "no statement writes the variable ",
@@ -63,6 +68,10 @@ fn rest(cause: &Cause) -> &'static str
         Cause::Control(_) => ", which an editor may not show",
         Cause::More(_) =>
             " more carriage returns, control characters and characters like these that an editor may show as another text",
-        Cause::NeverReached | Cause::LoneReturn | Cause::Direction | Cause::Separator => "",
+        Cause::NoThread
+        | Cause::NeverReached
+        | Cause::LoneReturn
+        | Cause::Direction
+        | Cause::Separator => "",
     }
 }

@@ -5,6 +5,8 @@ use cov_expr::Name;
 /// What is warned of.
 #[derive(Clone, Copy, PartialEq, Eq)]
 pub enum Cause {
+    /// There is no thread.
+    NoThread,
     /// The invariant of this lock has no variable and is 0, so it holds in no memory.
     FalseInvariant(Name),
     /// No statement reads this variable.
@@ -26,7 +28,7 @@ pub enum Cause {
 }
 
 /// A warning, with the byte offset of what it is about. Of a lock or a variable that is the offset of the name where it is
-/// declared, of a statement that of its first token.
+/// declared, of a statement that of its first token, and where there is no thread 0.
 #[derive(Clone, Copy, PartialEq, Eq)]
 pub struct Warning {
     pub place: u32,

@@ -11,19 +11,46 @@ use cov_expr::{Blob, NoMemory, is_keyword, is_lower, is_word};
 pub fn add_token_sentence(rest: &[u8], text: &mut Blob) -> Result<(), NoMemory>
     ensures { OnOk result (text.new ≡ text.old ++ spec.token_sentence rest.now) }
 {
-    if rest.is_empty() {
-        text.extend_from_slice(b"the text ends here, and no program is whole")
-    } else {
-        add_word_sentence(front_word(rest), text)
+    match rest {
+        [] => text.extend_from_slice(b"the text ends here, and no program is whole"),
+        [first, ..] if is_lower(*first) => add_word_sentence(word_run(rest), text),
+        [first, others @ ..] => add_sign_sentence(*first, others, text),
     }
 }
 
+/// Adds the sentence of a sign, by its first byte and what stands behind that.
+fn add_sign_sentence(first: u8, others: &[u8], text: &mut Blob) -> Result<(), NoMemory>
+    ensures { OnOk result (text.new ≡ text.old ++ spec.sign_sentence first others.now) }
+{
+    text.extend_from_slice(b"no program goes on with this token")?;
+    text.extend_from_slice(sign_hint(first, others).as_bytes())
+}
+
+/// What is mostly meant by a sign with which no program goes on; nothing where nothing is known of it.
+fn sign_hint(first: u8, others: &[u8]) -> &'static str
+    ensures { result.now ≡ spec.sign_hint first others.now }
+{
+    if first == b':' && !is_assigned(others) {
+        "; in a `join`, an `inv` and a `note` types stand behind `;`"
+    } else {
+        ""
+    }
+}
+
+/// Whether a text begins as an assignment does behind its `:`.
+fn is_assigned(others: &[u8]) -> bool
+    ensures { result ≡ spec.is_assigned others.now }
+{
+    match others {
+        [first, ..] => *first == b'=',
+        [] => false,
+    }
+}
+
+/// Adds the sentence of a word.
 fn add_word_sentence(word: &[u8], text: &mut Blob) -> Result<(), NoMemory>
     ensures { OnOk result (text.new ≡ text.old ++ spec.word_sentence word.now) }
 {
-    if word.is_empty() {
-        return text.extend_from_slice(b"no program goes on with this token");
-    }
     text.extend_from_slice(word_front(word).as_bytes())?;
     text.extend_from_slice(word)?;
     text.extend_from_slice(word_end(word).as_bytes())?;
@@ -60,16 +87,6 @@ fn version_hint(word: &[u8]) -> &'static str
         "; a text with outputs begins with `version 2;`"
     } else {
         ""
-    }
-}
-
-/// The word that a text begins with; nothing where it begins with none.
-fn front_word(text: &[u8]) -> &[u8]
-    ensures { result.now ≡ spec.front_word text.now }
-{
-    match text {
-        [first, ..] if is_lower(*first) => word_run(text),
-        _ => &[],
     }
 }
 

@@ -1,22 +1,13 @@
-use Rattle.std.proofs.Common.{◌≡◌, ◌++◌, List, [], ◌∷◌, Bool, true, false, if◌then◌else◌, Option, Some, None, OnOk, refl, sym, ◌∙◌, ap, subst}
-use Rattle.std.specs.Prelude.{◌&&◌}
+use Rattle.std.proofs.Common.{◌≡◌, ◌++◌, [], true, if◌then◌else◌, OnOk, sym, ◌∙◌, ap, subst}
 use Rattle.std.proofs.lemmas.List.{append-nil}
-use Rattle.cov_ast.specs.Obligations.{Obligation, all_hold, first_false}
+use Rattle.cov_ast.specs.Obligations.{all_hold}
 use Rattle.cov_ast.specs.View as view
-use Rattle.cov_ast.specs.declared.refusal.Refusal.{Refusal}
 use Rattle.cov_ast.proofs.ObligationLaws.{none_refused}
 use Rattle.mode_compat.specs.Declared.{declaration_obligations}
 use Rattle.typing_law.specs.ThreadEntailments.{entailment_among, thread_entailments}
 use Rattle.entail_refused.specs.Asked.{lines_of_entailment}
+use Rattle.entail_refused.proofs.DeclaredLaws.{some_refused}
 use Rattle.entail_refused.proofs.entailment.add_of_thread.Goals as goal
-
-some_refused : (es : List Obligation) (r : Refusal) → first_false es ≡ Some r → all_hold es ≡ false
-some_refused [] r h = let c : ◌≡◌ {A = Option Refusal} None (Some r) = h in cc
-some_refused (e ∷ es) r h = by e.holds h (λ k. some_refused es r k)
-  where
-    by : (b : Bool) → (if b then first_false es else Some e.refusal) ≡ Some r → (first_false es ≡ Some r → all_hold es ≡ false) → (b && all_hold es) ≡ false
-    by true h rest = rest h
-    by false h rest = refl
 
 pub add_entailment-requires-clause-declared : goal.add_entailment-requires-clause-declared
 add_entailment-requires-clause-declared c = none_refused (declaration_obligations (view.program c.args.p.now)) c.in-Ok.ensures

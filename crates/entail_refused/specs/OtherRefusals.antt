@@ -1,0 +1,45 @@
+-- The other entailments for which a thread would be refused by V9: one without a valid certificate changes nothing of what is known behind it.
+use Rattle.std.specs.Prelude.{ℕ, ◌==◌, nat_lt, List, [], length, map, filter, Bool, not, ◌&&◌, Option, Some, if◌then◌else◌}
+use Rattle.cov_ast.specs.Obligations.{all_hold}
+use Rattle.cov_ast.specs.Syntax.{Program}
+use Rattle.cov_ast.specs.declared.refusal.Detail.{Detail}
+use Rattle.cov_ast.specs.declared.refusal.Detail.TheVariants.{Number}
+use Rattle.cov_ast.specs.declared.refusal.Refusal.{Refusal}
+use Rattle.cov_ast.specs.declared.refusal.Rule.{Rule}
+use Rattle.cov_ast.specs.declared.refusal.Rule.TheVariants.{V9}
+use Rattle.mode_compat.specs.Declared.{declaration_obligations}
+use Rattle.typing_rules.specs.Keeping.{SearchedEntailment}
+use Rattle.typing_rules.specs.Searched.{searched_in_thread}
+
+-- the refusal of an entailment of a thread
+abbrev pub refusal_of : (t : ℕ) → SearchedEntailment → Refusal
+refusal_of t s = record { rule = V9; thread = Some t; place = s.place; detail = Number s.number }
+
+-- whether an entailment isn't the one of a number at a place
+abbrev pub is_other : (place number : ℕ) → SearchedEntailment → Bool
+is_other place number s = not (s.place == place && s.number == number)
+
+-- those of a thread without a valid certificate, in the order in which they are tried, but for that one
+abbrev pub others_in : Program → (t place number : ℕ) → List Refusal
+others_in p t place number = map (refusal_of t) (filter (is_other place number) (searched_in_thread 0 p t))
+
+-- the same, where the declarations keep the rules
+abbrev pub others_declared : Program → (t place number : ℕ) → List Refusal
+others_declared p t place number = if all_hold (declaration_obligations p) then others_in p t place number else []
+
+-- the same, where the program has so many threads
+abbrev pub others_of : Program → (t place number : ℕ) → List Refusal
+others_of p t place number = if nat_lt t (length p.threads) then others_declared p t place number else []
+
+-- beside the entailment that a refusal names by its thread, its place and its number
+abbrev pub others_behind : Program → (thread : Option ℕ) → (place : ℕ) → Detail → List Refusal
+others_behind p (Some t) place (Number n) = others_of p t place n
+others_behind p thread place detail = []
+
+-- beside a refusal for a rule: of V9, those others
+abbrev pub others_by : Program → Rule → (thread : Option ℕ) → (place : ℕ) → Detail → List Refusal
+others_by p V9 thread place detail = others_behind p thread place detail
+others_by p rule thread place detail = []
+
+abbrev pub other_refusals : Program → Refusal → List Refusal
+other_refusals p r = others_by p r.rule r.thread r.place r.detail

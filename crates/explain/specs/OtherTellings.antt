@@ -1,0 +1,32 @@
+-- What is told of the other entailments for which a thread would be refused by V9: of each as of the first, up to so many.
+use Rattle.std.specs.Prelude.{ℕ, ◌-◌, nat_le, List, ◌++◌, length, take, flat_map, codes, decimal, if◌then◌else◌}
+use Rattle.cov_ast.specs.Syntax.{Program}
+use Rattle.cov_ast.specs.declared.refusal.Refusal.{Refusal}
+use Rattle.call_judge.specs.Check.{name_in}
+use Rattle.call_reports.specs.Replies.{refused}
+use Rattle.entail_refused.specs.Asked.{asked}
+use Rattle.entail_refused.specs.OtherRefusals.{other_refusals}
+use Rattle.explain.specs.Explanations.{explanation}
+
+-- how many are told
+abbrev pub most_told : ℕ
+most_told = 8
+
+-- a refusal: the explanation, and what was asked
+unfoldable pub refusal_text : (name bytes : List ℕ) → Program → Refusal → List ℕ
+refusal_text name bytes p r =
+    explanation name bytes (refused r (name_in p.threads r.thread)) ++ asked p bytes r.rule r.thread r.place r.detail
+
+-- how many there are besides
+abbrev pub left_line : ℕ → List ℕ
+left_line n = codes "and as many more of this thread for which no valid certificate is given: " ++ decimal n ++ codes "\n"
+
+-- the first of some refusals, and how many there are besides
+abbrev pub lines_of : (name bytes : List ℕ) → Program → List Refusal → List ℕ
+lines_of name bytes p rs =
+    if nat_le (length rs) most_told then flat_map (refusal_text name bytes p) rs
+    else flat_map (refusal_text name bytes p) (take most_told rs) ++ left_line (length rs - most_told)
+
+-- beside a refusal of a program
+unfoldable pub other_lines : (name bytes : List ℕ) → Program → Refusal → List ℕ
+other_lines name bytes p r = lines_of name bytes p (other_refusals p r)
