@@ -148,11 +148,7 @@ impl Uses<'_> {
                 self.cert(way, c)?;
                 self.cert(way, d)
             }
-            Cert::Fwd(_, e, c) => {
-                self.expr(way, e)?;
-                self.cert(way, c)
-            }
-            Cert::Rev(_, e, c) => {
+            Cert::Fwd(_, e, c) | Cert::Rev(_, e, c) => {
                 self.expr(way, e)?;
                 self.cert(way, c)
             }

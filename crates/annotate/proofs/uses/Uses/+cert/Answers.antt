@@ -1,4 +1,4 @@
-use Rattle.std.proofs.Common.{refl, sym}
+use Rattle.std.proofs.Common.{inl, inr, refl, sym}
 use Rattle.cov_ast.proofs.CertViews.{cert-And, cert-Axiom, cert-Cases, cert-Fwd, cert-Have, cert-Rev, cert-Split}
 use Rattle.annotate.proofs.LeafViews.{cert-Absurd, cert-Auto, cert-Calc, cert-Clash, cert-Hyp, cert-Range, cert-Refl, cert-Ring}
 use Rattle.annotate.proofs.GoingLaws.{gone_nothing, three_go, two_go}
@@ -50,13 +50,14 @@ returns-in_ok-cert-in-Have t c =
 
 pub returns-in_ok-expr-in-Fwd : goal.returns-in_ok-expr-in-Fwd
 returns-in_ok-expr-in-Fwd t c =
-    rw (c.in-Fwd.is, cert-Fwd, ← c.deref-in-Fwd.ensures)
-    (two_go c.cert-in-Fwd.result _ _ _ _ _ _ _ c.in_ok-expr-in-Fwd.ensures c.cert-in-Fwd.ensures refl)
-
-pub returns-in_ok-expr-in-Rev : goal.returns-in_ok-expr-in-Rev
-returns-in_ok-expr-in-Rev t c =
-    rw (c.in-Rev.is, cert-Rev, ← c.deref-in-Rev.ensures)
-    (two_go c.cert-in-Rev.result _ _ _ _ _ _ _ c.in_ok-expr-in-Rev.ensures c.cert-in-Rev.ensures refl)
+    elim c.in-Fwd.is [
+      | inl k ↦
+          rw (k.1, cert-Fwd, ← c.deref-in-Fwd.ensures)
+          (two_go c.cert-in-Fwd.result _ _ _ _ _ _ _ c.in_ok-expr-in-Fwd.ensures c.cert-in-Fwd.ensures refl)
+      | inr k ↦
+          rw (k.1, cert-Rev, ← c.deref-in-Fwd.ensures)
+          (two_go c.cert-in-Fwd.result _ _ _ _ _ _ _ c.in_ok-expr-in-Fwd.ensures c.cert-in-Fwd.ensures refl)
+    ]
 
 pub returns-in_ok-exprs-in-Axiom : goal.returns-in_ok-exprs-in-Axiom
 returns-in_ok-exprs-in-Axiom t c =
