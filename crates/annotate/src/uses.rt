@@ -3,7 +3,7 @@
 //! A walk over the tree comes by each use of a name in the order of the text, and so by the uses that the text lists. Of a part that stays each is kept, of a
 //! certificate that goes each is passed over, and those of a new certificate are added at the place of its statement.
 
-ghost use Rattle.std.specs.Prelude.{◌≡◌, flat_map, map, option_map, OnOk};
+ghost use Rattle.std.specs.Prelude.{◌≡◌, ◌++◌, flat_map, map, option_map, OnOk};
 ghost use Rattle.cov_expr.specs.View.{term};
 ghost use Rattle.cov_ast.specs.Ready.{as_variable, uses_in, uses_in_cert, uses_in_option};
 ghost use Rattle.cov_ast.specs.View as view;
@@ -113,6 +113,7 @@ impl Uses<'_> {
     }
 
     /// The uses in a certificate.
+    #[cycle(certs)]
     pub fn cert(&mut self, way: Way, cert: &Cert) -> Result<(), NoMemory>
         ensures { OnOk result (Goes way (uses_in_cert (view.cert cert.now)) self.old self.new) }
     {
@@ -139,23 +140,28 @@ impl Uses<'_> {
                 self.cert(way, d)
             }
             Cert::Split(e, c, d) => {
-                self.expr(way, e)?;
-                self.cert(way, c)?;
+                self.cert_behind(way, c, e)?;
                 self.cert(way, d)
             }
             Cert::Have(e, c, d) => {
-                self.expr(way, e)?;
-                self.cert(way, c)?;
+                self.cert_behind(way, c, e)?;
                 self.cert(way, d)
             }
-            Cert::Fwd(_, e, c) | Cert::Rev(_, e, c) => {
-                self.expr(way, e)?;
-                self.cert(way, c)
-            }
+            Cert::Fwd(_, e, c) => self.cert_behind(way, c, e),
+            Cert::Rev(_, e, c) => self.cert_behind(way, c, e),
             Cert::Axiom(_, es, c) => {
                 self.exprs(way, es.as_slice())?;
                 self.cert(way, c)
             }
         }
+    }
+
+    /// The uses in a certificate behind those in an expression.
+    #[cycle(certs)]
+    fn cert_behind(&mut self, way: Way, c: &Cert, e: &Expr) -> Result<(), NoMemory>
+        ensures { OnOk result (Goes way (uses_in (term e.now) ++ uses_in_cert (view.cert c.now)) self.old self.new) }
+    {
+        self.expr(way, e)?;
+        self.cert(way, c)
     }
 }
