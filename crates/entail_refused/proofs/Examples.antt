@@ -8,6 +8,7 @@ use Rattle.cov_ast.specs.Syntax.{Block, Program, assign, branch, calc, done, hig
 use Rattle.cov_ast.specs.declared.refusal.Detail.TheVariants.{Nothing, Number}
 use Rattle.cov_ast.specs.declared.refusal.Refusal.{Refusal}
 use Rattle.cov_ast.specs.declared.refusal.Rule.TheVariants.{V8, V9}
+use Rattle.entail_counter.specs.Counterexamples.{counterexample}
 use Rattle.entail_text.specs.Suggestions.{suggested}
 use Rattle.typing_law.specs.ThreadEntailments.{PlacedEntailment, thread_entailments}
 use Rattle.typing_law.specs.Accepted.{program_obligations}
@@ -58,8 +59,8 @@ second_unproved : has_valid_certificate shows_secret 0 unproved_secret ≡ false
 second_unproved = refl
 
 told_of_second : asked shows_secret [] V9 (Some 0) 44 (Number 1)
-    ≡ codes "  entailment 1 of 1 asks: where a is low, the value is public\n  goal:         0\n  hypotheses:   1  1   (asked with the goal)\n  certificate:  given; fails at the root: calc (the goal there is 0)\n  a goal of 0 follows only where the hypotheses can't all hold: where they can, no certificate helps, and more has to be known there, of values or of types, or less to be asked\n  suggestion:   none: no certificate of up to 2 steps is valid\n  type of s:  its class `0`, since it isn't stable here: the thread doesn't assume that no other writes it, and holds no lock that it is under\n"
-unfolding suggested
+    ≡ codes "  entailment 1 of 1 asks: where a is low, the value is public\n  goal:         0\n  hypotheses:   1  1   (asked with the goal)\n  certificate:  given; fails at the root: calc (the goal there is 0)\n  a goal of 0 follows only where the hypotheses can't all hold: where they can, no certificate helps, and more has to be known there, of values or of types, or less to be asked\n  breaks it:    each memory\n                no certificate can show it: in such a memory all hypotheses hold and the goal doesn't\n  type of s:  its class `0`, since it isn't stable here: the thread doesn't assume that no other writes it, and holds no lock that it is under\n"
+unfolding suggested counterexample
 told_of_second = simp (decimal_digit 0 (lit< tt), decimal_digit 1 (lit< tt))
 
 -- nothing of another rule, and of a thread that there isn't

@@ -5,5 +5,6 @@ mod RefusedListed
 mod SitePoints
 mod SiteLaws
 mod WholeProgram
+mod OthersListed
 mod Examples
 pub mod DeclaredLaws

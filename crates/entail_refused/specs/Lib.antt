@@ -7,3 +7,4 @@ pub mod RefusedEntailment
 pub mod SiteHypotheses
 pub mod GivenCertificates
 pub mod OtherRefusals
+pub mod Inside

@@ -1,27 +1,28 @@
 -- The other entailments for which a thread would be refused by V9: one without a valid certificate changes nothing of what is known behind it.
 use Rattle.std.specs.Prelude.{ℕ, ◌==◌, nat_lt, List, [], length, map, filter, Bool, not, ◌&&◌, Option, Some, if◌then◌else◌}
 use Rattle.cov_ast.specs.Obligations.{all_hold}
-use Rattle.cov_ast.specs.Syntax.{Program}
+use Rattle.cov_ast.specs.Syntax.{Block, Program}
 use Rattle.cov_ast.specs.declared.refusal.Detail.{Detail}
 use Rattle.cov_ast.specs.declared.refusal.Detail.TheVariants.{Number}
 use Rattle.cov_ast.specs.declared.refusal.Refusal.{Refusal}
 use Rattle.cov_ast.specs.declared.refusal.Rule.{Rule}
 use Rattle.cov_ast.specs.declared.refusal.Rule.TheVariants.{V9}
+use Rattle.mode_compat.specs.Compatible.{numbered}
 use Rattle.mode_compat.specs.Declared.{declaration_obligations}
-use Rattle.typing_rules.specs.Keeping.{SearchedEntailment}
-use Rattle.typing_rules.specs.Searched.{searched_in_thread}
+use Rattle.typing_law.specs.ThreadEntailments.{PlacedEntailment, is_proved_in, thread_entailments}
 
--- the refusal of an entailment of a thread
-abbrev pub refusal_of : (t : ℕ) → SearchedEntailment → Refusal
-refusal_of t s = record { rule = V9; thread = Some t; place = s.place; detail = Number s.number }
+-- the refusal of an entailment of a thread, with a number at a place
+abbrev pub refusal_at : (t place number : ℕ) → Refusal
+refusal_at t place number = record { rule = V9; thread = Some t; place = place; detail = Number number }
 
--- whether an entailment isn't the one of a number at a place
-abbrev pub is_other : (place number : ℕ) → SearchedEntailment → Bool
-is_other place number s = not (s.place == place && s.number == number)
+-- whether an entailment of a body has no valid certificate, and isn't the one with a number at a place
+abbrev pub is_other : Block → (place number : ℕ) → PlacedEntailment → Bool
+is_other body place number g = not (is_proved_in body g) && not (g.place == place && g.number == number)
 
 -- those of a thread without a valid certificate, in the order in which they are tried, but for that one
 abbrev pub others_in : Program → (t place number : ℕ) → List Refusal
-others_in p t place number = map (refusal_of t) (filter (is_other place number) (searched_in_thread 0 p t))
+others_in p t place number =
+    map (λ g. refusal_at t g.place g.number) (filter (is_other (numbered p t).body place number) (thread_entailments p t))
 
 -- the same, where the declarations keep the rules
 abbrev pub others_declared : Program → (t place number : ℕ) → List Refusal

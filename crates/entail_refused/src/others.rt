@@ -1,11 +1,12 @@
 //! The other entailments for which a thread would be refused by V9.
 
-ghost use Rattle.std.specs.Prelude.{◌≡◌, ◌<◌, IfOk, IsTrue, filter, length, map};
+ghost use Rattle.std.specs.Prelude.{◌≡◌, ◌<◌, IfOk, IsTrue, length, map};
 ghost use Rattle.cov_ast.specs.Obligations.{all_hold};
 ghost use Rattle.cov_ast.specs.View as view;
 ghost use Rattle.cov_ast.specs.WellFormed.{IsWellFormed};
 ghost use Rattle.mode_compat.specs.Declared.{declaration_obligations};
 ghost use Rattle.typing_rules.specs.Keeping.{view_searched};
+ghost use Rattle.entail_refused.specs.Inside.SearchedOthers.{listed};
 ghost use Rattle.entail_refused.specs.OtherRefusals as spec;
 
 use cov_ast::{CheckFault, Detail, Program, Refusal, Rule};
@@ -97,11 +98,12 @@ fn others_in(
     requires thread { t < length p.now.threads }
     ensures { IfOk result (λ made. made ≡ spec.others_in (view.program p.now) t place number) }
 {
+    // At depth 0 the search is soon over; only which entailments have no valid certificate is asked.
     let searched = searched_entailments(alloc, p, t, 0)?;
     others_among(alloc, t, place, number, searched.as_slice())
 }
 
-/// Those among entailments without a valid certificate.
+/// Those among entailments that have no valid certificate.
 fn others_among(
     alloc: Global,
     t: u32,
@@ -109,7 +111,7 @@ fn others_among(
     number: u32,
     searched: &[Searched],
 ) -> Result<List<Refusal>, NoMemory>
-    ensures { IfOk result (λ made. made ≡ map (spec.refusal_of t) (filter (spec.is_other place number) (map view_searched searched.now))) }
+    ensures { IfOk result (λ made. made ≡ listed t place number (map view_searched searched.now)) }
 {
     let mut made = List::new(alloc);
     for entailment in searched {

@@ -6,3 +6,4 @@ pub mod Dropped
 pub mod OtherCertificates
 pub mod ZeroGoals
 pub mod Suggestions
+pub mod BrokenLines

@@ -7,6 +7,7 @@ use Rattle.cov_print.specs.Spelling.{Names, cert}
 use Rattle.cert_search.specs.Searching.{search}
 use Rattle.cert_search.specs.declared.finder.TheConstants.{MOST_DEPTH}
 use Rattle.entail_text.specs.Given.{cert_for}
+use Rattle.entail_text.specs.BrokenLines.{unfound_lines}
 
 -- what the search of the greatest depth finds
 unfoldable pub suggested : List Term → Term → Option Cert
@@ -44,10 +45,13 @@ written names (q ∷ qs) None number c = further names number c
 abbrev pub found_lines : Names → List Proof → (number : ℕ) → Cert → List ℕ
 found_lines names proofs number c = if is_auto c then taken_away number else written names proofs (cert_for proofs number) number c
 
-abbrev pub suggestion : Names → List Proof → (number : ℕ) → Option Cert → List ℕ
-suggestion names proofs number None = codes "none: no certificate of up to 2 steps is valid\n"
-suggestion names proofs number (Some c) = found_lines names proofs number c
+abbrev pub suggestion_line : Names → List Proof → (number : ℕ) → Cert → List ℕ
+suggestion_line names proofs number c = codes "  suggestion:   " ++ found_lines names proofs number c
 
--- of the entailment of a number with these hypotheses and this goal
+-- of the entailment of a number with these hypotheses and this goal, where a search finds this
+abbrev pub suggestion : Names → List Proof → (number : ℕ) → List Term → Term → Option Cert → List ℕ
+suggestion names proofs number hyps goal (Some c) = suggestion_line names proofs number c
+suggestion names proofs number hyps goal None = unfound_lines names hyps goal
+
 abbrev pub suggestion_lines : Names → List Proof → (number : ℕ) → List Term → Term → List ℕ
-suggestion_lines names proofs number hyps goal = codes "  suggestion:   " ++ suggestion names proofs number (suggested hyps goal)
+suggestion_lines names proofs number hyps goal = suggestion names proofs number hyps goal (suggested hyps goal)

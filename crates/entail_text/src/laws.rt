@@ -1,10 +1,15 @@
 //! The laws of what is told of certificates.
 
-ghost use Rattle.std.specs.Prelude.{◌≡◌, ℕ, List, None, Some};
+ghost use Rattle.std.specs.Prelude.{◌≡◌, ℕ, IsTrue, List, None, Some};
 ghost use Rattle.cov_expr.specs.Term.{Term};
+ghost use Rattle.cov_expr.specs.Words.{AreWords};
 ghost use Rattle.cov_ast.specs.Syntax.{Cert};
+ghost use Rattle.cov_ast.specs.WellFormed.{CertHasWords};
 ghost use Rattle.cert_search.specs.Classes.{HasNone, IsFound};
 ghost use Rattle.cert_search.specs.declared.finder.TheConstants.{MOST_DEPTH};
+ghost use Rattle.entail_cert.specs.Valid.{is_valid};
+ghost use Rattle.entail_counter.specs.Counterexamples.{HasBindings, IsCounterexample, counterexample, memory};
+ghost use Rattle.entail_counter.specs.declared.binding.Binding.{Binding};
 ghost use Rattle.entail_text.specs.Nodes.{LeadsToFailure, Node, bad};
 ghost use Rattle.entail_text.specs.Suggestions.{suggested};
 
@@ -19,4 +24,14 @@ pub fn failing_node_is_there()
 pub fn suggested_certificates_are_valid()
     ensures found { (hyps : List Term) → (goal : Term) → (c : Cert) → suggested hyps goal ≡ Some c → IsFound MOST_DEPTH hyps goal c }
     ensures none { (hyps : List Term) → (goal : Term) → suggested hyps goal ≡ None → HasNone MOST_DEPTH hyps goal }
+{}
+
+/// A law: where a memory is told that breaks an entailment, there is one of words with its values, in each such memory all hypotheses hold and the goal
+/// doesn't, and no certificate of words is valid for the entailment. So a memory is never told of an entailment that has a valid one.
+pub fn broken_entailments_have_no_certificate()
+    ensures there { (hyps : List Term) → (goal : Term) → (m : List Binding) → counterexample hyps goal ≡ Some m → IsCounterexample hyps goal (memory m) × HasBindings m (memory m) }
+    ensures each { (hyps : List Term) → (goal : Term) → (m : List Binding) → counterexample hyps goal ≡ Some m
+        → (n : List ℕ) → AreWords n → HasBindings m n → IsCounterexample hyps goal n }
+    ensures none { (hyps : List Term) → (goal : Term) → (m : List Binding) → counterexample hyps goal ≡ Some m
+        → (c : Cert) → CertHasWords c → IsTrue (is_valid hyps goal c) → ⊥ }
 {}

@@ -6,7 +6,8 @@
 //! - [`cert_for`]: the certificate that a statement gives for an entailment.
 //! - [`add_other`]: which certificate that is given for another entailment would show this one.
 //! - [`add_dropped`]: the hypotheses that the state which is to be met doesn't list.
-//! - [`add_suggestion`]: a certificate that a search finds, and where it is to be written; [`suggested_certificates_are_valid`] is a law of it.
+//! - [`add_suggestion`]: a certificate that a search finds, and where it is to be written, or a memory that breaks the entailment.
+//!   [`suggested_certificates_are_valid`] and [`broken_entailments_have_no_certificate`] are laws of it.
 //!
 //! | `src/` | `specs/` | what it has |
 //! |---|---|---|
@@ -17,9 +18,11 @@
 //! | `dropped` | `Dropped` | the hypotheses that a state drops |
 //! | `zero` | `ZeroGoals` | goals that are 0 |
 //! | `suggestion` | `Suggestions` | certificates that a search finds |
-//! | `laws` | `Nodes`, `Suggestions` | the node of which is told is there, and fails; what is suggested is valid |
+//! | `broken` | `BrokenLines` | memories that break an entailment |
+//! | `laws` | `Nodes`, `Suggestions`, `BrokenLines` | the node of which is told is there, and fails; what is suggested is valid; what is broken has no valid certificate |
 #![tactic(auto)]
 
+mod broken;
 mod dropped;
 mod entailment;
 mod given;
@@ -32,7 +35,9 @@ mod zero;
 pub use dropped::add_dropped;
 pub use entailment::add_told;
 pub use given::cert_for;
-pub use laws::{failing_node_is_there, suggested_certificates_are_valid};
+pub use laws::{
+    broken_entailments_have_no_certificate, failing_node_is_there, suggested_certificates_are_valid,
+};
 pub use other::add_other;
 pub use suggestion::add_suggestion;
 pub use zero::add_zero;

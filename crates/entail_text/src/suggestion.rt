@@ -5,6 +5,7 @@ ghost use Rattle.cov_expr.specs.View.{term};
 ghost use Rattle.cov_ast.specs.View as view;
 ghost use Rattle.entail_text.specs.Suggestions as spec;
 
+use crate::broken::add_unfound;
 use crate::given::cert_for;
 use cert_search::{MOST_DEPTH, find};
 use cov_ast::{Cert, NameTable, Proof};
@@ -14,9 +15,10 @@ use std::alloc::Global;
 use text_parts::add_number;
 
 /// Adds what a search finds for the entailment of a number: the certificate, in its canonical spelling, and where it is to be written, by what the statement
-/// gives; or that no certificate of the class of the search is valid. Each line begins with two blanks.
+/// gives. Where no certificate of the class of the search is valid, it adds a memory in which all hypotheses hold and the goal doesn't, if another search finds
+/// one, or else that neither is found. Each line begins with two blanks.
 ///
-/// `names` are those of the variables, `proofs` what the statement gives. It takes the time and the memory of the search.
+/// `names` are those of the variables, `proofs` what the statement gives. It takes the time and the memory of both searches.
 pub fn add_suggestion(
     alloc: Global,
     names: &NameTable,
@@ -29,8 +31,7 @@ pub fn add_suggestion(
     ensures { OnOk result (text.new ≡ text.old ++ spec.suggestion_lines names.now (map view.proof proofs.now) number (map term hyps.now) (term goal.now)) }
 {
     let found = suggested(alloc, hyps, goal)?;
-    text.extend_from_slice(b"  suggestion:   ")?;
-    add_any(names, proofs, number, &found, text)
+    add_any(alloc, names, proofs, number, hyps, goal, &found, text)
 }
 
 /// What the search of the greatest depth finds.
@@ -41,20 +42,37 @@ fn suggested(alloc: Global, hyps: &List<Expr>, goal: &Expr) -> Result<Option<Cer
     find(alloc, hyps, goal, MOST_DEPTH)
 }
 
-/// Adds what is found, or that nothing is.
+/// Adds what is found, or what is told where nothing is.
 fn add_any(
+    alloc: Global,
     names: &NameTable,
     proofs: &[Proof],
     number: u32,
+    hyps: &List<Expr>,
+    goal: &Expr,
     found: &Option<Cert>,
     text: &mut Blob,
 ) -> Result<(), NoMemory>
-    ensures { OnOk result (text.new ≡ text.old ++ spec.suggestion names.now (map view.proof proofs.now) number (option_map view.cert found.now)) }
+    ensures { OnOk result (text.new ≡ text.old ++ spec.suggestion names.now (map view.proof proofs.now) number (map term hyps.now) (term goal.now) (option_map view.cert found.now)) }
 {
     match found {
-        Some(cert) => add_found(names, proofs, number, cert, text),
-        None => text.extend_from_slice(b"none: no certificate of up to 2 steps is valid\n"),
+        Some(cert) => add_line(names, proofs, number, cert, text),
+        None => add_unfound(alloc, names, hyps, goal, text),
     }
+}
+
+/// Adds the lines of a certificate that is found.
+fn add_line(
+    names: &NameTable,
+    proofs: &[Proof],
+    number: u32,
+    cert: &Cert,
+    text: &mut Blob,
+) -> Result<(), NoMemory>
+    ensures { OnOk result (text.new ≡ text.old ++ spec.suggestion_line names.now (map view.proof proofs.now) number (view.cert cert.now)) }
+{
+    text.extend_from_slice(b"  suggestion:   ")?;
+    add_found(names, proofs, number, cert, text)
 }
 
 /// Adds what is to be done with a certificate that is found.

@@ -7,6 +7,7 @@ pub mod Marking
 pub mod UnreachedLaws
 pub mod Missed
 pub mod CutOff
+pub mod NowhereLaws
 pub mod ClosedLaws
 pub mod HiddenLaws
 pub mod VariableLaws

@@ -1,6 +1,7 @@
 -- Marks of several lists, and what the statements of the code read and write.
 use Rattle.std.proofs.Common.{◌≡◌, ℕ, ◌+◌, ◌<◌, List, ◌∷◌, ◌++◌, map, flat_map, Bool, length, get_or, drop, ap, sym, ◌∙◌}
 use Rattle.std.proofs.lemmas.List.{at_drop_more}
+use Rattle.cov_ast.specs.Syntax.{Thread}
 use Rattle.cov_ast.specs.Tables.{with_all}
 use Rattle.cov_ast.specs.View as view
 use Rattle.cov_ast.specs.declared.state.State.{State}
@@ -47,17 +48,12 @@ module _ (ss : List Stmt) (i : ℕ) (s : Stmt) (inside : i < length ss) (is : s 
       at_drop_more (λ xs. block_writes (view.block xs)) ss i s inside ∙ ap (λ y. block_writes (view.block (y ∷ drop (i + 1) ss))) (sym is)
       ∙ ap (λ y. stm_writes y.stm ++ block_writes (view.block (drop (i + 1) ss))) (fold_out-Stmt _ _ view.kind_step view.stmt_step s)
 
--- the next thread, and the rest
-module _ (ts : List ThreadDecl) (i : ℕ) (t : ThreadDecl) (inside : i < length ts) (is : t ≡ get_or ts i t) where
-  pub thread_reads_next : flat_map (λ u. block_reads u.body) (map view.thread (drop i ts)) ≡ block_reads (view.block t.body) ++ flat_map (λ u. block_reads u.body) (map view.thread (drop (i + 1) ts))
-  thread_reads_next =
-      at_drop_more (λ us. flat_map (λ u. block_reads u.body) (map view.thread us)) ts i t inside
-      ∙ ap (λ u. flat_map (λ v. block_reads v.body) (map view.thread (u ∷ drop (i + 1) ts))) (sym is)
-
-  pub thread_writes_next : flat_map (λ u. block_writes u.body) (map view.thread (drop i ts)) ≡ block_writes (view.block t.body) ++ flat_map (λ u. block_writes u.body) (map view.thread (drop (i + 1) ts))
-  thread_writes_next =
-      at_drop_more (λ us. flat_map (λ u. block_writes u.body) (map view.thread us)) ts i t inside
-      ∙ ap (λ u. flat_map (λ v. block_writes v.body) (map view.thread (u ∷ drop (i + 1) ts))) (sym is)
+-- what is listed of the next thread, and of the rest
+pub thread_next : (f : Thread → List ℕ) (ts : List ThreadDecl) (i : ℕ) (t : ThreadDecl) → i < length ts → t ≡ get_or ts i t
+    → flat_map f (map view.thread (drop i ts)) ≡ f (view.thread t) ++ flat_map f (map view.thread (drop (i + 1) ts))
+thread_next f ts i t inside is =
+    at_drop_more (λ us. flat_map f (map view.thread us)) ts i t inside
+    ∙ ap (λ u. flat_map f (map view.thread (u ∷ drop (i + 1) ts))) (sym is)
 
 -- marks of a list that is cut
 pub marks_go_on : (start now next : List Bool) (all xs ys zs : List ℕ) → with_all now zs ≡ with_all start all → zs ≡ xs ++ ys → next ≡ with_all now xs

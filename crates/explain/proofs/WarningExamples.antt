@@ -3,11 +3,12 @@ use Rattle.std.proofs.Common.{◌≡◌, ℕ, [], ◌∷◌, ◌++◌, map, true
 use Rattle.std.proofs.Math.Utf8.{encode}
 use Rattle.std.specs.List.{filter, range_with_len}
 use Rattle.cov_expr.specs.Term.{Term, const, var, bin}
-use Rattle.cov_expr.specs.declared.expr.Op.TheVariants.{Eq, Lt, Sub}
+use Rattle.cov_expr.specs.declared.expr.Op.TheVariants.{Both, Eq, Lt, Sub}
 use Rattle.cov_ast.specs.Declarations.{no_modes}
 use Rattle.cov_ast.specs.Plain.{assign, lock, unlock, branch, loop, output, Cmds, none, next, Plain}
-use Rattle.cov_ast.specs.Syntax.{low, high, Class, Var, Lock}
+use Rattle.cov_ast.specs.Syntax.{low, high, Class, Var, Lock, Modes}
 use Rattle.explain.specs.HiddenText.{at_front, text_warnings}
+use Rattle.explain.specs.HoldsNowhere.{holds_nowhere}
 use Rattle.explain.specs.NeverReached.{of_block}
 use Rattle.explain.specs.Unused.{is_false, warned}
 use Rattle.explain.specs.Warnings.{of_program, warnings}
@@ -34,22 +35,34 @@ abbrev leaks : Cmds
 leaks = next 60 (lock 0) (next 68 (assign 0 (var 1)) (next 76 (unlock 0) none))
 
 -- the invariant is 0: no start meets it, and the secret may be written
-an_empty_acceptance : of_program (program (Some (const 0)) leaks) ≡ warned 4 (c.NeverRead (97 ∷ [])) ∷ warned 16 (c.NeverWritten (115 ∷ [])) ∷ warned 30 (c.FalseInvariant (108 ∷ [])) ∷ []
+an_empty_acceptance : of_program (program (Some (const 0)) leaks) ≡ warned 4 (c.NeverRead (97 ∷ [])) ∷ warned 30 (c.FalseInvariant (108 ∷ [])) ∷ []
 an_empty_acceptance = refl
 
 -- it is 2 < 1
 a_false_comparison : is_false (Some (bin Lt (const 2) (const 1))) ≡ true
 a_false_comparison = refl
 
--- none is given; it is 5; it has a variable, though it holds in no memory
+-- none is given; it is 5
 no_invariant : is_false None ≡ false
 no_invariant = refl
 
 a_true_invariant : is_false (Some (const 5)) ≡ false
+unfolding holds_nowhere
 a_true_invariant = refl
 
-an_invariant_with_a_variable : is_false (Some (bin Lt (var 0) (var 0))) ≡ false
-an_invariant_with_a_variable = refl
+-- a < 0, and a < 3 && 6 < a
+below_zero : is_false (Some (bin Lt (var 0) (const 0))) ≡ true
+unfolding holds_nowhere
+below_zero = refl
+
+no_word_between : is_false (Some (bin Both (bin Lt (var 0) (const 3)) (bin Lt (const 6) (var 0)))) ≡ true
+unfolding holds_nowhere
+no_word_between = refl
+
+-- it holds in no memory, but no certificate of one node says so
+less_than_itself : is_false (Some (bin Lt (var 0) (var 0))) ≡ false
+unfolding holds_nowhere
+less_than_itself = refl
 
 -- if s == 0 { s := a; } else { a := 1; }: guards and values are read, in blocks too
 all_are_used : of_program (program None (next 60 (branch (bin Eq (var 1) (const 0)) (next 70 (assign 1 (var 0)) none) (next 80 (assign 0 (const 1)) none)) none)) ≡ []
@@ -62,8 +75,28 @@ outputs_are_reads = refl
 
 -- a thread without statements
 nothing_is_used : of_program (program None none)
-    ≡ warned 4 (c.NeverRead (97 ∷ [])) ∷ warned 4 (c.NeverWritten (97 ∷ [])) ∷ warned 16 (c.NeverRead (115 ∷ [])) ∷ warned 16 (c.NeverWritten (115 ∷ [])) ∷ []
+    ≡ warned 4 (c.NeverRead (97 ∷ [])) ∷ warned 4 (c.NeverWritten (97 ∷ [])) ∷ []
 nothing_is_used = refl
+
+-- thread t assume nowrite a { }, and assume hide a: what is one thread's by its header has a writer, or both
+abbrev kept_by : Modes → Plain
+kept_by modes = record {
+  vars = variable 97 4 low ∷ [];
+  locks = [];
+  threads = record { name = 116 ∷ []; modes = modes; body = none } ∷ [];
+}
+
+not_written_by_others : of_program (kept_by (record { assume_nowrite = 0 ∷ []; assume_hide = []; guarantee_nowrite = []; guarantee_hide = [] }))
+    ≡ warned 4 (c.NeverRead (97 ∷ [])) ∷ []
+not_written_by_others = refl
+
+hidden_from_others : of_program (kept_by (record { assume_nowrite = []; assume_hide = 0 ∷ []; guarantee_nowrite = []; guarantee_hide = [] })) ≡ []
+hidden_from_others = refl
+
+-- what a thread promises of itself says nothing of others
+promised : of_program (kept_by (record { assume_nowrite = []; assume_hide = []; guarantee_nowrite = 0 ∷ []; guarantee_hide = 0 ∷ [] }))
+    ≡ warned 4 (c.NeverRead (97 ∷ [])) ∷ warned 4 (c.NeverWritten (97 ∷ [])) ∷ []
+promised = refl
 
 -- no declaration and no thread, as in an empty file
 no_thread : of_program (record { vars = []; locks = []; threads = [] }) ≡ record { place = 0; cause = c.NoThread } ∷ []
@@ -110,7 +143,7 @@ in_a_block_that_is_never_run = refl
 
 -- in a program they stand behind what is warned of its declarations
 behind_the_declarations : of_program (program (Some (const 0)) (next 60 (loop (const 0) (next 70 (assign 1 (var 0)) none)) none))
-    ≡ warned 4 (c.NeverWritten (97 ∷ [])) ∷ warned 16 (c.NeverRead (115 ∷ [])) ∷ warned 30 (c.FalseInvariant (108 ∷ [])) ∷ warned 70 c.NeverReached ∷ []
+    ≡ warned 4 (c.NeverWritten (97 ∷ [])) ∷ warned 30 (c.FalseInvariant (108 ∷ [])) ∷ warned 70 c.NeverReached ∷ []
 behind_the_declarations = refl
 
 -- Texts --------------------------------------------------------------------------------------------------------
@@ -145,5 +178,5 @@ eleven = refl
 -- in front of the first declaration, between two, at the place of one, and behind all
 in_order : warnings (program (Some (const 0)) none) (9 ∷ 27 ∷ 97 ∷ 97 ∷ 97 ∷ 97 ∷ 97 ∷ 97 ∷ 97 ∷ 97 ∷ 97 ∷ 97 ∷ 97 ∷ 97 ∷ 97 ∷ 97 ∷ 7 ∷ [])
     ≡ warned 1 (c.Control 27) ∷ warned 4 (c.NeverRead (97 ∷ [])) ∷ warned 4 (c.NeverWritten (97 ∷ []))
-    ∷ warned 16 (c.NeverRead (115 ∷ [])) ∷ warned 16 (c.NeverWritten (115 ∷ [])) ∷ warned 16 (c.Control 7) ∷ warned 30 (c.FalseInvariant (108 ∷ [])) ∷ []
+    ∷ warned 16 (c.Control 7) ∷ warned 30 (c.FalseInvariant (108 ∷ [])) ∷ []
 in_order = refl

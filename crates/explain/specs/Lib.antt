@@ -8,6 +8,7 @@ pub mod LevelTellings
 pub mod FileCalls
 pub mod Inside
 pub mod StatementUses
+pub mod HoldsNowhere
 pub mod Unused
 pub mod NeverReached
 pub mod HiddenText

@@ -7,10 +7,7 @@ use Rattle.call_reports.specs.Replies.{refused}
 use Rattle.entail_refused.specs.Asked.{asked}
 use Rattle.entail_refused.specs.OtherRefusals.{other_refusals}
 use Rattle.explain.specs.Explanations.{explanation}
-
--- how many are told
-abbrev pub most_told : ℕ
-most_told = 8
+use Rattle.explain.specs.declared.others.TheConstants.{MOST_TOLD}
 
 -- a refusal: the explanation, and what was asked
 unfoldable pub refusal_text : (name bytes : List ℕ) → Program → Refusal → List ℕ
@@ -24,8 +21,8 @@ left_line n = codes "and as many more of this thread for which no valid certific
 -- the first of some refusals, and how many there are besides
 abbrev pub lines_of : (name bytes : List ℕ) → Program → List Refusal → List ℕ
 lines_of name bytes p rs =
-    if nat_le (length rs) most_told then flat_map (refusal_text name bytes p) rs
-    else flat_map (refusal_text name bytes p) (take most_told rs) ++ left_line (length rs - most_told)
+    if nat_le (length rs) MOST_TOLD then flat_map (refusal_text name bytes p) rs
+    else flat_map (refusal_text name bytes p) (take MOST_TOLD rs) ++ left_line (length rs - MOST_TOLD)
 
 -- beside a refusal of a program
 unfoldable pub other_lines : (name bytes : List ℕ) → Program → Refusal → List ℕ

@@ -1,4 +1,5 @@
--- What the statements of a program read and write. Annotations, as types, invariants, notes and certificates, are no statements.
+-- What the statements of a program read and write, and what the headers of threads keep for them. Annotations, as types, invariants, notes and certificates,
+-- are no statements.
 use Rattle.std.specs.Prelude.{ℕ, List, [], ◌∷◌, ◌++◌, flat_map, Bool}
 use Rattle.cov_expr.specs.Trees.{has_number, occurrences}
 use Rattle.cov_ast.specs.Plain.{Cmd, skip, assign, lock, unlock, branch, loop, output, Cmds, none, next, Plain}
@@ -34,10 +35,11 @@ abbrev mutual
   written_in none = []
   written_in (next at c b) = written_by c ++ written_in b
 
--- whether a statement of some thread reads the variable
-abbrev pub is_read : Plain → (x : ℕ) → Bool
-is_read p x = has_number (flat_map (λ t. read_in t.body) p.threads) x
+-- whether a statement of some thread reads the variable, or a thread assumes from its start that no other reads it
+abbrev pub has_reader : Plain → (x : ℕ) → Bool
+has_reader p x = has_number (flat_map (λ t. t.modes.assume_hide) p.threads ++ flat_map (λ t. read_in t.body) p.threads) x
 
--- whether a statement of some thread writes the variable
-abbrev pub is_written : Plain → (x : ℕ) → Bool
-is_written p x = has_number (flat_map (λ t. written_in t.body) p.threads) x
+-- whether a statement of some thread writes the variable, or a thread assumes from its start that no other writes it
+abbrev pub has_writer : Plain → (x : ℕ) → Bool
+has_writer p x =
+    has_number (flat_map (λ t. t.modes.assume_nowrite ++ t.modes.assume_hide) p.threads ++ flat_map (λ t. written_in t.body) p.threads) x

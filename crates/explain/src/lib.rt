@@ -25,7 +25,7 @@
 //! | `level_files`, `observers` | `FileCalls`, `LevelTellings` | how a program and levels are read, and what is told of them |
 //! | `next`, `fronts`, `places`, `line` | `ExpectedTokens`, `ExpectedLines` | what could stand at a place, in the order of the table of spellings, and the line that says so |
 //! | `warnings`, `sentences` | `WarningSentences` | what is warned of in a file, as text |
-//! | `warning`, `merged`, `uses`, `unused`, `unreached`, `hidden` | `Warnings`, `StatementUses`, `Unused`, `NeverReached`, `HiddenText` | what is warned of, each at its place: in declarations, statements and bytes |
+//! | `warning`, `merged`, `uses`, `unused`, `nowhere`, `unreached`, `hidden` | `Warnings`, `StatementUses`, `Unused`, `HoldsNowhere`, `NeverReached`, `HiddenText` | what is warned of, each at its place: in declarations, statements and bytes |
 //! | `rules` | `RuleSentences` | the sentence of each rule |
 //! | `faults`, `bytes`, `words` | `FaultSentences`, `ByteSentences`, `TokenSentences` | the sentence of each fault of a text; bytes that begin no token; reserved words |
 //! | `laws`, `expected_laws`, `warning_laws` | | the laws |
@@ -47,6 +47,7 @@ mod line;
 mod merged;
 mod more;
 mod next;
+mod nowhere;
 mod observers;
 mod others;
 mod places;

@@ -1,16 +1,18 @@
 //! What is warned of in declarations.
 
-ghost use Rattle.std.specs.Prelude.{◌≡◌, ◌++◌, flat_map, length, map, option_map, IfOk, OnOk};
+ghost use Rattle.std.specs.Prelude.{◌≡◌, ◌++◌, ◌||◌, flat_map, length, map, option_map, IfOk, OnOk};
 ghost use Rattle.cov_ast.specs.Plain.{plain};
 ghost use Rattle.cov_ast.specs.Tables.{table};
 ghost use Rattle.cov_ast.specs.View as view;
 ghost use Rattle.cov_expr.specs.View.{term};
+ghost use Rattle.explain.specs.HoldsNowhere as nowhere;
 ghost use Rattle.explain.specs.Unused as spec;
-ghost use Rattle.explain.specs.StatementUses.{is_read, is_written};
+ghost use Rattle.explain.specs.StatementUses.{has_reader, has_writer};
 
+use crate::nowhere::holds_nowhere;
 use crate::uses::{UseSets, uses};
 use crate::warning::{Cause, Warning};
-use cov_ast::{LockDecl, Program, VarDecl};
+use cov_ast::{Class, LockDecl, Program, VarDecl};
 use cov_expr::{Expr, List, NoMemory, closed, eval};
 use std::alloc::Global;
 
@@ -21,7 +23,7 @@ pub fn of_declarations(alloc: Global, program: &Program) -> Result<List<Warning>
     let uses = uses(alloc, program)?;
     let mut found = List::new(alloc);
     add_variables(program, &uses, &mut found)?;
-    add_locks(program.locks.as_slice(), &mut found)?;
+    add_locks(alloc, program.locks.as_slice(), &mut found)?;
     Ok(found)
 }
 
@@ -31,8 +33,8 @@ fn add_variables(
     uses: &UseSets,
     found: &mut List<Warning>,
 ) -> Result<(), NoMemory>
-    requires read { uses.now.read ≡ table (length program.now.vars) (is_read (plain (view.program program.now))) }
-    requires written { uses.now.written ≡ table (length program.now.vars) (is_written (plain (view.program program.now))) }
+    requires read { uses.now.read ≡ table (length program.now.vars) (has_reader (plain (view.program program.now))) }
+    requires written { uses.now.written ≡ table (length program.now.vars) (has_writer (plain (view.program program.now))) }
     ensures { OnOk result (found.new ≡ found.old ++ spec.of_variables (plain (view.program program.now)) 0 (map view.var program.now.vars)) }
 {
     for (x, var) in program.vars.as_slice().iter().enumerate() {
@@ -43,7 +45,7 @@ fn add_variables(
     Ok(())
 }
 
-/// Adds what is warned of a variable that is read, or isn't, and is written, or isn't.
+/// Adds what is warned of a variable that has a reader, or none, and a writer, or none.
 fn add_use(
     var: &VarDecl,
     read: bool,
@@ -52,13 +54,14 @@ fn add_use(
 ) -> Result<(), NoMemory>
     ensures { OnOk result (found.new ≡ found.old ++ spec.of_use (view.var var.now) read written) }
 {
-    if !read {
+    let is_high = is_high(&var.class);
+    if !read && !is_high {
         found.push(Warning {
             place: var.at,
             cause: Cause::NeverRead(var.name),
         })?;
     }
-    if !written {
+    if !written && !is_high {
         found.push(Warning {
             place: var.at,
             cause: Cause::NeverWritten(var.name),
@@ -67,12 +70,22 @@ fn add_use(
     Ok(())
 }
 
+/// Whether a class is `high`.
+fn is_high(class: &Class) -> bool
+    ensures { result ≡ spec.is_high (view.class class.now) }
+{
+    match class {
+        Class::High => true,
+        Class::Low | Class::When(_) => false,
+    }
+}
+
 /// Adds what is warned of locks.
-fn add_locks(locks: &[LockDecl], found: &mut List<Warning>) -> Result<(), NoMemory>
+fn add_locks(alloc: Global, locks: &[LockDecl], found: &mut List<Warning>) -> Result<(), NoMemory>
     ensures { OnOk result (found.new ≡ found.old ++ flat_map spec.of_lock (map view.lock locks.now)) }
 {
     for lock in locks {
-        if is_false(&lock.inv) {
+        if is_false(alloc, &lock.inv)? {
             found.push(Warning {
                 place: lock.at,
                 cause: Cause::FalseInvariant(lock.name),
@@ -82,14 +95,24 @@ fn add_locks(locks: &[LockDecl], found: &mut List<Warning>) -> Result<(), NoMemo
     Ok(())
 }
 
-/// Whether an invariant is there, and is 0 without a look at memory.
-fn is_false(inv: &Option<Expr>) -> bool
-    ensures { result ≡ spec.is_false (option_map term inv.now) }
+/// Whether an invariant is there, and is 0 without a look at memory, or is shown to hold in none.
+fn is_false(alloc: Global, inv: &Option<Expr>) -> Result<bool, NoMemory>
+    ensures { IfOk result (λ found. found ≡ spec.is_false (option_map term inv.now)) }
 {
     match inv {
-        Some(e) => is_closed_false(e),
-        None => false,
+        Some(e) => is_false_in_each(alloc, e),
+        None => Ok(false),
     }
+}
+
+/// The same of an expression.
+fn is_false_in_each(alloc: Global, e: &Expr) -> Result<bool, NoMemory>
+    ensures { IfOk result (λ found. found ≡ (spec.is_closed_false (term e.now) || nowhere.holds_nowhere (term e.now))) }
+{
+    if is_closed_false(e) {
+        return Ok(true);
+    }
+    holds_nowhere(alloc, e)
 }
 
 /// Whether an expression is 0 without a look at memory.

@@ -1,34 +1,47 @@
-//! Which variables the statements of a program read and write.
+//! Which variables have a reader and a writer: a statement, or a thread that assumes that no other reads or writes them.
 
-ghost use Rattle.std.specs.Prelude.{◌≡◌, flat_map, length, map, IfOk};
+ghost use Rattle.std.specs.Prelude.{◌≡◌, ◌++◌, flat_map, length, map, IfOk};
 ghost use Rattle.cov_ast.specs.Plain.{plain, plain_block};
 ghost use Rattle.cov_ast.specs.Tables.{table, with_all};
 ghost use Rattle.cov_ast.specs.View as view;
 ghost use Rattle.cov_expr.specs.Trees.{occurrences};
 ghost use Rattle.cov_expr.specs.View.{term};
 ghost use Rattle.explain.specs.Inside.StatementWalks.{block_reads, block_writes, stm_reads, stm_writes};
-ghost use Rattle.explain.specs.StatementUses.{is_read, is_written};
+ghost use Rattle.explain.specs.StatementUses.{has_reader, has_writer};
 
 use cov_ast::{NumberSet, Program, Stmt, StmtKind, ThreadDecl};
 use cov_expr::{Expr, NoMemory};
 use std::alloc::Global;
 
-/// The variables that the statements of a program read, and those that they write.
+/// The variables that have a reader, and those that have a writer.
 #[derive(Drop)]
 pub struct UseSets {
     pub read: NumberSet,
     pub written: NumberSet,
 }
 
-/// What the statements of a program read and write. Each statement is looked at once.
+/// What the statements of a program read and write, and what a thread assumes from its start that no other does. Each statement is looked at once.
 pub fn uses(alloc: Global, program: &Program) -> Result<UseSets, NoMemory>
-    ensures read { IfOk result (λ made. made.read ≡ table (length program.now.vars) (is_read (plain (view.program program.now)))) }
-    ensures written { IfOk result (λ made. made.written ≡ table (length program.now.vars) (is_written (plain (view.program program.now)))) }
+    ensures read { IfOk result (λ made. made.read ≡ table (length program.now.vars) (has_reader (plain (view.program program.now)))) }
+    ensures written { IfOk result (λ made. made.written ≡ table (length program.now.vars) (has_writer (plain (view.program program.now)))) }
 {
     let mut read = NumberSet::new(alloc, program.vars.len())?;
     let mut written = NumberSet::new(alloc, program.vars.len())?;
+    add_headers(program.threads.as_slice(), &mut read, &mut written);
     add_threads(program.threads.as_slice(), &mut read, &mut written);
     Ok(UseSets { read, written })
+}
+
+/// Adds what threads assume that no other reads, and that no other writes.
+fn add_headers(threads: &[ThreadDecl], read: &mut NumberSet, written: &mut NumberSet)
+    ensures read { read.new ≡ with_all read.old (flat_map (λ t. t.modes.assume_hide) (map view.thread threads.now)) }
+    ensures written { written.new ≡ with_all written.old (flat_map (λ t. t.modes.assume_nowrite ++ t.modes.assume_hide) (map view.thread threads.now)) }
+{
+    for thread in threads {
+        read.insert_all(thread.modes.assume_hide.as_slice());
+        written.insert_all(thread.modes.assume_nowrite.as_slice());
+        written.insert_all(thread.modes.assume_hide.as_slice());
+    }
 }
 
 /// Adds what the statements of threads read and write.

@@ -7,7 +7,7 @@ use cov_expr::Name;
 pub enum Cause {
     /// There is no thread.
     NoThread,
-    /// The invariant of this lock has no variable and is 0, so it holds in no memory.
+    /// The invariant of this lock holds in no memory: it has no variable and is 0, or that is shown by bounds or a certificate of one node.
     FalseInvariant(Name),
     /// No statement reads this variable.
     NeverRead(Name),

@@ -7,14 +7,17 @@ ghost use Rattle.cov_ast.specs.Syntax as syntax;
 ghost use Rattle.cov_ast.specs.WellFormed.{IsWellFormed};
 ghost use Rattle.flow_model.specs.Agreement.{AreFitStarts};
 ghost use Rattle.explain.specs.NeverReached.{NeverComesTo, of_thread};
-ghost use Rattle.explain.specs.Unused.{is_false, warned};
+ghost use Rattle.cov_expr.specs.Words.{AreWords};
+ghost use Rattle.explain.specs.Unused.{is_false, is_zero_invariant, warned};
 ghost use Rattle.explain.specs.declared.hidden.TheConstants.{MOST_SHOWN};
 ghost use Rattle.explain.specs.declared.warning.Cause.TheVariants as causes;
 
-/// Where the invariant of a lock is warned of, no two memories are fit starts: what is proved of an accepted program speaks of
+/// Where the invariant of a lock is warned of, no two memories of words are fit starts: what is proved of an accepted program speaks of
 /// no run.
 pub fn no_start_meets()
-    ensures { (p : Plain) (l : ℕ) → IsTrue (is_false (lock_at p l).inv) → (m1 m2 : List ℕ) → AreFitStarts p m1 m2 → ⊥ }
+    ensures shown { (p : Plain) (l : ℕ) → IsTrue (is_false (lock_at p l).inv) → (m1 m2 : List ℕ) → AreWords m1 → AreFitStarts p m1 m2 → ⊥ }
+    // Where it has no variable, that they are of words isn't asked.
+    ensures zero { (p : Plain) (l : ℕ) → IsTrue (is_zero_invariant (lock_at p l).inv) → (m1 m2 : List ℕ) → AreFitStarts p m1 m2 → ⊥ }
 {}
 
 /// Where a statement of a thread is warned of as never reached, the thread comes to it in no run, from whatever memory and under

@@ -1,0 +1,6 @@
+pub mod Counterexamples
+pub mod Known
+pub mod Free
+pub mod Lines
+pub mod Candidates
+pub mod Searching

@@ -1,0 +1,2 @@
+-- Words of private contracts, which no promise cites.
+pub mod SearchedOthers

@@ -1,0 +1,37 @@
+-- What is told of an entailment for which a search finds no certificate: a memory that breaks it, if another search comes to one.
+use Rattle.std.specs.Prelude.{ℕ, List, [], ◌∷◌, ◌++◌, Option, Some, None, codes, decimal, if◌then◌else◌}
+use Rattle.cov_expr.specs.Term.{Term, var}
+use Rattle.cov_expr.specs.Trees.{is_closed}
+use Rattle.cov_print.specs.Spelling.{Names, whole, listed}
+use Rattle.entail_counter.specs.Counterexamples.{counterexample}
+use Rattle.entail_counter.specs.declared.binding.Binding.{Binding}
+
+-- a variable and its value
+abbrev pub binding_text : Names → Binding → List ℕ
+binding_text names b = whole names (var b.variable) ++ codes " = " ++ decimal b.value
+
+-- those of a memory, with commas between
+abbrev pub memory_text : Names → List Binding → List ℕ
+memory_text names [] = codes "each memory"
+memory_text names (b ∷ bs) = listed (binding_text names) (b ∷ bs)
+
+-- what is missing, of a goal with a variable
+abbrev pub missing_line : (goal : Term) → List ℕ
+missing_line goal =
+    if is_closed goal then []
+    else codes "                what is missing is the goal, or what gives it: by a test, by an invariant, or by a predicate that is listed on the way\n"
+
+abbrev pub memory_line : Names → List Binding → List ℕ
+memory_line names m =
+    codes "  breaks it:    " ++ memory_text names m ++ codes "\n                no certificate can show it: in such a memory all hypotheses hold and the goal doesn't\n"
+
+abbrev pub broken_lines : Names → (goal : Term) → List Binding → List ℕ
+broken_lines names goal m = memory_line names m ++ missing_line goal
+
+-- where the other search comes to this
+abbrev pub unfound : Names → (goal : Term) → Option (List Binding) → List ℕ
+unfound names goal None = codes "  suggestion:   none: no certificate of up to 2 steps is valid, and no memory that breaks it was found\n"
+unfound names goal (Some m) = broken_lines names goal m
+
+abbrev pub unfound_lines : Names → List Term → (goal : Term) → List ℕ
+unfound_lines names hyps goal = unfound names goal (counterexample hyps goal)

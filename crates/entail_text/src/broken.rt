@@ -1,0 +1,105 @@
+//! A memory that breaks an entailment for which no certificate is found.
+
+ghost use Rattle.std.specs.Prelude.{◌≡◌, ◌++◌, OnOk, map};
+ghost use Rattle.cov_expr.specs.View.{term};
+ghost use Rattle.entail_text.specs.BrokenLines as spec;
+
+use cov_ast::NameTable;
+use cov_expr::{Blob, Expr, List, NoMemory, closed};
+use cov_print::add_expr;
+use entail_counter::{Binding, counterexample};
+use std::alloc::Global;
+use text_parts::add_number;
+
+/// Adds a memory in which all hypotheses hold and the goal doesn't, or that none is found.
+pub fn add_unfound(
+    alloc: Global,
+    names: &NameTable,
+    hyps: &List<Expr>,
+    goal: &Expr,
+    text: &mut Blob,
+) -> Result<(), NoMemory>
+    ensures { OnOk result (text.new ≡ text.old ++ spec.unfound_lines names.now (map term hyps.now) (term goal.now)) }
+{
+    let found = counterexample(alloc, hyps.as_slice(), goal)?;
+    add_where_found(names, goal, &found, text)
+}
+
+/// The same of what is found.
+fn add_where_found(
+    names: &NameTable,
+    goal: &Expr,
+    found: &Option<List<Binding>>,
+    text: &mut Blob,
+) -> Result<(), NoMemory>
+    ensures { OnOk result (text.new ≡ text.old ++ spec.unfound names.now (term goal.now) found.now) }
+{
+    match found {
+        Some(m) => add_broken(names, goal, m.as_slice(), text),
+        None => text.extend_from_slice(
+            b"  suggestion:   none: no certificate of up to 2 steps is valid, and no memory that breaks it was found\n",
+        ),
+    }
+}
+
+/// Adds a memory, and what it says of the entailment.
+fn add_broken(
+    names: &NameTable,
+    goal: &Expr,
+    m: &[Binding],
+    text: &mut Blob,
+) -> Result<(), NoMemory>
+    ensures { OnOk result (text.new ≡ text.old ++ spec.broken_lines names.now (term goal.now) m.now) }
+{
+    add_memory_line(names, m, text)?;
+    add_missing(goal, text)
+}
+
+/// Adds a memory, and that it breaks the entailment.
+fn add_memory_line(names: &NameTable, m: &[Binding], text: &mut Blob) -> Result<(), NoMemory>
+    ensures { OnOk result (text.new ≡ text.old ++ spec.memory_line names.now m.now) }
+{
+    text.extend_from_slice(b"  breaks it:    ")?;
+    add_memory(names, m, text)?;
+    text.extend_from_slice(
+        b"\n                no certificate can show it: in such a memory all hypotheses hold and the goal doesn't\n",
+    )
+}
+
+/// Adds what is missing, where the goal has a variable.
+fn add_missing(goal: &Expr, text: &mut Blob) -> Result<(), NoMemory>
+    ensures { OnOk result (text.new ≡ text.old ++ spec.missing_line (term goal.now)) }
+{
+    if closed(goal) {
+        return Ok(());
+    }
+    text.extend_from_slice(
+        b"                what is missing is the goal, or what gives it: by a test, by an invariant, or by a predicate that is listed on the way\n",
+    )
+}
+
+/// Adds the bindings of a memory, with commas between.
+fn add_memory(names: &NameTable, m: &[Binding], text: &mut Blob) -> Result<(), NoMemory>
+    ensures { OnOk result (text.new ≡ text.old ++ spec.memory_text names.now m.now) }
+{
+    match m {
+        [] => text.extend_from_slice(b"each memory"),
+        [first, rest @ ..] => {
+            add_binding(names, *first, text)?;
+            for b in rest {
+                text.extend_from_slice(b", ")?;
+                add_binding(names, *b, text)?;
+            }
+            Ok(())
+        }
+    }
+}
+
+/// Adds a variable and its value.
+fn add_binding(names: &NameTable, b: Binding, text: &mut Blob) -> Result<(), NoMemory>
+    ensures { OnOk result (text.new ≡ text.old ++ spec.binding_text names.now b) }
+{
+    add_expr(names, false, &Expr::Var(b.variable), text)?;
+    text.extend_from_slice(b" = ")?;
+    add_number(b.value as usize, text)
+}
