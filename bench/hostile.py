@@ -759,6 +759,9 @@ def some_explanations(order):
             due, answer = explained(text, ended(program, ["check", "p"], folder)), ended(explains, ["p"], folder)
             shown += b"\n  goal:         " in answer[0]
             first = answer[0][:answer[0].find(b"\n") + 1]
+            alone = ended(explains, ["--first", "p"], folder)
+            if alone[1] != answer[1] or not alone[0].startswith(first) or alone[0].count(b" refused V9 ") > 1:
+                found.append((text, alone, due))
             asked, wrong = b" refused V9 " in first, b" malformed p: token at " in first
             if (first, answer[1]) != due or wrong != (b"\n  here could stand: " in answer[0]) \
                     or asked != all(word in answer[0] for word in (b"\n  goal:         ", b"\n  hypotheses:  ", b"\n  certificate:  ")):

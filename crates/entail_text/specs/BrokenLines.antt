@@ -19,7 +19,7 @@ memory_text names (b ∷ bs) = listed (binding_text names) (b ∷ bs)
 abbrev pub missing_line : (goal : Term) → List ℕ
 missing_line goal =
     if is_closed goal then []
-    else codes "                what is missing is the goal, or what gives it: by a test, by an invariant, or by a predicate that is listed on the way\n"
+    else codes "                what is missing is the goal, or what gives it: a store forgets each predicate that has its variable, and a state each that it doesn't list; where a hypothesis denies the goal, the statement itself is wrong here\n"
 
 abbrev pub memory_line : Names → List Binding → List ℕ
 memory_line names m =

@@ -30,7 +30,7 @@ abbrev pub replaced : Names → (number : ℕ) → Cert → List ℕ
 replaced names number c = entry names number c ++ codes "\n                it is valid: write it in the place of the one that is given\n"
 
 abbrev pub first : Names → (number : ℕ) → Cert → List ℕ
-first names number c = codes "by { " ++ entry names number c ++ codes " }\n                it is valid: write it at the end of the statement\n"
+first names number c = codes "by { " ++ entry names number c ++ codes " }\n                it is valid: write it at the end of the statement, in front of its `;` if it has one; all of a statement stand in one `by`, with commas\n"
 
 abbrev pub further : Names → (number : ℕ) → Cert → List ℕ
 further names number c = codes ", " ++ entry names number c ++ codes "\n                it is valid: write it last in the `by` of the statement\n"

@@ -74,7 +74,7 @@ fn add_missing(goal: &Expr, text: &mut Blob) -> Result<(), NoMemory>
         return Ok(());
     }
     text.extend_from_slice(
-        b"                what is missing is the goal, or what gives it: by a test, by an invariant, or by a predicate that is listed on the way\n",
+        b"                what is missing is the goal, or what gives it: a store forgets each predicate that has its variable, and a state each that it doesn't list; where a hypothesis denies the goal, the statement itself is wrong here\n",
     )
 }
 

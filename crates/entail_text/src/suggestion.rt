@@ -136,7 +136,7 @@ fn add_first(names: &NameTable, number: u32, cert: &Cert, text: &mut Blob) -> Re
     text.extend_from_slice(b"by { ")?;
     add_entry(names, number, cert, text)?;
     text.extend_from_slice(
-        b" }\n                it is valid: write it at the end of the statement\n",
+        b" }\n                it is valid: write it at the end of the statement, in front of its `;` if it has one; all of a statement stand in one `by`, with commas\n",
     )
 }
 

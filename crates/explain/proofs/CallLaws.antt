@@ -26,20 +26,22 @@ use Rattle.cov_io.specs.declared.shelf.ShelfFault.{ShelfFault}
 use Rattle.cov_io.specs.declared.shelf.ShelfFault.TheVariants as fails
 use Rattle.cov_io.proofs.ShelfLaws.{passes_none}
 use Rattle.explain.specs.Explanations.{explanation_at, where_is, sentence_of, place_of}
-use Rattle.explain.specs.FileCalls.{Answers, AnswersTo, EndsAt, Explains, FollowsFile, FollowsOver, FollowsProgram, IsChecked, Outcome, Tells, TellsAll, TellsLevels, asks_for_levels, first_status, out_of_memory, told, usage_line}
+use Rattle.explain.specs.FileCalls.{Answers, AnswersTo, EndsAt, Explains, FollowsFile, FollowsOver, FollowsProgram, IsChecked, Outcome, Tells, TellsAll, TellsLevels, asks_for_levels, files_of, first_status, manner_of, out_of_memory, told, usage_line}
 use Rattle.explain.specs.Inside.Told.{AddsTold, IsLeft}
 use Rattle.explain.specs.LevelTellings.{malformed_lines}
+use Rattle.explain.specs.Tellings.{name_front}
+use Rattle.explain.specs.declared.manner.Manner.{Manner}
 use Rattle.text_parts.specs.Excerpts.{excerpt}
 
 -- One file -----------------------------------------------------------------------------------------------------
 
 -- what a step adds behind a step that read a file
-pub file_told : (name old new : List ℕ) (r : Result Status NoMemory) (before after : Shelved) (end : End (List ℕ))
-    → HasRead before after (bytes name MOST_BYTES) end → AddsTold name end old new r
-    → Reads (λ shelf last. (shelf ≡ after) × AddsTold name last old new r) before (bytes name MOST_BYTES)
-file_told name old new r before after end read adds =
-    reads_onward (λ shelf last. (shelf ≡ after) × (last ≡ end)) (λ shelf last. (shelf ≡ after) × AddsTold name last old new r)
-    (λ shelf last e. (e.0, subst (λ l. AddsTold name l old new r) (sym e.1) adds)) before (bytes name MOST_BYTES) read
+pub file_told : (w : Manner) (name old new : List ℕ) (r : Result Status NoMemory) (before after : Shelved) (end : End (List ℕ))
+    → HasRead before after (bytes name MOST_BYTES) end → AddsTold w name end old new r
+    → Reads (λ shelf last. (shelf ≡ after) × AddsTold w name last old new r) before (bytes name MOST_BYTES)
+file_told w name old new r before after end read adds =
+    reads_onward (λ shelf last. (shelf ≡ after) × (last ≡ end)) (λ shelf last. (shelf ≡ after) × AddsTold w name last old new r)
+    (λ shelf last e. (e.0, subst (λ l. AddsTold w name l old new r) (sym e.1) adds)) before (bytes name MOST_BYTES) read
 
 -- a step behind one for which memory ran out
 pub file_not : (name : List ℕ) (before after : Shelved) → HasRead before after (bytes name MOST_BYTES) lacks
@@ -48,51 +50,51 @@ file_not name before after read =
     reads_onward (λ shelf last. (shelf ≡ after) × (last ≡ lacks)) (λ shelf (last : End (List ℕ)). (shelf ≡ after) × Unit {0})
     (λ shelf last e. (e.0, tt)) before (bytes name MOST_BYTES) read
 
-pub unread_told : (name : List ℕ) (reply : Reply) (old new : List ℕ) (r : Result Status NoMemory)
-    → IfOk r (λ status. (status ≡ status_of reply) × (new ≡ old ++ report_of reply)) → AddsTold name (stops reply) old new r
-unread_told name reply old new (Ok status) (is, more) = (reply, report_of reply, (refl, refl), is, more)
-unread_told name reply old new (Err e) h = tt
+pub unread_told : (w : Manner) (name : List ℕ) (reply : Reply) (old new : List ℕ) (r : Result Status NoMemory)
+    → IfOk r (λ status. (status ≡ status_of reply) × (new ≡ old ++ report_of reply)) → AddsTold w name (stops reply) old new r
+unread_told w name reply old new (Ok status) (is, more) = (reply, report_of reply, (refl, refl), is, more)
+unread_told w name reply old new (Err e) h = tt
 
 -- Several files ------------------------------------------------------------------------------------------------
 
 -- what is said of files behind which others come
-abbrev pub Onward : (left : Shelved → Outcome → Type 0) (rest : List (List ℕ)) → Shelved → Outcome → Type 0
-Onward left rest shelf (told text status) = TellsAll left shelf rest text status
-Onward left rest shelf out_of_memory = left shelf out_of_memory
+abbrev pub Onward : (w : Manner) (left : Shelved → Outcome → Type 0) (rest : List (List ℕ)) → Shelved → Outcome → Type 0
+Onward w left rest shelf (told text status) = TellsAll left w shelf rest text status
+Onward w left rest shelf out_of_memory = left shelf out_of_memory
 
-module _ (left : Shelved → Outcome → Type 0) (rest : List (List ℕ)) (last : Shelved) (outcome : Outcome) (next : Onward left rest last outcome) where
-  left_at : (shelf : Shelved) (other : Outcome) → IsLeft last outcome shelf other → Onward left rest shelf other
-  left_at shelf other e = subst (λ x. Onward left rest x other) (sym e.0) (subst (Onward left rest last) (sym e.1) next)
+module _ (w : Manner) (left : Shelved → Outcome → Type 0) (rest : List (List ℕ)) (last : Shelved) (outcome : Outcome) (next : Onward w left rest last outcome) where
+  left_at : (shelf : Shelved) (other : Outcome) → IsLeft last outcome shelf other → Onward w left rest shelf other
+  left_at shelf other e = subst (λ x. Onward w left rest x other) (sym e.0) (subst (Onward w left rest last) (sym e.1) next)
 
   turn : (name : List ℕ) (front : List (List ℕ)) (text : List ℕ) (status : Status)
-      → ((after : Shelved) (t : List ℕ) (st : Status) → TellsAll (IsLeft last outcome) after front t st → TellsAll left after (front ++ rest) t st)
+      → ((after : Shelved) (t : List ℕ) (st : Status) → TellsAll (IsLeft last outcome) w after front t st → TellsAll left w after (front ++ rest) t st)
       → (after : Shelved) (end : End (List ℕ))
-      → FollowsFile name (λ reply here. TellsAll (IsLeft last outcome) after front (text ++ here) (first_status status (status_of reply)))
+      → FollowsFile w name (λ reply here. TellsAll (IsLeft last outcome) w after front (text ++ here) (first_status status (status_of reply)))
       (IsLeft last outcome after out_of_memory) end
-      → FollowsFile name (λ reply here. TellsAll left after (front ++ rest) (text ++ here) (first_status status (status_of reply))) (left after out_of_memory) end
+      → FollowsFile w name (λ reply here. TellsAll left w after (front ++ rest) (text ++ here) (first_status status (status_of reply))) (left after out_of_memory) end
   turn name front text status each after end (inl (reply, here, tells, h)) =
       inl (reply, here, tells, each after (text ++ here) (first_status status (status_of reply)) h)
   turn name front text status each after end (inr h) = inr (left_at after out_of_memory h)
 
   -- files, and behind them others
-  pub tells_then : (front : List (List ℕ)) (shelf : Shelved) (text : List ℕ) (status : Status) → TellsAll (IsLeft last outcome) shelf front text status
-      → TellsAll left shelf (front ++ rest) text status
+  pub tells_then : (front : List (List ℕ)) (shelf : Shelved) (text : List ℕ) (status : Status) → TellsAll (IsLeft last outcome) w shelf front text status
+      → TellsAll left w shelf (front ++ rest) text status
   tells_then [] shelf text status h = left_at shelf (told text status) h
   tells_then (name ∷ front) shelf text status h =
       reads_onward
-      (λ after end. FollowsFile name (λ reply here. TellsAll (IsLeft last outcome) after front (text ++ here) (first_status status (status_of reply)))
+      (λ after end. FollowsFile w name (λ reply here. TellsAll (IsLeft last outcome) w after front (text ++ here) (first_status status (status_of reply)))
       (IsLeft last outcome after out_of_memory) end)
-      (λ after end. FollowsFile name (λ reply here. TellsAll left after (front ++ rest) (text ++ here) (first_status status (status_of reply)))
+      (λ after end. FollowsFile w name (λ reply here. TellsAll left w after (front ++ rest) (text ++ here) (first_status status (status_of reply)))
       (left after out_of_memory) end)
       (turn name front text status (λ after t st. tells_then front after t st)) shelf (bytes name MOST_BYTES) h
 
-module _ (name : List ℕ) (a b : Shelved) (text now : List ℕ) (status : Status) where
+module _ (w : Manner) (name : List ℕ) (a b : Shelved) (text now : List ℕ) (status : Status) where
   -- one file of which all is told, and one behind which memory ran out
-  pub one_told : (next : Status) → Reads (λ shelf end. (shelf ≡ b) × AddsTold name end text now (Ok next)) a (bytes name MOST_BYTES)
-      → TellsAll (IsLeft b (told now (first_status status next))) a (name ∷ []) text status
+  pub one_told : (next : Status) → Reads (λ shelf end. (shelf ≡ b) × AddsTold w name end text now (Ok next)) a (bytes name MOST_BYTES)
+      → TellsAll (IsLeft b (told now (first_status status next))) w a (name ∷ []) text status
   one_told next h =
-      reads_onward (λ shelf end. (shelf ≡ b) × AddsTold name end text now (Ok next))
-      (λ after end. FollowsFile name (λ reply here. IsLeft b (told now (first_status status next)) after (told (text ++ here) (first_status status (status_of reply))))
+      reads_onward (λ shelf end. (shelf ≡ b) × AddsTold w name end text now (Ok next))
+      (λ after end. FollowsFile w name (λ reply here. IsLeft b (told now (first_status status next)) after (told (text ++ here) (first_status status (status_of reply))))
       (IsLeft b (told now (first_status status next)) after out_of_memory) end)
       each a (bytes name MOST_BYTES) h
     where
@@ -100,39 +102,39 @@ module _ (name : List ℕ) (a b : Shelved) (text now : List ℕ) (status : Statu
           → told (text ++ here) (first_status status (status_of reply)) ≡ told now (first_status status next)
       same reply here status_is more = cc
 
-      each : (shelf : Shelved) (end : End (List ℕ)) → (shelf ≡ b) × AddsTold name end text now (Ok next)
-          → FollowsFile name (λ reply here. IsLeft b (told now (first_status status next)) shelf (told (text ++ here) (first_status status (status_of reply))))
+      each : (shelf : Shelved) (end : End (List ℕ)) → (shelf ≡ b) × AddsTold w name end text now (Ok next)
+          → FollowsFile w name (λ reply here. IsLeft b (told now (first_status status next)) shelf (told (text ++ here) (first_status status (status_of reply))))
           (IsLeft b (told now (first_status status next)) shelf out_of_memory) end
       each shelf end (stays, (reply, here, tells, status_is, more)) = inl (reply, here, tells, (stays, same reply here status_is more))
 
-  pub one_not : (names : List (List ℕ)) (e : NoMemory) → Reads (λ shelf end. (shelf ≡ b) × AddsTold name end text now (Err e)) a (bytes name MOST_BYTES)
-      → TellsAll (IsLeft b out_of_memory) a (name ∷ names) text status
+  pub one_not : (names : List (List ℕ)) (e : NoMemory) → Reads (λ shelf end. (shelf ≡ b) × AddsTold w name end text now (Err e)) a (bytes name MOST_BYTES)
+      → TellsAll (IsLeft b out_of_memory) w a (name ∷ names) text status
   one_not names e h =
-      reads_onward (λ shelf end. (shelf ≡ b) × AddsTold name end text now (Err e))
-      (λ after end. FollowsFile name (λ reply here. TellsAll (IsLeft b out_of_memory) after names (text ++ here) (first_status status (status_of reply)))
+      reads_onward (λ shelf end. (shelf ≡ b) × AddsTold w name end text now (Err e))
+      (λ after end. FollowsFile w name (λ reply here. TellsAll (IsLeft b out_of_memory) w after names (text ++ here) (first_status status (status_of reply)))
       (IsLeft b out_of_memory after out_of_memory) end)
       (λ shelf end k. inr (k.0, refl)) a (bytes name MOST_BYTES) h
 
 -- a step of the loop over files: `seen` is what contracts see of a name
-module _ {A : Type 0} (seen : A → List ℕ) (names : List A) (i : ℕ) (a b c : Shelved) (item : A) (name before text now : List ℕ) (status : Status)
+module _ {A : Type 0} (w : Manner) (seen : A → List ℕ) (names : List A) (i : ℕ) (a b c : Shelved) (item : A) (name before text now : List ℕ) (status : Status)
     (inside : i < length names) (at : item ≡ get_or names i item) (is : name ≡ seen item)
-    (so_far : TellsAll (IsLeft b (told text status)) a (map seen (take i names)) before s.Done) where
-  pub tells_step : (next : Status) → Reads (λ shelf end. (shelf ≡ c) × AddsTold name end text now (Ok next)) b (bytes name MOST_BYTES)
-      → TellsAll (IsLeft c (told now (first_status status next))) a (map seen (take (i + 1) names)) before s.Done
+    (so_far : TellsAll (IsLeft b (told text status)) w a (map seen (take i names)) before s.Done) where
+  pub tells_step : (next : Status) → Reads (λ shelf end. (shelf ≡ c) × AddsTold w name end text now (Ok next)) b (bytes name MOST_BYTES)
+      → TellsAll (IsLeft c (told now (first_status status next))) w a (map seen (take (i + 1) names)) before s.Done
   tells_step next h =
-      subst (λ ns. TellsAll (IsLeft c (told now (first_status status next))) a ns before s.Done) (sym names_are)
-      (tells_then (IsLeft c (told now (first_status status next))) (name ∷ []) b (told text status) (one_told name b c text now status next h)
+      subst (λ ns. TellsAll (IsLeft c (told now (first_status status next))) w a ns before s.Done) (sym names_are)
+      (tells_then w (IsLeft c (told now (first_status status next))) (name ∷ []) b (told text status) (one_told w name b c text now status next h)
       (map seen (take i names)) a before s.Done so_far)
     where
       names_are : map seen (take (i + 1) names) ≡ map seen (take i names) ++ name ∷ []
       names_are = map_more seen names i item inside ∙ ap (λ x. map seen (take i names) ++ x ∷ []) (ap seen (sym at) ∙ sym is)
 
-  pub tells_stopped : (e : NoMemory) → Reads (λ shelf end. (shelf ≡ c) × AddsTold name end text now (Err e)) b (bytes name MOST_BYTES)
-      → TellsAll (IsLeft c out_of_memory) a (map seen names) before s.Done
+  pub tells_stopped : (e : NoMemory) → Reads (λ shelf end. (shelf ≡ c) × AddsTold w name end text now (Err e)) b (bytes name MOST_BYTES)
+      → TellsAll (IsLeft c out_of_memory) w a (map seen names) before s.Done
   tells_stopped e h =
-      subst (λ ns. TellsAll (IsLeft c out_of_memory) a ns before s.Done) (sym names_are)
-      (tells_then (IsLeft c out_of_memory) (name ∷ map seen (drop (i + 1) names)) b (told text status)
-      (one_not name b c text now status (map seen (drop (i + 1) names)) e h) (map seen (take i names)) a before s.Done so_far)
+      subst (λ ns. TellsAll (IsLeft c out_of_memory) w a ns before s.Done) (sym names_are)
+      (tells_then w (IsLeft c out_of_memory) (name ∷ map seen (drop (i + 1) names)) b (told text status)
+      (one_not w name b c text now status (map seen (drop (i + 1) names)) e h) (map seen (take i names)) a before s.Done so_far)
     where
       names_are : map seen names ≡ map seen (take i names) ++ name ∷ map seen (drop (i + 1) names)
       names_are =
@@ -149,9 +151,9 @@ left_so : (last : Shelved) (outcome : Outcome) (left : Shelved → Outcome → T
 left_so last outcome left h shelf other e = subst (λ x. left x other) (sym e.0) (subst (left last) (sym e.1) h)
 
 module _ (left : Shelved → Outcome → Type 0) (last : Shelved) where
-  nothing_next : (outcome : Outcome) → left last outcome → Onward left [] last outcome
-  nothing_next (told text status) h = h
-  nothing_next out_of_memory h = h
+  nothing_next : (w : Manner) (outcome : Outcome) → left last outcome → Onward w left [] last outcome
+  nothing_next w (told text status) h = h
+  nothing_next w out_of_memory h = h
 
   module _ (outcome : Outcome) (is_left : left last outcome) where
     over_so : (name these : List ℕ) (p : Parsed) (over text : List ℕ) (shelf : Shelved) (end : End (List ℕ))
@@ -181,29 +183,30 @@ module _ (left : Shelved → Outcome → Type 0) (last : Shelved) where
         reads_onward (λ after end. FollowsProgram (IsLeft last outcome) name over text after end) (λ after end. FollowsProgram left name over text after end)
         (program_so name over text) shelf (bytes name MOST_BYTES) h
 
-    files_so : (names : List (List ℕ)) (shelf : Shelved) → TellsAll (IsLeft last outcome) shelf names [] s.Done → TellsAll left shelf names [] s.Done
-    files_so names shelf all =
-        subst (λ ns. TellsAll left shelf ns [] s.Done) (append-nil names)
-        (tells_then left [] last outcome (nothing_next outcome is_left) names shelf [] s.Done all)
+    files_so : (w : Manner) (names : List (List ℕ)) (shelf : Shelved) → TellsAll (IsLeft last outcome) w shelf names [] s.Done → TellsAll left w shelf names [] s.Done
+    files_so w names shelf all =
+        subst (λ ns. TellsAll left w shelf ns [] s.Done) (append-nil names)
+        (tells_then w left [] last outcome (nothing_next w outcome is_left) names shelf [] s.Done all)
 
     answers_to_so : (words : List (List ℕ)) (shelf : Shelved) (b : Bool) → AnswersTo (IsLeft last outcome) shelf words b → AnswersTo left shelf words b
     answers_to_so words shelf true h = levels_so (get_or words 1 []) (get_or words 2 []) [] shelf h
-    answers_to_so words shelf false h = files_so words shelf h
+    answers_to_so words shelf false h = files_so (manner_of words) (files_of words) shelf h
 
   -- what is said of the end is said of it all
   pub answers_so : (names : List (List ℕ)) (shelf : Shelved) (outcome : Outcome) → left last outcome → Answers (IsLeft last outcome) shelf names
       → Answers left shelf names
-  answers_so [] shelf outcome h (inl e) = inl (left_at left [] last outcome (nothing_next outcome h) shelf (told usage_line s.Usage) e)
-  answers_so [] shelf outcome h (inr e) = inr (left_at left [] last outcome (nothing_next outcome h) shelf out_of_memory e)
+  answers_so [] shelf outcome h (inl e) = inl (left_at (manner_of []) left [] last outcome (nothing_next (manner_of []) outcome h) shelf (told usage_line s.Usage) e)
+  answers_so [] shelf outcome h (inr e) = inr (left_at (manner_of []) left [] last outcome (nothing_next (manner_of []) outcome h) shelf out_of_memory e)
   answers_so (name ∷ names) shelf outcome h all = answers_to_so outcome h (name ∷ names) shelf (asks_for_levels (name ∷ names)) all
 
 -- files of which one at least is named, and a text that is empty before
 pub answers_all : {A : Type 0} (seen : A → List ℕ) (left : Shelved → Outcome → Type 0) (names : List A) (shelf : Shelved) (text : List ℕ) (none : Bool)
-    → none ≡ (length names == 0) → none ≡ false → asks_for_levels (map seen names) ≡ false → text ≡ [] → TellsAll left shelf (map seen names) text s.Done
-    → Answers left shelf (map seen names)
+    → none ≡ (length names == 0) → none ≡ false → asks_for_levels (map seen names) ≡ false → text ≡ []
+    → TellsAll left (manner_of (map seen names)) shelf (files_of (map seen names)) text s.Done → Answers left shelf (map seen names)
 answers_all seen left [] shelf text none is some others e h = let wrong : true ≡ false = sym is ∙ some in cc
 answers_all seen left (name ∷ names) shelf text none is some others e h =
-    subst (AnswersTo left shelf (map seen (name ∷ names))) (sym others) (subst (λ t. TellsAll left shelf (map seen (name ∷ names)) t s.Done) e h)
+    subst (AnswersTo left shelf (map seen (name ∷ names))) (sym others)
+    (subst (λ t. TellsAll left (manner_of (map seen (name ∷ names))) shelf (files_of (map seen (name ∷ names))) t s.Done) e h)
 
 -- a program and levels
 pub answers_levels : {A : Type 0} (seen : A → List ℕ) (left : Shelved → Outcome → Type 0) (names : List A) (shelf : Shelved) (text name over : List ℕ) (none : Bool)
@@ -230,22 +233,22 @@ module _ (last : Shelved) (outcome : Outcome) where
   left_passes : (shelf : Shelved) (other : Outcome) → IsLeft last outcome shelf other → Passes shelf last
   left_passes shelf other e = subst (Passes shelf) e.0 (passes_none shelf)
 
-  turn_passes : (name : List ℕ) (names : List (List ℕ)) (text : List ℕ) (status : Status)
-      → ((after : Shelved) (t : List ℕ) (st : Status) → TellsAll (IsLeft last outcome) after names t st → Passes after last)
+  turn_passes : (w : Manner) (name : List ℕ) (names : List (List ℕ)) (text : List ℕ) (status : Status)
+      → ((after : Shelved) (t : List ℕ) (st : Status) → TellsAll (IsLeft last outcome) w after names t st → Passes after last)
       → (after : Shelved) (end : End (List ℕ))
-      → FollowsFile name (λ reply here. TellsAll (IsLeft last outcome) after names (text ++ here) (first_status status (status_of reply)))
+      → FollowsFile w name (λ reply here. TellsAll (IsLeft last outcome) w after names (text ++ here) (first_status status (status_of reply)))
       (IsLeft last outcome after out_of_memory) end
       → Passes after last
-  turn_passes name names text status each after end (inl (reply, here, tells, h)) = each after (text ++ here) (first_status status (status_of reply)) h
-  turn_passes name names text status each after end (inr h) = left_passes after out_of_memory h
+  turn_passes w name names text status each after end (inl (reply, here, tells, h)) = each after (text ++ here) (first_status status (status_of reply)) h
+  turn_passes w name names text status each after end (inr h) = left_passes after out_of_memory h
 
-  tells_pass : (names : List (List ℕ)) (shelf : Shelved) (text : List ℕ) (status : Status) → TellsAll (IsLeft last outcome) shelf names text status → Passes shelf last
-  tells_pass [] shelf text status h = left_passes shelf (told text status) h
-  tells_pass (name ∷ names) shelf text status h =
+  tells_pass : (w : Manner) (names : List (List ℕ)) (shelf : Shelved) (text : List ℕ) (status : Status) → TellsAll (IsLeft last outcome) w shelf names text status → Passes shelf last
+  tells_pass w [] shelf text status h = left_passes shelf (told text status) h
+  tells_pass w (name ∷ names) shelf text status h =
       reads_pass
-      (λ after end. FollowsFile name (λ reply here. TellsAll (IsLeft last outcome) after names (text ++ here) (first_status status (status_of reply)))
+      (λ after end. FollowsFile w name (λ reply here. TellsAll (IsLeft last outcome) w after names (text ++ here) (first_status status (status_of reply)))
       (IsLeft last outcome after out_of_memory) end) last
-      (turn_passes name names text status (λ after t st. tells_pass names after t st)) shelf (bytes name MOST_BYTES) h
+      (turn_passes w name names text status (λ after t st. tells_pass w names after t st)) shelf (bytes name MOST_BYTES) h
 
   over_pass : (name these : List ℕ) (p : Parsed) (over text : List ℕ) (shelf : Shelved) (end : End (List ℕ))
       → FollowsOver (IsLeft last outcome) name these p over text shelf end → Passes shelf last
@@ -267,7 +270,7 @@ module _ (last : Shelved) (outcome : Outcome) where
   answers_to_pass words shelf true h =
       reads_pass (λ after end. FollowsProgram (IsLeft last outcome) (get_or words 1 []) (get_or words 2 []) [] after end) last
       (program_passes (get_or words 1 []) (get_or words 2 []) []) shelf (bytes (get_or words 1 []) MOST_BYTES) h
-  answers_to_pass words shelf false h = tells_pass words shelf [] s.Done h
+  answers_to_pass words shelf false h = tells_pass (manner_of words) (files_of words) shelf [] s.Done h
 
   pub answers_pass : (names : List (List ℕ)) (shelf : Shelved) → Answers (IsLeft last outcome) shelf names → Passes shelf last
   answers_pass [] shelf (inl e) = left_passes shelf (told usage_line s.Usage) e
@@ -290,12 +293,18 @@ has_report name bytes reply (Some place) = (
 abbrev pub HasReport : Reply → List ℕ → Type 0
 HasReport reply text = (front : List ℕ) × (rest : List ℕ) × (text ≡ front ++ report_of reply ++ rest)
 
-told_report : (name : List ℕ) (end : End (List ℕ)) (reply : Reply) (text : List ℕ) → Tells name end reply text → HasReport reply text
-told_report name (took these) reply text (checks, (lines, adds, is)) =
+told_report : (w : Manner) (name : List ℕ) (end : End (List ℕ)) (reply : Reply) (text : List ℕ) → Tells w name end reply text → HasReport reply text
+told_report w name (took these) reply text (checks, (lines, adds, is)) =
     let h = has_report name these reply (place_of reply) in
-    (h.0, h.1 ++ lines, is ∙ ap (λ t. t ++ lines) h.2 ∙ append_assoc (h.0 ++ report_of reply) h.1 lines)
-told_report name (stops other) reply text (same, is) = ([], [], is ∙ sym (append-nil (report_of reply)))
-told_report name lacks reply text h = absurd h
+    let front = name_front w.named name reply in
+    let report = report_of reply in (
+      front ++ h.0,
+      h.1 ++ lines,
+      is ∙ ap (λ t. front ++ (t ++ lines)) h.2 ∙ ap (λ t. front ++ t) (append_assoc (h.0 ++ report) h.1 lines)
+          ∙ sym (append_assoc front (h.0 ++ report) (h.1 ++ lines)) ∙ ap (λ t. t ++ (h.1 ++ lines)) (sym (append_assoc front h.0 report)),
+    )
+told_report w name (stops other) reply text (same, is) = ([], [], is ∙ sym (append-nil (report_of reply)))
+told_report w name lacks reply text h = absurd h
 
 -- `check` replies so, and the shelf is left as this
 abbrev pub Replied : (last : Shelved) → Reply → Shelved → End Parsed → Type 0
@@ -312,23 +321,23 @@ module _ (name : List ℕ) (reply : Reply) (last shelf : Shelved) (stays : shelf
   bytes_checked these (inl (p, spells, judges)) = inl (p, spells, judged p (rejection p) judges)
   bytes_checked these (inr (fault, is_fault, is)) = inr (inl (fault, is_fault, (stays, is)))
 
-module _ (name : List ℕ) (reply : Reply) (text : List ℕ) (last shelf : Shelved) where
+module _ (w : Manner) (name : List ℕ) (reply : Reply) (text : List ℕ) (last shelf : Shelved) where
   -- what a call of the shelf says of a file of which something is told
-  call_checked : (end : End (List ℕ)) → Tells name end reply text → (answer : Result Fetched ShelfFault)
+  call_checked : (end : End (List ℕ)) → Tells w name end reply text → (answer : Result Fetched ShelfFault)
       → FollowsCall AreThese NoFault name (λ these. (shelf ≡ last) × (took these ≡ end)) (λ r. (shelf ≡ last) × (stops r ≡ end)) ((shelf ≡ last) × (lacks ≡ end)) answer
       → FollowsCall SpellsProgram IsShownFault name (λ p. Reads (Replied last reply) shelf (tries (rejection p) (gives p)))
       (λ r. Replied last reply shelf (stops r)) (Replied last reply shelf lacks) answer
   call_checked end tells (Ok (Whole read)) (inl (these, is, (stays, e))) =
-      let here : Tells name (took these) reply text = subst (λ x. Tells name x reply text) (sym e) tells in
+      let here : Tells w name (took these) reply text = subst (λ x. Tells w name x reply text) (sym e) tells in
       bytes_checked name reply last shelf stays read (subst (λ b. ChecksBytes name b reply) is here.0)
   call_checked end tells (Ok (Whole read)) (inr (inl (fault, is, e))) = absurd is
-  call_checked end tells (Ok (Whole read)) (inr (inr (stays, e))) = absurd (subst (λ x. Tells name x reply text) (sym e) tells)
-  call_checked end tells (Ok TooLong) (stays, e) = (stays, (subst (λ x. Tells name x reply text) (sym e) tells).0)
-  call_checked end tells (Err fails.Failed) (stays, e) = (stays, (subst (λ x. Tells name x reply text) (sym e) tells).0)
-  call_checked end tells (Err fails.NoMemory) (stays, e) = absurd (subst (λ x. Tells name x reply text) (sym e) tells)
+  call_checked end tells (Ok (Whole read)) (inr (inr (stays, e))) = absurd (subst (λ x. Tells w name x reply text) (sym e) tells)
+  call_checked end tells (Ok TooLong) (stays, e) = (stays, (subst (λ x. Tells w name x reply text) (sym e) tells).0)
+  call_checked end tells (Err fails.Failed) (stays, e) = (stays, (subst (λ x. Tells w name x reply text) (sym e) tells).0)
+  call_checked end tells (Err fails.NoMemory) (stays, e) = absurd (subst (λ x. Tells w name x reply text) (sym e) tells)
 
 -- what is told of a file is by a reply that `check` gives to it, and has its report
-pub told_checked : (before after : Shelved) (name : List ℕ) (end : End (List ℕ)) (reply : Reply) (text : List ℕ) → HasRead before after (bytes name MOST_BYTES) end
-    → Tells name end reply text → IsChecked before after name reply × HasReport reply text
-told_checked before after name end reply text (between, answer, call, h) tells =
-    ((between, answer, call, call_checked name reply text after between end tells answer h), told_report name end reply text tells)
+pub told_checked : (before after : Shelved) (w : Manner) (name : List ℕ) (end : End (List ℕ)) (reply : Reply) (text : List ℕ) → HasRead before after (bytes name MOST_BYTES) end
+    → Tells w name end reply text → IsChecked before after name reply × HasReport reply text
+told_checked before after w name end reply text (between, answer, call, h) tells =
+    ((between, answer, call, call_checked w name reply text after between end tells answer h), told_report w name end reply text tells)

@@ -1,5 +1,5 @@
 -- Laws of what is told of bytes beside their explanation.
-use Rattle.std.proofs.Common.{◌≡◌, ℕ, List, [], ◌++◌, Some, None, sym, ap, subst, ◌∙◌}
+use Rattle.std.proofs.Common.{◌≡◌, ℕ, Bool, List, [], ◌++◌, Some, None, sym, ap, subst, ◌∙◌}
 use Rattle.std.proofs.lemmas.Bool.{cond-true, cond-false}
 use Rattle.call_judge.specs.Findings.{Finds, reply_to}
 use Rattle.call_judge.specs.declared.judge.Judged.{Judged}
@@ -20,46 +20,46 @@ use Rattle.explain.specs.Tellings.{Adds, asked_lines, refusal_lines}
 use Rattle.explain.specs.WarningSentences.{warning_lines}
 
 -- what a refusal is about where the names of a text are in order, and where they aren't
-named_lines : (name : List ℕ) (p : Parsed) (q : Program) (bytes : List ℕ) (refusal : Refusal) → first_false (name_obligations p) ≡ None → q ≡ resolved p
-    → asked_lines name p bytes refusal ≡ refusal_lines name q bytes refusal
-named_lines name p q bytes refusal named is =
+named_lines : (only : Bool) (name : List ℕ) (p : Parsed) (q : Program) (bytes : List ℕ) (refusal : Refusal) → first_false (name_obligations p) ≡ None → q ≡ resolved p
+    → asked_lines only name p bytes refusal ≡ refusal_lines only name q bytes refusal
+named_lines only name p q bytes refusal named is =
     cond-true (all_hold (name_obligations p)) _ [] (none_refused (name_obligations p) named)
-    ∙ ap (λ r. refusal_lines name r bytes refusal) (sym is)
+    ∙ ap (λ r. refusal_lines only name r bytes refusal) (sym is)
 
-unnamed_lines : (name : List ℕ) (p : Parsed) (bytes : List ℕ) (refusal first : Refusal) → first_false (name_obligations p) ≡ Some first
-    → asked_lines name p bytes refusal ≡ []
-unnamed_lines name p bytes refusal first is = cond-false (all_hold (name_obligations p)) _ [] (some_refused (name_obligations p) first is)
+unnamed_lines : (only : Bool) (name : List ℕ) (p : Parsed) (bytes : List ℕ) (refusal first : Refusal) → first_false (name_obligations p) ≡ Some first
+    → asked_lines only name p bytes refusal ≡ []
+unnamed_lines only name p bytes refusal first is = cond-false (all_hold (name_obligations p)) _ [] (some_refused (name_obligations p) first is)
 
 -- What was added is what is told of bytes of which this was found, beside the explanation.
-abbrev pub IsAdded : (name bytes : List ℕ) → Judged → (old new : List ℕ) → Type 0
-IsAdded name bytes judged old new = (more : List ℕ) × Adds name bytes (reply_to name judged) more × (new ≡ old ++ more)
+abbrev pub IsAdded : (only : Bool) (name bytes : List ℕ) → Judged → (old new : List ℕ) → Type 0
+IsAdded only name bytes judged old new = (more : List ℕ) × Adds only name bytes (reply_to name judged) more × (new ≡ old ++ more)
 
-module _ (name bytes : List ℕ) (judged : Judged) (old new : List ℕ) (found : Finds bytes judged) where
-  pub added_unnamed : (refusal : Refusal) → judged ≡ j.Unnamed refusal → new ≡ old ++ warning_lines name bytes (text_warnings bytes) → IsAdded name bytes judged old new
+module _ (only : Bool) (name bytes : List ℕ) (judged : Judged) (old new : List ℕ) (found : Finds bytes judged) where
+  pub added_unnamed : (refusal : Refusal) → judged ≡ j.Unnamed refusal → new ≡ old ++ warning_lines name bytes (text_warnings bytes) → IsAdded only name bytes judged old new
   added_unnamed refusal e is =
       let h = subst (Finds bytes) e found in
       let lines = warning_lines name bytes (text_warnings bytes) in
-      subst (λ x. IsAdded name bytes x old new) (sym e)
-      (lines, (h.0, h.1, sym (ap (λ asked. asked ++ lines) (unnamed_lines name h.0 bytes refusal refusal h.2))), is)
+      subst (λ x. IsAdded only name bytes x old new) (sym e)
+      (lines, (h.0, h.1, sym (ap (λ asked. asked ++ lines) (unnamed_lines only name h.0 bytes refusal refusal h.2))), is)
 
   pub added_refused : (refusal : Refusal) (program : _) → judged ≡ j.Refused refusal program → (lent : declared.Program) → lent ≡ program.value
-      → new ≡ old ++ (refusal_lines name (view.program lent) bytes refusal ++ warning_lines name bytes (text_warnings bytes)) → IsAdded name bytes judged old new
+      → new ≡ old ++ (refusal_lines only name (view.program lent) bytes refusal ++ warning_lines name bytes (text_warnings bytes)) → IsAdded only name bytes judged old new
   added_refused refusal program e lent same is =
       let h = subst (Finds bytes) e found in
       let lines = warning_lines name bytes (text_warnings bytes) in
       let named = h.2.0 in
-      subst (λ x. IsAdded name bytes x old new) (sym e) (
-        refusal_lines name (view.program program.value) bytes refusal ++ lines,
-        (h.0, h.1, sym (ap (λ asked. asked ++ lines) (named_lines name h.0 (view.program program.value) bytes refusal named.held named.is))),
-        subst (λ q. new ≡ old ++ (refusal_lines name (view.program q) bytes refusal ++ lines)) same is,
+      subst (λ x. IsAdded only name bytes x old new) (sym e) (
+        refusal_lines only name (view.program program.value) bytes refusal ++ lines,
+        (h.0, h.1, sym (ap (λ asked. asked ++ lines) (named_lines only name h.0 (view.program program.value) bytes refusal named.held named.is))),
+        subst (λ q. new ≡ old ++ (refusal_lines only name (view.program q) bytes refusal ++ lines)) same is,
       )
 
   pub added_accepted : (counts : Totals) (program : _) → judged ≡ j.Accepted counts program → (lent : declared.Program) → lent ≡ program.value
-      → new ≡ old ++ warning_lines name bytes (warnings (plain (view.program lent)) bytes) → IsAdded name bytes judged old new
+      → new ≡ old ++ warning_lines name bytes (warnings (plain (view.program lent)) bytes) → IsAdded only name bytes judged old new
   added_accepted counts program e lent same is =
       let h = subst (Finds bytes) e found in
       let named = h.2.0 in
-      subst (λ x. IsAdded name bytes x old new) (sym e) (
+      subst (λ x. IsAdded only name bytes x old new) (sym e) (
         warning_lines name bytes (warnings (plain (view.program program.value)) bytes),
         (h.0, h.1, ap (λ q. warning_lines name bytes (warnings (plain q) bytes)) named.is),
         subst (λ q. new ≡ old ++ warning_lines name bytes (warnings (plain (view.program q)) bytes)) same is,

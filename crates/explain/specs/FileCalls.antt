@@ -1,5 +1,5 @@
 -- What a call tells of its files, and how it ends.
-use Rattle.std.specs.Prelude.{◌≡◌, ◌⊎◌, ℕ, ◌==◌, List, [], ◌∷◌, ◌++◌, length, get_or, Bool, true, false, ◌&&◌, codes, Ok, Err}
+use Rattle.std.specs.Prelude.{◌≡◌, ◌⊎◌, ℕ, ◌==◌, nat_lt, List, [], ◌∷◌, ◌++◌, length, get_or, drop, Bool, true, false, ◌&&◌, codes, if◌then◌else◌, Ok, Err}
 use Rattle.std.specs.Str.{bytes_eq}
 use Rattle.call_inputs.specs.Plans.{RepliesAt}
 use Rattle.call_inputs.specs.Programs.{IsShownFault, SpellsProgram}
@@ -20,13 +20,14 @@ use Rattle.cov_io.specs.Sinks.{Sunk, Writes}
 use Rattle.cov_io.specs.declared.sink.Failed as sink
 use Rattle.explain.specs.LevelTellings.{TellsOver, malformed_lines}
 use Rattle.explain.specs.Tellings.{IsTold}
+use Rattle.explain.specs.declared.manner.Manner.{Manner}
 
 -- What is told of a file to which `check` replies so, by how it was read: its bytes were fetched, and the reply to them is explained, with
 -- warnings where they are accepted; or they weren't, and the report of `check` is all.
-abbrev pub Tells : (name : List ℕ) → End (List ℕ) → Reply → (text : List ℕ) → Type 0
-Tells name (took these) reply text = ChecksBytes name these reply × IsTold name these reply text
-Tells name (stops other) reply text = (reply ≡ other) × (text ≡ report_of reply)
-Tells name lacks reply text = ⊥
+abbrev pub Tells : Manner → (name : List ℕ) → End (List ℕ) → Reply → (text : List ℕ) → Type 0
+Tells h name (took these) reply text = ChecksBytes name these reply × IsTold h name these reply text
+Tells h name (stops other) reply text = (reply ≡ other) × (text ≡ report_of reply)
+Tells h name lacks reply text = ⊥
 
 -- `check` of a file replies so, by these calls of a shelf.
 abbrev pub IsChecked : (before after : Shelved) (name : List ℕ) → Reply → Type 0
@@ -52,21 +53,33 @@ abbrev pub usage_line : List ℕ
 usage_line = codes "usage: covern explain FILE..\n"
 
 -- What follows a file that was read: what goes on with what is told of it; or memory ran out.
-abbrev pub FollowsFile : (name : List ℕ) (goes_on : Reply → List ℕ → Type 0) (Lacks : Type 0) → End (List ℕ) → Type 0
-FollowsFile name goes_on Lacks end = ((reply : Reply) × (here : List ℕ) × Tells name end reply here × goes_on reply here) ⊎ Lacks
+abbrev pub FollowsFile : Manner → (name : List ℕ) (goes_on : Reply → List ℕ → Type 0) (Lacks : Type 0) → End (List ℕ) → Type 0
+FollowsFile h name goes_on Lacks end = ((reply : Reply) × (here : List ℕ) × Tells h name end reply here × goes_on reply here) ⊎ Lacks
 
 -- whether the words ask for levels: a first word, and then a program and levels for it; three files can't be named by such words
 abbrev pub asks_for_levels : List (List ℕ) → Bool
 asks_for_levels words = length words == 3 && bytes_eq (get_or words 0 []) (codes "--levels")
 
+-- whether the words ask that of each file the first refusal alone is told: a first word, and then files
+abbrev pub asks_for_first : List (List ℕ) → Bool
+asks_for_first words = nat_lt 1 (length words) && bytes_eq (get_or words 0 []) (codes "--first")
+
+-- the files that the words name
+abbrev pub files_of : List (List ℕ) → List (List ℕ)
+files_of words = if asks_for_first words then drop 1 words else words
+
+-- how they are told of: where there are several, an accepted one is named
+abbrev pub manner_of : List (List ℕ) → Manner
+manner_of words = record { named = nat_lt 1 (length (files_of words)); first = asks_for_first words }
+
 -- What is said of the shelf as it is left, and of what the calls come to, holds.
 module _ (left : Shelved → Outcome → Type 0) where
   -- The shelf is called once for each of these files, in order, and not otherwise, and what is told of a file is added to a text that was
   -- told before; where memory runs out, no more is called.
-  abbrev pub TellsAll : Shelved → List (List ℕ) → (text : List ℕ) → Status → Type 0
-  TellsAll shelf [] text status = left shelf (told text status)
-  TellsAll shelf (name ∷ names) text status =
-      Reads (λ after end. FollowsFile name (λ reply here. TellsAll after names (text ++ here) (first_status status (status_of reply)))
+  abbrev pub TellsAll : Manner → Shelved → List (List ℕ) → (text : List ℕ) → Status → Type 0
+  TellsAll h shelf [] text status = left shelf (told text status)
+  TellsAll h shelf (name ∷ names) text status =
+      Reads (λ after end. FollowsFile h name (λ reply here. TellsAll h after names (text ++ here) (first_status status (status_of reply)))
       (left after out_of_memory) end) shelf (bytes name MOST_BYTES)
 
   -- What follows the file of levels for bytes that spell a text: what is told of them is added to a text that was told before, and the
@@ -93,9 +106,9 @@ module _ (left : Shelved → Outcome → Type 0) where
   -- what is told for words of which one at least is there, by whether they ask for levels
   abbrev pub AnswersTo : Shelved → List (List ℕ) → (levels : Bool) → Type 0
   AnswersTo shelf words true = TellsLevels (get_or words 1 []) (get_or words 2 []) [] shelf
-  AnswersTo shelf words false = TellsAll shelf words [] s.Done
+  AnswersTo shelf words false = TellsAll (manner_of words) shelf (files_of words) [] s.Done
 
-  -- The words of a command line ask for levels, or else they are the names of files.
+  -- The words of a command line ask for levels, or else they have the names of files.
   abbrev pub Answers : Shelved → List (List ℕ) → Type 0
   Answers shelf [] = left shelf (told usage_line s.Usage) ⊎ left shelf out_of_memory
   Answers shelf (word ∷ words) = AnswersTo shelf (word ∷ words) (asks_for_levels (word ∷ words))

@@ -1,6 +1,6 @@
 -- What is told of a program that is shown to an observer at each of some levels, by what `levels` finds of it: of the first observer for whom it is
 -- refused all that is told of a refused program, of the program as that observer is shown it.
-use Rattle.std.specs.Prelude.{◌≡◌, ◌⊎◌, ℕ, List, [], ◌++◌, length, get_or, flat_map, Bool, codes, decimal, Option, Some, None}
+use Rattle.std.specs.Prelude.{◌≡◌, ◌⊎◌, ℕ, List, [], ◌++◌, length, get_or, flat_map, Bool, false, codes, decimal, Option, Some, None}
 use Rattle.call_inputs.specs.Readings.{End, lacks, stops, took}
 use Rattle.call_inputs.specs.Rejections.{UnlessRejected}
 use Rattle.call_judge.specs.Check.{name_in, name_rejection, totals}
@@ -51,7 +51,7 @@ mark_lines seen levels vars = flat_map (mark_line seen levels) vars
 unfoldable pub refused_lines : (name bytes : List ℕ) → Program → Refusal → List ℕ
 refused_lines name bytes p refusal =
     explanation name bytes (refused refusal (name_in p.threads refusal.thread))
-    ++ (refusal_lines name p bytes refusal ++ warning_lines name bytes (text_warnings bytes))
+    ++ (refusal_lines false name p bytes refusal ++ warning_lines name bytes (text_warnings bytes))
 
 -- what is told of a program for an observer for whom it is refused
 abbrev pub observer_lines : (name bytes : List ℕ) → Levels → Program → (observer : ℕ) → Refusal → List ℕ

@@ -1,5 +1,5 @@
 -- What is told of the other entailments for which a thread would be refused by V9: of each as of the first, up to so many.
-use Rattle.std.specs.Prelude.{ℕ, ◌-◌, nat_le, List, ◌++◌, length, take, flat_map, codes, decimal, if◌then◌else◌}
+use Rattle.std.specs.Prelude.{ℕ, ◌-◌, nat_le, List, [], ◌++◌, Bool, true, false, length, take, flat_map, codes, decimal, if◌then◌else◌}
 use Rattle.cov_ast.specs.Syntax.{Program}
 use Rattle.cov_ast.specs.declared.refusal.Refusal.{Refusal}
 use Rattle.call_judge.specs.Check.{name_in}
@@ -27,3 +27,8 @@ lines_of name bytes p rs =
 -- beside a refusal of a program
 unfoldable pub other_lines : (name bytes : List ℕ) → Program → Refusal → List ℕ
 other_lines name bytes p r = lines_of name bytes p (other_refusals p r)
+
+-- the same, unless the first alone is told
+abbrev pub others_unless : (first : Bool) → (name bytes : List ℕ) → Program → Refusal → List ℕ
+others_unless true name bytes p r = []
+others_unless false name bytes p r = other_lines name bytes p r

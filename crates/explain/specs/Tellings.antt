@@ -1,7 +1,7 @@
 -- All that is told of the bytes of a file: the explanation of what `check` replies to them; then, where they are malformed by a token, what
 -- could stand at its place, where they are refused, what the refusal is about and what is warned of in them, and where they are accepted, what
 -- is warned of in them and in the program that they spell.
-use Rattle.std.specs.Prelude.{◌≡◌, ℕ, List, [], ◌++◌, if◌then◌else◌}
+use Rattle.std.specs.Prelude.{◌≡◌, ℕ, List, [], ◌++◌, Bool, codes, if◌then◌else◌}
 use Rattle.cov_ast.specs.Obligations.{all_hold}
 use Rattle.cov_ast.specs.Syntax.{Parsed, Program}
 use Rattle.cov_ast.specs.declared.refusal.Refusal.{Refusal}
@@ -12,8 +12,9 @@ use Rattle.explain.specs.HiddenText.{text_warnings}
 use Rattle.explain.specs.Warnings.{warnings}
 use Rattle.refusal_names.specs.RefusalNames.{refusal_names}
 use Rattle.explain.specs.Explanations.{explanation}
-use Rattle.explain.specs.OtherTellings.{other_lines}
+use Rattle.explain.specs.OtherTellings.{others_unless}
 use Rattle.explain.specs.WarningSentences.{warning_lines}
+use Rattle.explain.specs.declared.manner.Manner.{Manner}
 use Rattle.call_judge.specs.Meaning.{meaning}
 use Rattle.call_inputs.specs.Programs.{SpellsProgram}
 use Rattle.call_reports.specs.Replies.{Reply, accepted, malformed, refused}
@@ -22,15 +23,15 @@ use Rattle.call_reports.specs.declared.answers.Fault.TheVariants as f
 use Rattle.call_reports.specs.declared.answers.FaultKind.TheVariants as k
 
 -- what a refusal of a program is about: by name, and where a certificate isn't valid, what was asked, and what is told of others of the
--- thread that aren't; the bytes are those of its text
-abbrev pub refusal_lines : (name : List ℕ) → Program → (bytes : List ℕ) → Refusal → List ℕ
-refusal_lines name p bytes refusal =
+-- thread that aren't, unless the first alone is to be told; the bytes are those of its text
+abbrev pub refusal_lines : (first : Bool) (name : List ℕ) → Program → (bytes : List ℕ) → Refusal → List ℕ
+refusal_lines first name p bytes refusal =
     refusal_names p bytes refusal.rule refusal.thread refusal.place refusal.detail
-    ++ (asked p bytes refusal.rule refusal.thread refusal.place refusal.detail ++ other_lines name bytes p refusal)
+    ++ (asked p bytes refusal.rule refusal.thread refusal.place refusal.detail ++ others_unless first name bytes p refusal)
 
 -- the same in the program that a text stands for, if its names are in order
-abbrev pub asked_lines : (name : List ℕ) → Parsed → (bytes : List ℕ) → Refusal → List ℕ
-asked_lines name p bytes refusal = if all_hold (name_obligations p) then refusal_lines name (resolved p) bytes refusal else []
+abbrev pub asked_lines : (first : Bool) (name : List ℕ) → Parsed → (bytes : List ℕ) → Refusal → List ℕ
+asked_lines first name p bytes refusal = if all_hold (name_obligations p) then refusal_lines first name (resolved p) bytes refusal else []
 
 -- what could stand at the place of a token with which no program goes on; nothing where another fault is the first
 abbrev pub stand_lines : (bytes : List ℕ) → Fault → List ℕ
@@ -40,14 +41,24 @@ stand_lines bytes fault = []
 -- What is told of bytes to which `check` replies so, beside the explanation: of malformed ones, what could stand at the place of a token;
 -- of refused ones, what the refusal is about in the program that they spell, and what is warned of in the bytes themselves; of accepted ones,
 -- what is warned of in that program and in the bytes; of others, nothing.
-abbrev pub Adds : (name bytes : List ℕ) → Reply → (text : List ℕ) → Type 0
-Adds name bytes (malformed file fault) text = text ≡ stand_lines bytes fault
-Adds name bytes (refused refusal thread) text =
-    (p : Parsed) × SpellsProgram bytes p × (text ≡ asked_lines name p bytes refusal ++ warning_lines name bytes (text_warnings bytes))
-Adds name bytes (accepted threads statements entailments) text =
+abbrev pub Adds : (first : Bool) (name bytes : List ℕ) → Reply → (text : List ℕ) → Type 0
+Adds first name bytes (malformed file fault) text = text ≡ stand_lines bytes fault
+Adds first name bytes (refused refusal thread) text =
+    (p : Parsed) × SpellsProgram bytes p × (text ≡ asked_lines first name p bytes refusal ++ warning_lines name bytes (text_warnings bytes))
+Adds first name bytes (accepted threads statements entailments) text =
     (p : Parsed) × SpellsProgram bytes p × (text ≡ warning_lines name bytes (warnings (meaning p) bytes))
-Adds name bytes reply text = text ≡ []
+Adds first name bytes reply text = text ≡ []
 
--- What is told of bytes to which `check` replies so: the explanation of the reply, and then all that is told beside it.
-abbrev pub IsTold : (name bytes : List ℕ) → Reply → (text : List ℕ) → Type 0
-IsTold name bytes reply text = (more : List ℕ) × Adds name bytes reply more × (text ≡ explanation name bytes reply ++ more)
+-- what stands in front of the report of a file that is accepted, where files are named: its name
+abbrev pub accepted_front : (name : List ℕ) → Reply → List ℕ
+accepted_front name (accepted threads statements entailments) = name ++ codes ": "
+accepted_front name reply = []
+
+abbrev pub name_front : (named : Bool) (name : List ℕ) → Reply → List ℕ
+name_front named name reply = if named then accepted_front name reply else []
+
+-- What is told of bytes to which `check` replies so: the explanation of the reply, behind the name of the file where it is to be named, and then all that is
+-- told beside it.
+abbrev pub IsTold : Manner → (name bytes : List ℕ) → Reply → (text : List ℕ) → Type 0
+IsTold h name bytes reply text =
+    (more : List ℕ) × Adds h.first name bytes reply more × (text ≡ name_front h.named name reply ++ (explanation name bytes reply ++ more))

@@ -8,6 +8,7 @@ ghost use Rattle.explain.specs.Inside.Told.{IsLeft, outcome_of};
 
 use crate::files::tell_all;
 use crate::level_files::tell_levels;
+use crate::manner::Manner;
 use call_reports::Status;
 use cov_expr::{Blob, List, NoMemory};
 use cov_io::{Shelf, Sink, write_whole};
@@ -56,8 +57,31 @@ fn answer<S: Shelf>(
     if asks_for_levels(names) {
         tell_levels(alloc, names[1].as_str(), names[2].as_str(), shelf, text)
     } else {
-        tell_all(alloc, names, shelf, text)
+        let files = files_of(names);
+        let manner = Manner {
+            named: 1 < files.len(),
+            first: asks_for_first(names),
+        };
+        tell_all(alloc, manner, files, shelf, text)
     }
+}
+
+/// The files that words name.
+fn files_of(names: &[String]) -> &[String]
+    ensures { map string_bytes result.now ≡ spec.files_of (map string_bytes names.now) }
+{
+    if asks_for_first(names) {
+        &names[1..]
+    } else {
+        names
+    }
+}
+
+/// Whether words are `--first` and files.
+fn asks_for_first(names: &[String]) -> bool
+    ensures { result ≡ spec.asks_for_first (map string_bytes names.now) }
+{
+    1 < names.len() && names[0].as_str() == "--first"
 }
 
 /// Whether words are `--levels`, a program and levels for it.

@@ -1,6 +1,6 @@
 //! What is told of each file, and the status of them all.
 
-ghost use Rattle.std.specs.Prelude.{◌≡◌, ◌++◌, ◌≤◌, ℕ, List, IfOk, length, map, string_bytes};
+ghost use Rattle.std.specs.Prelude.{◌≡◌, ◌++◌, ◌≤◌, ℕ, List, IfOk, OnOk, length, map, string_bytes};
 ghost use Rattle.call_inputs.specs.Readings.{Reads, took};
 ghost use Rattle.call_inputs.specs.Steps as step;
 ghost use Rattle.call_judge.specs.Findings.{Finds};
@@ -12,8 +12,10 @@ ghost use Rattle.cov_expr.specs.declared.limits.TheConstants.{MOST_BYTES};
 ghost use Rattle.explain.specs.FileCalls as spec;
 ghost use Rattle.explain.specs.FileCalls.{TellsAll};
 ghost use Rattle.explain.specs.Inside.Told.{AddsTold, IsLeft, outcome_of};
+ghost use Rattle.explain.specs.Tellings.{accepted_front, name_front};
 
 use crate::explanation::{add_explanation, add_report};
+use crate::manner::Manner;
 use crate::more::add_more;
 use call_inputs::fetch;
 use call_judge::judge::{Judged, judge_bytes};
@@ -25,15 +27,16 @@ use std::alloc::Global;
 /// Adds what is told of each file, and gives the first status that isn't Done.
 pub fn tell_all<S: Shelf>(
     alloc: Global,
+    manner: Manner,
     names: &[String],
     shelf: &mut S,
     text: &mut Blob,
 ) -> Result<Status, NoMemory>
-    ensures { TellsAll (IsLeft (S.shelved shelf.new) (outcome_of text.new result)) (S.shelved shelf.old) (map string_bytes names.now) text.old s.Done }
+    ensures { TellsAll (IsLeft (S.shelved shelf.new) (outcome_of text.new result)) manner (S.shelved shelf.old) (map string_bytes names.now) text.old s.Done }
 {
     let mut status = Status::Done;
     for name in names {
-        let next = tell(alloc, name.as_str(), shelf, text)?;
+        let next = tell(alloc, manner, name.as_str(), shelf, text)?;
         status = first_status(status, next);
     }
     Ok(status)
@@ -52,14 +55,15 @@ fn first_status(status: Status, later: Status) -> Status
 /// Adds what is told of a file, and gives the status that `check` has for it.
 fn tell<S: Shelf>(
     alloc: Global,
+    manner: Manner,
     name: &str,
     shelf: &mut S,
     text: &mut Blob,
 ) -> Result<Status, NoMemory>
-    ensures { Reads (λ after end. (after ≡ S.shelved shelf.new) × AddsTold name.now end text.old text.new result) (S.shelved shelf.old) (step.bytes name.now MOST_BYTES) }
+    ensures { Reads (λ after end. (after ≡ S.shelved shelf.new) × AddsTold manner name.now end text.old text.new result) (S.shelved shelf.old) (step.bytes name.now MOST_BYTES) }
 {
     match fetch(alloc, name, MOST_BYTES, shelf) {
-        Ok(bytes) => tell_bytes(alloc, name, bytes.as_slice(), text),
+        Ok(bytes) => tell_bytes(alloc, manner, name, bytes.as_slice(), text),
         Err(Stop::Answer(answer)) => tell_unread(alloc, answer, text),
         Err(Stop::NoMemory) => Err(NoMemory),
     }
@@ -75,17 +79,24 @@ pub fn tell_unread(alloc: Global, answer: Answer<'_>, text: &mut Blob) -> Result
 }
 
 /// Adds what is told of the bytes of a file, and gives the status that `check` has for them.
-fn tell_bytes(alloc: Global, name: &str, bytes: &[u8], text: &mut Blob) -> Result<Status, NoMemory>
+fn tell_bytes(
+    alloc: Global,
+    manner: Manner,
+    name: &str,
+    bytes: &[u8],
+    text: &mut Blob,
+) -> Result<Status, NoMemory>
     requires { length bytes.now ≤ MOST_BYTES }
-    ensures { AddsTold name.now (took bytes.now) text.old text.new result }
+    ensures { AddsTold manner name.now (took bytes.now) text.old text.new result }
 {
     let judged = judge_bytes(alloc, bytes)?;
-    tell_judged(alloc, name, bytes, &judged, text)
+    tell_judged(alloc, manner, name, bytes, &judged, text)
 }
 
 /// Adds what is told of the bytes of a file of which this was found, and gives the status of that.
 fn tell_judged(
     alloc: Global,
+    manner: Manner,
     name: &str,
     bytes: &[u8],
     judged: &Judged,
@@ -93,11 +104,36 @@ fn tell_judged(
 ) -> Result<Status, NoMemory>
     requires length { length bytes.now ≤ MOST_BYTES }
     requires found { Finds bytes.now judged.now }
-    ensures { AddsTold name.now (took bytes.now) text.old text.new result }
+    ensures { AddsTold manner name.now (took bytes.now) text.old text.new result }
 {
     let answer = judged.answer(name);
     let status = status_for(&answer);
+    add_name(manner.named, name, &answer, text)?;
     add_explanation(alloc, name, bytes, answer, text)?;
-    add_more(alloc, name, bytes, judged, text)?;
+    add_more(alloc, manner.first, name, bytes, judged, text)?;
     Ok(status)
+}
+
+/// Adds the name of a file that is accepted, where it is to be named.
+fn add_name(named: bool, name: &str, answer: &Answer<'_>, text: &mut Blob) -> Result<(), NoMemory>
+    ensures { OnOk result (text.new ≡ text.old ++ name_front named name.now (seen answer.now)) }
+{
+    if named {
+        add_accepted_name(name, answer, text)
+    } else {
+        Ok(())
+    }
+}
+
+/// Adds the name of a file that is accepted.
+fn add_accepted_name(name: &str, answer: &Answer<'_>, text: &mut Blob) -> Result<(), NoMemory>
+    ensures { OnOk result (text.new ≡ text.old ++ accepted_front name.now (seen answer.now)) }
+{
+    match answer {
+        Answer::Accepted(_) => {
+            text.extend_from_slice(name.as_bytes())?;
+            text.extend_from_slice(b": ")
+        }
+        _ => Ok(()),
+    }
 }

@@ -8,13 +8,14 @@ ghost use Rattle.call_reports.specs.Reports.{report_of};
 ghost use Rattle.call_reports.specs.declared.answers.Status.{Status};
 ghost use Rattle.cov_expr.specs.declared.limits.TheConstants.{MOST_BYTES};
 ghost use Rattle.cov_io.specs.Shelves.{Shelved};
+ghost use Rattle.explain.specs.declared.manner.Manner.{Manner};
 ghost use Rattle.explain.specs.FileCalls.{IsChecked, IsLevelled, Tells, TellsLevels, told};
 
 /// What is told of a file that is read by these calls of a shelf is by the reply that `check` gives to it by the same calls, and has the report of
 /// that.
 pub fn told_as_checked()
-    ensures { (before after : Shelved) (name : List ℕ) (end : End (List ℕ)) (reply : Reply) (text : List ℕ)
-        → HasRead before after (bytes name MOST_BYTES) end → Tells name end reply text
+    ensures { (before after : Shelved) (how : Manner) (name : List ℕ) (end : End (List ℕ)) (reply : Reply) (text : List ℕ)
+        → HasRead before after (bytes name MOST_BYTES) end → Tells how name end reply text
         → IsChecked before after name reply × ((front : List ℕ) × (rest : List ℕ) × (text ≡ front ++ report_of reply ++ rest)) }
 {}
 

@@ -6,6 +6,8 @@
 //! where a file is refused, what that is about (`refusal_names`, `entail_refused`) and what is warned of in its text, and
 //! where it is accepted, what is warned of in it, a line each.
 //!
+//! Where several files are named, an accepted one is told by its name. The words `--first P..` ask that of a refusal by V9 no other is told behind it.
+//!
 //! The words `--levels P L` ask for what `levels` says of the program P and the levels L. Of the first observer for whom the program is refused it
 //! tells what stands for markers, and all that is told of a refusal, of the program as that observer is shown it. Three files can't be
 //! named by words of this form.
@@ -18,7 +20,7 @@
 //!
 //! | `src/` | `specs/` | what it has |
 //! |---|---|---|
-//! | `call`, `files` | `FileCalls` | the words of a command line; what is told of each file, and the status |
+//! | `call`, `files`, `manner` | `FileCalls` | the words of a command line; what is told of each file, and how, and the status |
 //! | `explanation` | `Explanations` | what is told of the bytes of a file |
 //! | `more` | `Tellings` | what is told beside it: what could stand at the place of a token, and what a refusal is about |
 //! | `others` | `OtherTellings` | what is told of the other entailments for which a thread would be refused |
@@ -44,6 +46,7 @@ mod hidden;
 mod laws;
 mod level_files;
 mod line;
+mod manner;
 mod merged;
 mod more;
 mod next;

@@ -11,7 +11,7 @@ ghost use Rattle.explain.specs.WarningSentences.{warning_lines};
 ghost use Rattle.explain.specs.HiddenText.{text_warnings};
 
 use crate::line::add_expected;
-use crate::others::add_others;
+use crate::others::add_others_unless;
 use crate::warnings::{add_text_warnings, add_warnings};
 use call_judge::judge::Judged;
 use call_reports::{Fault, FaultKind};
@@ -25,6 +25,7 @@ use std::alloc::Global;
 /// of refused ones what the refusal is about and what is warned of in the bytes, of accepted ones what is warned of.
 pub fn add_more(
     alloc: Global,
+    first: bool,
     name: &str,
     bytes: &[u8],
     judged: &Judged,
@@ -32,21 +33,22 @@ pub fn add_more(
 ) -> Result<(), NoMemory>
     requires length { length bytes.now ≤ MOST_BYTES }
     requires found { Finds bytes.now judged.now }
-    ensures { OnOk result ((more : List ℕ) × Adds name.now bytes.now (reply_to name.now judged.now) more × (text.new ≡ text.old ++ more)) }
+    ensures { OnOk result ((more : List ℕ) × Adds first name.now bytes.now (reply_to name.now judged.now) more × (text.new ≡ text.old ++ more)) }
 {
     match judged {
         Judged::Malformed(fault) => add_stand_lines(alloc, bytes, fault, text),
         Judged::Unnamed(_) => add_text_warnings(alloc, name, bytes, text),
         Judged::Refused(refusal, program) => {
-            add_refused(alloc, name, bytes, refusal, program, text)
+            add_refused(alloc, first, name, bytes, refusal, program, text)
         }
         Judged::Accepted(_, program) => add_warnings(alloc, name, bytes, program, text),
     }
 }
 
-/// Adds what a refusal of a program is about, and what is warned of in the bytes of its text.
+/// Adds what a refusal of a program is about, without others behind it where the first alone is to be told, and what is warned of in the bytes of its text.
 pub fn add_refused(
     alloc: Global,
+    first: bool,
     name: &str,
     bytes: &[u8],
     refusal: &Refusal,
@@ -56,9 +58,9 @@ pub fn add_refused(
     requires length { length bytes.now ≤ MOST_BYTES }
     requires formed { IsWellFormed (view.program program.now) }
     ensures { OnOk result (text.new ≡ text.old
-        ++ (spec.refusal_lines name.now (view.program program.now) bytes.now refusal.now ++ warning_lines name.now bytes.now (text_warnings bytes.now))) }
+        ++ (spec.refusal_lines first name.now (view.program program.now) bytes.now refusal.now ++ warning_lines name.now bytes.now (text_warnings bytes.now))) }
 {
-    add_refusal_lines(alloc, name, bytes, refusal, program, text)?;
+    add_refusal_lines(alloc, first, name, bytes, refusal, program, text)?;
     add_text_warnings(alloc, name, bytes, text)
 }
 
@@ -66,6 +68,7 @@ pub fn add_refused(
 /// rules nothing.
 fn add_refusal_lines(
     alloc: Global,
+    first: bool,
     name: &str,
     bytes: &[u8],
     refusal: &Refusal,
@@ -73,11 +76,11 @@ fn add_refusal_lines(
     text: &mut Blob,
 ) -> Result<(), NoMemory>
     requires { IsWellFormed (view.program program.now) }
-    ensures { OnOk result (text.new ≡ text.old ++ spec.refusal_lines name.now (view.program program.now) bytes.now refusal.now) }
+    ensures { OnOk result (text.new ≡ text.old ++ spec.refusal_lines first name.now (view.program program.now) bytes.now refusal.now) }
 {
     add_names(alloc, program, bytes, refusal, text)?;
     add_asked(alloc, program, bytes, refusal, text)?;
-    add_others(alloc, name, bytes, refusal, program, text)
+    add_others_unless(alloc, first, name, bytes, refusal, program, text)
 }
 
 /// Adds what could stand at the place of a fault, if that is a token with which no program goes on.

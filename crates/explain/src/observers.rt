@@ -258,5 +258,5 @@ fn add_refused_lines(
 {
     let thread = thread_name(program.threads.as_slice(), refusal.thread);
     add_explanation(alloc, name, bytes, Answer::Refused(*refusal, thread), text)?;
-    add_refused(alloc, name, bytes, refusal, program, text)
+    add_refused(alloc, false, name, bytes, refusal, program, text)
 }

@@ -17,9 +17,29 @@ use text_parts::add_number;
 /// How many others are told.
 const MOST_TOLD: usize = 8;
 
-/// Adds what is told of the other entailments for which the thread of a refusal by V9 would be refused, each as if it were the first.
+/// Adds what is told of the other entailments for which the thread of a refusal by V9 would be refused, each as if it were the first; nothing where the first
+/// alone is to be told.
+pub fn add_others_unless(
+    alloc: Global,
+    first: bool,
+    name: &str,
+    bytes: &[u8],
+    refusal: &Refusal,
+    program: &Program,
+    text: &mut Blob,
+) -> Result<(), NoMemory>
+    requires { IsWellFormed (view.program program.now) }
+    ensures { OnOk result (text.new ≡ text.old ++ spec.others_unless first name.now bytes.now (view.program program.now) refusal.now) }
+{
+    if first {
+        return Ok(());
+    }
+    add_others(alloc, name, bytes, refusal, program, text)
+}
+
+/// Adds what is told of them.
 #[tactic(auto, unfolding(crate::specs::OtherTellings::other_lines))]
-pub fn add_others(
+fn add_others(
     alloc: Global,
     name: &str,
     bytes: &[u8],

@@ -11,13 +11,14 @@ use Rattle.cov_expr.specs.declared.list.NoMemory.{NoMemory}
 use Rattle.cov_io.specs.Shelves.{Shelved}
 use Rattle.explain.specs.FileCalls.{Outcome, Tells, out_of_memory, told}
 use Rattle.explain.specs.LevelTellings.{RepliesFor, TellsOver, level_lines, program_lines}
+use Rattle.explain.specs.declared.manner.Manner.{Manner}
 use Rattle.level_text.specs.Lattice.{Levels}
 
 -- What is told of a file that was read so is added to a text, and its status is given; or memory ran out.
-abbrev pub AddsTold : (name : List ℕ) → End (List ℕ) → (old new : List ℕ) → Result Status NoMemory → Type 0
-AddsTold name end old new (Ok status) =
-    (reply : Reply) × (here : List ℕ) × Tells name end reply here × (status ≡ status_of reply) × (new ≡ old ++ here)
-AddsTold name end old new (Err e) = Unit {0}
+abbrev pub AddsTold : Manner → (name : List ℕ) → End (List ℕ) → (old new : List ℕ) → Result Status NoMemory → Type 0
+AddsTold h name end old new (Ok status) =
+    (reply : Reply) × (here : List ℕ) × Tells h name end reply here × (status ≡ status_of reply) × (new ≡ old ++ here)
+AddsTold h name end old new (Err e) = Unit {0}
 
 -- what a step comes to behind which the text is this
 abbrev pub outcome_of : (text : List ℕ) → Result Status NoMemory → Outcome

@@ -8,4 +8,4 @@ use Rattle.explain.proofs.files.tell_all.Given as goal
 abbrev pub invariant-loop-name : goal.invariant-loop-name
 invariant-loop-name g l =
     let shelved = g.S.Shelf.shelved in
-    TellsAll (IsLeft (shelved l.shelf) (told l.text l.status)) (shelved l.fn.shelf) (map string_bytes (take l.name-index l.names)) l.fn.text s.Done
+    TellsAll (IsLeft (shelved l.shelf) (told l.text l.status)) l.manner (shelved l.fn.shelf) (map string_bytes (take l.name-index l.names)) l.fn.text s.Done
