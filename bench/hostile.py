@@ -18,7 +18,8 @@ The parts are
 - `memory`: commands in more and more room for addresses: they answer whole, or with status 6 and nothing;
 - `allocations`: each request for memory of each command is refused in turn, where there is cc: the same;
 - `explanations`: N mutated programs by EXPLAINS: the first line and the status are those of `check`, with the line and the column in front, V9 shows what was asked,
-  and a wrong token what could stand at its place.
+  and a wrong token what could stand at its place; with `--points` they are the same, points are told where the names are in order, and those of one line are among those of all; and with `--suggest` the text and
+  the status are those of `annotate` at depth 2, or what that leaves open stands in comments behind a text.
 
 A text that takes more than ten seconds is told, and so is a process that a signal ends. The status is 1 where something is told. With all parts it
 takes an hour or so on one processor, and some ten minutes with `--count 10000`.
@@ -570,6 +571,12 @@ def limit_rows():
         yield row(f"`annotate` of {notes} predicates that don't follow from 63 equations, of up to {steps} steps", low(65) + f"thread t assume nowrite {all_of(65)} {{ "
                   + "".join(f"{x} := {e}; " for x, e in sums)
                   + "".join(f"note {{ {', '.join(f'{x} == {e}' for x, e in sums)}, v64 == v1 * {i} }}; " for i in range(2, notes + 2)) + "}", f"annotate p {steps}")
+    last = "\n" + "skip; " * 256
+    yield row("`--points` of 20,000 statements", low(128) + f"thread t assume nowrite {all_of(128)} {{ " + "v0 := 1; " * 20_000 + "}", "--points p")
+    yield row("`--points` of 256 statements behind 19,700 assignments to 128 variables", low(128) + f"thread t assume nowrite {all_of(128)} {{ "
+              + "".join(f"v{i % 128} := {i % 7}; " for i in range(19_700)) + last + "}", "--points p 2")
+    yield row("`--points` of 256 statements behind a note of 64 predicates of 959 nodes", low(64) + f"thread t assume nowrite {all_of(64)} {{ note {{ "
+              + ", ".join(" + ".join(["(" + " + ".join([f"v{i}"] * 40) + ")"] * 12) for i in range(64)) + " }; " + last + "}", "--points p 2")
     yield row("a start of 4 MiB of blanks", loop, "run p s k", s=b" " * (longest - 8) + b'{"v0":0}', k=b"[]")
     yield row("a start of 4 MiB of one string", loop, "run p s k", s=b'{"' + b"a" * (longest - 6) + b'":0}', k=b"[]")
     yield row("a start of 4 MiB of keys", loop, "run p s k", s=repeated(b'{"v0":0', b',"a":0', b"}", longest), k=b"[]")
@@ -625,8 +632,9 @@ def limits_part(options, folder, found):
     for title, words, files in limit_rows():
         for name, text in files.items():
             write(folder, name, text)
-        status, seconds = measured(options.program, words, folder)
-        memory = peak_of(options.program, words, folder)
+        program = options.explains if words[0].startswith("--") else options.program
+        status, seconds = measured(program, words, folder)
+        memory = peak_of(program, words, folder)
         with open(os.path.join(folder, "out"), "rb") as out:
             line = out.readline().decode("latin-1").strip()[:60]
         size = sum(len(files[name]) for name in set(words) & set(files))
@@ -730,7 +738,8 @@ def allocations_part(options, folder, found):
             refused_in_turn(options.program, words, folder, made, f"{title}: {' '.join(words)}", found)
     for title, text in (("writer", WRITER), ("unproved", UNPROVED), ("malformed", b"var ring: low;"), ("twice", b"var a: low; var a: low;")):
         write(folder, "p", text)
-        refused_in_turn(options.explains, ["p"], folder, made, f"{title}: explain p", found)
+        for words in (["p"], ["--points", "p"], ["--points", "p", "1"], ["--suggest", "p"]):
+            refused_in_turn(options.explains, words, folder, made, f"{title}: explain {' '.join(words)}", found)
 
 
 # The explanation of each answer.
@@ -746,6 +755,38 @@ def explained(text, answer):
         return line, status
     front = text[:int(place.group(1))]
     return b"p:%d:%d: %s" % (front.count(b"\n") + 1, len(front) - front.rfind(b"\n"), line), status
+
+
+POINT = re.compile(rb"^line (\d+), thread [a-z0-9_]+, in front of:$", re.M)
+KNOWN = re.compile(rb"^  (?:held:         |nothing is told here: )", re.M)
+UNNAMED = re.compile(rb"refused W[12] |malformed |too long: |read fault: ")
+
+
+def told_points(explains, folder, due):
+    """What is told of the points of the file p, and whether it isn't as it has to be, by the first line and the status that are due."""
+    answer = ended(explains, ["--points", "p"], folder)
+    first = answer[0][:answer[0].find(b"\n") + 1]
+    begins = POINT.search(answer[0])
+    none = b"\nno statement begins there\n" in answer[0]
+    wrong = (first, answer[1]) != due or (begins is not None or none) == bool(UNNAMED.search(first)) \
+        or len(KNOWN.findall(answer[0])) < len(POINT.findall(answer[0]))
+    if begins and b"\nand as many more statements, " not in answer[0]:
+        one = ended(explains, ["--points", "p", begins.group(1).decode()], folder)
+        place = POINT.search(one[0])
+        wrong = wrong or one[1] != answer[1] or not place or one[0][:place.start()] != answer[0][:begins.start()] \
+            or not answer[0][begins.start():].startswith(one[0][place.start():])
+    return answer, wrong
+
+
+def told_suggestions(program, explains, folder):
+    """What is suggested for the file p, and whether it isn't as `annotate p 2` has to make it: the same text and status where that is accepted, and else the same lines,
+    as comments, behind a text."""
+    due, answer = ended(program, ["annotate", "p", "2"], folder), ended(explains, ["--suggest", "p"], folder)
+    if due[1] == 0:
+        return answer, answer != due
+    if b" W" in due[0][:10] or due[1] != 1:
+        return answer, answer[1] != due[1]
+    return answer, answer[1] != 1 or not answer[0].endswith(b"".join(b"// " + line for line in due[0].splitlines(keepends=True)))
 
 
 def some_explanations(order):
@@ -766,6 +807,12 @@ def some_explanations(order):
             if (first, answer[1]) != due or wrong != (b"\n  here could stand: " in answer[0]) \
                     or asked != all(word in answer[0] for word in (b"\n  goal:         ", b"\n  hypotheses:  ", b"\n  certificate:  ")):
                 found.append((text, answer, due))
+            points, wrong = told_points(explains, folder, due)
+            if wrong:
+                found.append((text, points, due))
+            suggested, wrong = told_suggestions(program, explains, folder)
+            if wrong:
+                found.append((text, suggested, due))
     return BATCH, shown, found
 
 

@@ -1,6 +1,5 @@
 -- What an expression is as a function of one variable, where sums and differences make it one that can be solved.
-use Rattle.std.specs.Prelude.{ℕ, ◌==◌, not, Option, Some, None, if◌then◌else◌}
-use Rattle.std.specs.Prelude.{List}
+use Rattle.std.specs.Prelude.{ℕ, ◌==◌, not, List, Option, Some, None, if◌then◌else◌}
 use Rattle.cov_expr.specs.declared.expr.Op.{Op}
 use Rattle.cov_expr.specs.declared.expr.Op.TheVariants.{Add, Sub}
 use Rattle.cov_expr.specs.Term.{Term, const, var, neg, bin, apply, flag, is_set}

@@ -18,7 +18,7 @@ use std::alloc::Global;
 /// A memory in which all hypotheses hold and the goal doesn't, as bindings of the variables that occur. `None` comes where the search, whose work is
 /// bounded, comes to none: that says nothing of the entailment.
 ///
-/// Its trials visit [`MOST_VISITED`] nodes of expressions at most; to choose a variable and its values it visits at most three times as many besides. It takes memory for the bindings and
+/// Its trials visit [`MOST_VISITED`] nodes of expressions at most; to choose a variable and its values it visits some three times as many besides. It takes memory for the bindings and
 /// the values that it tries. It is a search with backtracking (Bitner and Reingold 1975): an expression in which one variable is free comes before those in which several are.
 #[tactic(auto, unfolding(crate::specs::Counterexamples::counterexample))]
 pub fn counterexample(

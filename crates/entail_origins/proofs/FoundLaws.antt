@@ -2,19 +2,20 @@
 use Rattle.std.proofs.Common.{◌≡◌, ℕ, ◌<◌, List, [], ◌∷◌, ◌++◌, length, map, Bool, true, false, Option, Some, None, ◌⊎◌, inl, inr, refl, sym, ◌∙◌, ap, subst, if◌then◌else◌, Contains, true≢false, arith}
 use Rattle.std.specs.Prelude.{◌&&◌, ◌||◌, not, nat_lt}
 use Rattle.std.specs.Option.{option_or}
-use Rattle.std.proofs.lemmas.Bool.{and_parts, lt-ltb, ltb-true, not-true, or_left, or_parts, or_right}
+use Rattle.std.proofs.lemmas.Bool.{and_parts, cases_Bool, lt-ltb, ltb-true, not-true, or_left, or_parts, or_right}
 use Rattle.std.proofs.lemmas.List.{length-append, map-append}
 use Rattle.std.proofs.lemmas.List.Elements.{Contains-append_cases, Contains-append_left, Contains-append_right, Contains-push, Contains-push_cases}
 use Rattle.cov_expr.proofs.Tests.{left_true, right_true}
 use Rattle.cov_expr.proofs.Trees.{has_term_append, same_refl}
-use Rattle.cov_expr.specs.Term.{Term}
+use Rattle.cov_expr.specs.declared.expr.Op.TheVariants.{Both}
+use Rattle.cov_expr.specs.Term.{Term, bin}
 use Rattle.cov_expr.specs.Trees.{has_term, is_closed, same}
 use Rattle.cov_ast.specs.Plain.{Plain}
 use Rattle.cov_ast.specs.Tables.{has}
 use Rattle.entail_origins.specs.Origins.{Given, given, given_by}
 use Rattle.statement_paths.specs.Paths.{Step, place_of}
 use Rattle.point_law.specs.Terms.{each_variable}
-use Rattle.entail_origins.specs.LeftOut.{LeftOut, left_out, left_out_at, search_along, state_of_step, gives_nothing, is_left_out, with_given, with_each, with_step}
+use Rattle.entail_origins.specs.LeftOut.{LeftOut, left_out, left_out_at, search_along, state_of_step, gives_nothing, is_known, is_left_out, with_given, with_each, with_step}
 use Rattle.entail_origins.specs.WouldBeKnown.{first_state}
 use Rattle.entail_origins.specs.declared.left_out_found.TheConstants.{MOST_FOUND}
 use Rattle.entail_origins.specs.declared.left_out_states.StateAt.{StateAt}
@@ -47,11 +48,23 @@ not_fresh found o fresh =
     true≢false (sym (terms_with found o o.term ∙ or_right (has_term (terms found) o.term) (has_term (o.term ∷ []) o.term) there) ∙ fresh.another)
 
 module _ (hypotheses : List Term) where
+  -- What is known ----------------------------------------------------------------------------------------------
+
+  pub known_hypothesis : (e : Term) → has_term hypotheses e ≡ true → is_known hypotheses e ≡ true
+  known_hypothesis (bin Both a b) there = or_left (has_term hypotheses (bin Both a b)) (is_known hypotheses a && is_known hypotheses b) there
+  known_hypothesis _ there = there
+
+  pub not_among : (e : Term) → is_known hypotheses e ≡ false → has_term hypotheses e ≡ false
+  not_among e unknown = elim (cases_Bool (has_term hypotheses e)) [
+    | inl there ↦ absurd (true≢false (sym (known_hypothesis e there) ∙ unknown))
+    | inr other ↦ other
+  ]
+
   -- What a predicate is that was left out in front of steps that keep these variables.
   pub record IsMissing (kept : List Bool) (e : Term) : Type 0 where
     pub not_closed : is_closed e ≡ false
     pub over : each_variable (has kept) e ≡ true
-    pub unknown : has_term hypotheses e ≡ false
+    pub unknown : is_known hypotheses e ≡ false
 
   -- a predicate that a step gives, and that was left out; `found` were found behind the step
   pub record IsNew (kept : List Bool) (at : ℕ) (state : StateAt) (found : List LeftOut) (gs : List Given) (o : LeftOut) : Type 0 where
@@ -72,7 +85,7 @@ module _ (hypotheses : List Term) where
         let few = nat_lt (length found) MOST_FOUND in
         let not_closed = not (is_closed g.term) in
         let over = each_variable (has kept) g.term in
-        let unknown = not (has_term hypotheses g.term) in
+        let unknown = not (is_known hypotheses g.term) in
         let another = not (has_term (terms found) g.term) in
         let four = left_true (few && not_closed && over && unknown) another both.1 in
         let three = left_true (few && not_closed && over) unknown four in
@@ -85,7 +98,7 @@ module _ (hypotheses : List Term) where
           missing = record {
             not_closed = not-true (is_closed g.term) (right_true few not_closed two);
             over = right_true (few && not_closed) over three;
-            unknown = not-true (has_term hypotheses g.term) (right_true (few && not_closed && over) unknown four);
+            unknown = not-true (is_known hypotheses g.term) (right_true (few && not_closed && over) unknown four);
           };
           fresh = record {
             few = left_true few not_closed two;

@@ -23,10 +23,10 @@ use Rattle.statement_paths.specs.Paths.{Step, passed, yes, no, head}
 use Rattle.point_law.specs.After.{start}
 use Rattle.point_law.specs.Point.{Point, is_over_stable}
 use Rattle.point_law.specs.Terms.{each_variable}
-use Rattle.entail_origins.specs.LeftOut.{LeftOut, left_out, search_along, gives_nothing, state_of_step}
+use Rattle.entail_origins.specs.LeftOut.{LeftOut, left_out, search_along, gives_nothing, is_known, state_of_step}
 use Rattle.entail_origins.specs.WouldBeKnown.{WouldBeKnown, first_listed, first_state, predicates_of_step, listing, own_or, step_with}
 use Rattle.entail_origins.specs.declared.left_out_states.StateAt.{StateAt}
-use Rattle.entail_origins.proofs.FoundLaws.{IsFresh, found_behind, found_in_step, fresh_step, is_given}
+use Rattle.entail_origins.proofs.FoundLaws.{IsFresh, found_behind, found_in_step, fresh_step, is_given, not_among}
 use Rattle.entail_origins.proofs.StableLaws.{kept_before, kept_of, stable_in_front}
 use Rattle.entail_origins.proofs.StepLaws.{Knows, each_more, gives, keeps}
 
@@ -36,7 +36,7 @@ some_state h = let c : ◌≡◌ {A = Option StateAt} (Some _) None = h in cc
 -- Locks at points ------------------------------------------------------------------------------------------------
 
 module _ (p : Plain) (t : ℕ) where
-  held_step : (s : Step) (a : Point) → held_after s a.held ≡ (after_step p t s a).held
+  pub held_step : (s : Step) (a : Point) → held_after s a.held ≡ (after_step p t s a).held
   held_step (passed at s) a = after_held p t s a
   held_step (yes at e) a = refl
   held_step (no at e) a = refl
@@ -56,24 +56,24 @@ module _ (p : Plain) (t : ℕ) where
   held_listing e (no at g) a = refl
   held_listing e (head at inv) a = refl
 
-  held_steps : (ss : List Step) (a : Point) → held_along ss a.held ≡ (after_steps p t ss a).held
+  pub held_steps : (ss : List Step) (a : Point) → held_along ss a.held ≡ (after_steps p t ss a).held
   held_steps [] a = refl
   held_steps (s ∷ ss) a = ap (held_along ss) (held_step s a) ∙ held_steps ss (after_step p t s a)
 
-  held_joined : (front back : List Step) (held : List Bool) → held_along (front ++ back) held ≡ held_along back (held_along front held)
+  pub held_joined : (front back : List Step) (held : List Bool) → held_along (front ++ back) held ≡ held_along back (held_along front held)
   held_joined [] back held = refl
   held_joined (s ∷ front) back held = held_joined front back (held_after s held)
 
 -- Known to the point ---------------------------------------------------------------------------------------------
 
 module _ (p : Plain) (t : ℕ) (hypotheses : List Term) where
-  abbrev IsKept : (held : List Bool) → List Step → Term → Type 0
+  abbrev pub IsKept : (held : List Bool) → List Step → Term → Type 0
   IsKept held ss e = each_variable (has (kept_of p t hypotheses held ss ss)) e ≡ true
 
   stable_at : (ss : List Step) (held : List Bool) (e : Term) → IsKept held ss e → is_over_stable p t held e ≡ true
   stable_at ss held e over = each_more (has (kept_of p t hypotheses held ss ss)) (is_stable p t held) (stable_in_front p t hypotheses ss held) e over
 
-  stays : (so_far rest : List Step) (a : Point) (e : Term) → IsKept a.held (so_far ++ rest) e → Knows p t a e → Knows p t (after_steps p t (listing e so_far) a) e
+  pub stays : (so_far rest : List Step) (a : Point) (e : Term) → IsKept a.held (so_far ++ rest) e → Knows p t a e → Knows p t (after_steps p t (listing e so_far) a) e
   stays [] rest a e over k = k
   stays (s ∷ so_far) rest a e over k =
       let ss = so_far ++ rest in
@@ -159,7 +159,7 @@ module _ (p : Plain) (t : ℕ) (hypotheses : List Term) where
       (stays p t hypotheses ss [] next g.term (subst (λ steps. IsKept p t hypotheses next.held steps g.term) (sym (append-nil ss)) over) first)
 
   -- What isn't found, although it is over kept variables and no hypothesis, and the first state lists it, is known at the point.
-  listed_is_known : (ss : List Step) (a : Point) (e : Term) → is_closed e ≡ false → has_term hypotheses e ≡ false → IsKept p t hypotheses a.held ss e
+  listed_is_known : (ss : List Step) (a : Point) (e : Term) → is_closed e ≡ false → is_known hypotheses e ≡ false → IsKept p t hypotheses a.held ss e
       → IsFresh (found_behind p hypotheses (marks_at a.held ss) ss) e → has_term (first_listed ss) e ≡ true → Knows p t (after_steps p t ss a) e
   listed_is_known [] a e not_closed unknown over fresh listed = absurd (true≢false (sym listed))
   listed_is_known (s ∷ ss) a e not_closed unknown over fresh listed =
@@ -206,7 +206,7 @@ would_be_known p t steps hypotheses o k =
     let there : Knows p t next o.term
     = gives p t step before (given o.origin.source o.term) found.new.gives found.new.gives_some (stable_at p t hypotheses back next.held o.term over) in
     record {
-      unknown = missing.unknown;
+      unknown = not_among hypotheses o.term missing.unknown;
       front = front;
       step = step;
       back = back;
@@ -220,7 +220,7 @@ would_be_known p t steps hypotheses o k =
             = listed_is_known p t hypotheses back next o.term missing.not_closed missing.unknown over fresh listed in
             let end : point_after_steps p t steps ≡ after_steps p t back next
             = ap (point_after_steps p t) found.parts ∙ appended p t front (step ∷ back) (start p t) in
-            absurd (true≢false (sym (among o.term (subst (λ a. Knows p t a o.term) (sym end) known)) ∙ missing.unknown))
+            absurd (true≢false (sym (among o.term (subst (λ a. Knows p t a o.term) (sym end) known)) ∙ not_among hypotheses o.term missing.unknown))
         | inr other ↦ other
       ];
       stays = λ so_far rest same.

@@ -1,7 +1,7 @@
 -- Small ways, and what was left out on them, by computation.
 use Rattle.std.proofs.Common.{◌≡◌, ℕ, List, [], ◌∷◌, Bool, length, Some, None, true, false, refl, codes, lit<}
 use Rattle.std.proofs.lemmas.Fmt.{decimal_digit}
-use Rattle.cov_expr.specs.declared.expr.Op.TheVariants.{Eq, Le}
+use Rattle.cov_expr.specs.declared.expr.Op.TheVariants.{Both, Eq, Le}
 use Rattle.cov_expr.specs.Term.{Term, const, var, neg, bin}
 use Rattle.cov_expr.specs.Trees.{has_term}
 use Rattle.cov_ast.specs.Plain.{Plain}
@@ -82,11 +82,26 @@ no_state_behind = refl
 known : left_out program (small ∷ []) (true ∷ true ∷ []) (taken ∷ noted 7 (small ∷ []) ∷ []) ≡ []
 known = refl
 
+-- a conjunction both of whose sides are hypotheses
+known_in_parts : left_out program (var 1 ∷ small ∷ []) (true ∷ true ∷ []) (noted 5 (bin Both small (var 1) ∷ []) ∷ noted 7 (small ∷ var 1 ∷ []) ∷ []) ≡ []
+known_in_parts = refl
+
+known_in_part : left_out program (small ∷ []) (true ∷ true ∷ []) (noted 5 (bin Both small (var 1) ∷ []) ∷ noted 7 (small ∷ []) ∷ [])
+    ≡ left_out_at 5 (state_at of.Note 7) (given Noted (bin Both small (var 1))) ∷ []
+known_in_part = refl
+
 not_stable : left_out program [] (false ∷ true ∷ []) (taken ∷ noted 7 [] ∷ []) ≡ []
 not_stable = refl
 
 assigned_later : left_out program [] (true ∷ true ∷ []) (taken ∷ noted 7 [] ∷ one ∷ []) ≡ []
 assigned_later = refl
+
+-- also in a block of a branch or of a loop
+assigned_in_a_branch : left_out program [] (true ∷ true ∷ []) (taken ∷ passed 8 (s.branch (var 1) s.done (s.more 8 (s.assign 0 (const 1) None []) [] s.done) (stated [])) ∷ []) ≡ []
+assigned_in_a_branch = refl
+
+assigned_in_a_loop : left_out program [] (true ∷ true ∷ []) (taken ∷ passed 6 (s.loop (var 1) (stated []) (s.more 8 (s.assign 0 (const 1) None []) [] s.done)) ∷ []) ≡ []
+assigned_in_a_loop = refl
 
 freed_later : left_out program [] (true ∷ true ∷ []) (taken ∷ noted 7 [] ∷ freed ∷ []) ≡ []
 freed_later = refl

@@ -11,6 +11,9 @@ pub mod EachAsked
 pub mod LeftOutExamples
 pub mod FoundLaws
 pub mod KnownLaws
+pub mod ForgottenExamples
+pub mod ForgottenLaws
+pub mod KeptLaws
 pub mod StableLaws
 pub mod StepLaws
 mod TypeExamples

@@ -17,7 +17,8 @@ use Rattle.statement_paths.proofs.PlainLaws.{after_the_first}
 use Rattle.statement_paths.specs.VariableSets.{stable}
 use Rattle.mode_state.specs.Sets.{is_stable, locks_of}
 use Rattle.statement_paths.specs.Paths.{Step, passed, yes, no, head}
-use Rattle.entail_origins.specs.LeftOut.{search_along, unlocked_by, unlocked_in, untouched_by, without_all, without_listed}
+use Rattle.entail_origins.specs.Forgotten.{untouched_along}
+use Rattle.entail_origins.specs.LeftOut.{search_along, untouched_by, untouched_in, untouched_past, without_all, without_listed, without_stored}
 
 -- Sets ---------------------------------------------------------------------------------------------------------
 
@@ -75,39 +76,49 @@ module _ (p : Plain) (t x : ℕ) where
   abbrev Leaves : (held after : List Bool) → (marks left : List Bool) → Type 0
   Leaves held after marks left = has left x ≡ true → (has marks x ≡ true) × (is_stable p t after x ≡ is_stable p t held x)
 
-  mutual
-    past : (s : Stm) (held marks : List Bool) → Leaves held (held_past s held) marks (unlocked_by p s marks)
-    past skip held marks = λ h. (h, refl)
-    past (assign z e q retypes) held marks = λ h. (h, refl)
-    past (lock l) held marks = λ h. let out = not_listed (lock_at p l) marks x h in (out.0, other_lock held l true out.1)
-    past (unlock l) held marks = λ h. let out = not_listed (lock_at p l) marks x h in (out.0, other_lock held l false out.1)
-    past (branch e a b join) held marks = λ h. let second = past_block b held (unlocked_in p a marks) h in past_block a held marks second.0
-    past (loop e inv b) held marks = λ h. let turn = past_block b held marks h in (turn.0, refl)
-    past (note j) held marks = λ h. (h, refl)
-    past (output e) held marks = λ h. (h, refl)
+  -- What is left, whether stores count or not.
+  module _ (stores : Bool) where
+    stored : (z : ℕ) (marks : List Bool) → has (without_stored stores z marks) x ≡ true → has marks x ≡ true
+    stored z marks = by_case stores
+      where
+        by_case : (b : Bool) → has (without_stored b z marks) x ≡ true → has marks x ≡ true
+        by_case true h = (another marks z x h).0
+        by_case false h = h
 
-    past_block : (b : Block) (held marks : List Bool) → Leaves held (held_at_end b held) marks (unlocked_in p b marks)
-    past_block done held marks = λ h. (h, refl)
-    past_block (more at s proofs rest) held marks =
-        subst (λ after. Leaves held after marks (unlocked_in p (more at s proofs rest) marks)) (sym (after_the_first s at (plain_block rest) held)) (λ h.
-        let later = past_block rest (held_past s held) (unlocked_by p s marks) h in
-        let first = past s held marks later.0 in
-        (first.0, later.1 ∙ first.1))
+    mutual
+      past : (s : Stm) (held marks : List Bool) → Leaves held (held_past s held) marks (untouched_past p stores s marks)
+      past skip held marks = λ h. (h, refl)
+      past (assign z e q retypes) held marks = λ h. (stored z marks h, refl)
+      past (lock l) held marks = λ h. let out = not_listed (lock_at p l) marks x h in (out.0, other_lock held l true out.1)
+      past (unlock l) held marks = λ h. let out = not_listed (lock_at p l) marks x h in (out.0, other_lock held l false out.1)
+      past (branch e a b join) held marks = λ h. let second = past_block b held (untouched_in p stores a marks) h in past_block a held marks second.0
+      past (loop e inv b) held marks = λ h. let turn = past_block b held marks h in (turn.0, refl)
+      past (note j) held marks = λ h. (h, refl)
+      past (output e) held marks = λ h. (h, refl)
 
-  past_step : (s : Step) (held marks : List Bool) → Leaves held (held_after s held) marks (untouched_by p s marks)
-  past_step (passed at skip) held marks = λ h. (h, refl)
-  past_step (passed at (assign z e q retypes)) held marks = λ h. ((another marks z x h).0, refl)
-  past_step (passed at (lock l)) held marks = past (lock l) held marks
-  past_step (passed at (unlock l)) held marks = past (unlock l) held marks
-  past_step (passed at (branch e a b join)) held marks = past (branch e a b join) held marks
-  past_step (passed at (loop e inv b)) held marks = past (loop e inv b) held marks
-  past_step (passed at (note j)) held marks = λ h. (h, refl)
-  past_step (passed at (output e)) held marks = λ h. (h, refl)
-  past_step (yes at e) held marks = λ h. (h, refl)
-  past_step (no at e) held marks = λ h. (h, refl)
-  past_step (head at inv) held marks = λ h. (h, refl)
+      past_block : (b : Block) (held marks : List Bool) → Leaves held (held_at_end b held) marks (untouched_in p stores b marks)
+      past_block done held marks = λ h. (h, refl)
+      past_block (more at s proofs rest) held marks =
+          subst (λ after. Leaves held after marks (untouched_in p stores (more at s proofs rest) marks)) (sym (after_the_first s at (plain_block rest) held)) (λ h.
+          let later = past_block rest (held_past s held) (untouched_past p stores s marks) h in
+          let first = past s held marks later.0 in
+          (first.0, later.1 ∙ first.1))
+
+    pub past_step : (s : Step) (held marks : List Bool) → Leaves held (held_after s held) marks (untouched_by p stores s marks)
+    past_step (passed at s) held marks = past s held marks
+    past_step (yes at e) held marks = λ h. (h, refl)
+    past_step (no at e) held marks = λ h. (h, refl)
+    past_step (head at inv) held marks = λ h. (h, refl)
 
 -- Several steps ------------------------------------------------------------------------------------------------
+
+-- what steps leave of the variables that are stable behind them is stable in front
+pub stable_along : (p : Plain) (t : ℕ) (stores : Bool) (ss : List Step) (held : List Bool) (x : ℕ)
+    → has (untouched_along p stores (stable p t (held_along ss held)) ss) x ≡ true → is_stable p t held x ≡ true
+stable_along p t stores [] held x h = in_table (length p.vars) (is_stable p t held) x h
+stable_along p t stores (s ∷ ss) held x h =
+    let one = past_step p t x stores s held (untouched_along p stores (stable p t (held_along ss (held_after s held))) ss) h in
+    sym one.1 ∙ stable_along p t stores ss (held_after s held) x one.0
 
 module _ (p : Plain) (t : ℕ) (hypotheses : List Term) where
   -- the variables that steps keep of those that are stable behind them
@@ -117,9 +128,9 @@ module _ (p : Plain) (t : ℕ) (hypotheses : List Term) where
   pub stable_in_front : (ss : List Step) (held : List Bool) (x : ℕ) → has (kept_of held ss ss) x ≡ true → is_stable p t held x ≡ true
   stable_in_front [] held x h = in_table (length p.vars) (is_stable p t held) x h
   stable_in_front (s ∷ ss) held x h =
-      let one = past_step p t x s held (kept_of (held_after s held) ss ss) h in
+      let one = past_step p t x true s held (kept_of (held_after s held) ss ss) h in
       sym one.1 ∙ stable_in_front ss (held_after s held) x one.0
 
   -- what is kept with one step more is kept
   pub kept_before : (s : Step) (ss : List Step) (held : List Bool) (x : ℕ) → has (kept_of held (s ∷ ss) (s ∷ ss)) x ≡ true → has (kept_of (held_after s held) ss ss) x ≡ true
-  kept_before s ss held x h = (past_step p t x s held (kept_of (held_after s held) ss ss) h).0
+  kept_before s ss held x h = (past_step p t x true s held (kept_of (held_after s held) ss ss) h).0

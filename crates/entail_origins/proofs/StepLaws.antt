@@ -60,7 +60,7 @@ are_with es (f ∷ fs) h k = elim (or_cases (same f h) (has_term fs h) k) [
   | inr later ↦ are_with (with_term es f) fs h later
 ]
 
-in_distinct : (es : List Term) (h : Term) → has_term es h ≡ true → has_term (distinct_terms es) h ≡ true
+pub in_distinct : (es : List Term) (h : Term) → has_term es h ≡ true → has_term (distinct_terms es) h ≡ true
 in_distinct es h k = are_with [] es h k
 
 stays_with_if : (b : Bool) (es : List Term) (e h : Term) → has_term es h ≡ true → has_term (with_term_if b es e) h ≡ true
@@ -132,7 +132,7 @@ module _ (p : Plain) (t : ℕ) where
   Knows a e = has_term a.preds e ≡ true
 
   -- what is over stable variables that a step doesn't touch stays known, where the step lists it in its state
-  pub keeps : (s : Step) (a : Point) (e : Term) (kept : List Bool) → each_variable (has (untouched_by p s kept)) e ≡ true
+  pub keeps : (s : Step) (a : Point) (e : Term) (kept : List Bool) → each_variable (has (untouched_by p true s kept)) e ≡ true
       → is_over_stable p t (after_step p t s a).held e ≡ true → Knows a e → Knows (after_step p t (step_with e s) a) e
   keeps (passed at skip) a e kept over stable k = k
   keeps (passed at (assign x v q retypes)) a e kept over stable k =

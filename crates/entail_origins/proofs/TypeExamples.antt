@@ -169,14 +169,14 @@ abbrev text : List ℕ
 text = 10 ∷ 120 ∷ 10 ∷ 10 ∷ 120 ∷ 120 ∷ 120 ∷ 120 ∷ []
 
 a_control_and_an_assignment : type_lines program 0 text (taken ∷ stored ∷ raised ∷ []) q.Printed (s.output (bin Add (var 0) (var 2)))
-    ≡ codes "  type of m:  1, as that of every control\n  type of o:  from the assignment, line 2; then m is stored to, line 3, which turns a type that mentions it into its class `0`\n"
+    ≡ codes "  type of m:  1, as that of every control\n  type of o:  from the assignment, line 2; then m is stored to, line 3, which turns a type that mentions it into its class `0` (high)\n"
 a_control_and_an_assignment = simp (decimal_digit 0 (lit< tt), decimal_digit 2 (lit< tt), decimal_digit 3 (lit< tt))
 
 not_stable : type_lines program 0 text (taken ∷ returned ∷ []) q.Guard (s.branch (var 1) s.done s.done (stated []))
     ≡ codes "  type of buf:  its class `m == 0`, since it isn't stable here: the thread doesn't assume that no other writes it, and holds no lock that it is under\n"
 not_stable = simp (decimal_digit 0 (lit< tt))
 
-a_low_variable : type_lines program 0 text [] q.Printed (s.output (var 3)) ≡ codes "  type of n:  its class `1`, since it isn't stable here: the thread doesn't assume that no other writes it, and holds no lock that it is under\n"
+a_low_variable : type_lines program 0 text [] q.Printed (s.output (var 3)) ≡ codes "  type of n:  its class `1` (low), since it isn't stable here: the thread doesn't assume that no other writes it, and holds no lock that it is under\n"
 a_low_variable = simp (decimal_digit 1 (lit< tt))
 
 -- under its lock nobody else reads `buf`
@@ -184,13 +184,13 @@ hidden : type_lines program 0 text (taken ∷ joined [] ∷ []) (q.Freed 1) (s.u
 hidden = simp (decimal_digit 4 (lit< tt))
 
 not_hidden : type_lines program 0 text (joined [] ∷ returned ∷ []) (q.Retyped 2) s.skip
-    ≡ codes "  type of o:  its class `0`, since the join of the `if`, line 4, doesn't list it; then l is given back, line 4, which turns a type that mentions what it protects into its class `0`\n"
+    ≡ codes "  type of o:  its class `0` (high), since the join of the `if`, line 4, doesn't list it; then l is given back, line 4, which turns a type that mentions what it protects into its class `0` (high)\n"
 not_hidden = simp (decimal_digit 0 (lit< tt), decimal_digit 4 (lit< tt))
 
 by_its_lock : type_lines program 0 text (taken ∷ []) (q.Controlled 1) s.skip ≡ codes "  type of buf:  its class `m == 0`, from the lock l, line 2\n"
 by_its_lock = simp (decimal_digit 0 (lit< tt), decimal_digit 2 (lit< tt))
 
-at_the_start : type_lines program 0 text [] (q.TypeOf e.Here 2) s.skip ≡ codes "  type of o:  its class `0`, from the start of the thread\n"
+at_the_start : type_lines program 0 text [] (q.TypeOf e.Here 2) s.skip ≡ codes "  type of o:  its class `0` (high), from the start of the thread\n"
 at_the_start = simp (decimal_digit 0 (lit< tt))
 
 no_lines : type_lines program 0 text [] (q.Invariant 0) (s.unlock 0) ≡ []

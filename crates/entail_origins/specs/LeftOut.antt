@@ -1,11 +1,11 @@
 -- The predicates that would be known at a point, had the state of a branch, of a loop or of a note on the way to it listed them.
 --
 -- A state forgets each predicate that it doesn't list. One that a step in front of the state gives, whose variables are stable at the point and
--- since that step, and to which no statement behind that step stores, would be a hypothesis there, had the states listed it. Whether the blocks that are
--- passed let it be listed isn't looked at.
-use Rattle.std.specs.Prelude.{ℕ, ◌&&◌, nat_lt, List, [], ◌∷◌, ◌++◌, length, map, set, Bool, false, not, if◌then◌else◌, Option, Some, None}
+-- since that step, and to which no statement behind that step stores, also in a block, would be a hypothesis there, had the states listed it. Whether the
+-- ends of the blocks that are passed let it be listed isn't looked at.
+use Rattle.std.specs.Prelude.{ℕ, ◌&&◌, ◌||◌, nat_lt, List, [], ◌∷◌, ◌++◌, length, map, set, Bool, true, false, not, if◌then◌else◌, Option, Some, None}
 use Rattle.std.specs.Option.{option_or}
-use Rattle.cov_expr.specs.declared.expr.Op.TheVariants.{Eq}
+use Rattle.cov_expr.specs.declared.expr.Op.TheVariants.{Eq, Both}
 use Rattle.cov_expr.specs.Term.{Term, const, var, neg, bin}
 use Rattle.cov_expr.specs.Trees.{has_term, is_closed, mentions}
 use Rattle.cov_expr.specs.View.{term}
@@ -36,40 +36,35 @@ without_all marks (x ∷ xs) = without_all (set marks x false) xs
 abbrev pub without_listed : Lock → List Bool → List Bool
 without_listed l marks = without_all (without_all marks l.nowrite) l.hide
 
-abbrev mutual
-  -- what the locks leave of a set that are taken or given back in a statement, or in its blocks
-  pub unlocked_by : Plain → Stm → List Bool → List Bool
-  unlocked_by p skip marks = marks
-  unlocked_by p (assign x e q retypes) marks = marks
-  unlocked_by p (lock l) marks = without_listed (lock_at p l) marks
-  unlocked_by p (unlock l) marks = without_listed (lock_at p l) marks
-  unlocked_by p (branch e a b join) marks = unlocked_in p b (unlocked_in p a marks)
-  unlocked_by p (loop e inv b) marks = unlocked_in p b marks
-  unlocked_by p (note j) marks = marks
-  unlocked_by p (output e) marks = marks
+-- a set without the variable of a store, where stores count
+abbrev pub without_stored : (stores : Bool) → (x : ℕ) → List Bool → List Bool
+without_stored stores x marks = if stores then set marks x false else marks
 
-  -- the same of the statements of a block
-  pub unlocked_in : Plain → Block → List Bool → List Bool
-  unlocked_in p done marks = marks
-  unlocked_in p (more at s proofs rest) marks = unlocked_in p rest (unlocked_by p s marks)
+-- of a program, where stores count beside locks, or don't
+module _ (p : Plain) (stores : Bool) where
+  abbrev mutual
+    -- What a statement that is passed leaves of a set of variables: a store touches its variable, and a lock that is taken or given back all
+    -- that are under it, also in a block.
+    pub untouched_past : Stm → List Bool → List Bool
+    untouched_past skip marks = marks
+    untouched_past (assign x e q retypes) marks = without_stored stores x marks
+    untouched_past (lock l) marks = without_listed (lock_at p l) marks
+    untouched_past (unlock l) marks = without_listed (lock_at p l) marks
+    untouched_past (branch e a b join) marks = untouched_in b (untouched_in a marks)
+    untouched_past (loop e inv b) marks = untouched_in b marks
+    untouched_past (note j) marks = marks
+    untouched_past (output e) marks = marks
 
--- What a statement that is passed leaves of a set of variables: an assignment touches its variable, and a lock that is taken or given
--- back, also in a block, all that are under it.
-abbrev pub untouched_past : Plain → Stm → List Bool → List Bool
-untouched_past p skip marks = marks
-untouched_past p (assign x e q retypes) marks = set marks x false
-untouched_past p (lock l) marks = unlocked_by p (lock l) marks
-untouched_past p (unlock l) marks = unlocked_by p (unlock l) marks
-untouched_past p (branch e a b join) marks = unlocked_by p (branch e a b join) marks
-untouched_past p (loop e inv b) marks = unlocked_by p (loop e inv b) marks
-untouched_past p (note j) marks = marks
-untouched_past p (output e) marks = marks
+    -- the same of the statements of a block
+    pub untouched_in : Block → List Bool → List Bool
+    untouched_in done marks = marks
+    untouched_in (more at s proofs rest) marks = untouched_in rest (untouched_past s marks)
 
-abbrev pub untouched_by : Plain → Step → List Bool → List Bool
-untouched_by p (passed at s) marks = untouched_past p s marks
-untouched_by p (yes at e) marks = marks
-untouched_by p (no at e) marks = marks
-untouched_by p (head at inv) marks = marks
+  abbrev pub untouched_by : Step → List Bool → List Bool
+  untouched_by (passed at s) marks = untouched_past s marks
+  untouched_by (yes at e) marks = marks
+  untouched_by (no at e) marks = marks
+  untouched_by (head at inv) marks = marks
 
 -- States on the way --------------------------------------------------------------------------------------------
 
@@ -136,11 +131,16 @@ gives_nothing source e = false
 
 -- of a point with these hypotheses
 module _ (hypotheses : List Term) where
-  -- Whether a predicate was left out in front of steps that keep these variables: it has a variable, each is kept, and it is neither a
-  -- hypothesis nor found already. Of more than a few the others aren't shown.
+  -- whether a predicate is a hypothesis, or both sides of an `&&` are known
+  abbrev pub is_known : Term → Bool
+  is_known (bin Both a b) = has_term hypotheses (bin Both a b) || (is_known a && is_known b)
+  is_known e = has_term hypotheses e
+
+  -- Whether a predicate was left out in front of steps that keep these variables: it has a variable, each is kept, and it is neither
+  -- known nor found already. Of more than a few the others aren't shown.
   abbrev pub is_left_out : (kept : List Bool) → (found : List LeftOut) → Term → Bool
   is_left_out kept found e =
-      nat_lt (length found) MOST_FOUND && not (is_closed e) && each_variable (has kept) e && not (has_term hypotheses e) && not (has_term (map (λ o. o.term) found) e)
+      nat_lt (length found) MOST_FOUND && not (is_closed e) && each_variable (has kept) e && not (is_known e) && not (has_term (map (λ o. o.term) found) e)
 
   -- what was found, and a predicate that the step at a place gives, if it was left out
   abbrev pub with_given : (kept : List Bool) → (at : ℕ) → StateAt → Given → (found : List LeftOut) → List LeftOut
@@ -160,7 +160,7 @@ module _ (p : Plain) (hypotheses : List Term) where
   -- with one step more in front
   abbrev pub search_with_step : Step → Search → Search
   search_with_step s b = record {
-    kept = untouched_by p s b.kept;
+    kept = untouched_by p true s b.kept;
     state = option_or (state_of_step s) b.state;
     found = with_step b.kept s b.state b.found;
   }

@@ -8,6 +8,10 @@ pub mod OwnEntailments
 pub mod LeftOut
 pub mod LeftOutLines
 pub mod WouldBeKnown
+pub mod Forgotten
+pub mod ForgottenLines
+pub mod StateWords
+pub mod WouldBeKept
 pub mod TypeOrigins
 pub mod AskedVariables
 pub mod GoalTypes

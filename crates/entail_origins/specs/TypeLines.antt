@@ -1,6 +1,6 @@
 -- A line for each variable whose type makes up a goal: where its type comes from. Classes are spelled canonically.
-use Rattle.std.specs.Prelude.{ℕ, List, [], ◌∷◌, ◌++◌, Bool, true, false, codes, decimal, if◌then◌else◌, Option, Some, None}
-use Rattle.cov_expr.specs.Term.{Term}
+use Rattle.std.specs.Prelude.{ℕ, ◌==◌, List, [], ◌∷◌, ◌++◌, Bool, true, false, codes, decimal, if◌then◌else◌, Option, Some, None}
+use Rattle.cov_expr.specs.Term.{Term, const}
 use Rattle.cov_ast.specs.Declarations.{class_of, lock_at, name_of}
 use Rattle.cov_ast.specs.Plain.{Plain}
 use Rattle.cov_ast.specs.Syntax.{Stm}
@@ -52,9 +52,18 @@ listed_text by.LoopState = codes "listed by the inv of the `while`"
 listed_text by.Noted = codes "listed by the note"
 listed_text by.Retype = codes "from the retype"
 
+-- the level of a class that is a constant; of others it depends on the memory
+abbrev pub level_part : Term → List ℕ
+level_part (const k) = if k == 0 then codes " (high)" else codes " (low)"
+level_part e = []
+
+-- what stands behind a class
+abbrev pub class_end : Term → List ℕ
+class_end e = codes "`" ++ level_part e
+
 -- a class that is this expression
 abbrev pub spelled_class : Names → Term → List ℕ
-spelled_class names e = codes "its class `" ++ whole names e ++ codes "`"
+spelled_class names e = codes "its class `" ++ whole names e ++ class_end e
 
 -- the class of a variable
 abbrev pub class_text : Plain → Names → (z : ℕ) → List ℕ

@@ -62,7 +62,7 @@ pub fn origin_of<'p>(
 }
 
 /// Whether a step gives a hypothesis, and what it is in the step that does.
-fn origin_at<'p>(
+pub fn origin_at<'p>(
     alloc: Global,
     p: &'p Program,
     step: &Step<'p>,

@@ -19,7 +19,7 @@ use cov_expr::{Expr, List, NoMemory, Op, closed, has_same, mentions, same};
 use statement_paths::Step;
 use std::alloc::Global;
 
-/// How many predicates are shown at most.
+/// How many predicates are shown at most, and how many parts of those that stores forgot.
 pub const MOST_FOUND: usize = 8;
 
 /// A predicate that was left out, with what gives it, and the first state behind that, which doesn't list it.
@@ -104,12 +104,24 @@ fn is_left_out(hypotheses: &[Expr], kept: &NumberSet, found: &[LeftOut], e: &Exp
     found.len() < MOST_FOUND
         && !closed(e)
         && is_over(kept, e)
-        && !has_same(hypotheses, e)
+        && !is_known(hypotheses, e)
         && !is_found(found, e)
 }
 
+/// Whether a predicate is a hypothesis, or both sides of an `&&` are known.
+pub fn is_known(hypotheses: &[Expr], e: &Expr) -> bool
+    ensures { result ≡ spec.is_known (map term hypotheses.now) (term e.now) }
+{
+    match e {
+        Expr::Bin(Op::Both, a, b) => {
+            has_same(hypotheses, e) || (is_known(hypotheses, a) && is_known(hypotheses, b))
+        }
+        Expr::Const(_) | Expr::Var(_) | Expr::Not(_) | Expr::Bin(..) => has_same(hypotheses, e),
+    }
+}
+
 /// Whether each variable of an expression is in a set.
-fn is_over(set: &NumberSet, e: &Expr) -> bool
+pub fn is_over(set: &NumberSet, e: &Expr) -> bool
     ensures { result ≡ each_variable (has set.now) (term e.now) }
 {
     match e {
@@ -157,7 +169,7 @@ fn is_own_value(e: &Expr, value: &Expr) -> bool
 }
 
 /// Whether a predicate was found already.
-fn is_found(found: &[LeftOut], e: &Expr) -> bool
+pub fn is_found(found: &[LeftOut], e: &Expr) -> bool
     ensures { result ≡ has_term (map (λ o. o.term) (map spec.seen found.now)) (term e.now) }
 {
     for one in found {

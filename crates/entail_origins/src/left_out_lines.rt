@@ -1,4 +1,4 @@
-//! The lines of what was left out.
+//! The lines of what was left out, and of what stores forgot.
 
 ghost use Rattle.std.specs.Prelude.{◌≡◌, ◌<◌, ◌++◌, OnOk, length, map};
 ghost use Rattle.cov_expr.specs.View.{term};
@@ -9,20 +9,24 @@ ghost use Rattle.statement_paths.specs.Paths as paths;
 ghost use Rattle.entail_origins.specs.LeftOut.{seen};
 ghost use Rattle.entail_origins.specs.LeftOutLines as spec;
 
+use crate::forgotten_lines::add_forgotten_lines;
+use crate::forgotten_search::forgotten_parts;
 use crate::hypothesis_origin::Origin;
 use crate::left_out_found::LeftOut;
 use crate::left_out_search::left_out;
-use crate::left_out_states::{StateAt, StateKind};
+use crate::left_out_states::StateAt;
 use crate::remark::add_origin;
-use cov_ast::{NameTable, Program};
+use crate::state_words::{add_kind, add_line_part};
+use cov_ast::{NameTable, NumberSet, Program};
 use cov_expr::{Blob, Expr, NoMemory};
 use cov_print::add_expr;
 use statement_paths::{Step, stable_after_steps};
 use std::alloc::Global;
-use text_parts::{add_number, position, variable_names};
+use text_parts::variable_names;
 
 /// Adds a line for each predicate that would be known behind steps of a thread, had a state on the way listed it: the predicate, what gives
-/// it, and the state. `hypotheses` are known there, and `bytes` are the text of the program.
+/// it, and the state. Behind them it adds one for each part of a predicate that a store forgot, and that a note in front of the store would
+/// have kept. `hypotheses` are known there, and `bytes` are the text of the program.
 ///
 /// It takes time in proportion to the steps and what they spell, times the hypotheses, and to the text.
 pub fn add_left_out(
@@ -39,9 +43,27 @@ pub fn add_left_out(
     ensures { OnOk result (text.new ≡ text.old ++ spec.left_out_lines (view.program p.now) t bytes.now (map paths.step steps.now) (map term hypotheses.now)) }
 {
     let stable = stable_after_steps(alloc, p, t, steps)?;
-    let found = left_out(alloc, p, hypotheses, stable, steps)?;
     let names = variable_names(alloc, p)?;
-    add_lines(p, &names, bytes, found.as_slice(), text)
+    add_along(alloc, p, &names, bytes, &stable, steps, hypotheses, text)
+}
+
+/// The same behind steps where some variables are stable.
+fn add_along(
+    alloc: Global,
+    p: &Program,
+    names: &NameTable,
+    bytes: &[u8],
+    stable: &NumberSet,
+    steps: &[Step<'_>],
+    hypotheses: &[Expr],
+    text: &mut Blob,
+) -> Result<(), NoMemory>
+    ensures { OnOk result (text.new ≡ text.old ++ spec.lines_along (plain (view.program p.now)) names.now bytes.now stable.now (map paths.step steps.now) (map term hypotheses.now)) }
+{
+    let found = left_out(alloc, p, hypotheses, stable, steps)?;
+    let parts = forgotten_parts(alloc, p, hypotheses, found.as_slice(), stable, steps)?;
+    add_lines(p, names, bytes, found.as_slice(), text)?;
+    add_forgotten_lines(p, names, bytes, parts.as_slice(), text)
 }
 
 /// Adds a line for each predicate that was left out.
@@ -102,26 +124,6 @@ fn add_state_part(bytes: &[u8], state: StateAt, text: &mut Blob) -> Result<(), N
     ensures { OnOk result (text.new ≡ text.old ++ spec.state_part bytes.now state) }
 {
     text.extend_from_slice(b", by the ")?;
-    text.extend_from_slice(kind_text(state.kind).as_bytes())?;
+    add_kind(state.kind, text)?;
     add_line_part(bytes, state.at, text)
-}
-
-/// Adds the line of a state, and ends the line of text.
-fn add_line_part(bytes: &[u8], at: u32, text: &mut Blob) -> Result<(), NoMemory>
-    ensures { OnOk result (text.new ≡ text.old ++ spec.line_part bytes.now at) }
-{
-    text.extend_from_slice(b", line ")?;
-    add_number(position(bytes, at as usize).line, text)?;
-    text.extend_from_slice(b"\n")
-}
-
-/// What a state is, with the statement that it is of, which gives its line.
-fn kind_text(kind: StateKind) -> &'static str
-    ensures { result.now ≡ spec.kind_text kind }
-{
-    match kind {
-        StateKind::Join => "join of the `if`",
-        StateKind::Inv => "inv of the `while`",
-        StateKind::Note => "note",
-    }
 }

@@ -20,17 +20,17 @@ pub fn left_out(
     alloc: Global,
     p: &Program,
     hypotheses: &[Expr],
-    stable: NumberSet,
+    stable: &NumberSet,
     steps: &[Step<'_>],
 ) -> Result<List<LeftOut>, NoMemory>
-    ensures { IfOk result (λ made. map spec.seen made ≡ spec.left_out (plain (view.program p.now)) (map term hypotheses.now) stable (map paths.step steps.now)) }
+    ensures { IfOk result (λ made. map spec.seen made ≡ spec.left_out (plain (view.program p.now)) (map term hypotheses.now) stable.now (map paths.step steps.now)) }
 {
-    let mut kept = stable;
+    let mut kept = stable.copy(alloc)?;
     let mut state = None;
     let mut found = List::new(alloc);
     for i in (0..steps.len()).rev() {
         add_of_step(alloc, p, hypotheses, &kept, &steps[i], state, &mut found)?;
-        keep_untouched(p, &steps[i], &mut kept);
+        keep_untouched(p, true, &steps[i], &mut kept);
         state = first_state(&steps[i], state);
     }
     Ok(found)

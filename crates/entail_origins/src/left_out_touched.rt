@@ -10,52 +10,49 @@ ghost use Rattle.entail_origins.specs.LeftOut as spec;
 use cov_ast::{NumberSet, Program, Stmt, StmtKind};
 use statement_paths::Step;
 
-/// Takes out of a set what a step touches.
-pub fn keep_untouched(p: &Program, step: &Step<'_>, kept: &mut NumberSet)
-    ensures { kept.new ≡ spec.untouched_by (plain (view.program p.now)) (paths.step step.now) kept.old }
+/// Takes out of a set what a step touches: the variables of locks, and where `stores`, those that are stored to.
+pub fn keep_untouched(p: &Program, stores: bool, step: &Step<'_>, kept: &mut NumberSet)
+    ensures { kept.new ≡ spec.untouched_by (plain (view.program p.now)) stores (paths.step step.now) kept.old }
 {
     match step {
-        Step::Passed(stmt) => keep_past(p, &stmt.kind, kept),
+        Step::Passed(stmt) => keep_past(p, stores, &stmt.kind, kept),
         Step::Yes(_, _) | Step::No(_, _) | Step::Head(_, _) => {}
     }
 }
 
-/// Takes out what a statement that is passed touches.
-fn keep_past(p: &Program, kind: &StmtKind, kept: &mut NumberSet)
-    ensures { kept.new ≡ spec.untouched_past (plain (view.program p.now)) (view.kind kind.now) kept.old }
+/// Takes out what a statement that is passed touches, also in its blocks. Each statement of them is looked at once.
+#[cycle(blocks)]
+fn keep_past(p: &Program, stores: bool, kind: &StmtKind, kept: &mut NumberSet)
+    ensures { kept.new ≡ spec.untouched_past (plain (view.program p.now)) stores (view.kind kind.now) kept.old }
 {
     match kind {
-        StmtKind::Assign(x, _, _, _) => kept.put(*x, false),
-        StmtKind::Lock(_) | StmtKind::Unlock(_) => take_unlocked(p, kind, kept),
-        StmtKind::If(_, _, _, _) | StmtKind::While(_, _, _) => take_unlocked(p, kind, kept),
+        StmtKind::Assign(x, _, _, _) => take_stored(stores, *x, kept),
+        StmtKind::Lock(l) | StmtKind::Unlock(l) => take_listed(p, *l, kept),
+        StmtKind::If(_, a, b, _) => {
+            keep_past_all(p, stores, a.as_slice(), kept);
+            keep_past_all(p, stores, b.as_slice(), kept);
+        }
+        StmtKind::While(_, _, b) => keep_past_all(p, stores, b.as_slice(), kept),
         StmtKind::Skip | StmtKind::Note(_) | StmtKind::Output(_) => {}
     }
 }
 
-/// Takes out the variables of the locks that are taken or given back in the statements of a block. Each of them is looked at once.
+/// The same of the statements of a block.
 #[cycle(blocks)]
-fn take_unlocked_in(p: &Program, body: &[Stmt], kept: &mut NumberSet)
-    ensures { kept.new ≡ spec.unlocked_in (plain (view.program p.now)) (view.block body.now) kept.old }
+fn keep_past_all(p: &Program, stores: bool, body: &[Stmt], kept: &mut NumberSet)
+    ensures { kept.new ≡ spec.untouched_in (plain (view.program p.now)) stores (view.block body.now) kept.old }
 {
     for stmt in body {
-        take_unlocked(p, &stmt.kind, kept);
+        keep_past(p, stores, &stmt.kind, kept);
     }
 }
 
-/// The same of a statement, and of its blocks.
-#[cycle(blocks)]
-fn take_unlocked(p: &Program, kind: &StmtKind, kept: &mut NumberSet)
-    ensures { kept.new ≡ spec.unlocked_by (plain (view.program p.now)) (view.kind kind.now) kept.old }
+/// Takes out the variable of a store, where stores count.
+fn take_stored(stores: bool, x: u32, kept: &mut NumberSet)
+    ensures { kept.new ≡ spec.without_stored stores x kept.old }
 {
-    match kind {
-        StmtKind::Lock(l) | StmtKind::Unlock(l) => take_listed(p, *l, kept),
-        StmtKind::If(_, a, b, _) => {
-            take_unlocked_in(p, a.as_slice(), kept);
-            take_unlocked_in(p, b.as_slice(), kept);
-        }
-        StmtKind::While(_, _, b) => take_unlocked_in(p, b.as_slice(), kept),
-        StmtKind::Skip | StmtKind::Assign(_, _, _, _) | StmtKind::Note(_) | StmtKind::Output(_) =>
-            {}
+    if stores {
+        kept.put(x, false);
     }
 }
 

@@ -28,16 +28,21 @@ pub fn add_question(
     ensures { OnOk result (text.new ≡ text.old ++ spec.question_line (view.program p.now) t place number) }
 {
     match question(alloc, p, t, place, number)? {
-        Some(asked) => add_line(p, number, &asked, text),
+        Some(asked) => add_question_line(p, number as usize, &asked, text),
         None => Ok(()),
     }
 }
 
-/// Adds the line of a question.
-fn add_line(p: &Program, number: u32, asked: &Asked, text: &mut Blob) -> Result<(), NoMemory>
+/// Adds the line of a question, which the entailment with a number asks.
+pub fn add_question_line(
+    p: &Program,
+    number: usize,
+    asked: &Asked,
+    text: &mut Blob,
+) -> Result<(), NoMemory>
     ensures { OnOk result (text.new ≡ text.old ++ spec.line_of (plain (view.program p.now)) number (Some asked.now)) }
 {
-    add_numbers(number as usize, asked.of, text)?;
+    add_numbers(number, asked.of, text)?;
     add_sentence(p, asked.question, text)?;
     text.extend_from_slice(b"\n")
 }

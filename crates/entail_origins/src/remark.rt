@@ -59,8 +59,8 @@ fn remark(
     Ok(text)
 }
 
-/// Adds an origin that is there.
-fn add_any_origin(
+/// Adds the words on an origin, if there is one.
+pub fn add_any_origin(
     p: &Program,
     bytes: &[u8],
     origin: Option<Origin>,

@@ -3,11 +3,12 @@
 ghost use Rattle.std.specs.Prelude.{◌≡◌, ◌++◌, OnOk};
 ghost use Rattle.cov_ast.specs.Plain.{class_term, plain};
 ghost use Rattle.cov_ast.specs.View as view;
+ghost use Rattle.cov_expr.specs.View.{term};
 ghost use Rattle.cov_print.specs.Spelling.{whole};
 ghost use Rattle.entail_origins.specs.TypeLines as spec;
 
 use cov_ast::{Class, NameTable, Program};
-use cov_expr::{Blob, NoMemory};
+use cov_expr::{Blob, Expr, NoMemory};
 use cov_print::add_expr;
 use text_parts::add_number;
 
@@ -56,13 +57,42 @@ pub fn add_class(p: &Program, names: &NameTable, z: u32, text: &mut Blob) -> Res
     }
 }
 
-/// Adds a class as an expression, with the words for it.
+/// Adds a class as an expression, with the words for it, and its level where that is one.
 fn add_spelled(names: &NameTable, class: &Class, text: &mut Blob) -> Result<(), NoMemory>
     ensures { OnOk result (text.new ≡ text.old ++ spec.spelled_class names.now (class_term (view.class class.now))) }
 {
     text.extend_from_slice(b"its class `")?;
     add_term(names, class, text)?;
-    text.extend_from_slice(b"`")
+    add_class_end(class, text)
+}
+
+/// Adds what stands behind a class.
+fn add_class_end(class: &Class, text: &mut Blob) -> Result<(), NoMemory>
+    ensures { OnOk result (text.new ≡ text.old ++ spec.class_end (class_term (view.class class.now))) }
+{
+    text.extend_from_slice(b"`")?;
+    text.extend_from_slice(level_part(class).as_bytes())
+}
+
+/// The level of a class that is a constant.
+fn level_part(class: &Class) -> &'static str
+    ensures { result.now ≡ spec.level_part (class_term (view.class class.now)) }
+{
+    match class {
+        Class::Low => " (low)",
+        Class::High => " (high)",
+        Class::When(e) => level_part_of(e),
+    }
+}
+
+/// The same of an expression.
+fn level_part_of(e: &Expr) -> &'static str
+    ensures { result.now ≡ spec.level_part (term e.now) }
+{
+    match e {
+        Expr::Const(k) => { if *k == 0 { " (high)" } else { " (low)" } }
+        Expr::Var(_) | Expr::Not(_) | Expr::Bin(..) => "",
+    }
 }
 
 /// Adds the expression alone.

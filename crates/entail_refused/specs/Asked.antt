@@ -11,7 +11,6 @@ use Rattle.cov_ast.specs.declared.refusal.Detail.TheVariants.{Number}
 use Rattle.entail_origins.specs.QuestionLines.{question_line}
 use Rattle.entail_text.specs.EntailmentLines.{entailment_text}
 use Rattle.text_parts.specs.VariableNames.{variable_names}
-use Rattle.entail_text.specs.ZeroGoals.{zero_line}
 use Rattle.mode_compat.specs.Compatible.{numbered}
 use Rattle.mode_compat.specs.Declared.{declaration_obligations}
 use Rattle.typing_law.specs.ThreadEntailments.{PlacedEntailment, entailment_among, thread_entailments}
@@ -23,11 +22,10 @@ use Rattle.entail_refused.specs.Sites.{Site, site_of}
 
 -- the text of the program is that of its places
 module _ (p : Program) (bytes : List ℕ) where
-  -- its goal, its hypotheses, each with where it comes from, the certificate that the thread gives for it, and of a goal that is 0 a line more
+  -- its goal, its hypotheses, each with where it comes from, and the certificate that the thread gives for it
   abbrev pub entailment_lines : (t : ℕ) → Option Site → PlacedEntailment → List ℕ
   entailment_lines t site g =
       entailment_text (variable_names p.vars) g.entailment.hyps (remarks_on (plain p) bytes site g.entailment.hyps) g.entailment.goal (cert_of (numbered p t).body g.place g.number)
-      ++ zero_line g.entailment.goal
 
   -- what is told of an entailment that is asked there
   abbrev pub lines_at_site : (t : ℕ) → Option Site → PlacedEntailment → List ℕ

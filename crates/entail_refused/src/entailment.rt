@@ -16,7 +16,7 @@ use crate::site::{Site, site_of};
 use cov_ast::{CheckFault, Detail, Program, Refusal, Rule};
 use cov_expr::{Blob, NoMemory};
 use entail_origins::add_question;
-use entail_text::{add_told, add_zero};
+use entail_text::add_told;
 use std::alloc::Global;
 use text_parts::variable_names;
 use typing_law::Entail;
@@ -176,6 +176,5 @@ fn add_lines(
         &e.goal,
         cert,
         text,
-    )?;
-    add_zero(&e.goal, text)
+    )
 }

@@ -2,9 +2,11 @@
 use Rattle.std.specs.Prelude.{ℕ, List, [], ◌∷◌, ◌++◌, Option, Some, None, codes, decimal, if◌then◌else◌}
 use Rattle.cov_expr.specs.Term.{Term, var}
 use Rattle.cov_expr.specs.Trees.{is_closed}
+use Rattle.cert_search.specs.declared.finder.TheConstants.{MOST_DEPTH}
 use Rattle.cov_print.specs.Spelling.{Names, whole, listed}
 use Rattle.entail_counter.specs.Counterexamples.{counterexample}
 use Rattle.entail_counter.specs.declared.binding.Binding.{Binding}
+use Rattle.entail_text.specs.ZeroGoals.{zero_line}
 
 -- a variable and its value
 abbrev pub binding_text : Names → Binding → List ℕ
@@ -15,22 +17,27 @@ abbrev pub memory_text : Names → List Binding → List ℕ
 memory_text names [] = codes "each memory"
 memory_text names (b ∷ bs) = listed (binding_text names) (b ∷ bs)
 
--- what is missing, of a goal with a variable
-abbrev pub missing_line : (goal : Term) → List ℕ
-missing_line goal =
-    if is_closed goal then []
-    else codes "                what is missing is the goal, or what gives it: a store forgets each predicate that has its variable, and a state each that it doesn't list; where a hypothesis denies the goal, the statement itself is wrong here\n"
+-- what would help, by whether the goal has a variable
+abbrev pub help_line : (goal : Term) → List ℕ
+help_line goal =
+    if is_closed goal then codes "                it would help that a type says more, that less is asked, or that no run comes here where these hypotheses hold\n"
+    else codes "                it would help that more is known here (the goal, or what gives it), that a type says more, or that less is asked; a store forgets each predicate that has its variable, and a state each that it doesn't list\n"
 
 abbrev pub memory_line : Names → List Binding → List ℕ
 memory_line names m =
     codes "  breaks it:    " ++ memory_text names m ++ codes "\n                no certificate can show it: in such a memory all hypotheses hold and the goal doesn't\n"
 
 abbrev pub broken_lines : Names → (goal : Term) → List Binding → List ℕ
-broken_lines names goal m = memory_line names m ++ missing_line goal
+broken_lines names goal m = memory_line names m ++ help_line goal
+
+-- that neither is found
+abbrev pub neither_line : List ℕ
+neither_line =
+    codes "  suggestion:   none: no certificate of up to " ++ decimal MOST_DEPTH ++ codes " steps is valid, and no memory that breaks it was found\n"
 
 -- where the other search comes to this
 abbrev pub unfound : Names → (goal : Term) → Option (List Binding) → List ℕ
-unfound names goal None = codes "  suggestion:   none: no certificate of up to 2 steps is valid, and no memory that breaks it was found\n"
+unfound names goal None = neither_line ++ zero_line goal
 unfound names goal (Some m) = broken_lines names goal m
 
 abbrev pub unfound_lines : Names → List Term → (goal : Term) → List ℕ

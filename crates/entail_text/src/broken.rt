@@ -3,7 +3,10 @@
 ghost use Rattle.std.specs.Prelude.{◌≡◌, ◌++◌, OnOk, map};
 ghost use Rattle.cov_expr.specs.View.{term};
 ghost use Rattle.entail_text.specs.BrokenLines as spec;
+ghost use Rattle.entail_text.specs.ZeroGoals.{zero_line};
 
+use crate::zero::add_zero;
+use cert_search::MOST_DEPTH;
 use cov_ast::NameTable;
 use cov_expr::{Blob, Expr, List, NoMemory, closed};
 use cov_print::add_expr;
@@ -36,10 +39,18 @@ fn add_where_found(
 {
     match found {
         Some(m) => add_broken(names, goal, m.as_slice(), text),
-        None => text.extend_from_slice(
-            b"  suggestion:   none: no certificate of up to 2 steps is valid, and no memory that breaks it was found\n",
-        ),
+        None => add_neither(goal, text),
     }
+}
+
+/// Adds that neither a certificate nor a memory is found.
+fn add_neither(goal: &Expr, text: &mut Blob) -> Result<(), NoMemory>
+    ensures { OnOk result (text.new ≡ text.old ++ (spec.neither_line ++ zero_line (term goal.now))) }
+{
+    text.extend_from_slice(b"  suggestion:   none: no certificate of up to ")?;
+    add_number(MOST_DEPTH as usize, text)?;
+    text.extend_from_slice(b" steps is valid, and no memory that breaks it was found\n")?;
+    add_zero(goal, text)
 }
 
 /// Adds a memory, and what it says of the entailment.
@@ -52,7 +63,7 @@ fn add_broken(
     ensures { OnOk result (text.new ≡ text.old ++ spec.broken_lines names.now (term goal.now) m.now) }
 {
     add_memory_line(names, m, text)?;
-    add_missing(goal, text)
+    add_help(goal, text)
 }
 
 /// Adds a memory, and that it breaks the entailment.
@@ -66,15 +77,17 @@ fn add_memory_line(names: &NameTable, m: &[Binding], text: &mut Blob) -> Result<
     )
 }
 
-/// Adds what is missing, where the goal has a variable.
-fn add_missing(goal: &Expr, text: &mut Blob) -> Result<(), NoMemory>
-    ensures { OnOk result (text.new ≡ text.old ++ spec.missing_line (term goal.now)) }
+/// Adds what would help, by whether the goal has a variable.
+fn add_help(goal: &Expr, text: &mut Blob) -> Result<(), NoMemory>
+    ensures { OnOk result (text.new ≡ text.old ++ spec.help_line (term goal.now)) }
 {
     if closed(goal) {
-        return Ok(());
+        return text.extend_from_slice(
+            b"                it would help that a type says more, that less is asked, or that no run comes here where these hypotheses hold\n",
+        );
     }
     text.extend_from_slice(
-        b"                what is missing is the goal, or what gives it: a store forgets each predicate that has its variable, and a state each that it doesn't list; where a hypothesis denies the goal, the statement itself is wrong here\n",
+        b"                it would help that more is known here (the goal, or what gives it), that a type says more, or that less is asked; a store forgets each predicate that has its variable, and a state each that it doesn't list\n",
     )
 }
 

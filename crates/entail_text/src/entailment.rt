@@ -51,8 +51,8 @@ fn add_goal(names: &NameTable, goal: &Expr, text: &mut Blob) -> Result<(), NoMem
     text.extend_from_slice(b"\n")
 }
 
-/// Adds a line for each hypothesis.
-fn add_hypotheses(
+/// Adds a line for each hypothesis, with its number and its remark, as [`add_told`] does.
+pub fn add_hypotheses(
     names: &NameTable,
     hyps: &[Expr],
     remarks: &[Blob],

@@ -1,7 +1,7 @@
 //! Entailments in plain text: what was asked where a certificate isn't valid.
 //!
-//! - [`add_told`]: the goal of an entailment, its hypotheses by number, and its certificate, with the first node that fails.
-//! - [`add_zero`]: of a goal that is 0, how it may be shown at all.
+//! - [`add_told`]: the goal of an entailment, its hypotheses by number, and its certificate, with the first node that fails. [`add_hypotheses`]: the
+//!   hypotheses alone.
 //! - [`failing_node_is_there`] has no body: its contract is a law, that the node of which the text tells is there and fails.
 //! - [`cert_for`]: the certificate that a statement gives for an entailment.
 //! - [`add_other`]: which certificate that is given for another entailment would show this one.
@@ -16,7 +16,7 @@
 //! | `given` | `Given` | the certificate of a number |
 //! | `other` | `OtherCertificates` | the certificates of other numbers |
 //! | `dropped` | `Dropped` | the hypotheses that a state drops |
-//! | `zero` | `ZeroGoals` | goals that are 0 |
+//! | `zero` | `ZeroGoals` | goals that are 0, and how such a one may be shown at all |
 //! | `suggestion` | `Suggestions` | certificates that a search finds |
 //! | `broken` | `BrokenLines` | memories that break an entailment |
 //! | `laws` | `Nodes`, `Suggestions`, `BrokenLines` | the node of which is told is there, and fails; what is suggested is valid; what is broken has no valid certificate |
@@ -33,11 +33,10 @@ mod suggestion;
 mod zero;
 
 pub use dropped::add_dropped;
-pub use entailment::add_told;
+pub use entailment::{add_hypotheses, add_told};
 pub use given::cert_for;
 pub use laws::{
     broken_entailments_have_no_certificate, failing_node_is_there, suggested_certificates_are_valid,
 };
 pub use other::add_other;
 pub use suggestion::add_suggestion;
-pub use zero::add_zero;

@@ -26,7 +26,8 @@ use Rattle.cov_io.specs.declared.shelf.ShelfFault.{ShelfFault}
 use Rattle.cov_io.specs.declared.shelf.ShelfFault.TheVariants as fails
 use Rattle.cov_io.proofs.ShelfLaws.{passes_none}
 use Rattle.explain.specs.Explanations.{explanation_at, where_is, sentence_of, place_of}
-use Rattle.explain.specs.FileCalls.{Answers, AnswersTo, EndsAt, Explains, FollowsFile, FollowsOver, FollowsProgram, IsChecked, Outcome, Tells, TellsAll, TellsLevels, asks_for_levels, files_of, first_status, manner_of, out_of_memory, told, usage_line}
+use Rattle.explain.specs.SuggestedTexts.{suggested_lines, suggested_status}
+use Rattle.explain.specs.FileCalls.{Answers, AnswersTo, EndsAt, Explains, FollowsFile, FollowsOver, FollowsProgram, IsChecked, Outcome, Tells, TellsAll, TellsLevels, asks_for_levels, files_of, first_status, manner_of, out_of_memory, told, usage_line, AnswersBesides, FollowsSuggested, TellsSuggested, asks_for_suggestions}
 use Rattle.explain.specs.Inside.Told.{AddsTold, IsLeft}
 use Rattle.explain.specs.LevelTellings.{malformed_lines}
 use Rattle.explain.specs.Tellings.{name_front}
@@ -188,9 +189,29 @@ module _ (left : Shelved → Outcome → Type 0) (last : Shelved) where
         subst (λ ns. TellsAll left w shelf ns [] s.Done) (append-nil names)
         (tells_then w left [] last outcome (nothing_next w outcome is_left) names shelf [] s.Done all)
 
+    suggested_so : (name text : List ℕ) (shelf : Shelved) (end : End (List ℕ)) → FollowsSuggested (IsLeft last outcome) name text shelf end
+        → FollowsSuggested left name text shelf end
+    suggested_so name text shelf (took these) (inl (p, spells, e)) =
+        inl (p, spells, left_so last outcome left is_left shelf (told (text ++ suggested_lines name these p) (suggested_status p)) e)
+    suggested_so name text shelf (took these) (inr (inl (fault, is, e))) =
+        inr (inl (fault, is, left_so last outcome left is_left shelf (told (text ++ malformed_lines name these fault) s.Malformed) e))
+    suggested_so name text shelf (took these) (inr (inr e)) = inr (inr (left_so last outcome left is_left shelf out_of_memory e))
+    suggested_so name text shelf (stops reply) (inl e) = inl (left_so last outcome left is_left shelf (told (text ++ report_of reply) (status_of reply)) e)
+    suggested_so name text shelf (stops reply) (inr e) = inr (left_so last outcome left is_left shelf out_of_memory e)
+    suggested_so name text shelf lacks e = left_so last outcome left is_left shelf out_of_memory e
+
+    suggests_so : (name text : List ℕ) (shelf : Shelved) → TellsSuggested (IsLeft last outcome) name text shelf → TellsSuggested left name text shelf
+    suggests_so name text shelf h =
+        reads_onward (λ after end. FollowsSuggested (IsLeft last outcome) name text after end) (λ after end. FollowsSuggested left name text after end)
+        (suggested_so name text) shelf (bytes name MOST_BYTES) h
+
+    answers_besides_so : (words : List (List ℕ)) (shelf : Shelved) (b : Bool) → AnswersBesides (IsLeft last outcome) shelf words b → AnswersBesides left shelf words b
+    answers_besides_so words shelf true h = suggests_so (get_or words 1 []) [] shelf h
+    answers_besides_so words shelf false h = files_so (manner_of words) (files_of words) shelf h
+
     answers_to_so : (words : List (List ℕ)) (shelf : Shelved) (b : Bool) → AnswersTo (IsLeft last outcome) shelf words b → AnswersTo left shelf words b
     answers_to_so words shelf true h = levels_so (get_or words 1 []) (get_or words 2 []) [] shelf h
-    answers_to_so words shelf false h = files_so (manner_of words) (files_of words) shelf h
+    answers_to_so words shelf false h = answers_besides_so words shelf (asks_for_suggestions words) h
 
   -- what is said of the end is said of it all
   pub answers_so : (names : List (List ℕ)) (shelf : Shelved) (outcome : Outcome) → left last outcome → Answers (IsLeft last outcome) shelf names
@@ -199,14 +220,12 @@ module _ (left : Shelved → Outcome → Type 0) (last : Shelved) where
   answers_so [] shelf outcome h (inr e) = inr (left_at (manner_of []) left [] last outcome (nothing_next (manner_of []) outcome h) shelf out_of_memory e)
   answers_so (name ∷ names) shelf outcome h all = answers_to_so outcome h (name ∷ names) shelf (asks_for_levels (name ∷ names)) all
 
--- files of which one at least is named, and a text that is empty before
-pub answers_all : {A : Type 0} (seen : A → List ℕ) (left : Shelved → Outcome → Type 0) (names : List A) (shelf : Shelved) (text : List ℕ) (none : Bool)
-    → none ≡ (length names == 0) → none ≡ false → asks_for_levels (map seen names) ≡ false → text ≡ []
-    → TellsAll left (manner_of (map seen names)) shelf (files_of (map seen names)) text s.Done → Answers left shelf (map seen names)
-answers_all seen left [] shelf text none is some others e h = let wrong : true ≡ false = sym is ∙ some in cc
-answers_all seen left (name ∷ names) shelf text none is some others e h =
-    subst (AnswersTo left shelf (map seen (name ∷ names))) (sym others)
-    (subst (λ t. TellsAll left (manner_of (map seen (name ∷ names))) shelf (files_of (map seen (name ∷ names))) t s.Done) e h)
+-- words of which one at least is there, and which ask for no levels
+pub answers_besides : {A : Type 0} (seen : A → List ℕ) (left : Shelved → Outcome → Type 0) (names : List A) (shelf : Shelved) (none : Bool)
+    → none ≡ (length names == 0) → none ≡ false → asks_for_levels (map seen names) ≡ false
+    → AnswersBesides left shelf (map seen names) (asks_for_suggestions (map seen names)) → Answers left shelf (map seen names)
+answers_besides seen left [] shelf none is some others h = let wrong : true ≡ false = sym is ∙ some in cc
+answers_besides seen left (name ∷ names) shelf none is some others h = subst (AnswersTo left shelf (map seen (name ∷ names))) (sym others) h
 
 -- a program and levels
 pub answers_levels : {A : Type 0} (seen : A → List ℕ) (left : Shelved → Outcome → Type 0) (names : List A) (shelf : Shelved) (text name over : List ℕ) (none : Bool)
@@ -221,6 +240,9 @@ answers_levels seen left (word ∷ words) shelf text name over none is some asks
 -- how many words there are
 pub three_words : (words : List (List ℕ)) → asks_for_levels words ≡ true → length words ≡ 3
 three_words words h = eqb-true (length words) 3 (and_parts (length words == 3) (bytes_eq (get_or words 0 []) (codes "--levels")) h).0
+
+pub two_words : (words : List (List ℕ)) → asks_for_suggestions words ≡ true → length words ≡ 2
+two_words words h = eqb-true (length words) 2 (and_parts (length words == 2) (bytes_eq (get_or words 0 []) (codes "--suggest")) h).0
 
 -- a call that ends so behind what its calls come to
 pub explained : (before after : Shelved) (old new : Sunk) (names : List (List ℕ)) (result : Status) (outcome : Outcome) → Answers (IsLeft after outcome) before names
@@ -266,11 +288,25 @@ module _ (last : Shelved) (outcome : Outcome) where
   program_passes name over text shelf (stops reply) (inr e) = left_passes shelf out_of_memory e
   program_passes name over text shelf lacks e = left_passes shelf out_of_memory e
 
+  suggested_passes : (name text : List ℕ) (shelf : Shelved) (end : End (List ℕ)) → FollowsSuggested (IsLeft last outcome) name text shelf end → Passes shelf last
+  suggested_passes name text shelf (took these) (inl (p, spells, e)) = left_passes shelf (told (text ++ suggested_lines name these p) (suggested_status p)) e
+  suggested_passes name text shelf (took these) (inr (inl (fault, is, e))) = left_passes shelf (told (text ++ malformed_lines name these fault) s.Malformed) e
+  suggested_passes name text shelf (took these) (inr (inr e)) = left_passes shelf out_of_memory e
+  suggested_passes name text shelf (stops reply) (inl e) = left_passes shelf (told (text ++ report_of reply) (status_of reply)) e
+  suggested_passes name text shelf (stops reply) (inr e) = left_passes shelf out_of_memory e
+  suggested_passes name text shelf lacks e = left_passes shelf out_of_memory e
+
+  answers_besides_pass : (words : List (List ℕ)) (shelf : Shelved) (b : Bool) → AnswersBesides (IsLeft last outcome) shelf words b → Passes shelf last
+  answers_besides_pass words shelf true h =
+      reads_pass (λ after end. FollowsSuggested (IsLeft last outcome) (get_or words 1 []) [] after end) last (suggested_passes (get_or words 1 []) []) shelf
+      (bytes (get_or words 1 []) MOST_BYTES) h
+  answers_besides_pass words shelf false h = tells_pass (manner_of words) (files_of words) shelf [] s.Done h
+
   answers_to_pass : (words : List (List ℕ)) (shelf : Shelved) (b : Bool) → AnswersTo (IsLeft last outcome) shelf words b → Passes shelf last
   answers_to_pass words shelf true h =
       reads_pass (λ after end. FollowsProgram (IsLeft last outcome) (get_or words 1 []) (get_or words 2 []) [] after end) last
       (program_passes (get_or words 1 []) (get_or words 2 []) []) shelf (bytes (get_or words 1 []) MOST_BYTES) h
-  answers_to_pass words shelf false h = tells_pass (manner_of words) (files_of words) shelf [] s.Done h
+  answers_to_pass words shelf false h = answers_besides_pass words shelf (asks_for_suggestions words) h
 
   pub answers_pass : (names : List (List ℕ)) (shelf : Shelved) → Answers (IsLeft last outcome) shelf names → Passes shelf last
   answers_pass [] shelf (inl e) = left_passes shelf (told usage_line s.Usage) e

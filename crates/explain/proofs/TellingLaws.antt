@@ -1,5 +1,5 @@
 -- Laws of what is told of bytes beside their explanation.
-use Rattle.std.proofs.Common.{◌≡◌, ℕ, Bool, List, [], ◌++◌, Some, None, sym, ap, subst, ◌∙◌}
+use Rattle.std.proofs.Common.{◌≡◌, ℕ, Bool, List, [], ◌++◌, append-nil, Option, Some, None, sym, ap, subst, ◌∙◌}
 use Rattle.std.proofs.lemmas.Bool.{cond-true, cond-false}
 use Rattle.call_judge.specs.Findings.{Finds, reply_to}
 use Rattle.call_judge.specs.declared.judge.Judged.{Judged}
@@ -16,8 +16,9 @@ use Rattle.policy_class.specs.Resolved.{name_obligations, resolved}
 use Rattle.entail_refused.proofs.DeclaredLaws.{some_refused}
 use Rattle.explain.specs.HiddenText.{text_warnings}
 use Rattle.explain.specs.Warnings.{warnings}
-use Rattle.explain.specs.Tellings.{Adds, asked_lines, refusal_lines}
+use Rattle.explain.specs.Tellings.{Adds, AddsPoints, asked_lines, program_points, refusal_lines}
 use Rattle.explain.specs.WarningSentences.{warning_lines}
+use Rattle.typing_trace.specs.PointLines.{point_lines}
 
 -- what a refusal is about where the names of a text are in order, and where they aren't
 named_lines : (only : Bool) (name : List ℕ) (p : Parsed) (q : Program) (bytes : List ℕ) (refusal : Refusal) → first_false (name_obligations p) ≡ None → q ≡ resolved p
@@ -63,4 +64,48 @@ module _ (only : Bool) (name bytes : List ℕ) (judged : Judged) (old new : List
         warning_lines name bytes (warnings (plain (view.program program.value)) bytes),
         (h.0, h.1, ap (λ q. warning_lines name bytes (warnings (plain q) bytes)) named.is),
         subst (λ q. new ≡ old ++ warning_lines name bytes (warnings (plain (view.program q)) bytes)) same is,
+      )
+
+-- Points ---------------------------------------------------------------------------------------------------------
+
+-- what is told of points where the names of a text are in order and where they aren't
+points_named : (p : Parsed) (q : Program) (bytes : List ℕ) (number : Option ℕ) → first_false (name_obligations p) ≡ None → q ≡ resolved p
+    → point_lines q bytes number ≡ program_points p bytes number
+points_named p q bytes number named is =
+    ap (λ r. point_lines r bytes number) is ∙ sym (cond-true (all_hold (name_obligations p)) _ [] (none_refused (name_obligations p) named))
+
+points_unnamed : (p : Parsed) (bytes : List ℕ) (number : Option ℕ) (first : Refusal) → first_false (name_obligations p) ≡ Some first → [] ≡ program_points p bytes number
+points_unnamed p bytes number first is = sym (cond-false (all_hold (name_obligations p)) _ [] (some_refused (name_obligations p) first is))
+
+-- What was added is what is told of points of bytes of which this was found.
+abbrev pub ArePointsAdded : (name bytes : List ℕ) → (number : Option ℕ) → Judged → (old new : List ℕ) → Type 0
+ArePointsAdded name bytes number judged old new = (more : List ℕ) × AddsPoints bytes number (reply_to name judged) more × (new ≡ old ++ more)
+
+module _ (name bytes : List ℕ) (number : Option ℕ) (judged : Judged) (old new : List ℕ) (found : Finds bytes judged) where
+  pub points_of_unnamed : (refusal : Refusal) → judged ≡ j.Unnamed refusal → new ≡ old → ArePointsAdded name bytes number judged old new
+  points_of_unnamed refusal e is =
+      let h = subst (Finds bytes) e found in
+      subst (λ x. ArePointsAdded name bytes number x old new) (sym e)
+      ([], (h.0, h.1, points_unnamed h.0 bytes number refusal h.2), is ∙ sym (append-nil old))
+
+  pub points_of_refused : (refusal : Refusal) (program : _) → judged ≡ j.Refused refusal program → (lent : declared.Program) → lent ≡ program.value
+      → new ≡ old ++ point_lines (view.program lent) bytes number → ArePointsAdded name bytes number judged old new
+  points_of_refused refusal program e lent same is =
+      let h = subst (Finds bytes) e found in
+      let named = h.2.0 in
+      subst (λ x. ArePointsAdded name bytes number x old new) (sym e) (
+        point_lines (view.program program.value) bytes number,
+        (h.0, h.1, points_named h.0 (view.program program.value) bytes number named.held named.is),
+        subst (λ q. new ≡ old ++ point_lines (view.program q) bytes number) same is,
+      )
+
+  pub points_of_accepted : (counts : Totals) (program : _) → judged ≡ j.Accepted counts program → (lent : declared.Program) → lent ≡ program.value
+      → new ≡ old ++ point_lines (view.program lent) bytes number → ArePointsAdded name bytes number judged old new
+  points_of_accepted counts program e lent same is =
+      let h = subst (Finds bytes) e found in
+      let named = h.2.0 in
+      subst (λ x. ArePointsAdded name bytes number x old new) (sym e) (
+        point_lines (view.program program.value) bytes number,
+        (h.0, h.1, points_named h.0 (view.program program.value) bytes number named.held named.is),
+        subst (λ q. new ≡ old ++ point_lines (view.program q) bytes number) same is,
       )

@@ -1,5 +1,5 @@
 -- What a call tells of its files, and how it ends.
-use Rattle.std.specs.Prelude.{◌≡◌, ◌⊎◌, ℕ, ◌==◌, nat_lt, List, [], ◌∷◌, ◌++◌, length, get_or, drop, Bool, true, false, ◌&&◌, codes, if◌then◌else◌, Ok, Err}
+use Rattle.std.specs.Prelude.{◌≡◌, ◌⊎◌, ℕ, ◌==◌, ◌+◌, ◌*◌, ◌-◌, nat_le, nat_lt, List, [], ◌∷◌, ◌++◌, length, get_or, take, drop, Bool, true, false, ◌&&◌, codes, if◌then◌else◌, Option, Some, None, Ok, Err}
 use Rattle.std.specs.Str.{bytes_eq}
 use Rattle.call_inputs.specs.Plans.{RepliesAt}
 use Rattle.call_inputs.specs.Programs.{IsShownFault, SpellsProgram}
@@ -19,8 +19,11 @@ use Rattle.cov_io.specs.Shelves.{Shelved}
 use Rattle.cov_io.specs.Sinks.{Sunk, Writes}
 use Rattle.cov_io.specs.declared.sink.Failed as sink
 use Rattle.explain.specs.LevelTellings.{TellsOver, malformed_lines}
+use Rattle.explain.specs.SuggestedTexts.{suggested_lines, suggested_status}
 use Rattle.explain.specs.Tellings.{IsTold}
 use Rattle.explain.specs.declared.manner.Manner.{Manner}
+use Rattle.explain.specs.declared.manner.PointsTold.{PointsTold}
+use Rattle.explain.specs.declared.manner.PointsTold.TheVariants.{Nowhere, Everywhere, InLine}
 
 -- What is told of a file to which `check` replies so, by how it was read: its bytes were fetched, and the reply to them is explained, with
 -- warnings where they are accepted; or they weren't, and the report of `check` is all.
@@ -64,13 +67,45 @@ asks_for_levels words = length words == 3 && bytes_eq (get_or words 0 []) (codes
 abbrev pub asks_for_first : List (List ℕ) → Bool
 asks_for_first words = nat_lt 1 (length words) && bytes_eq (get_or words 0 []) (codes "--first")
 
+-- whether the words ask for the certificates that a search finds for a program: a first word, and the program
+abbrev pub asks_for_suggestions : List (List ℕ) → Bool
+asks_for_suggestions words = length words == 2 && bytes_eq (get_or words 0 []) (codes "--suggest")
+
+-- the number that digits spell behind others, which spell this one; none where one is no digit, or where the digits but for the last spell more than a text has bytes
+abbrev pub number_from : ℕ → List ℕ → Option ℕ
+number_from n [] = Some n
+number_from n (b ∷ bs) = if nat_le 48 b && nat_le b 57 && nat_le n MOST_BYTES then number_from (n * 10 + (b - 48)) bs else None
+
+-- the number of a line that a word spells, if it spells one
+abbrev pub line_number : List ℕ → Option ℕ
+line_number [] = None
+line_number (b ∷ bs) = number_from 0 (b ∷ bs)
+
+abbrev pub in_line : Option ℕ → PointsTold
+in_line None = Nowhere
+in_line (Some n) = InLine n
+
+-- which points words ask for, of which the first is `--points`: behind it stands a file, or a file and the number of a line
+abbrev pub points_by : List (List ℕ) → PointsTold
+points_by words = if length words == 2 then Everywhere else (if length words == 3 then in_line (line_number (get_or words 2 [])) else Nowhere)
+
+-- which points the words ask for
+abbrev pub points_of : List (List ℕ) → PointsTold
+points_of words = if nat_lt 1 (length words) && bytes_eq (get_or words 0 []) (codes "--points") then points_by words else Nowhere
+
+-- the files that the words name, by which points they ask for
+abbrev pub files_by : PointsTold → List (List ℕ) → List (List ℕ)
+files_by Nowhere words = if asks_for_first words then drop 1 words else words
+files_by Everywhere words = take 1 (drop 1 words)
+files_by (InLine n) words = take 1 (drop 1 words)
+
 -- the files that the words name
 abbrev pub files_of : List (List ℕ) → List (List ℕ)
-files_of words = if asks_for_first words then drop 1 words else words
+files_of words = files_by (points_of words) words
 
 -- how they are told of: where there are several, an accepted one is named
 abbrev pub manner_of : List (List ℕ) → Manner
-manner_of words = record { named = nat_lt 1 (length (files_of words)); first = asks_for_first words }
+manner_of words = record { named = nat_lt 1 (length (files_of words)); first = asks_for_first words; points = points_of words }
 
 -- What is said of the shelf as it is left, and of what the calls come to, holds.
 module _ (left : Shelved → Outcome → Type 0) where
@@ -103,12 +138,31 @@ module _ (left : Shelved → Outcome → Type 0) where
   abbrev pub TellsLevels : (name over text : List ℕ) → Shelved → Type 0
   TellsLevels name over text shelf = Reads (λ after end. FollowsProgram name over text after end) shelf (bytes name MOST_BYTES)
 
+  -- What follows the file of a program for which certificates are searched: its bytes were fetched and spell a text, and what is told of that is added to a text
+  -- that was told before; or they are malformed, and that is told; or they weren't fetched, and the report of `check` is all; or memory ran out.
+  abbrev pub FollowsSuggested : (name text : List ℕ) → Shelved → End (List ℕ) → Type 0
+  FollowsSuggested name text shelf (took these) =
+      ((p : Parsed) × SpellsProgram these p × left shelf (told (text ++ suggested_lines name these p) (suggested_status p)))
+      ⊎ ((fault : Fault) × IsShownFault these fault × left shelf (told (text ++ malformed_lines name these fault) s.Malformed))
+      ⊎ left shelf out_of_memory
+  FollowsSuggested name text shelf (stops reply) = left shelf (told (text ++ report_of reply) (status_of reply)) ⊎ left shelf out_of_memory
+  FollowsSuggested name text shelf lacks = left shelf out_of_memory
+
+  -- the shelf is called for a program, and what is told of it is added to a text
+  abbrev pub TellsSuggested : (name text : List ℕ) → Shelved → Type 0
+  TellsSuggested name text shelf = Reads (λ after end. FollowsSuggested name text after end) shelf (bytes name MOST_BYTES)
+
+  -- what is told for words that ask for no levels, by whether they ask for suggestions
+  abbrev pub AnswersBesides : Shelved → List (List ℕ) → (suggests : Bool) → Type 0
+  AnswersBesides shelf words true = TellsSuggested (get_or words 1 []) [] shelf
+  AnswersBesides shelf words false = TellsAll (manner_of words) shelf (files_of words) [] s.Done
+
   -- what is told for words of which one at least is there, by whether they ask for levels
   abbrev pub AnswersTo : Shelved → List (List ℕ) → (levels : Bool) → Type 0
   AnswersTo shelf words true = TellsLevels (get_or words 1 []) (get_or words 2 []) [] shelf
-  AnswersTo shelf words false = TellsAll (manner_of words) shelf (files_of words) [] s.Done
+  AnswersTo shelf words false = AnswersBesides shelf words (asks_for_suggestions words)
 
-  -- The words of a command line ask for levels, or else they have the names of files.
+  -- The words of a command line ask for levels or for suggestions, or else they have the names of files.
   abbrev pub Answers : Shelved → List (List ℕ) → Type 0
   Answers shelf [] = left shelf (told usage_line s.Usage) ⊎ left shelf out_of_memory
   Answers shelf (word ∷ words) = AnswersTo shelf (word ∷ words) (asks_for_levels (word ∷ words))
@@ -120,6 +174,6 @@ EndsAt old new result (told text status) =
     ((result ≡ status) × Writes old new text (Ok tt)) ⊎ ((result ≡ s.WriteFault) × (e : sink.Failed) × Writes old new text (Err e))
 EndsAt old new result out_of_memory = (result ≡ s.NoMemory) × (new ≡ old)
 
--- A call explains files, or levels: it calls the shelf for them, and ends with what is told of them.
+-- A call explains files or levels, or suggests: it calls the shelf for them, and ends with what is told of them.
 abbrev pub Explains : (before after : Shelved) (old new : Sunk) → List (List ℕ) → (result : Status) → Type 0
 Explains before after old new names result = Answers (λ shelf outcome. (shelf ≡ after) × EndsAt old new result outcome) before names

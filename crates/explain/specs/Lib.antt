@@ -5,6 +5,7 @@ pub mod Explanations
 pub mod WarningSentences
 pub mod Tellings
 pub mod LevelTellings
+pub mod SuggestedTexts
 pub mod FileCalls
 pub mod Inside
 pub mod StatementUses

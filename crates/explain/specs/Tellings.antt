@@ -1,7 +1,7 @@
 -- All that is told of the bytes of a file: the explanation of what `check` replies to them; then, where they are malformed by a token, what
 -- could stand at its place, where they are refused, what the refusal is about and what is warned of in them, and where they are accepted, what
 -- is warned of in them and in the program that they spell.
-use Rattle.std.specs.Prelude.{◌≡◌, ℕ, List, [], ◌++◌, Bool, codes, if◌then◌else◌}
+use Rattle.std.specs.Prelude.{◌≡◌, ℕ, List, [], ◌++◌, Bool, codes, if◌then◌else◌, Option, Some, None}
 use Rattle.cov_ast.specs.Obligations.{all_hold}
 use Rattle.cov_ast.specs.Syntax.{Parsed, Program}
 use Rattle.cov_ast.specs.declared.refusal.Refusal.{Refusal}
@@ -15,6 +15,9 @@ use Rattle.explain.specs.Explanations.{explanation}
 use Rattle.explain.specs.OtherTellings.{others_unless}
 use Rattle.explain.specs.WarningSentences.{warning_lines}
 use Rattle.explain.specs.declared.manner.Manner.{Manner}
+use Rattle.explain.specs.declared.manner.PointsTold.{PointsTold}
+use Rattle.explain.specs.declared.manner.PointsTold.TheVariants.{Nowhere, Everywhere, InLine}
+use Rattle.typing_trace.specs.PointLines.{point_lines}
 use Rattle.call_judge.specs.Meaning.{meaning}
 use Rattle.call_inputs.specs.Programs.{SpellsProgram}
 use Rattle.call_reports.specs.Replies.{Reply, accepted, malformed, refused}
@@ -49,6 +52,24 @@ Adds first name bytes (accepted threads statements entailments) text =
     (p : Parsed) × SpellsProgram bytes p × (text ≡ warning_lines name bytes (warnings (meaning p) bytes))
 Adds first name bytes reply text = text ≡ []
 
+-- What is told of points of a program, where the names of its text are in order: in front of all statements, or of those that begin in a line.
+abbrev pub program_points : Parsed → (bytes : List ℕ) → (number : Option ℕ) → List ℕ
+program_points p bytes number = if all_hold (name_obligations p) then point_lines (resolved p) bytes number else []
+
+-- What is told of bytes to which `check` replies so, beside the explanation, where points are asked for: of malformed ones what could stand at the place
+-- of a token, and of others the points of the program that they spell.
+abbrev pub AddsPoints : (bytes : List ℕ) → (number : Option ℕ) → Reply → (text : List ℕ) → Type 0
+AddsPoints bytes number (malformed file fault) text = text ≡ stand_lines bytes fault
+AddsPoints bytes number (refused refusal thread) text = (p : Parsed) × SpellsProgram bytes p × (text ≡ program_points p bytes number)
+AddsPoints bytes number (accepted threads statements entailments) text = (p : Parsed) × SpellsProgram bytes p × (text ≡ program_points p bytes number)
+AddsPoints bytes number reply text = text ≡ []
+
+-- what is told beside the explanation, by whether points are asked for
+abbrev pub AddsBeside : PointsTold → (first : Bool) (name bytes : List ℕ) → Reply → (text : List ℕ) → Type 0
+AddsBeside Nowhere first name bytes reply text = Adds first name bytes reply text
+AddsBeside Everywhere first name bytes reply text = AddsPoints bytes None reply text
+AddsBeside (InLine n) first name bytes reply text = AddsPoints bytes (Some n) reply text
+
 -- what stands in front of the report of a file that is accepted, where files are named: its name
 abbrev pub accepted_front : (name : List ℕ) → Reply → List ℕ
 accepted_front name (accepted threads statements entailments) = name ++ codes ": "
@@ -61,4 +82,4 @@ name_front named name reply = if named then accepted_front name reply else []
 -- told beside it.
 abbrev pub IsTold : Manner → (name bytes : List ℕ) → Reply → (text : List ℕ) → Type 0
 IsTold h name bytes reply text =
-    (more : List ℕ) × Adds h.first name bytes reply more × (text ≡ name_front h.named name reply ++ (explanation name bytes reply ++ more))
+    (more : List ℕ) × AddsBeside h.points h.first name bytes reply more × (text ≡ name_front h.named name reply ++ (explanation name bytes reply ++ more))

@@ -3,12 +3,14 @@
 ghost use Rattle.std.specs.Prelude.{◌≡◌, ◌≤◌, [], map, string_bytes};
 ghost use Rattle.cov_io.specs.Shelves.{Passes};
 ghost use Rattle.explain.specs.FileCalls as spec;
-ghost use Rattle.explain.specs.FileCalls.{Answers, Explains};
+ghost use Rattle.explain.specs.FileCalls.{Answers, AnswersBesides, Explains};
 ghost use Rattle.explain.specs.Inside.Told.{IsLeft, outcome_of};
 
+use crate::asked::{asks_for_first, asks_for_levels, asks_for_suggestions, files_by, points_of};
 use crate::files::tell_all;
 use crate::level_files::tell_levels;
 use crate::manner::Manner;
+use crate::suggested::tell_suggested;
 use call_reports::Status;
 use cov_expr::{Blob, List, NoMemory};
 use cov_io::{Shelf, Sink, write_whole};
@@ -22,9 +24,11 @@ pub fn explain<S: Shelf, K: Sink>(
     shelf: &mut S,
     sink: &mut K,
 ) -> Status
-    // The shelf is called once for each file, in order, and for fewer only where memory ran out. What is put is told of the files, in order;
+    // The shelf is called once for each file, in order, and for fewer only where memory ran out. What is put is told of the files, in order, by what the words
+    // ask for (`--first`: no other refusal behind the first; `--points`: what is known in the program);
     // the status is the first of theirs that isn't Done. For `--levels`, a program and levels the shelf is called as by `levels`, what is put is
-    // told of what `levels` finds, and the status is that of `levels`.
+    // told of what `levels` finds, and the status is that of `levels`. For `--suggest` and a program the shelf is called for that, and what is put is its text with the
+    // certificates that are found (`specs/SuggestedTexts.antt`).
     ensures does { Explains (S.shelved shelf.old) (S.shelved shelf.new) (K.sunk sink.old) (K.sunk sink.new) (map string_bytes names.now) result }
     // What a shelf tells stays, and no count falls.
     ensures passes { Passes (S.shelved shelf.old) (S.shelved shelf.new) }
@@ -57,36 +61,30 @@ fn answer<S: Shelf>(
     if asks_for_levels(names) {
         tell_levels(alloc, names[1].as_str(), names[2].as_str(), shelf, text)
     } else {
-        let files = files_of(names);
+        answer_besides(alloc, names, shelf, text)
+    }
+}
+
+/// The same of words that ask for no levels.
+fn answer_besides<S: Shelf>(
+    alloc: Global,
+    names: &[String],
+    shelf: &mut S,
+    text: &mut Blob,
+) -> Result<Status, NoMemory>
+    requires { text.old ≡ [] }
+    ensures { AnswersBesides (IsLeft (S.shelved shelf.new) (outcome_of text.new result)) (S.shelved shelf.old) (map string_bytes names.now) (spec.asks_for_suggestions (map string_bytes names.now)) }
+{
+    if asks_for_suggestions(names) {
+        tell_suggested(alloc, names[1].as_str(), shelf, text)
+    } else {
+        let points = points_of(names);
+        let files = files_by(points, names);
         let manner = Manner {
             named: 1 < files.len(),
             first: asks_for_first(names),
+            points,
         };
         tell_all(alloc, manner, files, shelf, text)
     }
-}
-
-/// The files that words name.
-fn files_of(names: &[String]) -> &[String]
-    ensures { map string_bytes result.now ≡ spec.files_of (map string_bytes names.now) }
-{
-    if asks_for_first(names) {
-        &names[1..]
-    } else {
-        names
-    }
-}
-
-/// Whether words are `--first` and files.
-fn asks_for_first(names: &[String]) -> bool
-    ensures { result ≡ spec.asks_for_first (map string_bytes names.now) }
-{
-    1 < names.len() && names[0].as_str() == "--first"
-}
-
-/// Whether words are `--levels`, a program and levels for it.
-fn asks_for_levels(names: &[String]) -> bool
-    ensures { result ≡ spec.asks_for_levels (map string_bytes names.now) }
-{
-    names.len() == 3 && names[0].as_str() == "--levels"
 }

@@ -14,9 +14,9 @@ ghost use Rattle.explain.specs.FileCalls.{TellsAll};
 ghost use Rattle.explain.specs.Inside.Told.{AddsTold, IsLeft, outcome_of};
 ghost use Rattle.explain.specs.Tellings.{accepted_front, name_front};
 
+use crate::beside::add_beside;
 use crate::explanation::{add_explanation, add_report};
 use crate::manner::Manner;
-use crate::more::add_more;
 use call_inputs::fetch;
 use call_judge::judge::{Judged, judge_bytes};
 use call_reports::{Answer, Status, Stop, status_for};
@@ -110,7 +110,7 @@ fn tell_judged(
     let status = status_for(&answer);
     add_name(manner.named, name, &answer, text)?;
     add_explanation(alloc, name, bytes, answer, text)?;
-    add_more(alloc, manner.first, name, bytes, judged, text)?;
+    add_beside(alloc, manner, name, bytes, judged, text)?;
     Ok(status)
 }
 

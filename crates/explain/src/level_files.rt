@@ -62,7 +62,7 @@ fn tell_program<S: Shelf>(
 }
 
 /// Adds what is told of bytes that spell no program.
-fn tell_malformed(
+pub fn tell_malformed(
     alloc: Global,
     name: &str,
     bytes: &[u8],

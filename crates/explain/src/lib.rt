@@ -8,6 +8,11 @@
 //!
 //! Where several files are named, an accepted one is told by its name. The words `--first P..` ask that of a refusal by V9 no other is told behind it.
 //!
+//! The words `--points P` and `--points P LINE` ask for what is known in the program of P (`typing_trace`), in the place of what a refusal is about and of warnings: in front
+//! of each statement, or of those that begin in that line.
+//!
+//! The words `--suggest P` ask for the canonical spelling of P with the certificates that a search finds for what isn't proved of it, also where some of it stays open.
+//!
 //! The words `--levels P L` ask for what `levels` says of the program P and the levels L. Of the first observer for whom the program is refused it
 //! tells what stands for markers, and all that is told of a refusal, of the program as that observer is shown it. Three files can't be
 //! named by words of this form.
@@ -20,11 +25,12 @@
 //!
 //! | `src/` | `specs/` | what it has |
 //! |---|---|---|
-//! | `call`, `files`, `manner` | `FileCalls` | the words of a command line; what is told of each file, and how, and the status |
+//! | `call`, `asked`, `files`, `manner` | `FileCalls` | the words of a command line; what is told of each file, and how, and the status |
 //! | `explanation` | `Explanations` | what is told of the bytes of a file |
-//! | `more` | `Tellings` | what is told beside it: what could stand at the place of a token, and what a refusal is about |
+//! | `beside`, `more` | `Tellings` | what is told beside it: what could stand at the place of a token, and what a refusal is about |
 //! | `others` | `OtherTellings` | what is told of the other entailments for which a thread would be refused |
 //! | `level_files`, `observers` | `FileCalls`, `LevelTellings` | how a program and levels are read, and what is told of them |
+//! | `suggested` | `SuggestedTexts` | what is told of a program for which certificates are searched |
 //! | `next`, `fronts`, `places`, `line` | `ExpectedTokens`, `ExpectedLines` | what could stand at a place, in the order of the table of spellings, and the line that says so |
 //! | `warnings`, `sentences` | `WarningSentences` | what is warned of in a file, as text |
 //! | `warning`, `merged`, `uses`, `unused`, `nowhere`, `unreached`, `hidden` | `Warnings`, `StatementUses`, `Unused`, `HoldsNowhere`, `NeverReached`, `HiddenText` | what is warned of, each at its place: in declarations, statements and bytes |
@@ -35,6 +41,8 @@
 //! `specs/Inside` has the words of private contracts, which no promise cites.
 #![tactic(auto)]
 
+mod asked;
+mod beside;
 mod bytes;
 mod call;
 mod expected_laws;
@@ -56,6 +64,7 @@ mod others;
 mod places;
 mod rules;
 mod sentences;
+mod suggested;
 mod unreached;
 mod unused;
 mod uses;

@@ -52,7 +52,7 @@ pub fn tell_text(
 }
 
 /// Adds what is told of a text of which a name isn't in order.
-fn tell_unnamed(
+pub fn tell_unnamed(
     alloc: Global,
     name: &str,
     bytes: &[u8],
@@ -244,7 +244,7 @@ fn add_shown(
 
 /// Adds what is told of a refusal of a program.
 #[tactic(auto, unfolding(crate::specs::LevelTellings::refused_lines))]
-fn add_refused_lines(
+pub fn add_refused_lines(
     alloc: Global,
     name: &str,
     bytes: &[u8],

@@ -4,9 +4,9 @@ use Rattle.std.proofs.lemmas.Fmt.{decimal_digit}
 use Rattle.cov_expr.specs.declared.expr.Op.TheVariants.{Add}
 use Rattle.cov_expr.specs.Term.{Term, const, var, bin}
 use Rattle.cov_ast.specs.Syntax as s
-use Rattle.cov_ast.specs.declared.refusal.Detail.TheVariants.{Nothing, One, Three}
+use Rattle.cov_ast.specs.declared.refusal.Detail.TheVariants.{Nothing, Number, One, Three}
 use Rattle.cov_ast.specs.declared.refusal.Rule.{Rule}
-use Rattle.cov_ast.specs.declared.refusal.Rule.TheVariants.{V1, V2, V3, V4, V8, V9, V12, V15, V16, W8, W9}
+use Rattle.cov_ast.specs.declared.refusal.Rule.TheVariants.{V1, V2, V3, V4, V8, V9, V12, V13, V14, V15, V16, W8, W9}
 use Rattle.refusal_names.specs.RefusalNames as spec
 
 -- a is plain low and the control of b; c is high. The lock l hides a and b, the lock m writes c alone.
@@ -41,11 +41,13 @@ abbrev refusal_names : s.Program → Rule → (thread : Option ℕ) → (place :
 refusal_names p rule thread place = spec.refusal_names p (codes "first\nsecond\n") rule thread place Nothing
 
 -- V3: what isn't stable where nothing is held, and with l; the same variable twice
-two_reads : refusal_names (alone (s.output (bin Add (var 0) (bin Add (var 1) (var 2))))) V3 (Some 0) 90 ≡ codes "  not stable here: a, b\n"
-two_reads = refl
+two_reads : refusal_names (alone (s.output (bin Add (var 0) (bin Add (var 1) (var 2))))) V3 (Some 0) 90
+    ≡ codes "  not stable here: a, b\n  lock l, line 3, has `hide a`, and isn't held here; held: none\n  lock l, line 3, has `hide b`, and isn't held here; held: none\n"
+two_reads = simp (decimal_digit 3 (lit< tt))
 
-twice : refusal_names (behind_lock (s.output (bin Add (bin Add (var 2) (var 0)) (var 2)))) V3 (Some 0) 90 ≡ codes "  not stable here: c, c\n"
-twice = refl
+twice : refusal_names (behind_lock (s.output (bin Add (bin Add (var 2) (var 0)) (var 2)))) V3 (Some 0) 90
+    ≡ codes "  not stable here: c, c\n  lock m, line 3, has `nowrite c`, and isn't held here; held: l\n"
+twice = simp (decimal_digit 3 (lit< tt))
 
 one_read : refusal_names (behind_lock (s.output (bin Add (var 2) (var 0)))) V3 (Some 0) 90 ≡ []
 one_read = refl
@@ -54,24 +56,34 @@ one_read = refl
 abbrev stated : Term → s.State
 stated e = record { preds = var 1 ∷ e ∷ []; types = [] }
 
-an_unstable_predicate : refusal_names (alone (s.note (stated (var 0)))) V12 (Some 0) 90 ≡ codes "  the predicate `b` has the variable b, which isn't stable here\n"
-an_unstable_predicate = refl
+an_unstable_predicate : refusal_names (alone (s.note (stated (var 0)))) V12 (Some 0) 90
+    ≡ codes "  the predicate `b` has the variable b, which isn't stable here\n  lock l, line 3, has `hide b`, and isn't held here; held: none\n"
+an_unstable_predicate = simp (decimal_digit 3 (lit< tt))
 
 the_second_predicate : refusal_names (alone (s.branch (const 1) (s.more 92 (s.lock 0) [] s.done) s.done (stated (var 2)))) V12 (Some 0) 90
-    ≡ codes "  the predicate `c` has the variable c, which isn't stable here\n"
-the_second_predicate = refl
+    ≡ codes "  the predicate `c` has the variable c, which isn't stable here\n  lock m, line 3, has `nowrite c`, and isn't held here; held: l\n"
+the_second_predicate = simp (decimal_digit 3 (lit< tt))
+
+-- without locks
+abbrev without_locks : s.Stm → s.Program
+without_locks stm =
+    record { version = 1; vars = variables; locks = []; threads = record { name = codes "t"; at = 70; modes = modes; body = s.more 90 stm [] s.done; end = 99 } ∷ [] }
+
+under_no_lock : refusal_names (without_locks (s.note (stated (var 0)))) V12 (Some 0) 90
+    ≡ codes "  the predicate `b` has the variable b, which isn't stable here\n  b is under no lock, and the thread doesn't assume `nowrite b`\n"
+under_no_lock = refl
 
 -- V4: a type behind `as`, one of `retype`, and none
 no_control : refusal_names (behind_lock (s.assign 2 (var 1) (Some (var 1)) [])) V4 (Some 0) 90 ≡ codes "  the type `b` has the variable b, which is no control\n"
 no_control = refl
 
 unstable_control : refusal_names (alone (s.assign 2 (var 1) (Some (const 0)) ((1, var 0) ∷ []))) V4 (Some 0) 90
-    ≡ codes "  the type `a` has the control a, which isn't stable here\n"
-unstable_control = refl
+    ≡ codes "  the type `a` has the control a, which isn't stable here\n  lock l, line 3, has `hide a`, and isn't held here; held: none\n"
+unstable_control = simp (decimal_digit 3 (lit< tt))
 
 no_type : refusal_names (alone (s.assign 2 (bin Add (var 2) (var 1)) None [])) V4 (Some 0) 90
-    ≡ codes "  no type is written by `as`, and the class of b has the control a, which isn't stable here\n"
-no_type = refl
+    ≡ codes "  no type is written by `as`, and the class of b has the control a, which isn't stable here\n  lock l, line 3, has `hide a`, and isn't held here; held: none\n"
+no_type = simp (decimal_digit 3 (lit< tt))
 
 -- V8
 two_ends : refusal_names (behind_lock (s.branch (const 1) (s.more 92 (s.lock 1) [] s.done) (s.more 94 (s.unlock 0) [] s.done) (stated (const 1)))) V8 (Some 0) 90
@@ -81,6 +93,60 @@ two_ends = refl
 a_turn : refusal_names (behind_lock (s.loop (const 1) (stated (const 1)) (s.more 92 (s.unlock 0) [] s.done))) V8 (Some 0) 90
     ≡ codes "  held at the start of the block: l; at its end: none\n"
 a_turn = refl
+
+-- V13: of a note with an entailment
+abbrev proof_of : (n : ℕ) → s.Proof
+proof_of n = record { number = n; cert = s.auto }
+
+abbrev numbers : List s.Proof → (n : ℕ) → List ℕ
+numbers proofs n =
+    spec.refusal_names (with_body (s.more 90 (s.note (record { preds = const 1 ∷ []; types = [] })) proofs s.done)) (codes "first\nsecond\n") V13 (Some 0) 90 (Number n)
+
+given_twice : numbers (proof_of 1 ∷ proof_of 2 ∷ proof_of 1 ∷ []) 1 ≡ codes "  1 is given more than once\n"
+given_twice = simp (decimal_digit 1 (lit< tt))
+
+past_the_count : numbers (proof_of 1 ∷ proof_of 2 ∷ []) 2 ≡ codes "  the statement has 1 entailment\n"
+past_the_count = refl
+
+no_number : numbers (proof_of 0 ∷ proof_of 0 ∷ []) 0 ≡ codes "  the statement has 1 entailment\n"
+no_number = refl
+
+given_once : numbers (proof_of 1 ∷ proof_of 2 ∷ []) 1 ≡ []
+given_once = refl
+
+no_entailments : spec.refusal_names (with_body (s.more 90 s.skip (proof_of 1 ∷ []) s.done)) [] V13 (Some 0) 90 (Number 1) ≡ codes "  the statement has no entailments\n"
+no_entailments = refl
+
+two_entailments : spec.refusal_names (with_body (s.more 90 (s.note (record { preds = const 1 ∷ const 2 ∷ []; types = [] })) (proof_of 3 ∷ []) s.done)) [] V13 (Some 0) 90 (Number 3)
+    ≡ codes "  the statement has 2 entailments\n"
+two_entailments = simp (decimal_digit 2 (lit< tt))
+
+-- V14: b and then c are given types, where l, m or nothing is held
+abbrev given : s.Program → (shown : List ℕ) → List ℕ
+given p shown = spec.refusal_names p (codes "first\nsecond\n") V14 (Some 0) 90 (One shown)
+
+abbrev typed : s.Stm
+typed = s.note (record { preds = []; types = (1, var 0) ∷ (2, var 0) ∷ (2, var 0) ∷ [] })
+
+a_typed_control : given (behind_lock typed) (codes "a") ≡ codes "  a is a control, and has no type\n"
+a_typed_control = refl
+
+listed_twice : given (with_body (s.more 80 (s.lock 1) [] (s.more 90 typed [] s.done))) (codes "c") ≡ codes "  c is listed twice\n"
+listed_twice = refl
+
+an_unstable_type : given (alone typed) (codes "b")
+    ≡ codes "  b isn't stable here, and has no type\n  lock l, line 3, has `hide b`, and isn't held here; held: none\n"
+an_unstable_type = simp (decimal_digit 3 (lit< tt))
+
+no_control_assigned : given (behind_lock (s.assign 2 (var 0) None ((1, var 0) ∷ []))) (codes "b")
+    ≡ codes "  c, which is assigned, is no control: no `retype` may stand here\n"
+no_control_assigned = refl
+
+a_retyped_control : given (behind_lock (s.assign 0 (var 0) None ((0, var 0) ∷ []))) (codes "a") ≡ codes "  a is a control, and has no type\n"
+a_retyped_control = refl
+
+no_type_given : given (behind_lock s.skip) (codes "a") ≡ []
+no_type_given = refl
 
 -- V15
 an_equation : refusal_names (alone (s.assign 2 (bin Add (var 0) (var 1)) None [])) V15 (Some 0) 90 ≡ codes "  one too many is the equation `c == (a + b)`\n"

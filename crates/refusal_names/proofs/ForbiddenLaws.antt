@@ -9,7 +9,7 @@ use Rattle.cov_expr.specs.Trees.{has_number}
 use Rattle.cov_expr.proofs.Tests.{each_below}
 use Rattle.cov_ast.specs.Declarations.{lock_at, modes_of, name_of, no_lock, no_thread}
 use Rattle.cov_ast.specs.Plain.{plain, plain_thread}
-use Rattle.cov_ast.specs.Syntax.{Lock, Program, Stm}
+use Rattle.cov_ast.specs.Syntax.{Lock, Program, Proof, Stm}
 use Rattle.cov_ast.specs.Tables.{has}
 use Rattle.cov_ast.specs.WellFormed.{IsWellFormed}
 use Rattle.cov_ast.specs.declared.refusal.Detail.TheVariants.{One}
@@ -59,18 +59,18 @@ unforbidden nowrite hide writes x e = none_forbids (has_number hide x) writes (h
 
 module _ (held : List Bool) (writes : Bool) (x : ℕ) where
   -- the first of locks from a number on that forbids it
-  record IsFirst (l : ℕ) (ks : List Lock) : Type 0 where
-    at : ℕ
-    inside : at < length ks
-    apart : has held (l + at) ≡ false
-    word : List ℕ
-    forbids : lock_forbidding (get_or ks at no_lock) writes x ≡ Some word
-    is : first_forbidding held writes x l ks ≡ Some (get_or ks at no_lock, word)
+  pub record IsFirst (l : ℕ) (ks : List Lock) : Type 0 where
+    pub at : ℕ
+    pub inside : at < length ks
+    pub apart : has held (l + at) ≡ false
+    pub word : List ℕ
+    pub forbids : lock_forbidding (get_or ks at no_lock) writes x ≡ Some word
+    pub is : first_forbidding held writes x l ks ≡ Some (get_or ks at no_lock, word)
 
   -- there is none: each of them is held or doesn't forbid it
-  record IsNone (l : ℕ) (ks : List Lock) : Type 0 where
-    none : first_forbidding held writes x l ks ≡ None
-    each : (i : ℕ) → i < length ks → has held (l + i) ≡ false → lock_forbidding (get_or ks i no_lock) writes x ≡ None
+  pub record IsNone (l : ℕ) (ks : List Lock) : Type 0 where
+    pub none : first_forbidding held writes x l ks ≡ None
+    pub each : (i : ℕ) → i < length ks → has held (l + i) ≡ false → lock_forbidding (get_or ks i no_lock) writes x ≡ None
 
   -- what there is of the rest, where the first is passed
   passed : (l : ℕ) (k : Lock) (ks : List Lock) → first_forbidding held writes x l (k ∷ ks) ≡ first_forbidding held writes x (suc l) ks
@@ -109,7 +109,7 @@ module _ (held : List Bool) (writes : Bool) (x : ℕ) where
         is = ap (λ b. if b then later else with_word k (lock_forbidding k writes x) later) apart ∙ ap (λ w. with_word k w later) is;
       })
 
-  none_or_first : (l : ℕ) (ks : List Lock) → IsNone l ks ⊎ IsFirst l ks
+  pub none_or_first : (l : ℕ) (ks : List Lock) → IsNone l ks ⊎ IsFirst l ks
   none_or_first l [] = inl (record { none = refl; each = λ i inside. absurd (let no : ⊥ = omega (arith, inside) in no) })
   none_or_first l (k ∷ ks) = by_head l k ks (has held l) (lock_forbidding k writes x) refl refl (none_or_first (suc l) ks)
 
@@ -194,20 +194,20 @@ module _ (p : Program) (bytes : List ℕ) (t : ℕ) (held : List Bool) (writes :
 -- The refusals -------------------------------------------------------------------------------------------------
 
 module _ (p : Program) (formed : IsWellFormed p) (bytes : List ℕ) (t x : ℕ) (held : List Bool) (below : t < length p.threads) (inside : x < length p.vars)
-    (steps : List Step) (s : Stm) where
+    (steps : List Step) (s : Stm) (proofs : List Proof) where
   line_is : (writes : Bool) → shown_access (variable_names p.vars) bytes (numbered p t) p.locks held writes (One (name_of (plain p) x))
       ≡ access_line (variable_names p.vars) bytes (numbered p t) p.locks held writes x
   line_is writes =
       ap (λ o. access_of_any (variable_names p.vars) bytes (numbered p t) p.locks held writes o) (variable_found p.vars p.locks p.threads x formed.names_differ inside)
 
-  pub unreadable : may_read (plain p) t held x ≡ false → TellsWhy p bytes t held false x (line_of p bytes t V1 (One (name_of (plain p) x)) steps held s)
+  pub unreadable : may_read (plain p) t held x ≡ false → TellsWhy p bytes t held false x (line_of p bytes t V1 (One (name_of (plain p) x)) steps held s proofs)
   unreadable h = subst (TellsWhy p bytes t held false x) (sym (line_is false)) (why p bytes t held false x below h)
 
-  pub unwritable : may_write (plain p) t held x ≡ false → TellsWhy p bytes t held true x (line_of p bytes t V2 (One (name_of (plain p) x)) steps held s)
+  pub unwritable : may_write (plain p) t held x ≡ false → TellsWhy p bytes t held true x (line_of p bytes t V2 (One (name_of (plain p) x)) steps held s proofs)
   unwritable h = subst (TellsWhy p bytes t held true x) (sym (line_is true)) (why p bytes t held true x below h)
 
-  pub readable : may_read (plain p) t held x ≡ true → line_of p bytes t V1 (One (name_of (plain p) x)) steps held s ≡ []
+  pub readable : may_read (plain p) t held x ≡ true → line_of p bytes t V1 (One (name_of (plain p) x)) steps held s proofs ≡ []
   readable h = line_is false ∙ nothing p bytes t held false x below h
 
-  pub writable : may_write (plain p) t held x ≡ true → line_of p bytes t V2 (One (name_of (plain p) x)) steps held s ≡ []
+  pub writable : may_write (plain p) t held x ≡ true → line_of p bytes t V2 (One (name_of (plain p) x)) steps held s proofs ≡ []
   writable h = line_is true ∙ nothing p bytes t held true x below h

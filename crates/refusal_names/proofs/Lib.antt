@@ -5,4 +5,8 @@ pub mod ThreadLaws
 pub mod FoundNames
 pub mod FoundThreads
 pub mod ForbiddenLaws
+pub mod UnstableLaws
+pub mod NumberLaws
+pub mod TypeLaws
+pub mod PredicateLaws
 mod Examples

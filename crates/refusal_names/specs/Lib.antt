@@ -4,5 +4,9 @@ pub mod StableSets
 pub mod NameLines
 pub mod MissingGuarantees
 pub mod ForbiddenAccess
+pub mod UnstableVariables
+pub mod ToldPredicates
+pub mod GivenTypes
+pub mod GivenNumbers
 pub mod LargeTerms
 pub mod RefusalNames

@@ -1,6 +1,6 @@
--- What a rule that is broken is about, by name: a line of text for each of the rules V3, V4, V8, V12 and V15. Expressions are spelled
--- canonically.
-use Rattle.std.specs.Prelude.{ℕ, suc, List, [], ◌∷◌, ◌++◌, Bool, true, Option, Some, None, codes, flat_map, if◌then◌else◌}
+-- What a rule that is broken is about, by name: a line of text for each of the rules V3, V4, V8, V12 and V15, and of V3, V4 and V12 why the
+-- variables in it aren't stable (`cause`), in lines of their own. Expressions are spelled canonically.
+use Rattle.std.specs.Prelude.{ℕ, suc, ◌==◌, List, [], ◌∷◌, ◌++◌, Bool, true, Option, Some, None, codes, flat_map, if◌then◌else◌}
 use Rattle.cov_expr.specs.Term.{Term}
 use Rattle.cov_expr.specs.Trees.{occurrences, vars}
 use Rattle.cov_ast.specs.Declarations.{lock_at}
@@ -17,29 +17,42 @@ use Rattle.refusal_names.specs.SpokenParts.{stated_predicates, stated_types, unt
 abbrev pub two_reads : Names → (x y : ℕ) → List ℕ
 two_reads names x y = codes "  not stable here: " ++ name names x ++ codes ", " ++ name names y ++ codes "\n"
 
+-- of another variable than the first
+abbrev pub other_cause : (cause : ℕ → List ℕ) → (x y : ℕ) → List ℕ
+other_cause cause x y = if x == y then [] else cause y
+
+abbrev pub both_causes : (cause : ℕ → List ℕ) → (x y : ℕ) → List ℕ
+both_causes cause x y = cause x ++ other_cause cause x y
+
+abbrev pub two_with_causes : Names → (cause : ℕ → List ℕ) → (x y : ℕ) → List ℕ
+two_with_causes names cause x y = two_reads names x y ++ both_causes cause x y
+
 -- a first occurrence that isn't stable, and the next of the rest, if there is one
-abbrev pub with_second : Names → (x : ℕ) → List ℕ → List ℕ
-with_second names x [] = []
-with_second names x (y ∷ rest) = two_reads names x y
+abbrev pub with_second : Names → (cause : ℕ → List ℕ) → (x : ℕ) → List ℕ → List ℕ
+with_second names cause x [] = []
+with_second names cause x (y ∷ rest) = two_with_causes names cause x y
 
 -- the first two of the occurrences that aren't stable, if there are two
-abbrev pub read_line : Names → List ℕ → List ℕ
-read_line names [] = []
-read_line names (x ∷ rest) = with_second names x rest
+abbrev pub read_line : Names → (cause : ℕ → List ℕ) → List ℕ → List ℕ
+read_line names cause [] = []
+read_line names cause (x ∷ rest) = with_second names cause x rest
 
-abbrev pub reads_line : Names → (stable : List Bool) → Option Term → List ℕ
-reads_line names stable None = []
-reads_line names stable (Some e) = read_line names (all_outside stable (occurrences e))
+abbrev pub reads_line : Names → (cause : ℕ → List ℕ) → (stable : List Bool) → Option Term → List ℕ
+reads_line names cause stable None = []
+reads_line names cause stable (Some e) = read_line names cause (all_outside stable (occurrences e))
 
 -- V12: a predicate that isn't over stable variables ------------------------------------------------------------
 
-abbrev pub predicate_line : Names → Option (Term × ℕ) → List ℕ
-predicate_line names None = []
-predicate_line names (Some (e, x)) =
+abbrev pub predicate_text : Names → Term → (x : ℕ) → List ℕ
+predicate_text names e x =
     codes "  the predicate `" ++ whole names e ++ codes "` has the variable " ++ name names x ++ codes ", which isn't stable here\n"
 
-abbrev pub predicates_line : Names → (stable : List Bool) → Stm → List ℕ
-predicates_line names stable s = predicate_line names (first_with_outside stable (stated_predicates s))
+abbrev pub predicate_line : Names → (cause : ℕ → List ℕ) → Option (Term × ℕ) → List ℕ
+predicate_line names cause None = []
+predicate_line names cause (Some (e, x)) = predicate_text names e x ++ cause x
+
+abbrev pub predicates_line : Names → (cause : ℕ → List ℕ) → (stable : List Bool) → Stm → List ℕ
+predicates_line names cause stable s = predicate_line names cause (first_with_outside stable (stated_predicates s))
 
 -- V4: a type that isn't over stable controls -------------------------------------------------------------------
 
@@ -50,29 +63,40 @@ part_word is_control = if is_control then codes "control " else codes "variable 
 abbrev pub part_fault : (is_control : Bool) → List ℕ
 part_fault is_control = if is_control then codes ", which isn't stable here\n" else codes ", which is no control\n"
 
-abbrev pub type_line : Names → (controls : List Bool) → Option (Term × ℕ) → List ℕ
-type_line names controls None = []
-type_line names controls (Some (q, x)) =
+abbrev pub type_text : Names → (controls : List Bool) → Term → (x : ℕ) → List ℕ
+type_text names controls q x =
     codes "  the type `" ++ whole names q ++ codes "` has the " ++ part_word (has controls x) ++ name names x ++ part_fault (has controls x)
 
+-- of a control; another variable needn't be stable
+abbrev pub control_cause : (cause : ℕ → List ℕ) → (is_control : Bool) → (x : ℕ) → List ℕ
+control_cause cause is_control x = if is_control then cause x else []
+
+abbrev pub type_line : Names → (cause : ℕ → List ℕ) → (controls : List Bool) → Option (Term × ℕ) → List ℕ
+type_line names cause controls None = []
+type_line names cause controls (Some (q, x)) = type_text names controls q x ++ control_cause cause (has controls x) x
+
 -- a variable that is read, with a control of its class
-abbrev pub class_line : Names → (y c : ℕ) → List ℕ
-class_line names y c =
+abbrev pub class_text : Names → (y c : ℕ) → List ℕ
+class_text names y c =
     codes "  no type is written by `as`, and the class of " ++ name names y ++ codes " has the control " ++ name names c ++ codes ", which isn't stable here\n"
 
+abbrev pub class_line : Names → (cause : ℕ → List ℕ) → (y c : ℕ) → List ℕ
+class_line names cause y c = class_text names y c ++ cause c
+
 -- where no type is written, such a variable; else a type
-abbrev pub class_or_type_line : Names → Option (ℕ × ℕ) → (type : List ℕ) → List ℕ
-class_or_type_line names None type = type
-class_or_type_line names (Some (y, c)) type = class_line names y c
+abbrev pub class_or_type_line : Names → (cause : ℕ → List ℕ) → Option (ℕ × ℕ) → (type : List ℕ) → List ℕ
+class_or_type_line names cause None type = type
+class_or_type_line names cause (Some (y, c)) type = class_line names cause y c
 
 -- the first variable of a value without a type of its own whose class isn't over stable controls
 abbrev pub value_class : Plain → (stable controls : List Bool) → Option Term → Option (ℕ × ℕ)
 value_class p stable controls None = None
 value_class p stable controls (Some e) = first_unstable_class p stable controls (vars e)
 
-abbrev pub types_line : Plain → Names → (stable controls stable_controls : List Bool) → Stm → List ℕ
-types_line p names stable controls stable_controls s =
-    class_or_type_line names (value_class p stable controls (untyped_value s)) (type_line names controls (first_with_outside stable_controls (stated_types s)))
+abbrev pub types_line : Plain → Names → (cause : ℕ → List ℕ) → (stable controls stable_controls : List Bool) → Stm → List ℕ
+types_line p names cause stable controls stable_controls s =
+    class_or_type_line names cause (value_class p stable controls (untyped_value s))
+    (type_line names cause controls (first_with_outside stable_controls (stated_types s)))
 
 -- V8: which locks are held at two ends -------------------------------------------------------------------------
 

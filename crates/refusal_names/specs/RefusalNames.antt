@@ -1,44 +1,59 @@
 -- What a refusal is about, by name: by its rule, its thread, its place, at which a statement stands, and what it shows.
 use Rattle.std.specs.Prelude.{ℕ, nat_lt, List, [], Bool, false, true, length, if◌then◌else◌, Option, Some, None}
 use Rattle.cov_ast.specs.Plain.{plain}
-use Rattle.cov_ast.specs.Syntax.{Program, Stm}
+use Rattle.cov_ast.specs.Syntax.{Program, Stm, Proof}
 use Rattle.cov_ast.specs.declared.refusal.Rule.{Rule}
-use Rattle.cov_ast.specs.declared.refusal.Rule.TheVariants.{V1, V2, V3, V4, V8, V12, V15, V16, W9}
+use Rattle.cov_ast.specs.declared.refusal.Rule.TheVariants.{V1, V2, V3, V4, V8, V12, V13, V14, V15, V16, W9}
 use Rattle.cov_ast.specs.declared.refusal.Detail.{Detail}
 use Rattle.cov_ast.specs.declared.refusal.Detail.TheVariants.{Three}
 use Rattle.point_law.specs.Point.{controls_of}
+use Rattle.entail_origins.specs.Questions.{questions}
 use Rattle.text_parts.specs.VariableNames.{variable_names}
 use Rattle.cov_ast.specs.LocksAlong.{no_locks}
 use Rattle.statement_paths.specs.LocksHeld.{held_along}
 use Rattle.statement_paths.specs.VariableSets.{hidden, stable}
 use Rattle.mode_compat.specs.Compatible.{numbered}
 use Rattle.refusal_names.specs.ForbiddenAccess.{shown_access}
+use Rattle.refusal_names.specs.GivenNumbers.{shown_number}
+use Rattle.refusal_names.specs.GivenTypes.{shown_line}
 use Rattle.refusal_names.specs.LargeTerms.{large_line}
 use Rattle.refusal_names.specs.MissingGuarantees.{guarantee_line}
 use Rattle.refusal_names.specs.NameLines.{reads_line, types_line, ends_line, predicates_line, added_line}
 use Rattle.refusal_names.specs.SpokenParts.{evaluated_expression}
 use Rattle.refusal_names.specs.StableSets.{stable_controls, held_where_stated}
+use Rattle.refusal_names.specs.UnstableVariables.{unstable_line}
 use Rattle.statement_paths.specs.Paths.{Step, Way, way_to}
 
--- Of a statement of a thread, behind steps, by the locks that are held in front of it, and by what the refusal shows. The bytes are those of
+-- Of a statement of a thread and its proofs, behind steps, by the locks that are held in front of it, and by what the refusal shows. The bytes are those of
 -- the program's text.
-abbrev pub line_of : Program → (bytes : List ℕ) → (t : ℕ) → Rule → Detail → List Step → (held : List Bool) → Stm → List ℕ
-line_of p bytes t V1 detail steps held s = shown_access (variable_names p.vars) bytes (numbered p t) p.locks held false detail
-line_of p bytes t V2 detail steps held s = shown_access (variable_names p.vars) bytes (numbered p t) p.locks held true detail
-line_of p bytes t V3 detail steps held s = reads_line (variable_names p.vars) (stable (plain p) t held) (evaluated_expression s)
-line_of p bytes t V4 detail steps held s =
+abbrev pub line_of : Program → (bytes : List ℕ) → (t : ℕ) → Rule → Detail → List Step → (held : List Bool) → Stm → List Proof → List ℕ
+line_of p bytes t V1 detail steps held s proofs = shown_access (variable_names p.vars) bytes (numbered p t) p.locks held false detail
+line_of p bytes t V2 detail steps held s proofs = shown_access (variable_names p.vars) bytes (numbered p t) p.locks held true detail
+line_of p bytes t V3 detail steps held s proofs =
+    let names = variable_names p.vars in
+    reads_line names (unstable_line names bytes p.locks held) (stable (plain p) t held) (evaluated_expression s)
+line_of p bytes t V4 detail steps held s proofs =
     let there = held_where_stated s held in
-    types_line (plain p) (variable_names p.vars) (stable (plain p) t there) (controls_of (plain p)) (stable_controls (plain p) t there) s
-line_of p bytes t V8 detail steps held s = ends_line p.locks held s
-line_of p bytes t V12 detail steps held s = predicates_line (variable_names p.vars) (stable (plain p) t (held_where_stated s held)) s
-line_of p bytes t V15 detail steps held s = added_line (plain p) (variable_names p.vars) s
-line_of p bytes t V16 detail steps held s = large_line p.vars (variable_names p.vars) bytes (hidden (plain p) t held) steps s
-line_of p bytes t rule detail steps held s = []
+    let names = variable_names p.vars in
+    types_line (plain p) names (unstable_line names bytes p.locks there) (stable (plain p) t there) (controls_of (plain p)) (stable_controls (plain p) t there) s
+line_of p bytes t V8 detail steps held s proofs = ends_line p.locks held s
+line_of p bytes t V12 detail steps held s proofs =
+    let there = held_where_stated s held in
+    let names = variable_names p.vars in
+    predicates_line names (unstable_line names bytes p.locks there) (stable (plain p) t there) s
+line_of p bytes t V13 detail steps held s proofs = shown_number (length (questions (plain p) t held s)) proofs detail
+line_of p bytes t V14 detail steps held s proofs =
+    let there = held_where_stated s held in
+    let names = variable_names p.vars in
+    shown_line names (unstable_line names bytes p.locks there) (stable (plain p) t there) (controls_of (plain p)) s detail
+line_of p bytes t V15 detail steps held s proofs = added_line (plain p) (variable_names p.vars) s
+line_of p bytes t V16 detail steps held s proofs = large_line p.vars (variable_names p.vars) bytes (hidden (plain p) t held) steps s
+line_of p bytes t rule detail steps held s proofs = []
 
 -- of the statement at the end of a way, if there is one
 abbrev pub line_of_way : Program → (bytes : List ℕ) → (t : ℕ) → Rule → Detail → Option Way → List ℕ
 line_of_way p bytes t rule detail None = []
-line_of_way p bytes t rule detail (Some w) = line_of p bytes t rule detail w.steps (held_along w.steps (no_locks (plain p))) w.stm
+line_of_way p bytes t rule detail (Some w) = line_of p bytes t rule detail w.steps (held_along w.steps (no_locks (plain p))) w.stm w.proofs
 
 -- of the statement at a place of a thread, where the program has so many threads
 abbrev pub line_at : Program → (bytes : List ℕ) → (t : ℕ) → Rule → (place : ℕ) → Detail → List ℕ

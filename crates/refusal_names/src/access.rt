@@ -98,7 +98,7 @@ fn forbidding(nowrite: &[u32], hide: &[u32], writes: bool, x: u32) -> Option<&'s
 }
 
 /// The first lock that isn't held and forbids to read, or to write, a variable, with the word of its list.
-fn first_forbidding<'p>(
+pub fn first_forbidding<'p>(
     locks: &'p [LockDecl],
     modes: &ModeState,
     writes: bool,
@@ -149,12 +149,31 @@ fn add_of_lock(
 {
     match found {
         Some((lock, word)) => {
-            add_lock(names, bytes, lock, word, x, text)?;
-            add_held(alloc, locks, modes, text)?;
-            text.extend_from_slice(b"\n")
+            add_lock_with_held(alloc, names, bytes, locks, modes, lock, word, x, text)
         }
         None => Ok(()),
     }
+}
+
+/// Adds the line of a lock that isn't held, with those that are.
+pub fn add_lock_with_held(
+    alloc: Global,
+    names: &NameTable,
+    bytes: &[u8],
+    locks: &[LockDecl],
+    modes: &ModeState,
+    lock: &LockDecl,
+    word: &[u8],
+    x: u32,
+    text: &mut Blob,
+) -> Result<(), NoMemory>
+    requires { length locks.now ≤ MOST_LOCKS }
+    ensures { OnOk result (text.new ≡ text.old
+        ++ spec.lock_text names.now bytes.now (view.lock lock.now) word.now x (held_text (map view.lock locks.now) (modes.now).held)) }
+{
+    add_lock(names, bytes, lock, word, x, text)?;
+    add_held(alloc, locks, modes, text)?;
+    text.extend_from_slice(b"\n")
 }
 
 /// Adds the line of a lock that isn't held, in front of those that are.
@@ -198,7 +217,7 @@ fn add_declared(
 }
 
 /// Adds which variable stands in which list.
-fn add_list(
+pub fn add_list(
     names: &NameTable,
     start: &[u8],
     word: &[u8],

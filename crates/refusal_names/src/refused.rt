@@ -1,9 +1,10 @@
 //! The line of a refusal, by its rule and its place.
 
-ghost use Rattle.std.specs.Prelude.{◌≡◌, ◌<◌, ◌++◌, ℕ, List, Bool, OnOk, length, option_map};
+ghost use Rattle.std.specs.Prelude.{◌≡◌, ◌<◌, ◌++◌, ℕ, List, Bool, IfOk, OnOk, length, map};
 ghost use Rattle.cov_ast.specs.Plain.{plain};
 ghost use Rattle.cov_ast.specs.View as view;
-ghost use Rattle.cov_ast.specs.WellFormed.{IsWellFormed};
+ghost use Rattle.cov_ast.specs.WellFormed.{IsStmInRange, IsWellFormed};
+ghost use Rattle.entail_origins.specs.Questions as asked;
 ghost use Rattle.point_law.specs.Point.{controls_of};
 ghost use Rattle.text_parts.specs.VariableNames as spelled;
 ghost use Rattle.cov_ast.specs.LocksAlong.{no_locks};
@@ -13,30 +14,37 @@ ghost use Rattle.mode_compat.specs.Compatible.{numbered};
 ghost use Rattle.mode_state.specs.Sets.{modes_at};
 ghost use Rattle.statement_paths.specs.Paths.{way, way_to};
 ghost use Rattle.refusal_names.specs.ForbiddenAccess.{shown_access};
+ghost use Rattle.refusal_names.specs.GivenNumbers.{shown_number};
+ghost use Rattle.refusal_names.specs.GivenTypes.{shown_line};
 ghost use Rattle.refusal_names.specs.LargeTerms.{large_line};
 ghost use Rattle.refusal_names.specs.NameLines as lines;
 ghost use Rattle.refusal_names.specs.RefusalNames as spec;
 ghost use Rattle.refusal_names.specs.SpokenParts.{evaluated_expression};
 ghost use Rattle.refusal_names.specs.StableSets as sets;
+ghost use Rattle.refusal_names.specs.UnstableVariables.{unstable_line};
 
 use crate::access::add_access;
 use crate::added::add_added;
 use crate::ends::add_ends;
+use crate::given_numbers::add_shown_number;
+use crate::given_types::add_given;
 use crate::guarantees::add_guarantee;
 use crate::large::add_large;
 use crate::predicates::add_predicates;
 use crate::reads::add_reads;
 use crate::sets::{known_at, pass_to_state};
 use crate::types::add_types;
-use cov_ast::{Detail, NameTable, Program, Refusal, Rule, StmtKind};
+use cov_ast::{Detail, NameTable, Program, Refusal, Rule, Stmt, StmtKind};
 use cov_expr::{Blob, NoMemory};
+use entail_origins::questions;
 use mode_state::ModeState;
 use statement_paths::{Way, hidden_set, modes_along, stable_set, way_to};
 use std::alloc::Global;
 use text_parts::variable_names;
 
-/// Adds a line of what a refusal is about, by name. Nothing is added where it isn't one of W9, V1, V2, V3, V4, V8, V12, V15 and V16, and
-/// where no statement of the thread stands at the place. `bytes` are the text of the program.
+/// Adds a line of what a refusal is about, by name, and why a variable in it isn't stable, in lines of their own. Nothing is added where it
+/// isn't one of W9, V1, V2, V3, V4, V8, V12, V13, V14, V15 and V16, and where no statement of the thread stands at the place. `bytes` are
+/// the text of the program.
 pub fn add_names(
     alloc: Global,
     p: &Program,
@@ -105,28 +113,10 @@ fn add_in_thread(
     requires thread { t < length p.now.threads }
     ensures { OnOk result (text.new ≡ text.old ++ spec.line_of_way (view.program p.now) bytes.now t refusal.now.rule refusal.now.detail (way_to (numbered (view.program p.now) t).body refusal.now.place)) }
 {
-    let found = way_to(alloc, p.body_of(t), refusal.place)?;
-    add_of_any(alloc, p, bytes, t, refusal, &found, text)
-}
-
-/// Adds the line of the statement at the end of a way, if there is one.
-fn add_of_any(
-    alloc: Global,
-    p: &Program,
-    bytes: &[u8],
-    t: u32,
-    refusal: &Refusal,
-    found: &Option<Way<'_>>,
-    text: &mut Blob,
-) -> Result<(), NoMemory>
-    requires formed { IsWellFormed (view.program p.now) }
-    requires thread { t < length p.now.threads }
-    ensures { OnOk result (text.new ≡ text.old ++ spec.line_of_way (view.program p.now) bytes.now t refusal.now.rule refusal.now.detail (option_map way found.now)) }
-{
-    match found {
-        Some(found) => add_of_way(alloc, p, bytes, t, refusal, found, text),
-        None => Ok(()),
-    }
+    let Some(found) = way_to(alloc, p.body_of(t), refusal.place)? else {
+        return Ok(());
+    };
+    add_of_way(alloc, p, bytes, t, refusal, &found, text)
 }
 
 /// Adds the line of the statement at the end of a way.
@@ -141,8 +131,9 @@ fn add_of_way(
 ) -> Result<(), NoMemory>
     requires formed { IsWellFormed (view.program p.now) }
     requires thread { t < length p.now.threads }
+    requires range { IsStmInRange (length p.now.vars) (length p.now.locks) (view.kind found.now.stmt.now.kind) }
     ensures { let w = way found.now in
-        OnOk result (text.new ≡ text.old ++ spec.line_of (view.program p.now) bytes.now t refusal.now.rule refusal.now.detail w.steps (held_along w.steps (no_locks (plain (view.program p.now)))) w.stm) }
+        OnOk result (text.new ≡ text.old ++ spec.line_of (view.program p.now) bytes.now t refusal.now.rule refusal.now.detail w.steps (held_along w.steps (no_locks (plain (view.program p.now)))) w.stm w.proofs) }
 {
     let mut modes = modes_along(alloc, p, t, found.steps.as_slice())?;
     let names = variable_names(alloc, p)?;
@@ -164,18 +155,21 @@ fn add_line(
     requires formed { IsWellFormed (view.program p.now) }
     requires thread { t < length p.now.threads }
     requires names { names.now ≡ spelled.variable_names (view.program p.now).vars }
+    requires range { IsStmInRange (length p.now.vars) (length p.now.locks) (view.kind found.now.stmt.now.kind) }
     requires modes { modes.old ≡ modes_at (plain (view.program p.now)) t (modes.old).held }
     ensures { let w = way found.now in
-        OnOk result (text.new ≡ text.old ++ spec.line_of (view.program p.now) bytes.now t refusal.now.rule refusal.now.detail w.steps (modes.old).held w.stm) }
+        OnOk result (text.new ≡ text.old ++ spec.line_of (view.program p.now) bytes.now t refusal.now.rule refusal.now.detail w.steps (modes.old).held w.stm w.proofs) }
 {
     let (kind, detail) = (&found.stmt.kind, refusal.detail);
     match refusal.rule {
         Rule::V1 => add_access_in(alloc, p, names, bytes, t, modes, false, detail, text),
         Rule::V2 => add_access_in(alloc, p, names, bytes, t, modes, true, detail, text),
-        Rule::V3 => add_unstable_reads(alloc, p, names, modes, kind, text),
-        Rule::V4 => add_bad_type(alloc, p, names, modes, kind, text),
+        Rule::V3 => add_unstable_reads(alloc, p, names, bytes, modes, kind, text),
+        Rule::V4 => add_bad_type(alloc, p, names, bytes, modes, kind, text),
         Rule::V8 => add_ends(alloc, p.locks.as_slice(), modes, kind, text),
-        Rule::V12 => add_bad_predicate(alloc, p, names, modes, kind, text),
+        Rule::V12 => add_bad_predicate(alloc, p, names, bytes, modes, kind, text),
+        Rule::V13 => add_bad_number(alloc, p, modes, found.stmt, detail, text),
+        Rule::V14 => add_bad_given(alloc, p, names, bytes, modes, kind, detail, text),
         Rule::V15 => add_added(p, names, kind, text),
         Rule::V16 => add_too_large(alloc, p, names, bytes, modes, found, text),
         _ => Ok(()),
@@ -213,28 +207,32 @@ fn add_access_in(
     )
 }
 
-/// Adds which variables that aren't stable a statement reads twice.
+/// Adds which variables that aren't stable a statement reads twice, and why they aren't.
 fn add_unstable_reads(
     alloc: Global,
     p: &Program,
     names: &NameTable,
+    bytes: &[u8],
     modes: &ModeState,
     kind: &StmtKind,
     text: &mut Blob,
 ) -> Result<(), NoMemory>
     requires { IsWellFormed (view.program p.now) }
     ensures { (t : ℕ) (held : List Bool) → modes.now ≡ modes_at (plain (view.program p.now)) t held
-        → OnOk result (text.new ≡ text.old ++ lines.reads_line names.now (variables.stable (plain (view.program p.now)) t held) (evaluated_expression (view.kind kind.now))) }
+        → OnOk result (text.new ≡ text.old ++ lines.reads_line names.now (unstable_line names.now bytes.now (view.program p.now).locks (modes.now).held)
+        (variables.stable (plain (view.program p.now)) t held) (evaluated_expression (view.kind kind.now))) }
 {
     let stable = stable_set(alloc, p, modes)?;
-    add_reads(alloc, names, &stable, kind, text)
+    let locks = p.locks.as_slice();
+    add_reads(alloc, names, bytes, locks, modes, &stable, kind, text)
 }
 
-/// Adds the first predicate that a statement states and that isn't over stable variables.
+/// Adds the first predicate that a statement states and that isn't over stable variables, and why it isn't.
 fn add_bad_predicate(
     alloc: Global,
     p: &Program,
     names: &NameTable,
+    bytes: &[u8],
     modes: &mut ModeState,
     kind: &StmtKind,
     text: &mut Blob,
@@ -242,18 +240,21 @@ fn add_bad_predicate(
     requires { IsWellFormed (view.program p.now) }
     ensures { (t : ℕ) (held : List Bool) → modes.old ≡ modes_at (plain (view.program p.now)) t held
         → OnOk result (text.new ≡ text.old ++ lines.predicates_line names.now
+        (unstable_line names.now bytes.now (view.program p.now).locks (sets.held_where_stated (view.kind kind.now) (modes.old).held))
         (variables.stable (plain (view.program p.now)) t (sets.held_where_stated (view.kind kind.now) held)) (view.kind kind.now)) }
 {
     pass_to_state(kind, modes);
     let stable = stable_set(alloc, p, modes)?;
-    add_predicates(names, &stable, kind, text)
+    let locks = p.locks.as_slice();
+    add_predicates(alloc, names, bytes, locks, modes, &stable, kind, text)
 }
 
-/// Adds the first type of a statement that isn't over stable controls.
+/// Adds the first type of a statement that isn't over stable controls, and why it isn't.
 fn add_bad_type(
     alloc: Global,
     p: &Program,
     names: &NameTable,
+    bytes: &[u8],
     modes: &mut ModeState,
     kind: &StmtKind,
     text: &mut Blob,
@@ -261,11 +262,76 @@ fn add_bad_type(
     requires { IsWellFormed (view.program p.now) }
     ensures { (t : ℕ) (held : List Bool) → modes.old ≡ modes_at (plain (view.program p.now)) t held
         → OnOk result (let q = plain (view.program p.now) in let there = sets.held_where_stated (view.kind kind.now) held in
-        text.new ≡ text.old ++ lines.types_line q names.now (variables.stable q t there) (controls_of q) (sets.stable_controls q t there) (view.kind kind.now)) }
+        text.new ≡ text.old ++ lines.types_line q names.now
+        (unstable_line names.now bytes.now (view.program p.now).locks (sets.held_where_stated (view.kind kind.now) (modes.old).held))
+        (variables.stable q t there) (controls_of q) (sets.stable_controls q t there) (view.kind kind.now)) }
 {
     pass_to_state(kind, modes);
     let known = known_at(alloc, p, modes)?;
-    add_types(alloc, p, names, &known, kind, text)
+    let locks = p.locks.as_slice();
+    add_types(alloc, p, names, bytes, locks, modes, &known, kind, text)
+}
+
+/// Adds what is wrong with the number in `by` that a refusal shows.
+fn add_bad_number(
+    alloc: Global,
+    p: &Program,
+    modes: &ModeState,
+    stmt: &Stmt,
+    detail: Detail,
+    text: &mut Blob,
+) -> Result<(), NoMemory>
+    requires formed { IsWellFormed (view.program p.now) }
+    requires range { IsStmInRange (length p.now.vars) (length p.now.locks) (view.kind stmt.now.kind) }
+    ensures { (t : ℕ) (held : List Bool) → modes.now ≡ modes_at (plain (view.program p.now)) t held
+        → OnOk result (let count = length (asked.questions (plain (view.program p.now)) t held (view.kind stmt.now.kind)) in
+        text.new ≡ text.old ++ shown_number count (map view.proof stmt.now.proofs) detail) }
+{
+    let count = entailment_count(alloc, p, modes, &stmt.kind)?;
+    add_shown_number(count, stmt.proofs.as_slice(), detail, text)
+}
+
+/// How many entailments a statement has.
+fn entailment_count(
+    alloc: Global,
+    p: &Program,
+    modes: &ModeState,
+    kind: &StmtKind,
+) -> Result<usize, NoMemory>
+    requires formed { IsWellFormed (view.program p.now) }
+    requires range { IsStmInRange (length p.now.vars) (length p.now.locks) (view.kind kind.now) }
+    ensures { IfOk result (λ count. (t : ℕ) (held : List Bool) → modes.now ≡ modes_at (plain (view.program p.now)) t held
+        → count ≡ length (asked.questions (plain (view.program p.now)) t held (view.kind kind.now))) }
+{
+    let hidden = hidden_set(alloc, p, modes)?;
+    let all = questions(alloc, p, &hidden, kind)?;
+    Ok(all.len())
+}
+
+/// Adds why a statement may not give a type to the variable that a refusal shows.
+fn add_bad_given(
+    alloc: Global,
+    p: &Program,
+    names: &NameTable,
+    bytes: &[u8],
+    modes: &mut ModeState,
+    kind: &StmtKind,
+    detail: Detail,
+    text: &mut Blob,
+) -> Result<(), NoMemory>
+    requires { IsWellFormed (view.program p.now) }
+    ensures { (t : ℕ) (held : List Bool) → modes.old ≡ modes_at (plain (view.program p.now)) t held
+        → OnOk result (let q = plain (view.program p.now) in let there = sets.held_where_stated (view.kind kind.now) held in
+        text.new ≡ text.old ++ shown_line names.now
+        (unstable_line names.now bytes.now (view.program p.now).locks (sets.held_where_stated (view.kind kind.now) (modes.old).held))
+        (variables.stable q t there) (controls_of q) (view.kind kind.now) detail) }
+{
+    pass_to_state(kind, modes);
+    let known = known_at(alloc, p, modes)?;
+    let locks = p.locks.as_slice();
+    add_given(
+        alloc, names, bytes, locks, modes, &known, kind, detail, text,
+    )
 }
 
 /// Adds what of a statement is too large, or of the way to it.

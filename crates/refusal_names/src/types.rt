@@ -1,37 +1,47 @@
 //! The line of V4: a type that isn't over stable controls.
 
-ghost use Rattle.std.specs.Prelude.{◌≡◌, ◌++◌, IfOk, OnOk, Some, option_map};
+ghost use Rattle.cov_expr.specs.declared.limits.TheConstants.{MOST_LOCKS};
+ghost use Rattle.std.specs.Prelude.{◌≡◌, ◌++◌, ◌≤◌, IfOk, OnOk, Some, length, map, option_map};
 ghost use Rattle.cov_ast.specs.Plain.{plain};
+ghost use Rattle.cov_ast.specs.Tables.{has};
 ghost use Rattle.cov_ast.specs.View as view;
 ghost use Rattle.cov_expr.specs.View.{term};
 ghost use Rattle.refusal_names.specs.NameLines as spec;
 ghost use Rattle.refusal_names.specs.OutsideVariables.{first_with_outside};
 ghost use Rattle.refusal_names.specs.SpokenParts as parts;
+ghost use Rattle.refusal_names.specs.UnstableVariables.{unstable_line};
 
 use crate::outside::{first_listed, first_unstable_class, first_written};
 use crate::reads::add_variable;
 use crate::sets::Known;
-use cov_ast::{NameTable, NumberSet, Program, StmtKind};
+use crate::unstable::add_unstable;
+use cov_ast::{LockDecl, NameTable, NumberSet, Program, StmtKind};
 use cov_expr::{Blob, Expr, NoMemory, vars};
 use cov_print::add_expr;
-use mode_state::Mask;
+use mode_state::{Mask, ModeState};
 use std::alloc::Global;
 
-/// Adds the first type of a statement that isn't over stable controls, or for a value without a type of its own the class that isn't.
+/// Adds the first type of a statement that isn't over stable controls, or for a value without a type of its own the class that isn't, and
+/// why the control in it isn't stable, by the locks that are held.
 pub fn add_types(
     alloc: Global,
     p: &Program,
     names: &NameTable,
+    bytes: &[u8],
+    locks: &[LockDecl],
+    modes: &ModeState,
     known: &Known,
     kind: &StmtKind,
     text: &mut Blob,
 ) -> Result<(), NoMemory>
+    requires { length locks.now ≤ MOST_LOCKS }
     ensures { OnOk result (text.new ≡ text.old
-        ++ spec.types_line (plain (view.program p.now)) names.now known.now.stable known.now.controls known.now.stable_controls (view.kind kind.now)) }
+        ++ spec.types_line (plain (view.program p.now)) names.now (unstable_line names.now bytes.now (map view.lock locks.now) (modes.now).held)
+        known.now.stable known.now.controls known.now.stable_controls (view.kind kind.now)) }
 {
     match value_class(alloc, p, known, kind)? {
-        Some((y, control)) => add_class(names, y, control, text),
-        None => add_first_type(names, known, kind, text),
+        Some((y, control)) => { add_class(alloc, names, bytes, locks, modes, y, control, text) }
+        None => add_first_type(alloc, names, bytes, locks, modes, known, kind, text),
     }
 }
 
@@ -63,9 +73,28 @@ fn untyped_value(kind: &StmtKind) -> Option<&Expr>
     }
 }
 
-/// Adds the line of a class with a control that isn't stable.
-fn add_class(names: &NameTable, y: u32, control: u32, text: &mut Blob) -> Result<(), NoMemory>
-    ensures { OnOk result (text.new ≡ text.old ++ spec.class_line names.now y control) }
+/// Adds the lines of a class with a control that isn't stable.
+fn add_class(
+    alloc: Global,
+    names: &NameTable,
+    bytes: &[u8],
+    locks: &[LockDecl],
+    modes: &ModeState,
+    y: u32,
+    control: u32,
+    text: &mut Blob,
+) -> Result<(), NoMemory>
+    requires { length locks.now ≤ MOST_LOCKS }
+    ensures { OnOk result (text.new ≡ text.old
+        ++ spec.class_line names.now (unstable_line names.now bytes.now (map view.lock locks.now) (modes.now).held) y control) }
+{
+    add_class_text(names, y, control, text)?;
+    add_unstable(alloc, names, bytes, locks, modes, control, text)
+}
+
+/// Adds which variable it is, with the control of its class.
+fn add_class_text(names: &NameTable, y: u32, control: u32, text: &mut Blob) -> Result<(), NoMemory>
+    ensures { OnOk result (text.new ≡ text.old ++ spec.class_text names.now y control) }
 {
     text.extend_from_slice(b"  no type is written by `as`, and the class of ")?;
     add_variable(names, y, text)?;
@@ -76,15 +105,34 @@ fn add_class(names: &NameTable, y: u32, control: u32, text: &mut Blob) -> Result
 
 /// Adds the first type that isn't over stable controls, if there is one.
 fn add_first_type(
+    alloc: Global,
     names: &NameTable,
+    bytes: &[u8],
+    locks: &[LockDecl],
+    modes: &ModeState,
     known: &Known,
     kind: &StmtKind,
     text: &mut Blob,
 ) -> Result<(), NoMemory>
-    ensures { OnOk result (text.new ≡ text.old ++ spec.type_line names.now known.now.controls (first_with_outside known.now.stable_controls (parts.stated_types (view.kind kind.now)))) }
+    requires { length locks.now ≤ MOST_LOCKS }
+    ensures { OnOk result (text.new ≡ text.old
+        ++ spec.type_line names.now (unstable_line names.now bytes.now (map view.lock locks.now) (modes.now).held) known.now.controls
+        (first_with_outside known.now.stable_controls (parts.stated_types (view.kind kind.now)))) }
 {
     match first_type(kind, &known.stable_controls) {
-        Some((q, x)) => add_type(names, &known.controls, q, x, text),
+        Some((q, x)) => {
+            add_type(
+                alloc,
+                names,
+                bytes,
+                locks,
+                modes,
+                &known.controls,
+                q,
+                x,
+                text,
+            )
+        }
         None => Ok(()),
     }
 }
@@ -104,15 +152,57 @@ fn first_type<'p>(kind: &'p StmtKind, set: &NumberSet) -> Option<(&'p Expr, u32)
     }
 }
 
-/// Adds the line of a type with a variable that may not be there.
+/// Adds the lines of a type with a variable that may not be there.
 fn add_type(
+    alloc: Global,
+    names: &NameTable,
+    bytes: &[u8],
+    locks: &[LockDecl],
+    modes: &ModeState,
+    controls: &Mask,
+    q: &Expr,
+    x: u32,
+    text: &mut Blob,
+) -> Result<(), NoMemory>
+    requires { length locks.now ≤ MOST_LOCKS }
+    ensures { OnOk result (text.new ≡ text.old
+        ++ spec.type_line names.now (unstable_line names.now bytes.now (map view.lock locks.now) (modes.now).held) controls.now (Some (term q.now, x))) }
+{
+    add_type_text(names, controls, q, x, text)?;
+    add_control_cause(alloc, names, bytes, locks, modes, controls, x, text)
+}
+
+/// Adds why a variable isn't stable, where it is a control.
+fn add_control_cause(
+    alloc: Global,
+    names: &NameTable,
+    bytes: &[u8],
+    locks: &[LockDecl],
+    modes: &ModeState,
+    controls: &Mask,
+    x: u32,
+    text: &mut Blob,
+) -> Result<(), NoMemory>
+    requires { length locks.now ≤ MOST_LOCKS }
+    ensures { OnOk result (text.new ≡ text.old
+        ++ spec.control_cause (unstable_line names.now bytes.now (map view.lock locks.now) (modes.now).held) (has controls.now x) x) }
+{
+    if controls.has(x) {
+        add_unstable(alloc, names, bytes, locks, modes, x, text)
+    } else {
+        Ok(())
+    }
+}
+
+/// Adds which type it is, with its variable.
+fn add_type_text(
     names: &NameTable,
     controls: &Mask,
     q: &Expr,
     x: u32,
     text: &mut Blob,
 ) -> Result<(), NoMemory>
-    ensures { OnOk result (text.new ≡ text.old ++ spec.type_line names.now controls.now (Some (term q.now, x))) }
+    ensures { OnOk result (text.new ≡ text.old ++ spec.type_text names.now controls.now (term q.now) x) }
 {
     let control = controls.has(x);
     text.extend_from_slice(b"  the type `")?;

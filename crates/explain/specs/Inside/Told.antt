@@ -1,7 +1,9 @@
 -- Words of private contracts: what steps add to a text. To believe what `explain` promises, nothing here need be read.
-use Rattle.std.specs.Prelude.{◌≡◌, ℕ, List, ◌++◌, Option, Some, None, Result, Ok, Err}
+use Rattle.std.specs.Prelude.{◌≡◌, ◌⊎◌, ℕ, List, ◌++◌, Option, Some, None, Result, Ok, Err}
+use Rattle.call_inputs.specs.Programs.{IsShownFault, SpellsProgram}
 use Rattle.call_inputs.specs.Readings.{End}
 use Rattle.call_reports.specs.Replies.{Reply, status_of}
+use Rattle.call_reports.specs.declared.answers.Fault.{Fault}
 use Rattle.call_reports.specs.declared.answers.Status.{Status}
 use Rattle.call_reports.specs.declared.answers.Status.TheVariants as s
 use Rattle.call_verdicts.specs.Levels.{LevelsInput}
@@ -10,7 +12,11 @@ use Rattle.cov_ast.specs.declared.refusal.Refusal.{Refusal}
 use Rattle.cov_expr.specs.declared.list.NoMemory.{NoMemory}
 use Rattle.cov_io.specs.Shelves.{Shelved}
 use Rattle.explain.specs.FileCalls.{Outcome, Tells, out_of_memory, told}
-use Rattle.explain.specs.LevelTellings.{RepliesFor, TellsOver, level_lines, program_lines}
+use Rattle.explain.specs.LevelTellings.{RepliesFor, TellsOver, level_lines, malformed_lines, program_lines}
+use Rattle.cov_ast.specs.Obligations.{first_false}
+use Rattle.mode_compat.specs.Declared.{declaration_obligations}
+use Rattle.policy_class.specs.Resolved.{resolved}
+use Rattle.explain.specs.SuggestedTexts.{declared_lines, declared_status, searched_lines, searched_status, suggested_lines, suggested_status}
 use Rattle.explain.specs.declared.manner.Manner.{Manner}
 use Rattle.level_text.specs.Lattice.{Levels}
 
@@ -28,6 +34,26 @@ outcome_of text (Err e) = out_of_memory
 -- The shelf is left as this, and the calls come to this.
 abbrev pub IsLeft : (last : Shelved) → Outcome → Shelved → Outcome → Type 0
 IsLeft last outcome shelf other = (shelf ≡ last) × (other ≡ outcome)
+
+-- Suggestions ----------------------------------------------------------------------------------------------------
+
+-- What a search comes to is added to a text, with its status; what is told of a text whose names are in order; and what is told of any.
+abbrev pub IsSearched : Parsed → (old new : List ℕ) → Status → Type 0
+IsSearched p old new status = (status ≡ searched_status p) × (new ≡ old ++ searched_lines p)
+
+abbrev pub IsDeclared : (name bytes : List ℕ) → Parsed → (old new : List ℕ) → Status → Type 0
+IsDeclared name bytes p old new status =
+    (status ≡ declared_status p) × (new ≡ old ++ declared_lines name bytes p (first_false (declaration_obligations (resolved p))))
+
+abbrev pub IsSuggested : (name bytes : List ℕ) → Parsed → (old new : List ℕ) → Status → Type 0
+IsSuggested name bytes p old new status = (status ≡ suggested_status p) × (new ≡ old ++ suggested_lines name bytes p)
+
+-- What is told of the bytes of a program for which certificates are searched is added to a text, with its status; or memory ran out.
+abbrev pub AddsSuggested : (name bytes old new : List ℕ) → Result Status NoMemory → Type 0
+AddsSuggested name bytes old new (Ok status) =
+    ((p : Parsed) × SpellsProgram bytes p × IsSuggested name bytes p old new status)
+    ⊎ ((fault : Fault) × IsShownFault bytes fault × (status ≡ s.Malformed) × (new ≡ old ++ malformed_lines name bytes fault))
+AddsSuggested name bytes old new (Err e) = Unit {0}
 
 -- Levels -------------------------------------------------------------------------------------------------------
 

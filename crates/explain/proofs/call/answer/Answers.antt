@@ -1,10 +1,8 @@
-use Rattle.std.proofs.Common.{◌≡◌, ◌∙◌, [], true, false, ap, get_or, length, map, nat_lt, string_bytes, sym, subst, arith}
+use Rattle.std.proofs.Common.{◌≡◌, ◌∙◌, [], true, false, ap, get_or, length, map, string_bytes, sym, arith}
 use Rattle.std.proofs.lemmas.List.{get_or-map, length-map}
-use Rattle.call_reports.specs.declared.answers.Status.TheVariants as s
-use Rattle.explain.specs.FileCalls.{TellsAll, asks_for_levels, files_of, manner_of}
-use Rattle.explain.specs.declared.manner.Manner.{Manner}
+use Rattle.explain.specs.FileCalls.{asks_for_levels}
 use Rattle.explain.specs.Inside.Told.{IsLeft, outcome_of}
-use Rattle.explain.proofs.CallLaws.{answers_all, answers_levels, three_words}
+use Rattle.explain.proofs.CallLaws.{answers_besides, answers_levels, three_words}
 use Rattle.explain.proofs.call.answer.Goals as goal
 
 pub returns-then-asks_for_levels : goal.returns-then-asks_for_levels
@@ -25,13 +23,6 @@ returns-then-asks_for_levels g c =
 pub returns-else-asks_for_levels : goal.returns-else-asks_for_levels
 returns-else-asks_for_levels g c =
     let words = map string_bytes c.args.names.now in
-    let left = IsLeft (g.S.Shelf.shelved c.tell_all.new.shelf) (outcome_of c.tell_all.new.text c.tell_all.result) in
+    let left = IsLeft (g.S.Shelf.shelved c.answer_besides.new.shelf) (outcome_of c.answer_besides.new.text c.answer_besides.result) in
     let no : asks_for_levels words ≡ false = sym c.asks_for_levels.ensures ∙ c.if-asks_for_levels.false in
-    let files : map string_bytes c.files_of-files.result.now ≡ files_of words = c.files_of-files.ensures in
-    let as_many : length c.files_of-files.result.now ≡ length (files_of words) = sym (length-map c.files_of-files.result.now string_bytes) ∙ ap length files in
-    let given : Manner = record { named = nat_lt 1 (length c.files_of-files.result.now); first = c.asks_for_first.result } in
-    let manners : given ≡ manner_of words = λ i. record { named = nat_lt 1 (as_many i); first = c.asks_for_first.ensures i } in
-    let shelf = g.S.Shelf.shelved c.args.shelf.now in
-    answers_all string_bytes left c.args.names.now shelf c.args.text.now c.is_empty.result c.is_empty.ensures c.if-is_empty.false no c.requires
-    (subst (λ how. TellsAll left how shelf (files_of words) c.args.text.now s.Done) manners
-    (subst (λ names. TellsAll left given shelf names c.args.text.now s.Done) files c.tell_all.ensures))
+    answers_besides string_bytes left c.args.names.now (g.S.Shelf.shelved c.args.shelf.now) c.is_empty.result c.is_empty.ensures c.if-is_empty.false no c.answer_besides.ensures

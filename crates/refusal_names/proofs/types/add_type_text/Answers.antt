@@ -4,7 +4,7 @@ use Rattle.cov_expr.specs.View.{term}
 use Rattle.cov_print.specs.Spelling.{name, whole}
 use Rattle.refusal_names.specs.NameLines.{part_word, part_fault}
 use Rattle.refusal_names.proofs.LineLaws.{six_pieces}
-use Rattle.refusal_names.proofs.types.add_type.Goals as goal
+use Rattle.refusal_names.proofs.types.add_type_text.Goals as goal
 
 pub returns : goal.returns
 returns c =

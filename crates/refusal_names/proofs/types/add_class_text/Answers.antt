@@ -1,7 +1,7 @@
 use Rattle.std.proofs.Common.{codes}
 use Rattle.cov_print.specs.Spelling.{name}
 use Rattle.refusal_names.proofs.LineLaws.{five_pieces}
-use Rattle.refusal_names.proofs.types.add_class.Goals as goal
+use Rattle.refusal_names.proofs.types.add_class_text.Goals as goal
 
 pub returns : goal.returns
 returns c =

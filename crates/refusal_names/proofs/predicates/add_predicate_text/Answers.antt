@@ -2,7 +2,7 @@ use Rattle.std.proofs.Common.{codes}
 use Rattle.cov_expr.specs.View.{term}
 use Rattle.cov_print.specs.Spelling.{name, whole}
 use Rattle.refusal_names.proofs.LineLaws.{five_pieces}
-use Rattle.refusal_names.proofs.predicates.add_predicate.Goals as goal
+use Rattle.refusal_names.proofs.predicates.add_predicate_text.Goals as goal
 
 pub returns : goal.returns
 returns c =

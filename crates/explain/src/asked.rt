@@ -1,0 +1,110 @@
+//! What the words of a command line ask for.
+
+ghost use Rattle.std.specs.Prelude.{◌≡◌, map, string_bytes};
+ghost use Rattle.explain.specs.FileCalls as spec;
+ghost use Rattle.explain.specs.declared.manner.PointsTold.TheVariants as PointsTold;
+
+use crate::manner::PointsTold;
+use cov_expr::MOST_BYTES;
+
+/// Whether words are `--first` and files.
+pub fn asks_for_first(names: &[String]) -> bool
+    ensures { result ≡ spec.asks_for_first (map string_bytes names.now) }
+{
+    1 < names.len() && names[0].as_str() == "--first"
+}
+
+/// Whether words are `--levels`, a program and levels for it.
+pub fn asks_for_levels(names: &[String]) -> bool
+    ensures { result ≡ spec.asks_for_levels (map string_bytes names.now) }
+{
+    names.len() == 3 && names[0].as_str() == "--levels"
+}
+
+/// Whether words are `--suggest` and a program.
+pub fn asks_for_suggestions(names: &[String]) -> bool
+    ensures { result ≡ spec.asks_for_suggestions (map string_bytes names.now) }
+{
+    names.len() == 2 && names[0].as_str() == "--suggest"
+}
+
+/// Which points words ask for.
+pub fn points_of(names: &[String]) -> PointsTold
+    ensures { result ≡ spec.points_of (map string_bytes names.now) }
+{
+    if 1 < names.len() && names[0].as_str() == "--points" {
+        points_by(names)
+    } else {
+        PointsTold::Nowhere
+    }
+}
+
+/// Which points words ask for, of which the first is `--points`.
+fn points_by(names: &[String]) -> PointsTold
+    ensures { result ≡ spec.points_by (map string_bytes names.now) }
+{
+    if names.len() == 2 {
+        return PointsTold::Everywhere;
+    }
+    if names.len() == 3 {
+        in_line(names[2].as_bytes())
+    } else {
+        PointsTold::Nowhere
+    }
+}
+
+/// The points in front of the statements of the line whose number a word spells, if it spells one.
+fn in_line(word: &[u8]) -> PointsTold
+    ensures { result ≡ spec.in_line (spec.line_number word.now) }
+{
+    match line_number(word) {
+        Some(number) => PointsTold::InLine(number),
+        None => PointsTold::Nowhere,
+    }
+}
+
+/// The number of a line that a word spells, if it spells one.
+fn line_number(word: &[u8]) -> Option<usize>
+    ensures { result ≡ spec.line_number word.now }
+{
+    if word.is_empty() {
+        return None;
+    }
+    let mut number = 0;
+    for byte in word {
+        if b'0' <= *byte && *byte <= b'9' && number <= MOST_BYTES {
+            number = number * 10 + (*byte - b'0') as usize;
+        } else {
+            return None;
+        }
+    }
+    Some(number)
+}
+
+/// The files that words name, by which points they ask for.
+pub fn files_by(points: PointsTold, names: &[String]) -> &[String]
+    ensures { map string_bytes result.now ≡ spec.files_by points (map string_bytes names.now) }
+{
+    match points {
+        PointsTold::Nowhere => without_first(names),
+        PointsTold::Everywhere | PointsTold::InLine(_) => second(names),
+    }
+}
+
+/// The files that words name which ask for no points.
+fn without_first(names: &[String]) -> &[String]
+    ensures { map string_bytes result.now ≡ spec.files_by PointsTold.Nowhere (map string_bytes names.now) }
+{
+    if asks_for_first(names) {
+        &names[1..]
+    } else {
+        names
+    }
+}
+
+/// The second of some words, if it is there.
+fn second(names: &[String]) -> &[String]
+    ensures { map string_bytes result.now ≡ spec.files_by PointsTold.Everywhere (map string_bytes names.now) }
+{
+    if 1 < names.len() { &names[1..2] } else { &[] }
+}

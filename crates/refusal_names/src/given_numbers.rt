@@ -1,0 +1,91 @@
+//! The line of V13: what is wrong with a number in `by`.
+
+ghost use Rattle.std.specs.Prelude.{◌≡◌, ◌++◌, OnOk, map};
+ghost use Rattle.cov_ast.specs.View as view;
+ghost use Rattle.refusal_names.specs.GivenNumbers as spec;
+
+use cov_ast::{Detail, Proof};
+use cov_expr::{Blob, NoMemory};
+use text_parts::add_number;
+
+/// Adds what is wrong with the number that a refusal shows, of a statement with so many entailments.
+pub fn add_shown_number(
+    count: usize,
+    proofs: &[Proof],
+    detail: Detail,
+    text: &mut Blob,
+) -> Result<(), NoMemory>
+    ensures { OnOk result (text.new ≡ text.old ++ spec.shown_number count (map view.proof proofs.now) detail) }
+{
+    match detail {
+        Detail::Number(n) => add_wrong_number(count, proofs, n, text),
+        _ => Ok(()),
+    }
+}
+
+/// Adds that no entailment has a number, or that it is given more than once.
+fn add_wrong_number(count: usize, proofs: &[Proof], n: u32, text: &mut Blob) -> Result<(), NoMemory>
+    ensures { OnOk result (text.new ≡ text.old ++ spec.number_line count (map view.proof proofs.now) n) }
+{
+    if 1 <= n && n as usize <= count {
+        add_repeated(proofs, n, text)
+    } else {
+        add_count(count, text)
+    }
+}
+
+/// Adds how many entailments the statement has.
+fn add_count(count: usize, text: &mut Blob) -> Result<(), NoMemory>
+    ensures { OnOk result (text.new ≡ text.old ++ spec.count_text count) }
+{
+    text.extend_from_slice(b"  the statement has ")?;
+    add_count_words(count, text)
+}
+
+/// Adds a number of entailments.
+fn add_count_words(count: usize, text: &mut Blob) -> Result<(), NoMemory>
+    ensures { OnOk result (text.new ≡ text.old ++ spec.count_words count) }
+{
+    if count == 0 {
+        text.extend_from_slice(b"no entailments\n")
+    } else if count == 1 {
+        text.extend_from_slice(b"1 entailment\n")
+    } else {
+        add_many(count, text)
+    }
+}
+
+/// Adds a number of entailments, in decimal.
+fn add_many(count: usize, text: &mut Blob) -> Result<(), NoMemory>
+    ensures { OnOk result (text.new ≡ text.old ++ spec.many_words count) }
+{
+    add_number(count, text)?;
+    text.extend_from_slice(b" entailments\n")
+}
+
+/// Adds that a number is given more than once, if it is.
+fn add_repeated(proofs: &[Proof], n: u32, text: &mut Blob) -> Result<(), NoMemory>
+    ensures { OnOk result (text.new ≡ text.old ++ spec.repeated_line (map view.proof proofs.now) n) }
+{
+    if 2 <= times_given(proofs, n) {
+        add_repeated_text(n, text)
+    } else {
+        Ok(())
+    }
+}
+
+/// Adds that a number is given more than once.
+fn add_repeated_text(n: u32, text: &mut Blob) -> Result<(), NoMemory>
+    ensures { OnOk result (text.new ≡ text.old ++ spec.repeated_text n) }
+{
+    text.extend_from_slice(b"  ")?;
+    add_number(n as usize, text)?;
+    text.extend_from_slice(b" is given more than once\n")
+}
+
+/// How many proofs have a number.
+fn times_given(proofs: &[Proof], n: u32) -> usize
+    ensures { result ≡ spec.times_given (map view.proof proofs.now) n }
+{
+    proofs.iter().filter(|q| q.number == n).count()
+}

@@ -1,0 +1,6 @@
+pub mod PointLaws
+mod Pieces
+mod Ranges
+mod Reached
+mod SpotLaws
+mod TellingLaws

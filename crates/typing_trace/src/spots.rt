@@ -1,0 +1,141 @@
+//! Which statements are told of.
+
+ghost use Rattle.std.specs.Prelude.{◌≡◌, [], ◌∷◌, ◌++◌, ◌≤◌, IfOk, OnOk, length, map};
+ghost use Rattle.cov_ast.specs.View as view;
+ghost use Rattle.cov_ast.specs.WellFormed.{places, places_within};
+ghost use Rattle.cov_expr.specs.declared.limits.TheConstants.{MOST_THREADS};
+ghost use Rattle.text_parts.specs.Lines.{is_feed};
+ghost use Rattle.typing_trace.specs.Spots as spec;
+
+use cov_ast::{Stmt, StmtKind, ThreadDecl};
+use cov_expr::{List, NoMemory};
+use std::alloc::Global;
+
+/// Bytes of a text: from one on, and in front of another.
+#[derive(Clone, Copy)]
+pub struct Span {
+    pub from: usize,
+    pub to: usize,
+}
+
+/// A statement: its thread, and its place.
+#[derive(Clone, Copy)]
+pub struct Spot {
+    pub thread: u32,
+    pub place: u32,
+}
+
+/// The bytes of a line, counted from 1.
+pub fn span_of(bytes: &[u8], number: usize) -> Span
+    ensures { result ≡ spec.span_of bytes.now number }
+{
+    Span {
+        from: bytes_of_lines(number.saturating_sub(1), bytes),
+        to: bytes_of_lines(number, bytes),
+    }
+}
+
+/// How many bytes the first lines of a text have.
+fn bytes_of_lines(count: usize, bytes: &[u8]) -> usize
+    ensures { result ≡ spec.bytes_of_lines count bytes.now }
+{
+    let mut left = count;
+    for (i, byte) in bytes.iter().enumerate() {
+        if left == 0 {
+            return i;
+        }
+        if is_line_feed(*byte) {
+            left -= 1;
+        }
+    }
+    bytes.len()
+}
+
+/// Whether a byte ends a line.
+fn is_line_feed(byte: u8) -> bool
+    ensures { result ≡ is_feed byte }
+{
+    byte == b'\n'
+}
+
+/// The statements that are asked for of some threads, in the order of the text.
+pub fn spots_of(
+    alloc: Global,
+    span: Option<Span>,
+    threads: &[ThreadDecl],
+) -> Result<List<Spot>, NoMemory>
+    requires few { length threads.now ≤ MOST_THREADS }
+    ensures { IfOk result (λ made. made ≡ spec.spots_of span 0 (map view.thread threads.now)) }
+{
+    let mut spots = List::new(alloc);
+    for (t, thread) in threads.iter().enumerate() {
+        add_block(span, t as u32, thread.body.as_slice(), &mut spots)?;
+    }
+    Ok(spots)
+}
+
+/// Adds the statements of a block that are asked for.
+#[cycle(blocks)]
+fn add_block(
+    span: Option<Span>,
+    t: u32,
+    body: &[Stmt],
+    spots: &mut List<Spot>,
+) -> Result<(), NoMemory>
+    ensures { OnOk result (spots.new ≡ spots.old ++ spec.spots_in span t (places (view.block body.now))) }
+{
+    for stmt in body {
+        add_place(span, t, stmt.at, spots)?;
+        add_within(span, t, &stmt.kind, spots)?;
+    }
+    Ok(())
+}
+
+/// Adds the statements in the blocks of a statement that are asked for.
+#[cycle(blocks)]
+fn add_within(
+    span: Option<Span>,
+    t: u32,
+    kind: &StmtKind,
+    spots: &mut List<Spot>,
+) -> Result<(), NoMemory>
+    ensures { OnOk result (spots.new ≡ spots.old ++ spec.spots_in span t (places_within (view.kind kind.now))) }
+{
+    match kind {
+        StmtKind::If(_, a, b, _) => {
+            add_block(span, t, a.as_slice(), spots)?;
+            add_block(span, t, b.as_slice(), spots)
+        }
+        StmtKind::While(_, _, b) => add_block(span, t, b.as_slice(), spots),
+        StmtKind::Skip
+        | StmtKind::Assign(_, _, _, _)
+        | StmtKind::Lock(_)
+        | StmtKind::Unlock(_)
+        | StmtKind::Note(_)
+        | StmtKind::Output(_) => Ok(()),
+    }
+}
+
+/// Adds the statement at a place, if it is asked for.
+fn add_place(span: Option<Span>, t: u32, at: u32, spots: &mut List<Spot>) -> Result<(), NoMemory>
+    ensures { OnOk result (spots.new ≡ spots.old ++ spec.spots_in span t (at ∷ [])) }
+{
+    if is_asked(span, at) {
+        spots.push(Spot {
+            thread: t,
+            place: at,
+        })
+    } else {
+        Ok(())
+    }
+}
+
+/// Whether a place is asked for.
+fn is_asked(span: Option<Span>, at: u32) -> bool
+    ensures { result ≡ spec.is_asked span at }
+{
+    match span {
+        None => true,
+        Some(span) => span.from <= at as usize && (at as usize) < span.to,
+    }
+}
