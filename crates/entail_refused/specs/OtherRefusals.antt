@@ -1,7 +1,8 @@
--- The other entailments for which a thread would be refused by V9: one without a valid certificate changes nothing of what is known behind it.
-use Rattle.std.specs.Prelude.{ℕ, ◌==◌, nat_lt, List, [], length, map, filter, Bool, not, ◌&&◌, Option, Some, if◌then◌else◌}
+-- The other entailments for which a thread would be refused by V9, and those for which the threads behind it would be: one without a valid certificate changes nothing of
+-- what is known behind it, and a thread nothing of what has to hold of another.
+use Rattle.std.specs.Prelude.{ℕ, ◌+◌, ◌==◌, nat_lt, List, [], ◌∷◌, ◌++◌, length, map, filter, Bool, not, ◌&&◌, Option, Some, if◌then◌else◌}
 use Rattle.cov_ast.specs.Obligations.{all_hold}
-use Rattle.cov_ast.specs.Syntax.{Block, Program}
+use Rattle.cov_ast.specs.Syntax.{Block, Program, Thread}
 use Rattle.cov_ast.specs.declared.refusal.Detail.{Detail}
 use Rattle.cov_ast.specs.declared.refusal.Detail.TheVariants.{Number}
 use Rattle.cov_ast.specs.declared.refusal.Refusal.{Refusal}
@@ -24,9 +25,22 @@ abbrev pub others_in : Program → (t place number : ℕ) → List Refusal
 others_in p t place number =
     map (λ g. refusal_at t g.place g.number) (filter (is_other (numbered p t).body place number) (thread_entailments p t))
 
+-- those of a thread, if it stands behind another; no entailment has the number 0
+abbrev pub if_later : Program → (t u : ℕ) → List Refusal
+if_later p t u = if nat_lt t u then others_in p u 0 0 else []
+
+-- those of threads behind one, of which the first has this number
+abbrev pub later_among : Program → (t u : ℕ) → List Thread → List Refusal
+later_among p t u [] = []
+later_among p t u (thread ∷ threads) = if_later p t u ++ later_among p t (u + 1) threads
+
+-- those of a thread, and then of the threads behind it
+abbrev pub others_onward : Program → (t place number : ℕ) → List Refusal
+others_onward p t place number = others_in p t place number ++ later_among p t 0 p.threads
+
 -- the same, where the declarations keep the rules
 abbrev pub others_declared : Program → (t place number : ℕ) → List Refusal
-others_declared p t place number = if all_hold (declaration_obligations p) then others_in p t place number else []
+others_declared p t place number = if all_hold (declaration_obligations p) then others_onward p t place number else []
 
 -- the same, where the program has so many threads
 abbrev pub others_of : Program → (t place number : ℕ) → List Refusal

@@ -3,7 +3,7 @@
 //! - [`add_asked`]: of the entailment for which a program is refused what it asks, its goal, its hypotheses, each with
 //!   where it comes from (`entail_origins`), and its certificate (`entail_text`); then where the types come from that make up the goal
 //!   (there too), which hypotheses the state drops that is asked of, and what would be a hypothesis, had a state listed it.
-//! - [`other_refusals`]: the others of its thread that have no valid certificate, as refusals.
+//! - [`other_refusals`]: the others of its thread, and of the threads behind it, that have no valid certificate, as refusals.
 //! - [`refused_entailment_is_listed`] and [`refusal_is_told`], which are laws: there is always such an entailment, and it is the one
 //!   whose certificate isn't valid. `specs/RefusedEntailment.antt` says so.
 //! - [`hypotheses_are_of_the_site`], a law too: the hypotheses of an entailment are what is known at the point of its site, with one
@@ -12,7 +12,7 @@
 //!
 //! `specs/Asked.antt` says which entailment that is, `specs/Sites.antt` the point of which it asks and the steps to it, by
 //! which its hypotheses, types and what was left out are sought, and
-//! `specs/GivenElsewhere.antt` which certificates of other entailments are told of, and `specs/OtherRefusals.antt` which others of the thread are refused.
+//! `specs/GivenElsewhere.antt` which certificates of other entailments are told of, and `specs/OtherRefusals.antt` which others of the thread, and of those behind it, are refused.
 #![tactic(auto)]
 
 mod dropped;

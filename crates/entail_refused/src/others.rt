@@ -1,22 +1,23 @@
-//! The other entailments for which a thread would be refused by V9.
+//! The other entailments for which a thread, and those behind it, would be refused by V9.
 
-ghost use Rattle.std.specs.Prelude.{◌≡◌, ◌<◌, IfOk, IsTrue, length, map};
+ghost use Rattle.std.specs.Prelude.{◌≡◌, ◌<◌, ◌≤◌, ◌++◌, IfOk, IsTrue, OnOk, length, map};
 ghost use Rattle.cov_ast.specs.Obligations.{all_hold};
 ghost use Rattle.cov_ast.specs.View as view;
 ghost use Rattle.cov_ast.specs.WellFormed.{IsWellFormed};
+ghost use Rattle.cov_expr.specs.declared.limits.TheConstants.{MOST_THREADS};
 ghost use Rattle.mode_compat.specs.Declared.{declaration_obligations};
 ghost use Rattle.typing_rules.specs.Keeping.{view_searched};
 ghost use Rattle.entail_refused.specs.Inside.SearchedOthers.{listed};
 ghost use Rattle.entail_refused.specs.OtherRefusals as spec;
 
-use cov_ast::{CheckFault, Detail, Program, Refusal, Rule};
+use cov_ast::{CheckFault, Detail, Program, Refusal, Rule, ThreadDecl};
 use cov_expr::{List, NoMemory};
 use std::alloc::Global;
 use typing_rules::{Searched, searched_entailments};
 use verify::check_declared;
 
-/// The refusals by V9 of the thread of one, beside that one, in the order in which the entailments of the thread are tried: those that are tried where no
-/// other rule but V9 and V13 fails before. None of a refusal for another rule. It takes the time of a check of the thread, and memory for the refusals.
+/// The refusals by V9 of the thread of one, beside that one, and of the threads behind it, in the order in which entailments are tried: those that are tried where no
+/// other rule but V9 and V13 fails before in their thread. None of a refusal for another rule. It takes the time of a check of these threads, and memory for the refusals.
 pub fn other_refusals(
     alloc: Global,
     p: &Program,
@@ -79,9 +80,68 @@ fn others_declared(
     ensures { IfOk result (λ made. made ≡ spec.others_declared (view.program p.now) t place number) }
 {
     match check_declared(alloc, p) {
-        Ok(()) => others_in(alloc, p, t, place, number),
+        Ok(()) => others_onward(alloc, p, t, place, number),
         Err(CheckFault::Refused(_)) => Ok(List::new(alloc)),
         Err(CheckFault::NoMemory) => Err(NoMemory),
+    }
+}
+
+/// Those of a thread, and then of the threads behind it.
+fn others_onward(
+    alloc: Global,
+    p: &Program,
+    t: u32,
+    place: u32,
+    number: u32,
+) -> Result<List<Refusal>, NoMemory>
+    requires formed { IsWellFormed (view.program p.now) }
+    requires declared { IsTrue (all_hold (declaration_obligations (view.program p.now))) }
+    requires thread { t < length p.now.threads }
+    ensures { IfOk result (λ made. made ≡ spec.others_onward (view.program p.now) t place number) }
+{
+    let mut made = others_in(alloc, p, t, place, number)?;
+    add_later(alloc, p, t, p.threads.as_slice(), &mut made)?;
+    Ok(made)
+}
+
+/// Adds those of the threads behind one.
+fn add_later(
+    alloc: Global,
+    p: &Program,
+    t: u32,
+    threads: &[ThreadDecl],
+    made: &mut List<Refusal>,
+) -> Result<(), NoMemory>
+    requires formed { IsWellFormed (view.program p.now) }
+    requires declared { IsTrue (all_hold (declaration_obligations (view.program p.now))) }
+    requires all { length threads.now ≡ length p.now.threads }
+    requires few { length threads.now ≤ MOST_THREADS }
+    ensures { OnOk result (made.new ≡ made.old ++ spec.later_among (view.program p.now) t 0 (map view.thread threads.now)) }
+{
+    for (u, _) in threads.iter().enumerate() {
+        add_if_later(alloc, p, t, u as u32, made)?;
+    }
+    Ok(())
+}
+
+/// Adds those of a thread, if it stands behind another.
+fn add_if_later(
+    alloc: Global,
+    p: &Program,
+    t: u32,
+    u: u32,
+    made: &mut List<Refusal>,
+) -> Result<(), NoMemory>
+    requires formed { IsWellFormed (view.program p.now) }
+    requires declared { IsTrue (all_hold (declaration_obligations (view.program p.now))) }
+    requires thread { u < length p.now.threads }
+    ensures { OnOk result (made.new ≡ made.old ++ spec.if_later (view.program p.now) t u) }
+{
+    if t < u {
+        let more = others_in(alloc, p, u, 0, 0)?;
+        made.extend_from_slice(more.as_slice())
+    } else {
+        Ok(())
     }
 }
 

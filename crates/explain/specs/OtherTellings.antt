@@ -1,4 +1,4 @@
--- What is told of the other entailments for which a thread would be refused by V9: of each as of the first, up to so many.
+-- What is told of the other entailments for which a thread, and those behind it, would be refused by V9: of each as of the first, up to so many.
 use Rattle.std.specs.Prelude.{ℕ, ◌-◌, nat_le, List, [], ◌++◌, Bool, true, false, length, take, flat_map, codes, decimal, if◌then◌else◌}
 use Rattle.cov_ast.specs.Syntax.{Program}
 use Rattle.cov_ast.specs.declared.refusal.Refusal.{Refusal}
@@ -16,7 +16,7 @@ refusal_text name bytes p r =
 
 -- how many there are besides
 abbrev pub left_line : ℕ → List ℕ
-left_line n = codes "and as many more of this thread for which no valid certificate is given: " ++ decimal n ++ codes "\n"
+left_line n = codes "and as many more for which no valid certificate is given: " ++ decimal n ++ codes "\n"
 
 -- the first of some refusals, and how many there are besides
 abbrev pub lines_of : (name bytes : List ℕ) → Program → List Refusal → List ℕ

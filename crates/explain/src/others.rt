@@ -1,4 +1,4 @@
-//! What is told of the other entailments for which a thread would be refused.
+//! What is told of the other entailments for which a thread, and those behind it, would be refused.
 
 ghost use Rattle.std.specs.Prelude.{◌≡◌, ◌++◌, OnOk, flat_map};
 ghost use Rattle.cov_ast.specs.View as view;
@@ -17,7 +17,7 @@ use text_parts::add_number;
 /// How many others are told.
 const MOST_TOLD: usize = 8;
 
-/// Adds what is told of the other entailments for which the thread of a refusal by V9 would be refused, each as if it were the first; nothing where the first
+/// Adds what is told of the other entailments for which the thread of a refusal by V9, and those behind it, would be refused, each as if it were the first; nothing where the first
 /// alone is to be told.
 pub fn add_others_unless(
     alloc: Global,
@@ -112,9 +112,7 @@ fn add_refusal(
 fn add_left(count: usize, text: &mut Blob) -> Result<(), NoMemory>
     ensures { OnOk result (text.new ≡ text.old ++ spec.left_line count) }
 {
-    text.extend_from_slice(
-        b"and as many more of this thread for which no valid certificate is given: ",
-    )?;
+    text.extend_from_slice(b"and as many more for which no valid certificate is given: ")?;
     add_number(count, text)?;
     text.extend_from_slice(b"\n")
 }

@@ -1,9 +1,12 @@
--- V3, V4, V12 and V14: why a variable isn't stable at a place of a thread: the lock that it is under isn't held there, or it is under none and
+-- V3, V4, V5, V12 and V14: why a variable isn't stable at a place of a thread: the lock that it is under isn't held there, or it is under none and
 -- the thread doesn't assume that it isn't written.
-use Rattle.std.specs.Prelude.{◌≡◌, ◌⊎◌, ◌<◌, ℕ, List, ◌++◌, Bool, true, false, length, codes, Option, Some, None}
+use Rattle.std.specs.Prelude.{◌≡◌, ◌⊎◌, ◌<◌, ℕ, List, [], ◌++◌, Bool, true, false, length, codes, Option, Some, None}
 use Rattle.cov_ast.specs.Declarations.{assumes, under}
+use Rattle.cov_ast.specs.NameTables.{find_name}
 use Rattle.cov_ast.specs.Plain.{plain}
 use Rattle.cov_ast.specs.Syntax.{Lock, Program}
+use Rattle.cov_ast.specs.declared.refusal.Detail.{Detail}
+use Rattle.cov_ast.specs.declared.refusal.Detail.TheVariants.{One}
 use Rattle.cov_print.specs.Spelling.{Names, name}
 use Rattle.text_parts.specs.VariableNames.{variable_names}
 use Rattle.refusal_names.specs.ForbiddenAccess.{first_forbidding, list_text, lock_text, IsOfLock}
@@ -22,6 +25,16 @@ lock_or_assumption names bytes (Some k) x held = lock_text names bytes k.0 k.1 x
 -- by the locks that are held: of the first lock that isn't, and that the variable is under
 abbrev pub unstable_line : Names → (bytes : List ℕ) → List Lock → (held : List Bool) → (x : ℕ) → List ℕ
 unstable_line names bytes locks held x = lock_or_assumption names bytes (first_forbidding held true x 0 locks) x (held_text locks held)
+
+-- of a variable, if there is one, by what is told of each
+abbrev pub cause_of_any : (cause : ℕ → List ℕ) → Option ℕ → List ℕ
+cause_of_any cause None = []
+cause_of_any cause (Some x) = cause x
+
+-- of the variable that a refusal shows
+abbrev pub shown_cause : Names → (cause : ℕ → List ℕ) → Detail → List ℕ
+shown_cause names cause (One shown) = cause_of_any cause (find_name names shown)
+shown_cause names cause detail = []
 
 -- What it tells of ---------------------------------------------------------------------------------------------
 

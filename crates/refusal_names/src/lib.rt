@@ -1,6 +1,6 @@
 //! What a refusal is about, by name, where its rule shows no names, or not the declaration that it goes by: a line of text.
 //!
-//! - [`add_names`]: the line for W9, V1, V2, V3, V4, V8, V12, V13, V14, V15 and V16, with why a variable in it isn't stable.
+//! - [`add_names`]: the line for W9, V1, V2, V3, V4, V5, V8, V12, V13, V14, V15 and V16, with why a variable in it isn't stable.
 //! - [`add_held`]: the names of the locks that are held.
 //! - [`missing_guarantee_is_told`] and [`unmet_assumption_is_missing`] have no body: their contracts are laws, that the line of W9 tells of
 //!   the threads that have the names, and that there is one.
@@ -19,7 +19,7 @@
 //! | | `ToldPredicates` | what the line of V12 tells of |
 //! | `given_types` | `GivenTypes` | the line of V14 |
 //! | `given_numbers` | `GivenNumbers` | the line of V13 |
-//! | `unstable` | `UnstableVariables` | behind the lines of V3, V4, V12 and V14: why a variable isn't stable |
+//! | `unstable` | `UnstableVariables` | the line of V5, and behind those of V3, V4, V12 and V14: why a variable isn't stable |
 //! | `laws` | | laws of the lines of W9, V1, V2, V12, V13 and V14, and of why a variable isn't stable |
 //! | `outside` | `OutsideVariables` | variables outside of a set |
 //! | `sets` | `StableSets` | what types are judged by at a place, and the locks that are held where a statement states what holds |

@@ -34,6 +34,7 @@ use crate::predicates::add_predicates;
 use crate::reads::add_reads;
 use crate::sets::{known_at, pass_to_state};
 use crate::types::add_types;
+use crate::unstable::add_shown_cause;
 use cov_ast::{Detail, NameTable, Program, Refusal, Rule, Stmt, StmtKind};
 use cov_expr::{Blob, NoMemory};
 use entail_origins::questions;
@@ -166,6 +167,7 @@ fn add_line(
         Rule::V2 => add_access_in(alloc, p, names, bytes, t, modes, true, detail, text),
         Rule::V3 => add_unstable_reads(alloc, p, names, bytes, modes, kind, text),
         Rule::V4 => add_bad_type(alloc, p, names, bytes, modes, kind, text),
+        Rule::V5 => add_shown_cause(alloc, names, bytes, p.locks.as_slice(), modes, detail, text),
         Rule::V8 => add_ends(alloc, p.locks.as_slice(), modes, kind, text),
         Rule::V12 => add_bad_predicate(alloc, p, names, bytes, modes, kind, text),
         Rule::V13 => add_bad_number(alloc, p, modes, found.stmt, detail, text),

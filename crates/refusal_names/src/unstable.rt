@@ -1,4 +1,4 @@
-//! The lines behind those of V3, V4, V12 and V14: why a variable isn't stable.
+//! The lines of V5 and behind those of V3, V4, V12 and V14: why a variable isn't stable.
 
 ghost use Rattle.cov_expr.specs.declared.limits.TheConstants.{MOST_LOCKS};
 ghost use Rattle.std.specs.Prelude.{◌≡◌, ◌++◌, ◌≤◌, OnOk, length, map, option_map};
@@ -8,7 +8,7 @@ ghost use Rattle.refusal_names.specs.UnstableVariables as spec;
 
 use crate::access::{add_list, add_lock_with_held, first_forbidding};
 use crate::reads::add_variable;
-use cov_ast::{LockDecl, NameTable};
+use cov_ast::{Detail, LockDecl, NameTable};
 use cov_expr::{Blob, NoMemory};
 use mode_state::ModeState;
 use std::alloc::Global;
@@ -28,6 +28,28 @@ pub fn add_unstable(
 {
     let found = first_forbidding(locks, modes, true, x);
     add_lock_or_assumption(alloc, names, bytes, locks, modes, found, x, text)
+}
+
+/// Adds why the variable that a refusal shows isn't stable, by the locks that are held.
+pub fn add_shown_cause(
+    alloc: Global,
+    names: &NameTable,
+    bytes: &[u8],
+    locks: &[LockDecl],
+    modes: &ModeState,
+    detail: Detail,
+    text: &mut Blob,
+) -> Result<(), NoMemory>
+    requires { length locks.now ≤ MOST_LOCKS }
+    ensures { OnOk result (text.new ≡ text.old ++ spec.shown_cause names.now (spec.unstable_line names.now bytes.now (map view.lock locks.now) (modes.now).held) detail) }
+{
+    match detail {
+        Detail::One(shown) => match names.find(shown) {
+            Some(x) => add_unstable(alloc, names, bytes, locks, modes, x, text),
+            None => Ok(()),
+        },
+        _ => Ok(()),
+    }
 }
 
 /// Adds the line of a lock that isn't held, with those that are, or of a variable that is under no lock.
