@@ -1,10 +1,12 @@
 #!/usr/bin/env python3
 """Counts how many entailments a search for certificates finds in programs without their own.
 
-usage: bench/found.py PROGRAM [FILE ..]          (PROGRAM is the built program `covern`; with no file, those of examples/ and the programs of docs/GUIDE.md)
+usage: bench/found.py PROGRAM [FILE ..]          (PROGRAM is the built program `covern`; with no file, those of examples/ and the programs of docs/GUIDE.md,
+which are cases of crates/covern_cases/data/guide)
 
 Of each program that `check` accepts, the certificates are taken out, and `annotate` is asked at each depth. A row has the entailments, how many certificates the
-program gives, and how many entailments stay open at each depth; or the rule that refuses the program without certificates, where that isn't V9.
+program gives, and how many entailments stay open at each depth; or the rule that refuses the program without certificates, where that isn't V9. Programs without a
+certificate in which all is shown without one have no row, and count in the last.
 """
 import os
 import re
@@ -37,10 +39,10 @@ def without_certificates(text):
 
 
 def guide():
-    """The programs of the guide, by their numbers on its page."""
-    with open(os.path.join(TOP, 'docs', 'GUIDE.md'), encoding='utf-8') as page:
-        blocks = re.findall(r'^```covern\n(.*?)^```$', page.read(), re.M | re.S)
-    return [('guide, program %d' % (number + 1), text) for number, text in enumerate(blocks)]
+    """The programs of the guide, by the names of their cases."""
+    with open(os.path.join(TOP, 'crates', 'covern_cases', 'data', 'guide'), encoding='utf-8') as cases:
+        parts = re.findall(r'^//// ([^\n]*)\n(.*?)^\$ check p$', cases.read(), re.M | re.S)
+    return [('guide, ' + name, text) for name, text in parts]
 
 
 def examples():
@@ -79,7 +81,8 @@ def main():
                 refused = re.match(r'refused (\w+)', answer)
                 row.append(refused.group(1) if refused and refused.group(1) != 'V9' else len(re.findall(r'^open ', answer, re.M)))
             total = [a + b if isinstance(b, int) else a for a, b in zip(total, row)]
-            print('| %s | %s |' % (name, ' | '.join(map(str, row))))
+            if row[1:] != [0, 0, 0, 0]:
+                print('| %s | %s |' % (name, ' | '.join(map(str, row))))
         print('| in all | %s |' % ' | '.join(map(str, total)))
     return 0
 

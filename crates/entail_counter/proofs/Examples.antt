@@ -41,6 +41,16 @@ denied : counterexample (const 0 ∷ []) (const 0) ≡ None
 unfolding counterexample
 denied = refl
 
+-- nothing gives x < y
+small : counterexample [] (bin Lt (var 0) (var 1)) ≡ Some (is 0 0 ∷ is 1 0 ∷ [])
+unfolding counterexample
+small = refl
+
+-- x <= x + 1, but for the greatest
+greatest : counterexample [] (bin Le (var 0) (bin Add (var 0) (const 1))) ≡ Some (is 0 4294967295 ∷ [])
+unfolding counterexample
+greatest = refl
+
 -- it follows
 valid : counterexample (bin Lt (var 0) (const 4) ∷ []) (bin Le (var 0) (const 3)) ≡ None
 unfolding counterexample

@@ -1,8 +1,8 @@
 -- The values that a search tries for a variable, at most `MOST_VALUES`: those at which the sides of a comparison are equal, where sums and differences give
--- them, then 0, 1 and the numbers that occur; all but this 0 and 1 with the words next to them.
-use Rattle.std.specs.Prelude.{ℕ, nat_le, List, [], ◌∷◌, ◌++◌, length, Bool, true, false, ◌||◌, Option, Some, None, if◌then◌else◌}
+-- them, then 0, 1 and the numbers that occur, all but this 0 and 1 with the words next to them; and last the greatest word, so that it comes where no other does.
+use Rattle.std.specs.Prelude.{ℕ, ◌-◌, ◌==◌, nat_le, List, [], ◌∷◌, ◌++◌, length, Bool, true, false, ◌||◌, Option, Some, None, if◌then◌else◌}
 use Rattle.cov_expr.specs.declared.expr.Op.{Op}
-use Rattle.cov_expr.specs.declared.expr.Op.TheVariants.{Add, Sub, Eq, Ne, Lt, Le}
+use Rattle.cov_expr.specs.declared.expr.Op.TheVariants.{Add, Eq, Ne, Lt, Le}
 use Rattle.cov_expr.specs.Term.{Term, const, var, neg, bin, apply}
 use Rattle.cov_expr.specs.Trees.{has_number}
 use Rattle.entail_counter.specs.declared.binding.Binding.{Binding}
@@ -19,9 +19,13 @@ abbrev pub all_added : List ℕ → List ℕ → List ℕ
 all_added vs [] = vs
 all_added vs (w ∷ ws) = all_added (added vs w) ws
 
+-- with the word before one, where there is one
+abbrev pub with_before : List ℕ → ℕ → List ℕ
+with_before vs v = if v == 0 then vs else added vs (v - 1)
+
 -- with a word, the next one and the one before
 abbrev pub with_near : List ℕ → ℕ → List ℕ
-with_near vs v = added (added (added vs v) (apply Add v 1)) (apply Sub v 1)
+with_near vs v = with_before (added (added vs v) (apply Add v 1)) v
 
 abbrev pub with_any : List ℕ → Option ℕ → List ℕ
 with_any vs None = vs
@@ -62,9 +66,9 @@ abbrev pub with_all_numbers : List ℕ → List Term → List ℕ
 with_all_numbers vs [] = vs
 with_all_numbers vs (e ∷ es) = with_all_numbers (with_numbers vs e) es
 
--- of every variable: 0, 1, and those next to the numbers
+-- of every variable: 0, 1, those next to the numbers, and the greatest word
 abbrev pub common : List Term → Term → List ℕ
-common hyps goal = with_all_numbers (with_numbers (added (added [] 0) 1) goal) hyps
+common hyps goal = added (with_all_numbers (with_numbers (added (added [] 0) 1) goal) hyps) 4294967295
 
 -- of one variable, those of every variable last
 abbrev pub candidates : List Term → Term → List ℕ → ℕ → List Binding → List ℕ

@@ -12,7 +12,7 @@ use std::alloc::Global;
 /// How many values are tried for a variable, at most.
 pub const MOST_VALUES: usize = 64;
 
-/// Those of every variable: 0, 1, and those next to the numbers in the expressions.
+/// Those of every variable: 0, 1, those next to the numbers in the expressions, and the greatest word.
 pub fn common(alloc: Global, hyps: &[Expr], goal: &Expr) -> Result<List<u32>, NoMemory>
     ensures { IfOk result (λ made. made ≡ spec.common (map term hyps.now) (term goal.now)) }
 {
@@ -21,6 +21,7 @@ pub fn common(alloc: Global, hyps: &[Expr], goal: &Expr) -> Result<List<u32>, No
     add(1, &mut found)?;
     add_numbers(goal, &mut found)?;
     add_numbers_of(hyps, &mut found)?;
+    add(u32::MAX, &mut found)?;
     Ok(found)
 }
 
@@ -68,7 +69,14 @@ fn add_near(v: u32, found: &mut List<u32>) -> Result<(), NoMemory>
 {
     add(v, found)?;
     add(apply(Op::Add, v, 1), found)?;
-    add(apply(Op::Sub, v, 1), found)
+    add_before(v, found)
+}
+
+/// Adds the word before one, where there is one.
+fn add_before(v: u32, found: &mut List<u32>) -> Result<(), NoMemory>
+    ensures { OnOk result (found.new ≡ spec.with_before found.old v) }
+{
+    if v == 0 { Ok(()) } else { add(v - 1, found) }
 }
 
 /// Adds those next to the numbers of an expression.

@@ -46,18 +46,18 @@ pub fn counterexample(
 fn trials(hyps: &[Expr], goal: &Expr) -> u32
     ensures { result ≡ search.trials (map term hyps.now) (term goal.now) }
 {
-    match left_by(hyps, goal) {
+    match nodes_left_by(hyps, goal, MOST_VISITED) {
         Some(left) => MOST_VISITED / (MOST_VISITED - left + 1),
         None => 0,
     }
 }
 
-/// How many nodes of those that may be visited the expressions leave, or nothing where they have more.
-fn left_by(hyps: &[Expr], goal: &Expr) -> Option<u32>
-    ensures { MatchOption result (MOST_VISITED < nodes (term goal.now) + search.total (map term hyps.now))
-        (λ left. left + nodes (term goal.now) + search.total (map term hyps.now) ≡ MOST_VISITED) }
+/// How many of some nodes hypotheses and a goal leave, and `None` where they have more. It looks at no more nodes than these, and one.
+pub fn nodes_left_by(hyps: &[Expr], goal: &Expr, most: u32) -> Option<u32>
+    ensures { MatchOption result (most < nodes (term goal.now) + search.total (map term hyps.now))
+        (λ left. left + nodes (term goal.now) + search.total (map term hyps.now) ≡ most) }
 {
-    let mut left = nodes_left(goal, MOST_VISITED)?;
+    let mut left = nodes_left(goal, most)?;
     for h in hyps {
         left = nodes_left(h, left)?;
     }

@@ -8,14 +8,6 @@ pub mod InRange
 mod QuestionExamples
 pub mod QuestionCounts
 pub mod EachAsked
-pub mod LeftOutExamples
-pub mod FoundLaws
-pub mod KnownLaws
-pub mod ForgottenExamples
-pub mod ForgottenLaws
-pub mod KeptLaws
-pub mod StableLaws
-pub mod StepLaws
 mod TypeExamples
 pub mod GoalLaws
 pub mod TypeOriginLaws

@@ -5,13 +5,6 @@ pub mod Remarks
 pub mod Questions
 pub mod QuestionLines
 pub mod OwnEntailments
-pub mod LeftOut
-pub mod LeftOutLines
-pub mod WouldBeKnown
-pub mod Forgotten
-pub mod ForgottenLines
-pub mod StateWords
-pub mod WouldBeKept
 pub mod TypeOrigins
 pub mod AskedVariables
 pub mod GoalTypes

@@ -1,5 +1,4 @@
-//! Where what an entailment of a statement asks comes from: the question, its hypotheses, the types of its goal, and what would be
-//! known, had a state listed it.
+//! Where what an entailment of a statement asks comes from: the question, its hypotheses, and the types of its goal.
 //!
 //! - [`question`]: what the entailment with a number asks, of those of the statement at a place ([`Question`], [`End`]): of which variable,
 //!   of which lock, at the end of which block. [`add_question`]: the same as a line of text. [`questions`] and [`add_question_line`]: the
@@ -9,15 +8,11 @@
 //!   [`add_any_origin`]: the words on one.
 //! - [`add_type_lines`]: a line for each variable whose type makes up the goal: the last step on the way that sets it, and the last after it
 //!   that may forget it.
-//! - [`add_left_out`]: a line for each predicate that would be known at a point, had a `join`, an `inv` or a `note` on the way to it listed
-//!   it, with what gives it and which state left it out; and for each part of a predicate that a store forgot, and that a note in front of
-//!   the store would have kept.
 //!
 //! Laws have no body. Of questions: [`each_entailment_has_a_question`] and [`what_is_listed_is_asked`], that they go by the rules of types.
 //! Of hypotheses: [`predicates_have_origins`], that each predicate of a point is given by a step to it. Of types:
 //! [`types_are_from_their_origins`], that this goes by the rules of types, and [`goals_are_of_their_questions`] and
-//! [`goals_depend_on_their_variables`], that the types in the lines are those of the goal. Of what was left out:
-//! [`left_out_would_be_known`], [`forgotten_would_be_kept`], and [`few_are_found`], how many are shown.
+//! [`goals_depend_on_their_variables`], that the types in the lines are those of the goal.
 //!
 //! | `src/` | `specs/` | what it has |
 //! |---|---|---|
@@ -30,35 +25,21 @@
 //! | `goal_variables` | `AskedVariables` | whose types make up a goal |
 //! | `known_types`, `type_lines`, `type_classes`, `type_words` | `TypeLines` | the lines, by what is known of the variables at the point |
 //! | `type_laws` | `TypesFromOrigins`, `GoalTypes` | what a history says of the type at a point; the goal of a question, by the types there |
-//! | `left_out_search`, `left_out_found`, `left_out_states`, `left_out_touched` | `LeftOut` | what was left out, by one walk from the point back to the start |
-//! | `forgotten_search`, `forgotten_found` | `Forgotten` | what stores forgot, by another such walk |
-//! | `left_out_lines`, `forgotten_lines`, `state_words` | `LeftOutLines`, `ForgottenLines`, `StateWords` | the lines of both |
-//! | `left_out_laws` | `WouldBeKnown`, `WouldBeKept` | that each of them would be known |
 #![tactic(auto)]
 
 mod assignments;
-mod forgotten_found;
-mod forgotten_lines;
-mod forgotten_search;
 mod given;
 mod goal_variables;
 mod hypothesis_laws;
 mod hypothesis_origin;
 mod kinds;
 mod known_types;
-mod left_out_found;
-mod left_out_laws;
-mod left_out_lines;
-mod left_out_search;
-mod left_out_states;
-mod left_out_touched;
 mod numbered_question;
 mod question_laws;
 mod question_lines;
 mod question_statements;
 mod question_states;
 mod remark;
-mod state_words;
 mod type_classes;
 mod type_laws;
 mod type_lines;
@@ -70,8 +51,6 @@ pub use given::{Given, add_given};
 pub use hypothesis_laws::predicates_have_origins;
 pub use hypothesis_origin::{HypothesisSource, Origin, origin_at, origin_of};
 pub use kinds::{Asked, End, Question};
-pub use left_out_laws::{few_are_found, forgotten_would_be_kept, left_out_would_be_known};
-pub use left_out_lines::add_left_out;
 pub use numbered_question::question;
 pub use question_laws::{each_entailment_has_a_question, what_is_listed_is_asked};
 pub use question_lines::{add_question, add_question_line};

@@ -9,7 +9,7 @@ use Rattle.cov_ast.specs.declared.refusal.Detail.TheVariants.{Nothing, Number}
 use Rattle.cov_ast.specs.declared.refusal.Refusal.{Refusal}
 use Rattle.cov_ast.specs.declared.refusal.Rule.TheVariants.{V8, V9}
 use Rattle.entail_counter.specs.Counterexamples.{counterexample}
-use Rattle.entail_text.specs.Suggestions.{suggested}
+use Rattle.entail_text.specs.Findings.{suggested}
 use Rattle.typing_law.specs.ThreadEntailments.{PlacedEntailment, thread_entailments}
 use Rattle.typing_law.specs.Accepted.{program_obligations}
 use Rattle.entail_refused.specs.Asked.{asked}

@@ -1,5 +1,5 @@
 -- What is told of the entailment for which a program is refused: what it asks, its goal, its hypotheses by number, each with where it
--- comes from, and its certificate; then where the types of the goal come from, and what would be a hypothesis, had a state listed it.
+-- comes from, and its certificate; then what is found for it, and where that is no certificate, where the types of the goal come from, and what would help.
 use Rattle.std.specs.Prelude.{ℕ, nat_lt, List, [], ◌++◌, length, if◌then◌else◌, Option, Some, None}
 use Rattle.cov_ast.specs.Obligations.{all_hold}
 use Rattle.cov_ast.specs.Plain.{plain}
@@ -10,6 +10,7 @@ use Rattle.cov_ast.specs.declared.refusal.Detail.{Detail}
 use Rattle.cov_ast.specs.declared.refusal.Detail.TheVariants.{Number}
 use Rattle.entail_origins.specs.QuestionLines.{question_line}
 use Rattle.entail_text.specs.EntailmentLines.{entailment_text}
+use Rattle.entail_text.specs.Findings.{Finding, found_for}
 use Rattle.text_parts.specs.VariableNames.{variable_names}
 use Rattle.mode_compat.specs.Compatible.{numbered}
 use Rattle.mode_compat.specs.Declared.{declaration_obligations}
@@ -27,13 +28,16 @@ module _ (p : Program) (bytes : List ℕ) where
   entailment_lines t site g =
       entailment_text (variable_names p.vars) g.entailment.hyps (remarks_on (plain p) bytes site g.entailment.hyps) g.entailment.goal (cert_of (numbered p t).body g.place g.number)
 
+  -- where no certificate is given for it, for which entailments of the statement some are; what is found for it; and what is told of the point
+  abbrev pub lines_of_finding : (t : ℕ) → Option Site → PlacedEntailment → Finding → List ℕ
+  lines_of_finding t site g found = given_lines p t found g ++ further_lines p t bytes site found g.entailment
+
   -- what is told of an entailment that is asked there
   abbrev pub lines_at_site : (t : ℕ) → Option Site → PlacedEntailment → List ℕ
   lines_at_site t site g =
-      question_line p t g.place g.number ++ entailment_lines t site g ++ given_lines p t g ++ further_lines p t bytes site g.entailment.hyps
+      question_line p t g.place g.number ++ entailment_lines t site g ++ lines_of_finding t site g (found_for g.entailment.hyps g.entailment.goal)
 
-  -- What is told of an entailment of a thread: what it asks, its lines, where no certificate is given for it, for which entailments
-  -- of the statement some are, and what is told of the point.
+  -- What is told of an entailment of a thread: what it asks, its lines, and those of what is found for it.
   abbrev pub lines_of_entailment : (t : ℕ) → Option PlacedEntailment → List ℕ
   lines_of_entailment t None = []
   lines_of_entailment t (Some g) = lines_at_site t (site_of p t g.place g.number) g

@@ -1,12 +1,14 @@
--- What is told of the point of which an entailment asks, beside its hypotheses.
-use Rattle.std.specs.Prelude.{ℕ, ◌-◌, List, [], ◌++◌, length, take, codes, Option, Some, None}
+-- What is told of the point of which an entailment asks, beside its hypotheses, where no certificate is found for it.
+use Rattle.std.specs.Prelude.{ℕ, ◌-◌, List, [], ◌++◌, length, take, codes, if◌then◌else◌, Option, Some, None}
 use Rattle.cov_expr.specs.Term.{Term}
 use Rattle.cov_ast.specs.Plain.{plain}
 use Rattle.cov_ast.specs.Syntax.{Program, Stm, branch, loop, note}
 use Rattle.entail_origins.specs.declared.kinds.Question.{Question}
 use Rattle.entail_origins.specs.declared.kinds.Question.TheVariants as q
 use Rattle.entail_text.specs.Dropped.{dropped_line}
-use Rattle.entail_origins.specs.LeftOutLines.{left_out_lines}
+use Rattle.entail_text.specs.Findings.{Finding, is_shown}
+use Rattle.typing_law.specs.Entailments.{Entailment}
+use Rattle.entail_losses.specs.Losses.{losses}
 use Rattle.entail_origins.specs.TypeLines.{type_lines}
 use Rattle.entail_refused.specs.Sites.{Site}
 
@@ -31,12 +33,16 @@ dropped_at question s hypotheses = []
 
 -- All that is told -----------------------------------------------------------------------------------------------
 
--- where the types come from that make up the goal, which hypotheses are dropped, and what would be among them, had a state listed it
-abbrev pub further_at : Program → (t : ℕ) → (bytes : List ℕ) → Site → (hypotheses : List Term) → List ℕ
-further_at p t bytes s hypotheses =
-    type_lines (plain p) t bytes s.steps s.question s.stm ++ dropped_at s.question s.stm hypotheses ++ left_out_lines p t bytes s.steps hypotheses
+-- where the types come from that make up the goal, which hypotheses are dropped, and which of what was lost on the way would help
+abbrev pub further_at : Program → (t : ℕ) → (bytes : List ℕ) → Site → Entailment → List ℕ
+further_at p t bytes s g =
+    type_lines (plain p) t bytes s.steps s.question s.stm ++ dropped_at s.question s.stm g.hyps ++ losses p t bytes s.steps g.hyps g.goal
+
+-- nothing where a certificate is found
+abbrev pub unless_shown : Program → (t : ℕ) → (bytes : List ℕ) → Site → Finding → Entailment → List ℕ
+unless_shown p t bytes s found g = if is_shown found then [] else further_at p t bytes s g
 
 -- nothing where it isn't known where that is
-abbrev pub further_lines : Program → (t : ℕ) → (bytes : List ℕ) → Option Site → (hypotheses : List Term) → List ℕ
-further_lines p t bytes None hypotheses = []
-further_lines p t bytes (Some s) hypotheses = further_at p t bytes s hypotheses
+abbrev pub further_lines : Program → (t : ℕ) → (bytes : List ℕ) → Option Site → Finding → Entailment → List ℕ
+further_lines p t bytes None found g = []
+further_lines p t bytes (Some s) found g = unless_shown p t bytes s found g

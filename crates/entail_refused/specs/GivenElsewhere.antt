@@ -1,10 +1,11 @@
--- For which entailments of a statement certificates are given, where none is given for one of them, which of them would show it, and what is suggested for it.
+-- For which entailments of a statement certificates are given, where none is given for one of them, which of them would show it, and what is found for it.
 use Rattle.std.specs.Prelude.{ℕ, ◌==◌, List, [], ◌∷◌, ◌++◌, Bool, codes, decimal, flat_map, if◌then◌else◌, Option, Some, None}
 use Rattle.std.specs.List.{list_any}
 use Rattle.cov_ast.specs.Syntax.{Program, Proof}
 use Rattle.cov_print.specs.Spelling.{Names}
 use Rattle.entail_text.specs.OtherCertificates.{other_line}
-use Rattle.entail_text.specs.Suggestions.{suggestion_lines}
+use Rattle.entail_text.specs.Findings.{Finding}
+use Rattle.entail_text.specs.Suggestions.{finding_lines}
 use Rattle.mode_compat.specs.Compatible.{numbered}
 use Rattle.statement_paths.specs.Paths.{Way, way_to}
 use Rattle.text_parts.specs.VariableNames.{variable_names}
@@ -26,17 +27,17 @@ numbers_line (q ∷ qs) = codes "  given for:   " ++ flat_map number_text (q ∷
 abbrev pub line_without : (number : ℕ) → List Proof → List ℕ
 line_without number proofs = if is_given proofs number then [] else numbers_line proofs
 
--- of an entailment of a statement with these proofs: that line, the certificate that would show it, if one does, and what is suggested
-abbrev pub lines_of : Names → List Proof → PlacedEntailment → List ℕ
-lines_of names proofs g =
+-- of an entailment of a statement with these proofs: that line, the certificate that would show it, if one does, and what is found
+abbrev pub lines_of : Names → List Proof → Finding → PlacedEntailment → List ℕ
+lines_of names proofs found g =
     line_without g.number proofs ++ other_line proofs g.number g.entailment.hyps g.entailment.goal
-    ++ suggestion_lines names proofs g.number g.entailment.hyps g.entailment.goal
+    ++ finding_lines names proofs g.number g.entailment.goal found
 
 -- of the statement at the end of a way, if there is one
-abbrev pub given_lines_of_way : Names → Option Way → PlacedEntailment → List ℕ
-given_lines_of_way names None g = []
-given_lines_of_way names (Some w) g = lines_of names w.proofs g
+abbrev pub given_lines_of_way : Names → Option Way → Finding → PlacedEntailment → List ℕ
+given_lines_of_way names None found g = []
+given_lines_of_way names (Some w) found g = lines_of names w.proofs found g
 
 -- of the statement of an entailment of a thread
-abbrev pub given_lines : Program → (t : ℕ) → PlacedEntailment → List ℕ
-given_lines p t g = given_lines_of_way (variable_names p.vars) (way_to (numbered p t).body g.place) g
+abbrev pub given_lines : Program → (t : ℕ) → Finding → PlacedEntailment → List ℕ
+given_lines p t found g = given_lines_of_way (variable_names p.vars) (way_to (numbered p t).body g.place) found g

@@ -1,7 +1,8 @@
 -- The other entailments for which a thread would be refused by V9, and those for which the threads behind it would be: one without a valid certificate changes nothing of
--- what is known behind it, and a thread nothing of what has to hold of another.
-use Rattle.std.specs.Prelude.{ℕ, ◌+◌, ◌==◌, nat_lt, List, [], ◌∷◌, ◌++◌, length, map, filter, Bool, not, ◌&&◌, Option, Some, if◌then◌else◌}
-use Rattle.cov_ast.specs.Obligations.{all_hold}
+-- what is known behind it, and a thread nothing of what has to hold of another. Behind those of each of these threads, the first refusal of it by a rule that
+-- isn't about certificates.
+use Rattle.std.specs.Prelude.{ℕ, ◌+◌, ◌==◌, nat_lt, List, [], ◌∷◌, ◌++◌, length, map, filter, Bool, not, ◌&&◌, Option, Some, None, if◌then◌else◌}
+use Rattle.cov_ast.specs.Obligations.{all_hold, first_false}
 use Rattle.cov_ast.specs.Syntax.{Block, Program, Thread}
 use Rattle.cov_ast.specs.declared.refusal.Detail.{Detail}
 use Rattle.cov_ast.specs.declared.refusal.Detail.TheVariants.{Number}
@@ -11,6 +12,7 @@ use Rattle.cov_ast.specs.declared.refusal.Rule.TheVariants.{V9}
 use Rattle.mode_compat.specs.Compatible.{numbered}
 use Rattle.mode_compat.specs.Declared.{declaration_obligations}
 use Rattle.typing_law.specs.ThreadEntailments.{PlacedEntailment, is_proved_in, thread_entailments}
+use Rattle.typing_rules.specs.Beside.{beside_certificates}
 
 -- the refusal of an entailment of a thread, with a number at a place
 abbrev pub refusal_at : (t place number : ℕ) → Refusal
@@ -25,18 +27,27 @@ abbrev pub others_in : Program → (t place number : ℕ) → List Refusal
 others_in p t place number =
     map (λ g. refusal_at t g.place g.number) (filter (is_other (numbered p t).body place number) (thread_entailments p t))
 
--- those of a thread, if it stands behind another; no entailment has the number 0
-abbrev pub if_later : Program → (t u : ℕ) → List Refusal
-if_later p t u = if nat_lt t u then others_in p u 0 0 else []
+-- a refusal, if there is one
+abbrev pub if_any : Option Refusal → List Refusal
+if_any None = []
+if_any (Some r) = r ∷ []
 
--- those of threads behind one, of which the first has this number
+-- those of a thread, and behind them its first refusal by a rule that isn't about certificates, as far as which they are tried
+abbrev pub refused_in : Program → (t place number : ℕ) → List Refusal
+refused_in p t place number = others_in p t place number ++ if_any (first_false (beside_certificates p t))
+
+-- the same of a thread, if it stands behind another; no entailment has the number 0
+abbrev pub if_later : Program → (t u : ℕ) → List Refusal
+if_later p t u = if nat_lt t u then refused_in p u 0 0 else []
+
+-- the same of threads behind one, of which the first has this number
 abbrev pub later_among : Program → (t u : ℕ) → List Thread → List Refusal
 later_among p t u [] = []
 later_among p t u (thread ∷ threads) = if_later p t u ++ later_among p t (u + 1) threads
 
--- those of a thread, and then of the threads behind it
+-- the same of a thread, and then of the threads behind it
 abbrev pub others_onward : Program → (t place number : ℕ) → List Refusal
-others_onward p t place number = others_in p t place number ++ later_among p t 0 p.threads
+others_onward p t place number = refused_in p t place number ++ later_among p t 0 p.threads
 
 -- the same, where the declarations keep the rules
 abbrev pub others_declared : Program → (t place number : ℕ) → List Refusal
@@ -51,7 +62,7 @@ abbrev pub others_behind : Program → (thread : Option ℕ) → (place : ℕ) �
 others_behind p (Some t) place (Number n) = others_of p t place n
 others_behind p thread place detail = []
 
--- beside a refusal for a rule: of V9, those others
+-- beside a refusal for a rule: of V9, those
 abbrev pub others_by : Program → Rule → (thread : Option ℕ) → (place : ℕ) → Detail → List Refusal
 others_by p V9 thread place detail = others_behind p thread place detail
 others_by p rule thread place detail = []

@@ -4,6 +4,7 @@ ghost use Rattle.std.specs.Prelude.{◌≡◌, ◌<◌, ◌++◌, IsTrue, OnOk, 
 ghost use Rattle.cov_ast.specs.Obligations.{all_hold};
 ghost use Rattle.cov_ast.specs.View as view;
 ghost use Rattle.cov_ast.specs.WellFormed.{IsWellFormed};
+ghost use Rattle.entail_text.specs.Findings.{found_for, seen};
 ghost use Rattle.mode_compat.specs.Declared.{declaration_obligations};
 ghost use Rattle.typing_law.specs.ThreadEntailments.{entailment_among, thread_entailments, view_entail};
 ghost use Rattle.entail_refused.specs.Asked as spec;
@@ -16,7 +17,7 @@ use crate::site::{Site, site_of};
 use cov_ast::{CheckFault, Detail, Program, Refusal, Rule};
 use cov_expr::{Blob, NoMemory};
 use entail_origins::add_question;
-use entail_text::add_told;
+use entail_text::{Finding, add_told, found_for};
 use std::alloc::Global;
 use text_parts::variable_names;
 use typing_law::Entail;
@@ -130,8 +131,7 @@ fn add_entailment(
     }
 }
 
-/// Adds what is told of an entailment of a thread: what it asks, its goal and hypotheses, the certificate that the thread gives for it,
-/// where there is none, for which entailments of the statement it gives some, and what is told of the point of which it asks.
+/// Adds what is told of an entailment of a thread: what it asks, its goal and hypotheses, the certificate that the thread gives for it, and what is found for it.
 fn add_found(
     alloc: Global,
     p: &Program,
@@ -147,8 +147,7 @@ fn add_found(
     let site = site_of(alloc, p, t, e.place, e.number)?;
     add_question(alloc, p, t, e.place, e.number, text)?;
     add_lines(alloc, p, bytes, t, &site, e, text)?;
-    add_given(alloc, p, t, e, text)?;
-    add_further(alloc, p, t, bytes, &site, e.hyps.as_slice(), text)
+    add_searched(alloc, p, bytes, t, &site, e, text)
 }
 
 /// Adds the goal of an entailment of a thread, its hypotheses, and the certificate that the thread gives for it.
@@ -177,4 +176,42 @@ fn add_lines(
         cert,
         text,
     )
+}
+
+/// Adds what is found for an entailment of a thread, and what is told by it.
+fn add_searched(
+    alloc: Global,
+    p: &Program,
+    bytes: &[u8],
+    t: u32,
+    site: &Option<Site<'_>>,
+    e: &Entail,
+    text: &mut Blob,
+) -> Result<(), NoMemory>
+    requires formed { IsWellFormed (view.program p.now) }
+    requires thread { t < length p.now.threads }
+    ensures { OnOk result (text.new ≡ text.old ++ spec.lines_of_finding (view.program p.now) bytes.now t (option_map sites.site site.now) (view_entail e.now) (found_for (view_entail e.now).entailment.hyps (view_entail e.now).entailment.goal)) }
+{
+    let found = found_for(alloc, &e.hyps, &e.goal)?;
+    add_of_finding(alloc, p, bytes, t, site, e, &found, text)
+}
+
+/// Adds what is told of an entailment of a thread by what is found for it: where no certificate is given, for which entailments of the statement some are; that finding
+/// itself; and what is told of the point of which it asks.
+fn add_of_finding(
+    alloc: Global,
+    p: &Program,
+    bytes: &[u8],
+    t: u32,
+    site: &Option<Site<'_>>,
+    e: &Entail,
+    found: &Finding,
+    text: &mut Blob,
+) -> Result<(), NoMemory>
+    requires formed { IsWellFormed (view.program p.now) }
+    requires thread { t < length p.now.threads }
+    ensures { OnOk result (text.new ≡ text.old ++ spec.lines_of_finding (view.program p.now) bytes.now t (option_map sites.site site.now) (view_entail e.now) (seen found.now)) }
+{
+    add_given(alloc, p, t, e, found, text)?;
+    add_further(alloc, p, t, bytes, site, e, found, text)
 }

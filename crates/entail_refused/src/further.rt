@@ -1,56 +1,84 @@
 //! What is told of the point of which an entailment asks, beside its hypotheses.
 
-ghost use Rattle.std.specs.Prelude.{◌≡◌, ◌<◌, ◌++◌, OnOk, length, map, option_map};
-ghost use Rattle.cov_expr.specs.View.{term};
+ghost use Rattle.std.specs.Prelude.{◌≡◌, ◌<◌, ◌++◌, OnOk, length, option_map};
 ghost use Rattle.cov_ast.specs.View as view;
 ghost use Rattle.cov_ast.specs.WellFormed.{IsWellFormed};
+ghost use Rattle.entail_text.specs.Findings.{seen};
+ghost use Rattle.typing_law.specs.ThreadEntailments.{view_entail};
 ghost use Rattle.entail_refused.specs.Further as spec;
 ghost use Rattle.entail_refused.specs.Sites as sites;
 
 use crate::dropped::add_dropped_at;
 use crate::site::Site;
 use cov_ast::Program;
-use cov_expr::{Blob, Expr, NoMemory};
-use entail_origins::{add_left_out, add_type_lines};
+use cov_expr::{Blob, NoMemory};
+use entail_losses::add_losses;
+use entail_origins::add_type_lines;
+use entail_text::Finding;
 use std::alloc::Global;
+use typing_law::Entail;
 
 /// Adds where the types come from that make up the goal of an entailment of a thread, which hypotheses the state drops that is asked of, and
-/// which predicates would be among them, had a state listed them. Nothing is added where it isn't known where the entailment is asked. `bytes` are the text of the program.
+/// which of the predicates that were lost on the way would help. Nothing is added where a certificate is found for it, or where it isn't known where it is asked. `bytes` are the text of the program.
 pub fn add_further(
     alloc: Global,
     p: &Program,
     t: u32,
     bytes: &[u8],
     site: &Option<Site<'_>>,
-    hypotheses: &[Expr],
+    e: &Entail,
+    found: &Finding,
     text: &mut Blob,
 ) -> Result<(), NoMemory>
     requires formed { IsWellFormed (view.program p.now) }
     requires thread { t < length p.now.threads }
-    ensures { OnOk result (text.new ≡ text.old ++ spec.further_lines (view.program p.now) t bytes.now (option_map sites.site site.now) (map term hypotheses.now)) }
+    ensures { OnOk result (text.new ≡ text.old ++ spec.further_lines (view.program p.now) t bytes.now (option_map sites.site site.now) (seen found.now) (view_entail e.now).entailment) }
 {
     match site {
-        Some(site) => add_further_at(alloc, p, t, bytes, site, hypotheses, text),
+        Some(site) => add_unless_shown(alloc, p, t, bytes, site, e, found, text),
         None => Ok(()),
     }
 }
 
 /// The same where it is known.
+fn add_unless_shown(
+    alloc: Global,
+    p: &Program,
+    t: u32,
+    bytes: &[u8],
+    site: &Site<'_>,
+    e: &Entail,
+    found: &Finding,
+    text: &mut Blob,
+) -> Result<(), NoMemory>
+    requires formed { IsWellFormed (view.program p.now) }
+    requires thread { t < length p.now.threads }
+    ensures { OnOk result (text.new ≡ text.old ++ spec.unless_shown (view.program p.now) t bytes.now (sites.site site.now) (seen found.now) (view_entail e.now).entailment) }
+{
+    if found.is_shown() {
+        Ok(())
+    } else {
+        add_further_at(alloc, p, t, bytes, site, e, text)
+    }
+}
+
+/// The same where no certificate is found.
 fn add_further_at(
     alloc: Global,
     p: &Program,
     t: u32,
     bytes: &[u8],
     site: &Site<'_>,
-    hypotheses: &[Expr],
+    e: &Entail,
     text: &mut Blob,
 ) -> Result<(), NoMemory>
     requires formed { IsWellFormed (view.program p.now) }
     requires thread { t < length p.now.threads }
-    ensures { OnOk result (text.new ≡ text.old ++ spec.further_at (view.program p.now) t bytes.now (sites.site site.now) (map term hypotheses.now)) }
+    ensures { OnOk result (text.new ≡ text.old ++ spec.further_at (view.program p.now) t bytes.now (sites.site site.now) (view_entail e.now).entailment) }
 {
     let steps = site.steps.as_slice();
+    let hyps = e.hyps.as_slice();
     add_type_lines(alloc, p, t, bytes, steps, site.question, site.kind, text)?;
-    add_dropped_at(alloc, site.question, site.kind, hypotheses, text)?;
-    add_left_out(alloc, p, t, bytes, steps, hypotheses, text)
+    add_dropped_at(alloc, site.question, site.kind, hyps, text)?;
+    add_losses(alloc, p, t, bytes, steps, hyps, &e.goal, text)
 }

@@ -1,8 +1,9 @@
-//! The certificates that a statement gives, for an entailment and for others, and what is suggested for one.
+//! The certificates that a statement gives, for an entailment and for others, and what is found for one.
 
 ghost use Rattle.std.specs.Prelude.{◌≡◌, ◌<◌, ◌++◌, IfOk, OnOk, flat_map, length, map, option_map};
 ghost use Rattle.cov_ast.specs.View as view;
 ghost use Rattle.cov_ast.specs.WellFormed.{IsWellFormed};
+ghost use Rattle.entail_text.specs.Findings.{seen};
 ghost use Rattle.mode_compat.specs.Compatible.{numbered};
 ghost use Rattle.typing_law.specs.ThreadEntailments.{view_entail};
 ghost use Rattle.entail_refused.specs.GivenCertificates as certificates;
@@ -10,7 +11,7 @@ ghost use Rattle.entail_refused.specs.GivenElsewhere as spec;
 
 use cov_ast::{Cert, NameTable, Program, Proof};
 use cov_expr::{Blob, NoMemory};
-use entail_text::{add_other, add_suggestion, cert_for};
+use entail_text::{Finding, add_finding, add_other, cert_for};
 use statement_paths::way_to;
 use std::alloc::Global;
 use text_parts::{add_number, variable_names};
@@ -33,22 +34,23 @@ pub fn cert_of<'p>(
 }
 
 /// Adds what the statement of an entailment of a thread gives for others: for which certificates are given, where none is given for this one,
-/// and which of these would show it. Then adds what is suggested for it.
+/// and which of these would show it. Then adds what is found for it.
 pub fn add_given(
     alloc: Global,
     p: &Program,
     t: u32,
     e: &Entail,
+    found: &Finding,
     text: &mut Blob,
 ) -> Result<(), NoMemory>
     requires formed { IsWellFormed (view.program p.now) }
     requires thread { t < length p.now.threads }
-    ensures { OnOk result (text.new ≡ text.old ++ spec.given_lines (view.program p.now) t (view_entail e.now)) }
+    ensures { OnOk result (text.new ≡ text.old ++ spec.given_lines (view.program p.now) t (seen found.now) (view_entail e.now)) }
 {
     match way_to(alloc, p.body_of(t), e.place)? {
         Some(way) => {
             let names = variable_names(alloc, p)?;
-            add_of_proofs(alloc, &names, way.stmt.proofs.as_slice(), e, text)
+            add_of_proofs(alloc, &names, way.stmt.proofs.as_slice(), e, found, text)
         }
         None => Ok(()),
     }
@@ -60,13 +62,14 @@ fn add_of_proofs(
     names: &NameTable,
     proofs: &[Proof],
     e: &Entail,
+    found: &Finding,
     text: &mut Blob,
 ) -> Result<(), NoMemory>
-    ensures { OnOk result (text.new ≡ text.old ++ spec.lines_of names.now (map view.proof proofs.now) (view_entail e.now)) }
+    ensures { OnOk result (text.new ≡ text.old ++ spec.lines_of names.now (map view.proof proofs.now) (seen found.now) (view_entail e.now)) }
 {
     add_without(proofs, e.number, text)?;
     add_other(alloc, proofs, e.number, &e.hyps, &e.goal, text)?;
-    add_suggestion(alloc, names, proofs, e.number, &e.hyps, &e.goal, text)
+    add_finding(names, proofs, e.number, &e.goal, found, text)
 }
 
 /// Adds the numbers of certificates, where none has a number.

@@ -1,9 +1,11 @@
 //! What a refusal for want of a valid certificate asked (V9), in plain text.
 //!
 //! - [`add_asked`]: of the entailment for which a program is refused what it asks, its goal, its hypotheses, each with
-//!   where it comes from (`entail_origins`), and its certificate (`entail_text`); then where the types come from that make up the goal
-//!   (there too), which hypotheses the state drops that is asked of, and what would be a hypothesis, had a state listed it.
-//! - [`other_refusals`]: the others of its thread, and of the threads behind it, that have no valid certificate, as refusals.
+//!   where it comes from (`entail_origins`), and its certificate (`entail_text`); then what is found for it (there too), a certificate or a memory that breaks it; and
+//!   where no certificate is, where the types come from that make up the goal (`entail_origins`), which hypotheses the state drops that is asked of, and which of what was lost on the
+//!   way would help (`entail_losses`).
+//! - [`other_refusals`]: the others of its thread, and of the threads behind it, that have no valid certificate, as refusals; and behind those of each thread the
+//!   first refusal of it by a rule that isn't about certificates.
 //! - [`refused_entailment_is_listed`] and [`refusal_is_told`], which are laws: there is always such an entailment, and it is the one
 //!   whose certificate isn't valid. `specs/RefusedEntailment.antt` says so.
 //! - [`hypotheses_are_of_the_site`], a law too: the hypotheses of an entailment are what is known at the point of its site, with one

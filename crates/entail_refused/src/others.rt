@@ -1,11 +1,12 @@
-//! The other entailments for which a thread, and those behind it, would be refused by V9.
+//! The other entailments for which a thread, and those behind it, would be refused by V9, and the first refusal of each by a rule that isn't about certificates.
 
 ghost use Rattle.std.specs.Prelude.{◌≡◌, ◌<◌, ◌≤◌, ◌++◌, IfOk, IsTrue, OnOk, length, map};
-ghost use Rattle.cov_ast.specs.Obligations.{all_hold};
+ghost use Rattle.cov_ast.specs.Obligations.{all_hold, first_false};
 ghost use Rattle.cov_ast.specs.View as view;
 ghost use Rattle.cov_ast.specs.WellFormed.{IsWellFormed};
 ghost use Rattle.cov_expr.specs.declared.limits.TheConstants.{MOST_THREADS};
 ghost use Rattle.mode_compat.specs.Declared.{declaration_obligations};
+ghost use Rattle.typing_rules.specs.Beside.{beside_certificates};
 ghost use Rattle.typing_rules.specs.Keeping.{view_searched};
 ghost use Rattle.entail_refused.specs.Inside.SearchedOthers.{listed};
 ghost use Rattle.entail_refused.specs.OtherRefusals as spec;
@@ -13,11 +14,12 @@ ghost use Rattle.entail_refused.specs.OtherRefusals as spec;
 use cov_ast::{CheckFault, Detail, Program, Refusal, Rule, ThreadDecl};
 use cov_expr::{List, NoMemory};
 use std::alloc::Global;
-use typing_rules::{Searched, searched_entailments};
+use typing_rules::{Searched, check_beside_certificates, searched_entailments};
 use verify::check_declared;
 
 /// The refusals by V9 of the thread of one, beside that one, and of the threads behind it, in the order in which entailments are tried: those that are tried where no
-/// other rule but V9 and V13 fails before in their thread. None of a refusal for another rule. It takes the time of a check of these threads, and memory for the refusals.
+/// other rule but V9 and V13 fails before in their thread; and behind those of each thread the first of it by such a rule, if one fails. None of a refusal for another
+/// rule. It takes twice the time of a check of these threads, and memory for the refusals.
 pub fn other_refusals(
     alloc: Global,
     p: &Program,
@@ -86,7 +88,7 @@ fn others_declared(
     }
 }
 
-/// Those of a thread, and then of the threads behind it.
+/// Those of a thread, with its first by another rule, and then of the threads behind it.
 fn others_onward(
     alloc: Global,
     p: &Program,
@@ -99,7 +101,7 @@ fn others_onward(
     requires thread { t < length p.now.threads }
     ensures { IfOk result (λ made. made ≡ spec.others_onward (view.program p.now) t place number) }
 {
-    let mut made = others_in(alloc, p, t, place, number)?;
+    let mut made = refused_in(alloc, p, t, place, number)?;
     add_later(alloc, p, t, p.threads.as_slice(), &mut made)?;
     Ok(made)
 }
@@ -138,10 +140,42 @@ fn add_if_later(
     ensures { OnOk result (made.new ≡ made.old ++ spec.if_later (view.program p.now) t u) }
 {
     if t < u {
-        let more = others_in(alloc, p, u, 0, 0)?;
+        let more = refused_in(alloc, p, u, 0, 0)?;
         made.extend_from_slice(more.as_slice())
     } else {
         Ok(())
+    }
+}
+
+/// Those of a thread, and its first by a rule that isn't about certificates.
+fn refused_in(
+    alloc: Global,
+    p: &Program,
+    t: u32,
+    place: u32,
+    number: u32,
+) -> Result<List<Refusal>, NoMemory>
+    requires formed { IsWellFormed (view.program p.now) }
+    requires declared { IsTrue (all_hold (declaration_obligations (view.program p.now))) }
+    requires thread { t < length p.now.threads }
+    ensures { IfOk result (λ made. made ≡ spec.refused_in (view.program p.now) t place number) }
+{
+    let mut made = others_in(alloc, p, t, place, number)?;
+    add_beside(alloc, p, t, &mut made)?;
+    Ok(made)
+}
+
+/// Adds the first refusal of a thread by a rule that isn't about certificates, if there is one.
+fn add_beside(alloc: Global, p: &Program, t: u32, made: &mut List<Refusal>) -> Result<(), NoMemory>
+    requires formed { IsWellFormed (view.program p.now) }
+    requires declared { IsTrue (all_hold (declaration_obligations (view.program p.now))) }
+    requires thread { t < length p.now.threads }
+    ensures { OnOk result (made.new ≡ made.old ++ spec.if_any (first_false (beside_certificates (view.program p.now) t))) }
+{
+    match check_beside_certificates(alloc, p, t) {
+        Ok(()) => Ok(()),
+        Err(CheckFault::Refused(refusal)) => made.push(refusal),
+        Err(CheckFault::NoMemory) => Err(NoMemory),
     }
 }
 

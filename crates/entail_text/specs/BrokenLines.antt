@@ -1,10 +1,9 @@
--- What is told of an entailment for which a search finds no certificate: a memory that breaks it, if another search comes to one.
-use Rattle.std.specs.Prelude.{ℕ, List, [], ◌∷◌, ◌++◌, Option, Some, None, codes, decimal, if◌then◌else◌}
+-- What is told of an entailment for which no certificate is found: a memory that breaks it, or that there is none either.
+use Rattle.std.specs.Prelude.{ℕ, List, [], ◌∷◌, ◌++◌, codes, decimal, if◌then◌else◌}
 use Rattle.cov_expr.specs.Term.{Term, var}
 use Rattle.cov_expr.specs.Trees.{is_closed}
 use Rattle.cert_search.specs.declared.finder.TheConstants.{MOST_DEPTH}
 use Rattle.cov_print.specs.Spelling.{Names, whole, listed}
-use Rattle.entail_counter.specs.Counterexamples.{counterexample}
 use Rattle.entail_counter.specs.declared.binding.Binding.{Binding}
 use Rattle.entail_text.specs.ZeroGoals.{zero_line}
 
@@ -33,12 +32,7 @@ broken_lines names goal m = memory_line names m ++ help_line goal
 -- that neither is found
 abbrev pub neither_line : List ℕ
 neither_line =
-    codes "  suggestion:   none: no certificate of up to " ++ decimal MOST_DEPTH ++ codes " steps is valid, and no memory that breaks it was found\n"
+    codes "  suggestion:   none: no certificate of up to " ++ decimal MOST_DEPTH ++ codes " steps is valid, no longer one was found, and no memory that breaks it\n"
 
--- where the other search comes to this
-abbrev pub unfound : Names → (goal : Term) → Option (List Binding) → List ℕ
-unfound names goal None = neither_line ++ zero_line goal
-unfound names goal (Some m) = broken_lines names goal m
-
-abbrev pub unfound_lines : Names → List Term → (goal : Term) → List ℕ
-unfound_lines names hyps goal = unfound names goal (counterexample hyps goal)
+abbrev pub neither_lines : (goal : Term) → List ℕ
+neither_lines goal = neither_line ++ zero_line goal

@@ -5,5 +5,6 @@ pub mod Inside
 pub mod Dropped
 pub mod OtherCertificates
 pub mod ZeroGoals
+pub mod Findings
 pub mod Suggestions
 pub mod BrokenLines

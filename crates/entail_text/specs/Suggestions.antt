@@ -4,14 +4,9 @@ use Rattle.cov_expr.specs.Term.{Term}
 use Rattle.cov_ast.specs.Syntax.{Cert, Proof}
 use Rattle.cov_ast.specs.Syntax as by
 use Rattle.cov_print.specs.Spelling.{Names, cert}
-use Rattle.cert_search.specs.Searching.{search}
-use Rattle.cert_search.specs.declared.finder.TheConstants.{MOST_DEPTH}
 use Rattle.entail_text.specs.Given.{cert_for}
-use Rattle.entail_text.specs.BrokenLines.{unfound_lines}
-
--- what the search of the greatest depth finds
-unfoldable pub suggested : List Term → Term → Option Cert
-suggested hyps goal = search MOST_DEPTH hyps goal
+use Rattle.entail_text.specs.BrokenLines.{broken_lines, neither_lines}
+use Rattle.entail_text.specs.Findings.{Finding, shown, broken, neither}
 
 abbrev pub is_auto : Cert → Bool
 is_auto by.auto = true
@@ -48,10 +43,8 @@ found_lines names proofs number c = if is_auto c then taken_away number else wri
 abbrev pub suggestion_line : Names → List Proof → (number : ℕ) → Cert → List ℕ
 suggestion_line names proofs number c = codes "  suggestion:   " ++ found_lines names proofs number c
 
--- of the entailment of a number with these hypotheses and this goal, where a search finds this
-abbrev pub suggestion : Names → List Proof → (number : ℕ) → List Term → Term → Option Cert → List ℕ
-suggestion names proofs number hyps goal (Some c) = suggestion_line names proofs number c
-suggestion names proofs number hyps goal None = unfound_lines names hyps goal
-
-abbrev pub suggestion_lines : Names → List Proof → (number : ℕ) → List Term → Term → List ℕ
-suggestion_lines names proofs number hyps goal = suggestion names proofs number hyps goal (suggested hyps goal)
+-- of the entailment of a number with this goal, for which this is found
+abbrev pub finding_lines : Names → List Proof → (number : ℕ) → (goal : Term) → Finding → List ℕ
+finding_lines names proofs number goal (shown c) = suggestion_line names proofs number c
+finding_lines names proofs number goal (broken m) = broken_lines names goal m
+finding_lines names proofs number goal neither = neither_lines goal

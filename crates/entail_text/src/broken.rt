@@ -1,60 +1,31 @@
 //! A memory that breaks an entailment for which no certificate is found.
 
-ghost use Rattle.std.specs.Prelude.{◌≡◌, ◌++◌, OnOk, map};
+ghost use Rattle.std.specs.Prelude.{◌≡◌, ◌++◌, OnOk};
 ghost use Rattle.cov_expr.specs.View.{term};
 ghost use Rattle.entail_text.specs.BrokenLines as spec;
-ghost use Rattle.entail_text.specs.ZeroGoals.{zero_line};
 
 use crate::zero::add_zero;
 use cert_search::MOST_DEPTH;
 use cov_ast::NameTable;
-use cov_expr::{Blob, Expr, List, NoMemory, closed};
+use cov_expr::{Blob, Expr, NoMemory, closed};
 use cov_print::add_expr;
-use entail_counter::{Binding, counterexample};
-use std::alloc::Global;
+use entail_counter::Binding;
 use text_parts::add_number;
 
-/// Adds a memory in which all hypotheses hold and the goal doesn't, or that none is found.
-pub fn add_unfound(
-    alloc: Global,
-    names: &NameTable,
-    hyps: &List<Expr>,
-    goal: &Expr,
-    text: &mut Blob,
-) -> Result<(), NoMemory>
-    ensures { OnOk result (text.new ≡ text.old ++ spec.unfound_lines names.now (map term hyps.now) (term goal.now)) }
-{
-    let found = counterexample(alloc, hyps.as_slice(), goal)?;
-    add_where_found(names, goal, &found, text)
-}
-
-/// The same of what is found.
-fn add_where_found(
-    names: &NameTable,
-    goal: &Expr,
-    found: &Option<List<Binding>>,
-    text: &mut Blob,
-) -> Result<(), NoMemory>
-    ensures { OnOk result (text.new ≡ text.old ++ spec.unfound names.now (term goal.now) found.now) }
-{
-    match found {
-        Some(m) => add_broken(names, goal, m.as_slice(), text),
-        None => add_neither(goal, text),
-    }
-}
-
 /// Adds that neither a certificate nor a memory is found.
-fn add_neither(goal: &Expr, text: &mut Blob) -> Result<(), NoMemory>
-    ensures { OnOk result (text.new ≡ text.old ++ (spec.neither_line ++ zero_line (term goal.now))) }
+pub fn add_neither(goal: &Expr, text: &mut Blob) -> Result<(), NoMemory>
+    ensures { OnOk result (text.new ≡ text.old ++ spec.neither_lines (term goal.now)) }
 {
     text.extend_from_slice(b"  suggestion:   none: no certificate of up to ")?;
     add_number(MOST_DEPTH as usize, text)?;
-    text.extend_from_slice(b" steps is valid, and no memory that breaks it was found\n")?;
+    text.extend_from_slice(
+        b" steps is valid, no longer one was found, and no memory that breaks it\n",
+    )?;
     add_zero(goal, text)
 }
 
 /// Adds a memory, and what it says of the entailment.
-fn add_broken(
+pub fn add_broken(
     names: &NameTable,
     goal: &Expr,
     m: &[Binding],

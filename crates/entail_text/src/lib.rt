@@ -6,8 +6,9 @@
 //! - [`cert_for`]: the certificate that a statement gives for an entailment.
 //! - [`add_other`]: which certificate that is given for another entailment would show this one.
 //! - [`add_dropped`]: the hypotheses that the state which is to be met doesn't list.
-//! - [`add_suggestion`]: a certificate that a search finds, and where it is to be written, or a memory that breaks the entailment.
-//!   [`suggested_certificates_are_valid`] and [`broken_entailments_have_no_certificate`] are laws of it.
+//! - [`found_for`]: what searches come to for an entailment, as a [`Finding`]: a certificate, a memory that breaks it, or neither. [`add_finding`]: the
+//!   same in words, with where a certificate is to be written. [`would_help`]: whether one predicate more would do, and [`is_hopeless`], whether a memory breaks
+//!   it with some more. [`suggested_certificates_are_valid`], [`broken_entailments_have_no_certificate`] and [`what_would_help_is_enough`] are laws of it.
 //!
 //! | `src/` | `specs/` | what it has |
 //! |---|---|---|
@@ -17,14 +18,16 @@
 //! | `other` | `OtherCertificates` | the certificates of other numbers |
 //! | `dropped` | `Dropped` | the hypotheses that a state drops |
 //! | `zero` | `ZeroGoals` | goals that are 0, and how such a one may be shown at all |
-//! | `suggestion` | `Suggestions` | certificates that a search finds |
-//! | `broken` | `BrokenLines` | memories that break an entailment |
-//! | `laws` | `Nodes`, `Suggestions`, `BrokenLines` | the node of which is told is there, and fails; what is suggested is valid; what is broken has no valid certificate |
+//! | `finding` | `Findings` | what searches come to, and what would help |
+//! | `suggestion` | `Suggestions` | the words on a certificate that is found |
+//! | `broken` | `BrokenLines` | the words on a memory, and where neither is found |
+//! | `laws` | `Nodes`, `Findings` | the node of which is told is there, and fails; what is suggested is valid; what is broken has no valid certificate; what would help is enough |
 #![tactic(auto)]
 
 mod broken;
 mod dropped;
 mod entailment;
+mod finding;
 mod given;
 mod laws;
 mod node;
@@ -34,9 +37,11 @@ mod zero;
 
 pub use dropped::add_dropped;
 pub use entailment::{add_hypotheses, add_told};
+pub use finding::{Finding, found_for, is_hopeless, would_help};
 pub use given::cert_for;
 pub use laws::{
-    broken_entailments_have_no_certificate, failing_node_is_there, suggested_certificates_are_valid,
+    broken_entailments_have_no_certificate, failing_node_is_there,
+    suggested_certificates_are_valid, what_would_help_is_enough,
 };
 pub use other::add_other;
-pub use suggestion::add_suggestion;
+pub use suggestion::add_finding;

@@ -1,63 +1,37 @@
-//! A certificate that a search finds for an entailment, and where it is to be written.
+//! What is told of what is found for an entailment: a certificate, and where it is to be written, or a memory that breaks it.
 
-ghost use Rattle.std.specs.Prelude.{◌≡◌, ◌++◌, IfOk, OnOk, map, option_map};
+ghost use Rattle.std.specs.Prelude.{◌≡◌, ◌++◌, OnOk, map};
 ghost use Rattle.cov_expr.specs.View.{term};
 ghost use Rattle.cov_ast.specs.View as view;
+ghost use Rattle.entail_text.specs.Findings.{seen};
 ghost use Rattle.entail_text.specs.Suggestions as spec;
 
-use crate::broken::add_unfound;
+use crate::broken::{add_broken, add_neither};
+use crate::finding::Finding;
 use crate::given::cert_for;
-use cert_search::{MOST_DEPTH, find};
 use cov_ast::{Cert, NameTable, Proof};
-use cov_expr::{Blob, Expr, List, NoMemory};
+use cov_expr::{Blob, Expr, NoMemory};
 use cov_print::add_cert;
-use std::alloc::Global;
 use text_parts::add_number;
 
-/// Adds what a search finds for the entailment of a number: the certificate, in its canonical spelling, and where it is to be written, by what the statement
-/// gives. Where no certificate of the class of the search is valid, it adds a memory in which all hypotheses hold and the goal doesn't, if another search finds
-/// one, or else that neither is found. Each line begins with two blanks.
+/// Adds what is found for the entailment of a number, whose goal is `goal`: the certificate, in its canonical spelling, and where it is to be written, by what the statement
+/// gives; or a memory in which all hypotheses hold and the goal doesn't; or that neither is found. Each line begins with two blanks.
 ///
-/// `names` are those of the variables, `proofs` what the statement gives. It takes the time and the memory of both searches.
-pub fn add_suggestion(
-    alloc: Global,
+/// `names` are those of the variables, `proofs` what the statement gives. It takes time and memory in proportion to what is added.
+pub fn add_finding(
     names: &NameTable,
     proofs: &[Proof],
     number: u32,
-    hyps: &List<Expr>,
     goal: &Expr,
+    found: &Finding,
     text: &mut Blob,
 ) -> Result<(), NoMemory>
-    ensures { OnOk result (text.new ≡ text.old ++ spec.suggestion_lines names.now (map view.proof proofs.now) number (map term hyps.now) (term goal.now)) }
-{
-    let found = suggested(alloc, hyps, goal)?;
-    add_any(alloc, names, proofs, number, hyps, goal, &found, text)
-}
-
-/// What the search of the greatest depth finds.
-#[tactic(auto, unfolding(crate::specs::Suggestions::suggested))]
-fn suggested(alloc: Global, hyps: &List<Expr>, goal: &Expr) -> Result<Option<Cert>, NoMemory>
-    ensures { IfOk result (λ found. option_map view.cert found ≡ spec.suggested (map term hyps.now) (term goal.now)) }
-{
-    find(alloc, hyps, goal, MOST_DEPTH)
-}
-
-/// Adds what is found, or what is told where nothing is.
-fn add_any(
-    alloc: Global,
-    names: &NameTable,
-    proofs: &[Proof],
-    number: u32,
-    hyps: &List<Expr>,
-    goal: &Expr,
-    found: &Option<Cert>,
-    text: &mut Blob,
-) -> Result<(), NoMemory>
-    ensures { OnOk result (text.new ≡ text.old ++ spec.suggestion names.now (map view.proof proofs.now) number (map term hyps.now) (term goal.now) (option_map view.cert found.now)) }
+    ensures { OnOk result (text.new ≡ text.old ++ spec.finding_lines names.now (map view.proof proofs.now) number (term goal.now) (seen found.now)) }
 {
     match found {
-        Some(cert) => add_line(names, proofs, number, cert, text),
-        None => add_unfound(alloc, names, hyps, goal, text),
+        Finding::Shown(cert) => add_line(names, proofs, number, cert, text),
+        Finding::Broken(m) => add_broken(names, goal, m.as_slice(), text),
+        Finding::Neither => add_neither(goal, text),
     }
 }
 

@@ -121,7 +121,7 @@ parts_of_five o h a b c d = ap (λ x. x ++ d) (parts_of_four o h a b c) ∙ appe
 module _ (name these : List ℕ) (i : LevelsInput) (old new : List ℕ) (status : Status) where
   -- a name that isn't in order
   pub told_unnamed : (refusal : Refusal) → first_false (name_obligations i.program) ≡ Some refusal
-      → (status ≡ s.Refused) × (new ≡ old ++ unnamed_lines name these refusal) → IsToldFor name these i old new status
+      → (status ≡ s.Refused) × (new ≡ old ++ unnamed_lines name these i.program refusal) → IsToldFor name these i old new status
   told_unnamed refusal first (is, more) = (
     refused refusal None,
     subst (λ o. UnlessRejected (name_rejection_by o) (UnlessRejected (level_rejection i) (AcceptsForAll i)) (refused refusal None)) (sym first) refl,

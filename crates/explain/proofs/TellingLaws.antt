@@ -1,6 +1,9 @@
 -- Laws of what is told of bytes beside their explanation.
-use Rattle.std.proofs.Common.{◌≡◌, ℕ, Bool, List, [], ◌++◌, append-nil, Option, Some, None, sym, ap, subst, ◌∙◌}
+use Rattle.std.proofs.Common.{◌≡◌, ℕ, Bool, List, [], ◌++◌, append-nil, Result, OnOk, Option, Some, None, sym, ap, subst, ◌∙◌}
 use Rattle.std.proofs.lemmas.Bool.{cond-true, cond-false}
+use Rattle.std.proofs.lemmas.Result.{on_ok_weaker}
+use Rattle.cov_expr.specs.declared.list.NoMemory.{NoMemory}
+use Rattle.call_inputs.specs.Programs.{SpellsProgram}
 use Rattle.call_judge.specs.Findings.{Finds, reply_to}
 use Rattle.call_judge.specs.declared.judge.Judged.{Judged}
 use Rattle.call_judge.specs.declared.judge.Judged.TheVariants as j
@@ -16,7 +19,7 @@ use Rattle.policy_class.specs.Resolved.{name_obligations, resolved}
 use Rattle.entail_refused.proofs.DeclaredLaws.{some_refused}
 use Rattle.explain.specs.HiddenText.{text_warnings}
 use Rattle.explain.specs.Warnings.{warnings}
-use Rattle.explain.specs.Tellings.{Adds, AddsPoints, asked_lines, program_points, refusal_lines}
+use Rattle.explain.specs.Tellings.{Adds, AddsPoints, asked_lines, program_points, refusal_lines, unnamed_asked}
 use Rattle.explain.specs.WarningSentences.{warning_lines}
 use Rattle.typing_trace.specs.PointLines.{point_lines}
 
@@ -24,24 +27,29 @@ use Rattle.typing_trace.specs.PointLines.{point_lines}
 named_lines : (only : Bool) (name : List ℕ) (p : Parsed) (q : Program) (bytes : List ℕ) (refusal : Refusal) → first_false (name_obligations p) ≡ None → q ≡ resolved p
     → asked_lines only name p bytes refusal ≡ refusal_lines only name q bytes refusal
 named_lines only name p q bytes refusal named is =
-    cond-true (all_hold (name_obligations p)) _ [] (none_refused (name_obligations p) named)
+    cond-true (all_hold (name_obligations p)) (refusal_lines only name (resolved p) bytes refusal) (unnamed_asked p refusal) (none_refused (name_obligations p) named)
     ∙ ap (λ r. refusal_lines only name r bytes refusal) (sym is)
 
 unnamed_lines : (only : Bool) (name : List ℕ) (p : Parsed) (bytes : List ℕ) (refusal first : Refusal) → first_false (name_obligations p) ≡ Some first
-    → asked_lines only name p bytes refusal ≡ []
-unnamed_lines only name p bytes refusal first is = cond-false (all_hold (name_obligations p)) _ [] (some_refused (name_obligations p) first is)
+    → asked_lines only name p bytes refusal ≡ unnamed_asked p refusal
+unnamed_lines only name p bytes refusal first is =
+    cond-false (all_hold (name_obligations p)) (refusal_lines only name (resolved p) bytes refusal) (unnamed_asked p refusal) (some_refused (name_obligations p) first is)
 
 -- What was added is what is told of bytes of which this was found, beside the explanation.
 abbrev pub IsAdded : (only : Bool) (name bytes : List ℕ) → Judged → (old new : List ℕ) → Type 0
 IsAdded only name bytes judged old new = (more : List ℕ) × Adds only name bytes (reply_to name judged) more × (new ≡ old ++ more)
 
 module _ (only : Bool) (name bytes : List ℕ) (judged : Judged) (old new : List ℕ) (found : Finds bytes judged) where
-  pub added_unnamed : (refusal : Refusal) → judged ≡ j.Unnamed refusal → new ≡ old ++ warning_lines name bytes (text_warnings bytes) → IsAdded only name bytes judged old new
-  added_unnamed refusal e is =
+  pub added_unnamed : {T : Type 0} (r : Result T NoMemory) (refusal : Refusal) → judged ≡ j.Unnamed refusal
+      → ((p : Parsed) → SpellsProgram bytes p → OnOk r (new ≡ old ++ (unnamed_asked p refusal ++ warning_lines name bytes (text_warnings bytes))))
+      → OnOk r (IsAdded only name bytes judged old new)
+  added_unnamed r refusal e added =
       let h = subst (Finds bytes) e found in
       let lines = warning_lines name bytes (text_warnings bytes) in
-      subst (λ x. IsAdded only name bytes x old new) (sym e)
-      (lines, (h.0, h.1, sym (ap (λ asked. asked ++ lines) (unnamed_lines only name h.0 bytes refusal refusal h.2))), is)
+      on_ok_weaker r
+      (λ is. subst (λ x. IsAdded only name bytes x old new) (sym e)
+      (unnamed_asked h.0 refusal ++ lines, (h.0, h.1, sym (ap (λ asked. asked ++ lines) (unnamed_lines only name h.0 bytes refusal refusal h.2))), is))
+      (added h.0 h.1)
 
   pub added_refused : (refusal : Refusal) (program : _) → judged ≡ j.Refused refusal program → (lent : declared.Program) → lent ≡ program.value
       → new ≡ old ++ (refusal_lines only name (view.program lent) bytes refusal ++ warning_lines name bytes (text_warnings bytes)) → IsAdded only name bytes judged old new

@@ -15,7 +15,7 @@ use Rattle.cov_ast.specs.Syntax.{Parsed, Program, Var}
 use Rattle.cov_ast.specs.declared.refusal.Refusal.{Refusal}
 use Rattle.explain.specs.Explanations.{explanation, where_is}
 use Rattle.explain.specs.HiddenText.{text_warnings}
-use Rattle.explain.specs.Tellings.{refusal_lines, stand_lines}
+use Rattle.explain.specs.Tellings.{refusal_lines, stand_lines, unnamed_asked}
 use Rattle.explain.specs.WarningSentences.{warning_lines}
 use Rattle.explain.specs.Warnings.{warnings}
 use Rattle.level_text.specs.Lattice.{Levels}
@@ -76,12 +76,13 @@ abbrev pub malformed_lines : (name bytes : List ℕ) → Fault → List ℕ
 malformed_lines name bytes fault = explanation name bytes (malformed name fault) ++ stand_lines bytes fault
 
 -- what is told of a text of which this name isn't in order
-abbrev pub unnamed_lines : (name bytes : List ℕ) → Refusal → List ℕ
-unnamed_lines name bytes refusal = explanation name bytes (refused refusal None) ++ warning_lines name bytes (text_warnings bytes)
+abbrev pub unnamed_lines : (name bytes : List ℕ) → Parsed → Refusal → List ℕ
+unnamed_lines name bytes p refusal =
+    explanation name bytes (refused refusal None) ++ (unnamed_asked p refusal ++ warning_lines name bytes (text_warnings bytes))
 
 -- what is told of a text and of levels, by the first name that isn't in order
 abbrev pub text_lines : (name bytes : List ℕ) → LevelsInput → Option Refusal → List ℕ
-text_lines name bytes i (Some refusal) = unnamed_lines name bytes refusal
+text_lines name bytes i (Some refusal) = unnamed_lines name bytes i.program refusal
 text_lines name bytes i None = program_lines name bytes i.levels (resolved i.program) (first_refused i.levels (resolved i.program))
 
 -- what is told of bytes that spell a text for which levels were read

@@ -1,4 +1,5 @@
--- What is told of the other entailments for which a thread, and those behind it, would be refused by V9: of each as of the first, up to so many.
+-- What is told of the other entailments for which a thread, and those behind it, would be refused by V9, and behind those of each of these threads of its first
+-- refusal by a rule that isn't about certificates: of each as of the first, up to so many.
 use Rattle.std.specs.Prelude.{ℕ, ◌-◌, nat_le, List, [], ◌++◌, Bool, true, false, length, take, flat_map, codes, decimal, if◌then◌else◌}
 use Rattle.cov_ast.specs.Syntax.{Program}
 use Rattle.cov_ast.specs.declared.refusal.Refusal.{Refusal}
@@ -7,16 +8,18 @@ use Rattle.call_reports.specs.Replies.{refused}
 use Rattle.entail_refused.specs.Asked.{asked}
 use Rattle.entail_refused.specs.OtherRefusals.{other_refusals}
 use Rattle.explain.specs.Explanations.{explanation}
+use Rattle.refusal_names.specs.RefusalNames.{refusal_names}
 use Rattle.explain.specs.declared.others.TheConstants.{MOST_TOLD}
 
--- a refusal: the explanation, and what was asked
+-- a refusal: the explanation, and what it is about, by name, or what was asked
 unfoldable pub refusal_text : (name bytes : List ℕ) → Program → Refusal → List ℕ
 refusal_text name bytes p r =
-    explanation name bytes (refused r (name_in p.threads r.thread)) ++ asked p bytes r.rule r.thread r.place r.detail
+    explanation name bytes (refused r (name_in p.threads r.thread))
+    ++ (refusal_names p bytes r.rule r.thread r.place r.detail ++ asked p bytes r.rule r.thread r.place r.detail)
 
 -- how many there are besides
 abbrev pub left_line : ℕ → List ℕ
-left_line n = codes "and as many more for which no valid certificate is given: " ++ decimal n ++ codes "\n"
+left_line n = codes "and as many more refusals: " ++ decimal n ++ codes "\n"
 
 -- the first of some refusals, and how many there are besides
 abbrev pub lines_of : (name bytes : List ℕ) → Program → List Refusal → List ℕ

@@ -49,7 +49,7 @@ declared_lines name bytes p (Some r) = refused_lines name bytes (resolved p) r
 declared_lines name bytes p None = searched_lines p
 
 abbrev pub named_lines : (name bytes : List ℕ) → Parsed → Option Refusal → List ℕ
-named_lines name bytes p (Some r) = unnamed_lines name bytes r
+named_lines name bytes p (Some r) = unnamed_lines name bytes p r
 named_lines name bytes p None = declared_lines name bytes p (first_false (declaration_obligations (resolved p)))
 
 -- what is told of a text that bytes spell

@@ -1,6 +1,6 @@
 -- All that is told of the bytes of a file: the explanation of what `check` replies to them; then, where they are malformed by a token, what
 -- could stand at its place, where they are refused, what the refusal is about and what is warned of in them, and where they are accepted, what
--- is warned of in them and in the program that they spell.
+-- is warned of in them and in the program that they spell. Where they are refused for a name that isn't declared, the nearest one that is.
 use Rattle.std.specs.Prelude.{◌≡◌, ℕ, List, [], ◌++◌, Bool, codes, if◌then◌else◌, Option, Some, None}
 use Rattle.cov_ast.specs.Obligations.{all_hold}
 use Rattle.cov_ast.specs.Syntax.{Parsed, Program}
@@ -10,6 +10,7 @@ use Rattle.explain.specs.ExpectedLines.{expected_line}
 use Rattle.policy_class.specs.Resolved.{name_obligations, resolved}
 use Rattle.explain.specs.HiddenText.{text_warnings}
 use Rattle.explain.specs.Warnings.{warnings}
+use Rattle.nearest_name.specs.NearestLines.{nearest_lines}
 use Rattle.refusal_names.specs.RefusalNames.{refusal_names}
 use Rattle.explain.specs.Explanations.{explanation}
 use Rattle.explain.specs.OtherTellings.{others_unless}
@@ -32,9 +33,14 @@ refusal_lines first name p bytes refusal =
     refusal_names p bytes refusal.rule refusal.thread refusal.place refusal.detail
     ++ (asked p bytes refusal.rule refusal.thread refusal.place refusal.detail ++ others_unless first name bytes p refusal)
 
--- the same in the program that a text stands for, if its names are in order
+-- what a refusal of a text is about whose names aren't in order: of one that isn't declared, the nearest declared one
+abbrev pub unnamed_asked : Parsed → Refusal → List ℕ
+unnamed_asked p refusal = nearest_lines p refusal.rule refusal.detail refusal.place
+
+-- what a refusal of a text is about, in the program that it stands for, if its names are in order
 abbrev pub asked_lines : (first : Bool) (name : List ℕ) → Parsed → (bytes : List ℕ) → Refusal → List ℕ
-asked_lines first name p bytes refusal = if all_hold (name_obligations p) then refusal_lines first name (resolved p) bytes refusal else []
+asked_lines first name p bytes refusal =
+    if all_hold (name_obligations p) then refusal_lines first name (resolved p) bytes refusal else unnamed_asked p refusal
 
 -- what could stand at the place of a token with which no program goes on; nothing where another fault is the first
 abbrev pub stand_lines : (bytes : List ℕ) → Fault → List ℕ
@@ -42,7 +48,7 @@ stand_lines bytes (f.Text k.Token at) = expected_line bytes at
 stand_lines bytes fault = []
 
 -- What is told of bytes to which `check` replies so, beside the explanation: of malformed ones, what could stand at the place of a token;
--- of refused ones, what the refusal is about in the program that they spell, and what is warned of in the bytes themselves; of accepted ones,
+-- of refused ones, what the refusal is about in the text that they spell, and what is warned of in the bytes themselves; of accepted ones,
 -- what is warned of in that program and in the bytes; of others, nothing.
 abbrev pub Adds : (first : Bool) (name bytes : List ℕ) → Reply → (text : List ℕ) → Type 0
 Adds first name bytes (malformed file fault) text = text ≡ stand_lines bytes fault

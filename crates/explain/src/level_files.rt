@@ -1,6 +1,7 @@
 //! What is told of a program and of levels for it: how their files are read.
 
 ghost use Rattle.std.specs.Prelude.{◌≡◌, ◌++◌, ◌≤◌, IfOk, OnOk, Some, length};
+ghost use Rattle.call_inputs.specs.Programs.{SpellsProgram};
 ghost use Rattle.call_inputs.specs.Readings.{Reads, took};
 ghost use Rattle.call_inputs.specs.Steps as step;
 ghost use Rattle.call_reports.specs.declared.answers.Status.TheVariants as s;
@@ -88,6 +89,7 @@ fn tell_over<S: Shelf>(
     text: &mut Blob,
 ) -> Result<Status, NoMemory>
     requires short { length bytes.now ≤ MOST_BYTES }
+    requires spelled { SpellsProgram bytes.now (view.parsed parsed) }
     requires ready { IsReady (view.parsed parsed) }
     ensures { Reads (λ after end. FollowsOver (IsLeft (S.shelved shelf.new) (outcome_of text.new result)) name.now bytes.now (view.parsed parsed) over.now text.old after end)
         (S.shelved shelf.old) (step.bytes over.now MOST_BYTES) }
@@ -111,6 +113,7 @@ fn tell_given(
 ) -> Result<Status, NoMemory>
     requires short { length bytes.now ≤ MOST_BYTES }
     requires brief { length given.now ≤ MOST_BYTES }
+    requires spelled { SpellsProgram bytes.now (view.parsed parsed) }
     requires ready { IsReady (view.parsed parsed) }
     ensures { AddsOver name.now bytes.now (view.parsed parsed) over.now (took given.now) text.old text.new result }
 {

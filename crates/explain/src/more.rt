@@ -1,7 +1,9 @@
 //! What is told beside an explanation.
 
 ghost use Rattle.std.specs.Prelude.{◌≡◌, ◌≤◌, ◌++◌, ℕ, List, length, OnOk};
+ghost use Rattle.call_inputs.specs.Programs.{SpellsProgram};
 ghost use Rattle.call_judge.specs.Findings.{Finds, reply_to};
+ghost use Rattle.cov_ast.specs.Syntax.{Parsed};
 ghost use Rattle.cov_ast.specs.View as view;
 ghost use Rattle.cov_ast.specs.WellFormed.{IsWellFormed};
 ghost use Rattle.cov_expr.specs.declared.limits.TheConstants.{MOST_BYTES};
@@ -13,11 +15,13 @@ ghost use Rattle.explain.specs.HiddenText.{text_warnings};
 use crate::line::add_expected;
 use crate::others::add_others_unless;
 use crate::warnings::{add_text_warnings, add_warnings};
+use call_inputs::parse_text;
 use call_judge::judge::Judged;
 use call_reports::{Fault, FaultKind};
 use cov_ast::{Program, Refusal};
 use cov_expr::{Blob, NoMemory};
 use entail_refused::add_asked;
+use nearest_name::add_nearest;
 use refusal_names::add_names;
 use std::alloc::Global;
 
@@ -37,11 +41,44 @@ pub fn add_more(
 {
     match judged {
         Judged::Malformed(fault) => add_stand_lines(alloc, bytes, fault, text),
-        Judged::Unnamed(_) => add_text_warnings(alloc, name, bytes, text),
+        Judged::Unnamed(refusal) => add_unnamed(alloc, name, bytes, refusal, text),
         Judged::Refused(refusal, program) => {
             add_refused(alloc, first, name, bytes, refusal, program, text)
         }
         Judged::Accepted(_, program) => add_warnings(alloc, name, bytes, program, text),
+    }
+}
+
+/// Adds what is told of a text whose names aren't in order, beside the explanation: of a name that isn't declared the nearest declared one, and what is
+/// warned of in the bytes.
+pub fn add_unnamed(
+    alloc: Global,
+    name: &str,
+    bytes: &[u8],
+    refusal: &Refusal,
+    text: &mut Blob,
+) -> Result<(), NoMemory>
+    requires { length bytes.now ≤ MOST_BYTES }
+    ensures { (p : Parsed) → SpellsProgram bytes.now p
+        → OnOk result (text.new ≡ text.old ++ (spec.unnamed_asked p refusal.now ++ warning_lines name.now bytes.now (text_warnings bytes.now))) }
+{
+    add_nearest_declared(alloc, bytes, refusal, text)?;
+    add_text_warnings(alloc, name, bytes, text)
+}
+
+/// Adds the nearest declared name, of a name that isn't declared. The text is read again, since of one that is refused so no more than the refusal is kept.
+fn add_nearest_declared(
+    alloc: Global,
+    bytes: &[u8],
+    refusal: &Refusal,
+    text: &mut Blob,
+) -> Result<(), NoMemory>
+    requires { length bytes.now ≤ MOST_BYTES }
+    ensures { (p : Parsed) → SpellsProgram bytes.now p → OnOk result (text.new ≡ text.old ++ spec.unnamed_asked p refusal.now) }
+{
+    match parse_text(alloc, bytes) {
+        Ok(parsed) => add_nearest(alloc, &parsed, refusal, text),
+        Err(_) => Err(NoMemory),
     }
 }
 

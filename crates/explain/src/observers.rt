@@ -1,10 +1,12 @@
 //! What is told of a program that is shown to an observer at each of some levels.
 
 ghost use Rattle.std.specs.Prelude.{◌≡◌, ◌<◌, ◌≤◌, ◌++◌, IfOk, OnOk, length, map};
+ghost use Rattle.call_inputs.specs.Programs.{SpellsProgram};
 ghost use Rattle.call_judge.specs.Check as check;
 ghost use Rattle.call_reports.specs.declared.answers.Status.TheVariants as s;
 ghost use Rattle.call_verdicts.specs.Levels.{levels_words};
 ghost use Rattle.cov_ast.specs.Ready.{IsReady};
+ghost use Rattle.cov_ast.specs.Syntax as syntax;
 ghost use Rattle.cov_ast.specs.View as view;
 ghost use Rattle.cov_ast.specs.WellFormed.{IsWellFormed};
 ghost use Rattle.cov_expr.specs.declared.limits.TheConstants.{MOST_BYTES};
@@ -17,8 +19,8 @@ ghost use Rattle.levels.specs.Projection as projection;
 ghost use Rattle.typing_law.specs.Verdicts.{counts};
 
 use crate::explanation::add_explanation;
-use crate::more::add_refused;
-use crate::warnings::{add_text_warnings, add_warnings};
+use crate::more::{add_refused, add_unnamed};
+use crate::warnings::add_warnings;
 use call_judge::check::thread_name;
 use call_reports::{Answer, Status, Totals, add_counted};
 use cov_ast::{CheckFault, NumberSet, Parsed, Program, Refusal, VarDecl};
@@ -40,6 +42,7 @@ pub fn tell_text(
     text: &mut Blob,
 ) -> Result<Status, NoMemory>
     requires short { length bytes.now ≤ MOST_BYTES }
+    requires spelled { SpellsProgram bytes.now (view.parsed parsed) }
     requires ready { IsReady (view.parsed parsed) }
     requires levels { AreLevels (length parsed.vars) (level_view.levels l.now) }
     ensures { IfOk result (λ status. IsToldFor name.now bytes.now (record { program = view.parsed parsed; levels = level_view.levels l.now }) text.old text.new status) }
@@ -60,10 +63,11 @@ pub fn tell_unnamed(
     text: &mut Blob,
 ) -> Result<Status, NoMemory>
     requires { length bytes.now ≤ MOST_BYTES }
-    ensures { IfOk result (λ status. (status ≡ s.Refused) × (text.new ≡ text.old ++ spec.unnamed_lines name.now bytes.now refusal)) }
+    ensures { (p : syntax.Parsed) → SpellsProgram bytes.now p
+        → IfOk result (λ status. (status ≡ s.Refused) × (text.new ≡ text.old ++ spec.unnamed_lines name.now bytes.now p refusal)) }
 {
     add_explanation(alloc, name, bytes, Answer::Refused(refusal, None), text)?;
-    add_text_warnings(alloc, name, bytes, text)?;
+    add_unnamed(alloc, name, bytes, &refusal, text)?;
     Ok(Status::Refused)
 }
 

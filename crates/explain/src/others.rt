@@ -1,4 +1,4 @@
-//! What is told of the other entailments for which a thread, and those behind it, would be refused.
+//! What is told of the other entailments for which a thread, and those behind it, would be refused, and of the first refusal of each by a rule that isn't about certificates.
 
 ghost use Rattle.std.specs.Prelude.{◌≡◌, ◌++◌, OnOk, flat_map};
 ghost use Rattle.cov_ast.specs.View as view;
@@ -11,14 +11,15 @@ use call_reports::Answer;
 use cov_ast::{Program, Refusal};
 use cov_expr::{Blob, NoMemory};
 use entail_refused::{add_asked, other_refusals};
+use refusal_names::add_names;
 use std::alloc::Global;
 use text_parts::add_number;
 
 /// How many others are told.
 const MOST_TOLD: usize = 8;
 
-/// Adds what is told of the other entailments for which the thread of a refusal by V9, and those behind it, would be refused, each as if it were the first; nothing where the first
-/// alone is to be told.
+/// Adds what is told of the other entailments for which the thread of a refusal by V9, and those behind it, would be refused, and of the first refusal of each of these threads by
+/// a rule that isn't about certificates, each as if it were the first; nothing where the first alone is to be told.
 pub fn add_others_unless(
     alloc: Global,
     first: bool,
@@ -91,7 +92,7 @@ fn add_each(
     Ok(())
 }
 
-/// Adds what is told of a refusal: the explanation, and what was asked.
+/// Adds what is told of a refusal: the explanation, and what it is about.
 fn add_refusal(
     alloc: Global,
     name: &str,
@@ -105,6 +106,7 @@ fn add_refusal(
 {
     let thread = thread_name(program.threads.as_slice(), refusal.thread);
     add_explanation(alloc, name, bytes, Answer::Refused(*refusal, thread), text)?;
+    add_names(alloc, program, bytes, refusal, text)?;
     add_asked(alloc, program, bytes, refusal, text)
 }
 
@@ -112,7 +114,7 @@ fn add_refusal(
 fn add_left(count: usize, text: &mut Blob) -> Result<(), NoMemory>
     ensures { OnOk result (text.new ≡ text.old ++ spec.left_line count) }
 {
-    text.extend_from_slice(b"and as many more for which no valid certificate is given: ")?;
+    text.extend_from_slice(b"and as many more refusals: ")?;
     add_number(count, text)?;
     text.extend_from_slice(b"\n")
 }

@@ -2,6 +2,7 @@
 
 ghost use Rattle.std.specs.Prelude.{◌≡◌, ◌≤◌, ◌++◌, IfOk, IsTrue, OnOk, length, map};
 ghost use Rattle.annotate.specs.AnnotatedText.{IsAsRead};
+ghost use Rattle.call_inputs.specs.Programs.{SpellsProgram};
 ghost use Rattle.call_reports.specs.declared.answers.Status.TheVariants as s;
 ghost use Rattle.cov_ast.specs.Obligations.{all_hold};
 ghost use Rattle.cov_ast.specs.View as view;
@@ -68,6 +69,7 @@ fn tell_parsed(
     text: &mut Blob,
 ) -> Result<Status, NoMemory>
     requires short { length bytes.now ≤ MOST_BYTES }
+    requires spelled { SpellsProgram bytes.now (view.parsed parsed) }
     requires read { IsAsRead (view.parsed parsed) }
     ensures { IfOk result (λ status. IsSuggested name.now bytes.now (view.parsed parsed) text.old text.new status) }
 {

@@ -6,7 +6,7 @@ use Rattle.cov_expr.specs.Term.{Term, const, var, bin}
 use Rattle.cov_ast.specs.Syntax as s
 use Rattle.cov_ast.specs.declared.refusal.Detail.TheVariants.{Nothing, Number, One, Three}
 use Rattle.cov_ast.specs.declared.refusal.Rule.{Rule}
-use Rattle.cov_ast.specs.declared.refusal.Rule.TheVariants.{V1, V2, V3, V4, V8, V9, V12, V13, V14, V15, V16, W8, W9}
+use Rattle.cov_ast.specs.declared.refusal.Rule.TheVariants.{V1, V2, V3, V4, V8, V9, V10, V12, V13, V14, V15, V16, W8, W9}
 use Rattle.refusal_names.specs.RefusalNames as spec
 
 -- a is plain low and the control of b; c is high. The lock l hides a and b, the lock m writes c alone.
@@ -85,14 +85,32 @@ no_type : refusal_names (alone (s.assign 2 (bin Add (var 2) (var 1)) None [])) V
     ≡ codes "  no type is written by `as`, and the class of b has the control a, which isn't stable here\n  lock l, line 3, has `hide a`, and isn't held here; held: none\n"
 no_type = simp (decimal_digit 3 (lit< tt))
 
--- V8
-two_ends : refusal_names (behind_lock (s.branch (const 1) (s.more 92 (s.lock 1) [] s.done) (s.more 94 (s.unlock 0) [] s.done) (stated (const 1)))) V8 (Some 0) 90
-    ≡ codes "  held at the end of the first block: l, m; at the end of the second: none\n"
-two_ends = refl
+-- V8: both ways, with the lines of what takes a lock and gives it back last; in a branch within the first block, and twice
+two_ends : refusal_names (behind_lock (s.branch (const 1) (s.more 2 (s.lock 1) [] s.done) (s.more 7 (s.unlock 0) [] s.done) (stated (const 1)))) V8 (Some 0) 90
+    ≡ codes "  held at the end of the first block: l, m; at the end of the second: none\n  l, in the first block: not given back; in the second: given back in line 2\n  m, in the first block: taken in line 1; in the second: not taken\n"
+two_ends = simp (decimal_digit 1 (lit< tt), decimal_digit 2 (lit< tt))
 
-a_turn : refusal_names (behind_lock (s.loop (const 1) (stated (const 1)) (s.more 92 (s.unlock 0) [] s.done))) V8 (Some 0) 90
-    ≡ codes "  held at the start of the block: l; at its end: none\n"
-a_turn = refl
+abbrev inner : s.Block
+inner = s.more 2 (s.branch (const 1) (s.more 7 (s.lock 1) [] s.done) s.done (stated (const 1))) [] s.done
+
+within : refusal_names (alone (s.branch (const 1) s.done inner (stated (const 1)))) V8 (Some 0) 90
+    ≡ codes "  held at the end of the first block: none; at the end of the second: m\n  m, in the first block: not taken; in the second: taken in line 2\n"
+within = simp (decimal_digit 2 (lit< tt))
+
+a_turn : refusal_names (behind_lock (s.loop (const 1) (stated (const 1)) (s.more 2 (s.unlock 0) [] (s.more 7 (s.lock 0) [] (s.more 15 (s.unlock 0) [] s.done))))) V8 (Some 0) 90
+    ≡ codes "  held at the start of the block: l; at its end: none\n  l, in the block: given back in line 3\n"
+a_turn = simp (decimal_digit 3 (lit< tt))
+
+-- V10: `c + (c + ..)`, of which each operand is kept while the next is evaluated
+abbrev nested : (n : ℕ) → Term
+nested zero = var 2
+nested (suc n) = bin Add (var 2) (nested n)
+
+a_wide_expression : refusal_names (alone (s.output (nested 7))) V10 (Some 0) 90 ≡ codes "  its width is 8\n"
+a_wide_expression = simp (decimal_digit 8 (lit< tt))
+
+nothing_is_evaluated : refusal_names (alone s.skip) V10 (Some 0) 90 ≡ []
+nothing_is_evaluated = refl
 
 -- V13: of a note with an entailment
 abbrev proof_of : (n : ℕ) → s.Proof

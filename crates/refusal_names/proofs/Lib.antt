@@ -6,6 +6,15 @@ pub mod FoundNames
 pub mod FoundThreads
 pub mod ForbiddenLaws
 pub mod UnstableLaws
+pub mod OutsideSets
+pub mod UnstableReads
+pub mod ToldTypeLaws
+pub mod ToldClassLaws
+pub mod AddedLaws
+pub mod LargeLaws
+pub mod MadeLaws
+pub mod ChangeLaws
+pub mod StepLocks
 pub mod NumberLaws
 pub mod TypeLaws
 pub mod PredicateLaws

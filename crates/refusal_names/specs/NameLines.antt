@@ -1,14 +1,15 @@
 -- What a rule that is broken is about, by name: a line of text for each of the rules V3, V4, V8, V12 and V15, and of V3, V4 and V12 why the
--- variables in it aren't stable (`cause`), in lines of their own. Expressions are spelled canonically.
+-- variables in it aren't stable (`cause`), and of V8 what changes the locks, in lines of their own. Expressions are spelled canonically.
 use Rattle.std.specs.Prelude.{ℕ, suc, ◌==◌, List, [], ◌∷◌, ◌++◌, Bool, true, Option, Some, None, codes, flat_map, if◌then◌else◌}
 use Rattle.cov_expr.specs.Term.{Term}
 use Rattle.cov_expr.specs.Trees.{occurrences, vars}
 use Rattle.cov_ast.specs.Declarations.{lock_at}
 use Rattle.cov_ast.specs.Plain.{Plain}
-use Rattle.cov_ast.specs.Syntax.{Lock, Stm, skip, assign, lock, unlock, branch, loop, note, output}
+use Rattle.cov_ast.specs.Syntax.{Block, Lock, Stm, skip, assign, lock, unlock, branch, loop, note, output}
 use Rattle.cov_ast.specs.Tables.{has}
 use Rattle.cov_print.specs.Spelling.{Names, name, whole, expr}
 use Rattle.statement_paths.specs.LocksHeld.{held_at_end}
+use Rattle.refusal_names.specs.LockChanges.{changes}
 use Rattle.refusal_names.specs.OutsideVariables.{all_outside, first_with_outside, first_unstable_class}
 use Rattle.refusal_names.specs.SpokenParts.{stated_predicates, stated_types, untyped_value}
 
@@ -116,24 +117,26 @@ held_text locks held = listed_names (held_names 0 held locks)
 abbrev pub two_ends : (front between : List ℕ) → List Lock → (first second : List Bool) → List ℕ
 two_ends front between locks first second = front ++ held_text locks first ++ between ++ held_text locks second ++ codes "\n"
 
--- at the two ends of a branch, and at the start and the end of the block of a loop
-abbrev pub branch_ends : List Lock → (first second : List Bool) → List ℕ
-branch_ends locks first second =
+-- at the two ends of a branch, and at the end and the start of the block of a loop, with what changes the locks that are held at one of them alone
+abbrev pub branch_ends : (bytes : List ℕ) → List Lock → (first second : List Bool) → (a b : Block) → List ℕ
+branch_ends bytes locks first second a b =
     two_ends (codes "  held at the end of the first block: ") (codes "; at the end of the second: ") locks first second
+    ++ changes bytes first second a (Some b) 0 locks
 
-abbrev pub loop_ends : List Lock → (start end : List Bool) → List ℕ
-loop_ends locks start end = two_ends (codes "  held at the start of the block: ") (codes "; at its end: ") locks start end
+abbrev pub loop_ends : (bytes : List ℕ) → List Lock → (start end : List Bool) → Block → List ℕ
+loop_ends bytes locks start end b =
+    two_ends (codes "  held at the start of the block: ") (codes "; at its end: ") locks start end ++ changes bytes end start b None 0 locks
 
 -- of a statement, by the locks that are held in front of it
-abbrev pub ends_line : List Lock → (held : List Bool) → Stm → List ℕ
-ends_line locks held skip = []
-ends_line locks held (assign x e q retypes) = []
-ends_line locks held (lock l) = []
-ends_line locks held (unlock l) = []
-ends_line locks held (branch e a b join) = branch_ends locks (held_at_end a held) (held_at_end b held)
-ends_line locks held (loop e inv b) = loop_ends locks held (held_at_end b held)
-ends_line locks held (note j) = []
-ends_line locks held (output e) = []
+abbrev pub ends_line : (bytes : List ℕ) → List Lock → (held : List Bool) → Stm → List ℕ
+ends_line bytes locks held skip = []
+ends_line bytes locks held (assign x e q retypes) = []
+ends_line bytes locks held (lock l) = []
+ends_line bytes locks held (unlock l) = []
+ends_line bytes locks held (branch e a b join) = branch_ends bytes locks (held_at_end a held) (held_at_end b held) a b
+ends_line bytes locks held (loop e inv b) = loop_ends bytes locks held (held_at_end b held) b
+ends_line bytes locks held (note j) = []
+ends_line bytes locks held (output e) = []
 
 -- V15: the predicate that is one too many ----------------------------------------------------------------------
 

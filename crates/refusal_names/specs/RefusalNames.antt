@@ -3,7 +3,7 @@ use Rattle.std.specs.Prelude.{ℕ, nat_lt, List, [], Bool, false, true, length, 
 use Rattle.cov_ast.specs.Plain.{plain}
 use Rattle.cov_ast.specs.Syntax.{Program, Stm, Proof}
 use Rattle.cov_ast.specs.declared.refusal.Rule.{Rule}
-use Rattle.cov_ast.specs.declared.refusal.Rule.TheVariants.{V1, V2, V3, V4, V5, V8, V12, V13, V14, V15, V16, W9}
+use Rattle.cov_ast.specs.declared.refusal.Rule.TheVariants.{V1, V2, V3, V4, V5, V8, V10, V12, V13, V14, V15, V16, W9}
 use Rattle.cov_ast.specs.declared.refusal.Detail.{Detail}
 use Rattle.cov_ast.specs.declared.refusal.Detail.TheVariants.{Three}
 use Rattle.point_law.specs.Point.{controls_of}
@@ -22,6 +22,7 @@ use Rattle.refusal_names.specs.NameLines.{reads_line, types_line, ends_line, pre
 use Rattle.refusal_names.specs.SpokenParts.{evaluated_expression}
 use Rattle.refusal_names.specs.StableSets.{stable_controls, held_where_stated}
 use Rattle.refusal_names.specs.UnstableVariables.{shown_cause, unstable_line}
+use Rattle.refusal_names.specs.WideExpressions.{width_line}
 use Rattle.statement_paths.specs.Paths.{Step, Way, way_to}
 
 -- Of a statement of a thread and its proofs, behind steps, by the locks that are held in front of it, and by what the refusal shows. The bytes are those of
@@ -39,7 +40,8 @@ line_of p bytes t V4 detail steps held s proofs =
 line_of p bytes t V5 detail steps held s proofs =
     let names = variable_names p.vars in
     shown_cause names (unstable_line names bytes p.locks held) detail
-line_of p bytes t V8 detail steps held s proofs = ends_line p.locks held s
+line_of p bytes t V8 detail steps held s proofs = ends_line bytes p.locks held s
+line_of p bytes t V10 detail steps held s proofs = width_line (evaluated_expression s)
 line_of p bytes t V12 detail steps held s proofs =
     let there = held_where_stated s held in
     let names = variable_names p.vars in

@@ -1,39 +1,51 @@
-//! The line of V8: which locks are held at two ends.
+//! The line of V8: which locks are held at two ends, with those behind it.
 
 ghost use Rattle.cov_expr.specs.declared.limits.TheConstants.{MOST_LOCKS};
 ghost use Rattle.std.specs.Prelude.{◌≡◌, ◌++◌, ◌≤◌, IfOk, OnOk, codes, length, map};
 ghost use Rattle.cov_ast.specs.View as view;
 ghost use Rattle.refusal_names.specs.NameLines as spec;
 
-use cov_ast::{LockDecl, StmtKind};
+use crate::changes::add_changes;
+use cov_ast::{LockDecl, Stmt, StmtKind};
 use cov_expr::{Blob, List, Name, NoMemory};
 use mode_state::ModeState;
 use statement_paths::pass_block;
 use std::alloc::Global;
 
 /// Adds which locks are held at the two ends of a branch, or at the start and the end of the block of a loop, by those that are held in
-/// front of it. Of a branch they are then those at the end of its second block.
+/// front of it, and which statements change those that are held at one of the two alone. Of a branch the locks are then those at the end of its
+/// second block.
 pub fn add_ends(
     alloc: Global,
+    bytes: &[u8],
     locks: &[LockDecl],
     modes: &mut ModeState,
     kind: &StmtKind,
     text: &mut Blob,
 ) -> Result<(), NoMemory>
     requires { length locks.now ≤ MOST_LOCKS }
-    ensures { OnOk result (text.new ≡ text.old ++ spec.ends_line (map view.lock locks.now) (modes.old).held (view.kind kind.now)) }
+    ensures { OnOk result (text.new ≡ text.old ++ spec.ends_line bytes.now (map view.lock locks.now) (modes.old).held (view.kind kind.now)) }
 {
     match kind {
         StmtKind::If(_, a, b, _) => {
             let mut first = modes.copy(alloc)?;
             pass_block(a.as_slice(), &mut first);
             pass_block(b.as_slice(), modes);
-            add_branch_ends(alloc, locks, &first, modes, text)
+            add_branch_ends(
+                alloc,
+                bytes,
+                locks,
+                &first,
+                modes,
+                a.as_slice(),
+                b.as_slice(),
+                text,
+            )
         }
         StmtKind::While(_, _, b) => {
             let mut end = modes.copy(alloc)?;
             pass_block(b.as_slice(), &mut end);
-            add_loop_ends(alloc, locks, modes, &end, text)
+            add_loop_ends(alloc, bytes, locks, modes, &end, b.as_slice(), text)
         }
         StmtKind::Skip | StmtKind::Lock(_) | StmtKind::Unlock(_) => Ok(()),
         StmtKind::Assign(_, _, _, _) | StmtKind::Note(_) | StmtKind::Output(_) => Ok(()),
@@ -43,33 +55,41 @@ pub fn add_ends(
 /// Adds which locks are held at the two ends of a branch.
 fn add_branch_ends(
     alloc: Global,
+    bytes: &[u8],
     locks: &[LockDecl],
     first: &ModeState,
     second: &ModeState,
+    a: &[Stmt],
+    b: &[Stmt],
     text: &mut Blob,
 ) -> Result<(), NoMemory>
     requires { length locks.now ≤ MOST_LOCKS }
-    ensures { OnOk result (text.new ≡ text.old ++ spec.branch_ends (map view.lock locks.now) (first.now).held (second.now).held) }
+    ensures { OnOk result (text.new ≡ text.old
+        ++ spec.branch_ends bytes.now (map view.lock locks.now) (first.now).held (second.now).held (view.block a.now) (view.block b.now)) }
 {
     let front = b"  held at the end of the first block: ";
     let between = b"; at the end of the second: ";
-    add_two_ends(alloc, locks, front, between, first, second, text)
+    add_two_ends(alloc, locks, front, between, first, second, text)?;
+    add_changes(bytes, locks, first, second, a, Some(b), text)
 }
 
 /// Adds which locks are held at the start and at the end of the block of a loop.
 fn add_loop_ends(
     alloc: Global,
+    bytes: &[u8],
     locks: &[LockDecl],
     start: &ModeState,
     end: &ModeState,
+    b: &[Stmt],
     text: &mut Blob,
 ) -> Result<(), NoMemory>
     requires { length locks.now ≤ MOST_LOCKS }
-    ensures { OnOk result (text.new ≡ text.old ++ spec.loop_ends (map view.lock locks.now) (start.now).held (end.now).held) }
+    ensures { OnOk result (text.new ≡ text.old ++ spec.loop_ends bytes.now (map view.lock locks.now) (start.now).held (end.now).held (view.block b.now)) }
 {
     let front = b"  held at the start of the block: ";
     let between = b"; at its end: ";
-    add_two_ends(alloc, locks, front, between, start, end, text)
+    add_two_ends(alloc, locks, front, between, start, end, text)?;
+    add_changes(bytes, locks, end, start, b, None, text)
 }
 
 /// Adds which locks are held at two places, each with words in front.

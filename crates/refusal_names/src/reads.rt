@@ -45,7 +45,7 @@ pub fn add_reads(
 }
 
 /// What a statement evaluates, if it does.
-fn evaluated_expression(kind: &StmtKind) -> Option<&Expr>
+pub fn evaluated_expression(kind: &StmtKind) -> Option<&Expr>
     ensures { option_map (λ e. term e.now) result ≡ parts.evaluated_expression (view.kind kind.now) }
 {
     match kind {

@@ -35,6 +35,7 @@ use crate::reads::add_reads;
 use crate::sets::{known_at, pass_to_state};
 use crate::types::add_types;
 use crate::unstable::add_shown_cause;
+use crate::wide::add_width;
 use cov_ast::{Detail, NameTable, Program, Refusal, Rule, Stmt, StmtKind};
 use cov_expr::{Blob, NoMemory};
 use entail_origins::questions;
@@ -44,7 +45,7 @@ use std::alloc::Global;
 use text_parts::variable_names;
 
 /// Adds a line of what a refusal is about, by name, and why a variable in it isn't stable, in lines of their own. Nothing is added where it
-/// isn't one of W9, V1, V2, V3, V4, V8, V12, V13, V14, V15 and V16, and where no statement of the thread stands at the place. `bytes` are
+/// isn't one of W9, V1, V2, V3, V4, V5, V8, V10, V12, V13, V14, V15 and V16, and where no statement of the thread stands at the place. `bytes` are
 /// the text of the program.
 pub fn add_names(
     alloc: Global,
@@ -168,7 +169,8 @@ fn add_line(
         Rule::V3 => add_unstable_reads(alloc, p, names, bytes, modes, kind, text),
         Rule::V4 => add_bad_type(alloc, p, names, bytes, modes, kind, text),
         Rule::V5 => add_shown_cause(alloc, names, bytes, p.locks.as_slice(), modes, detail, text),
-        Rule::V8 => add_ends(alloc, p.locks.as_slice(), modes, kind, text),
+        Rule::V8 => add_ends(alloc, bytes, p.locks.as_slice(), modes, kind, text),
+        Rule::V10 => add_width(kind, text),
         Rule::V12 => add_bad_predicate(alloc, p, names, bytes, modes, kind, text),
         Rule::V13 => add_bad_number(alloc, p, modes, found.stmt, detail, text),
         Rule::V14 => add_bad_given(alloc, p, names, bytes, modes, kind, detail, text),

@@ -1,6 +1,5 @@
 -- Laws of what is asked: entailments, each beside the obligation that asks for it.
-use Rattle.std.proofs.Common.{◌≡◌, ℕ, suc, ◌+◌, ◌≤◌, List, [], ◌∷◌, ◌++◌, length, map, take, Bool, true, false, cond, refl, sym, ap, ◌∙◌, arith}
-use Rattle.std.specs.Prelude.{filter}
+use Rattle.std.proofs.Common.{◌≡◌, ℕ, suc, ◌+◌, ◌≤◌, List, [], ◌∷◌, ◌++◌, length, map, take, Bool, true, false, cond, refl, ap, ◌∙◌, arith}
 use Rattle.std.proofs.lemmas.List.Elements.{filter-append}
 use Rattle.cov_ast.specs.Obligations.{Obligation}
 use Rattle.cov_ast.specs.Plain.{Plain}
@@ -12,7 +11,7 @@ use Rattle.typing_law.specs.ThreadObligations.{proved}
 use Rattle.typing_law.proofs.Counting.{count_cons}
 use Rattle.typing_law.proofs.Reached.{reached_all, reached_few, reached_passed, reached_stopped}
 use Rattle.typing_rules.specs.Inside.Walking.{asked_from}
-use Rattle.typing_rules.specs.Keeping.{are_passed, asked_among, Asked, beside}
+use Rattle.typing_rules.specs.Keeping.{are_passed, asked_among, beside}
 
 -- there are as many obligations that ask for something as are counted
 pub asking_counted : (es : List Obligation) → length (entailment_obligations es) ≡ entailment_count es

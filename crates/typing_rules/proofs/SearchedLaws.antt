@@ -1,14 +1,13 @@
 -- Laws of what is asked in a thread, of which what isn't proved is searched for.
-use Rattle.std.proofs.Common.{◌≡◌, ℕ, zero, suc, List, [], ◌∷◌, ◌++◌, length, map, take, Bool, true, false, cond, if◌then◌else◌, not, refl, sym, ap, ◌∙◌}
+use Rattle.std.proofs.Common.{◌≡◌, ℕ, zero, suc, List, [], ◌∷◌, ◌++◌, length, map, take, Bool, true, false, cond, not, refl, sym, ap, ◌∙◌}
 use Rattle.std.specs.Prelude.{filter}
 use Rattle.std.proofs.lemmas.List.{take_at}
 use Rattle.cov_ast.specs.Obligations.{Obligation}
 use Rattle.cov_ast.specs.Syntax.{Program}
 use Rattle.mode_compat.specs.Compatible.{numbered}
-use Rattle.typing_law.specs.Counts.{entailment_count}
 use Rattle.typing_law.specs.ThreadEntailments.{PlacedEntailment, all_entailments, entailment_obligation, entailment_obligations, is_passed, is_proved_in, reached, thread_entailments}
 use Rattle.typing_law.specs.ThreadObligations.{thread_obligations}
-use Rattle.typing_rules.specs.Keeping.{Asked, asked_in_thread, beside, kept_for, sought_among, searched_for, SearchedEntailment}
+use Rattle.typing_rules.specs.Keeping.{Asked, asked_in_thread, beside, kept_for, sought_among, searched_for}
 use Rattle.typing_rules.specs.Searched.{searched_in_thread}
 use Rattle.typing_rules.specs.declared.purpose.Purpose.TheVariants.{Search}
 use Rattle.typing_rules.proofs.AskedLaws.{asking-append, asking_counted}

@@ -1,6 +1,8 @@
 -- A thread of a program as the code has it, and its obligations as a walk decides them.
-use Rattle.std.proofs.Common.{◌≡◌, ℕ, ◌^◌, ◌<◌, ◌++◌, List, [], ◌∷◌, length, map, get_or, refl, sym, ap, ◌∙◌, subst, arith, None, Err, IsTrue}
+use Rattle.std.proofs.Common.{◌≡◌, ℕ, ◌^◌, ◌<◌, ◌++◌, List, [], ◌∷◌, length, map, get_or, refl, sym, ap, ◌∙◌, subst, arith, None, Result, Ok, Err, IsTrue}
+use Rattle.std.specs.Prelude.{filter}
 use Rattle.std.proofs.lemmas.List.{append-nil, get_or-map}
+use Rattle.std.proofs.lemmas.List.Elements.{filter-append}
 use Rattle.cov_ast.specs.Obligations.{Decides, Obligation, all_hold, first_false}
 use Rattle.cov_ast.specs.Plain.{plain}
 use Rattle.cov_ast.specs.Syntax.{Program, Block}
@@ -9,7 +11,7 @@ use Rattle.cov_ast.specs.WellFormed.{IsBlockInRange, IsBodyFine, IsWellFormed, b
 use Rattle.cov_ast.specs.declared.decl.Program as decl
 use Rattle.cov_ast.specs.declared.decl.ThreadDecl.{ThreadDecl}
 use Rattle.cov_ast.specs.declared.refusal.CheckFault.{CheckFault}
-use Rattle.cov_ast.specs.declared.refusal.CheckFault.TheVariants.{Refused}
+use Rattle.cov_ast.specs.declared.refusal.CheckFault.TheVariants.{Refused, NoMemory}
 use Rattle.cov_ast.specs.declared.refusal.Refusal.{Refusal}
 use Rattle.cov_ast.proofs.ObligationLaws.{append_decided, append_held, append_refused}
 use Rattle.cov_ast.proofs.WellFormedLaws.{seen_item, thread_in_range}
@@ -19,14 +21,16 @@ use Rattle.point_law.specs.After.{start}
 use Rattle.typing_law.specs.Counts.{counts, entailment_count}
 use Rattle.typing_law.specs.Blocks.{after_block}
 use Rattle.point_law.specs.Point.{Point}
-use Rattle.typing_law.specs.ThreadEntailments.{all_entailments, block_entailments}
+use Rattle.typing_law.specs.ThreadEntailments.{PlacedEntailment, all_entailments, block_entailments}
 use Rattle.typing_law.specs.ThreadObligations.{block_obligations, end_obligation, end_point, thread_obligations}
 use Rattle.typing_rules.specs.declared.kept.Kept.{Kept}
 use Rattle.typing_law.proofs.Bounds.{few_entailments, few_places}
 use Rattle.typing_law.proofs.Counting.{block_counted, count_append}
-use Rattle.typing_rules.specs.Keeping.{asked_among, asked_in_thread, kept_for, view_kept}
+use Rattle.typing_rules.specs.Keeping.{is_other, asked_among, asked_in_thread, kept_for, view_kept}
 use Rattle.typing_rules.specs.Inside.Passing.{Adds, Passes, Stops}
 use Rattle.typing_rules.specs.declared.purpose.Purpose.{Purpose}
+use Rattle.typing_rules.specs.declared.purpose.Purpose.TheVariants.{Collect}
+use Rattle.typing_rules.specs.declared.purpose.Wanted.{Wanted}
 use Rattle.typing_rules.proofs.Reaching.{adds_none, adds_stop, adds_then, no_entailments}
 
 -- Obligations ----------------------------------------------------------------------------------------------------
@@ -60,6 +64,34 @@ module _ (p : Program) (t : ℕ) (b : Block) (place : ℕ) (body : b ≡ (number
   thread_counted n h =
       let same : n ≡ entailment_count (obligations ++ last) = omega (arith, count_append obligations last, h) in
       subst (λ es. n ≡ entailment_count es) whole same
+
+-- The obligations that aren't about certificates -----------------------------------------------------------------
+
+module _ (p : Program) (t : ℕ) (b : Block) (place : ℕ) (body : b ≡ (numbered p t).body) (end : place ≡ (numbered p t).end) where
+  abbrev others : List Obligation
+  others = filter is_other (block_obligations (plain p) t b (start (plain p) t))
+
+  abbrev last_other : List Obligation
+  last_other = end_obligation (plain p) t place (after_block (plain p) t b (start (plain p) t)).held ∷ []
+
+  all_others : others ++ last_other ≡ filter is_other (thread_obligations p t)
+  all_others =
+      sym (filter-append is_other (block_obligations (plain p) t b (start (plain p) t)) last_other) ∙ ap (filter is_other) (whole p t b place body end)
+
+  pub others_refused : (fault : CheckFault) → Decides (filter is_other (block_obligations (plain p) t b (start (plain p) t))) (Err fault)
+      → Decides (filter is_other (thread_obligations p t)) (Err fault)
+  others_refused fault h = subst (λ es. Decides es (Err fault)) all_others (append_refused others last_other fault h)
+
+  pub others_at_end : first_false (filter is_other (block_obligations (plain p) t b (start (plain p) t))) ≡ None → (r : Result (Unit {0}) CheckFault)
+      → Decides (end_obligation (plain p) t place (after_block (plain p) t b (start (plain p) t)).held ∷ []) r → Decides (filter is_other (thread_obligations p t)) r
+  others_at_end none (Ok done) h = subst (λ es. first_false es ≡ None) all_others (append_held others last_other none ∙ h)
+  others_at_end none (Err fault) h = subst (λ es. Decides es (Err fault)) all_others (append_decided others last_other (Err fault) none h)
+
+-- a walk that collects stops at one of these
+pub others_stopped : (wanted : Wanted) (o : List Obligation) (a : List PlacedEntailment) (k0 k1 : List Kept) (fault : CheckFault) → Stops (Collect wanted) o a k0 k1 fault
+    → Decides (filter is_other o) (Err fault)
+others_stopped wanted o a k0 k1 (Refused refusal) h = h.0
+others_stopped wanted o a k0 k1 NoMemory h = tt
 
 -- What is kept ------------------------------------------------------------------------------------------------------
 

@@ -1,5 +1,5 @@
 -- What a walk looks at, and what it keeps of the entailments that it comes by.
-use Rattle.std.specs.Prelude.{ℕ, ◌==◌, ◌&&◌, List, [], ◌∷◌, Bool, true, false, not, if◌then◌else◌, filter, map, Option, option_map}
+use Rattle.std.specs.Prelude.{ℕ, ◌==◌, ◌&&◌, List, [], ◌∷◌, Bool, true, not, filter, map, Option, option_map}
 use Rattle.std.specs.List.{list_all}
 use Rattle.cov_ast.specs.Obligations.{Obligation}
 use Rattle.cov_ast.specs.Syntax.{Cert, Program}

@@ -2,10 +2,11 @@
 //!
 //! What has to hold, and that a thread of which all of it holds is secure, stands in `typing_law`: obligations (V1 to V16),
 //! entailments and laws. Here each is tried, and here is the walk over the statements. `specs/` has how the code keeps what has to
-//! follow (`Listed`), which of it has no certificate (`Unproved`), what a walk looks at and keeps (`Keeping`), and what a search comes to
+//! follow (`Listed`), which of it has no certificate (`Unproved`), what a walk looks at and keeps (`Keeping`), what fails beside certificates (`Beside`), and what a search comes to
 //! (`Searched`); `specs/Inside` has words of private contracts.
 //!
 //! - [`check_thread`]: whether every obligation of a thread holds, else the first that doesn't; and then the thread is secure.
+//! - [`check_beside_certificates`]: whether every one holds that isn't about certificates (V9, V13), else the first that doesn't.
 //! - [`entailments`]: what has to follow at the statements of a thread, whatever certificates it has. [`entailment_at`]: one of
 //!   them alone, by its place and number. [`searched_entailments`]: what a search for certificates comes to for those that have no
 //!   valid one ([`Searched`]).
@@ -70,4 +71,6 @@ mod writes;
 pub use count::statements;
 pub use kept::Searched;
 pub use subst_nodes::subst_nodes_left;
-pub use thread::{check_thread, entailment_at, entailments, searched_entailments};
+pub use thread::{
+    check_beside_certificates, check_thread, entailment_at, entailments, searched_entailments,
+};

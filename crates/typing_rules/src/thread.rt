@@ -10,6 +10,7 @@ ghost use Rattle.mode_compat.specs.Declared.{declaration_obligations};
 ghost use Rattle.typing_law.specs.Counts.{DecidesWith, counts};
 ghost use Rattle.typing_law.specs.ThreadEntailments.{entailment_among, thread_entailments, view_entail};
 ghost use Rattle.typing_law.specs.ThreadObligations.{thread_obligations};
+ghost use Rattle.typing_rules.specs.Beside.{beside_certificates};
 ghost use Rattle.typing_rules.specs.Keeping.{asked_in_thread, kept_for, view_kept, view_searched, wanted_among};
 ghost use Rattle.typing_rules.specs.Searched.{searched_in_thread};
 
@@ -78,6 +79,38 @@ fn check_statements(alloc: Global, p: &Program, t: u32) -> Result<u64, CheckFaul
                 Ok(()) => Ok(end.entailments),
                 Err(fault) => Err(fault),
             }
+        }
+        Err(fault) => Err(fault),
+    }
+}
+
+/// Checks the statements of a thread of a program whose declarations keep the rules, whatever certificates it has: `Ok` comes exactly where every obligation
+/// of the thread holds that isn't about certificates (V9, V13). The first of these that doesn't hold is refused.
+///
+/// No certificate is looked at, and no entailment is kept, so it takes memory for points alone.
+pub fn check_beside_certificates(alloc: Global, p: &Program, t: u32) -> Result<(), CheckFault>
+    requires formed { IsWellFormed (view.program p.now) }
+    requires declared { IsTrue (all_hold (declaration_obligations (view.program p.now))) }
+    requires thread { t < length p.now.threads }
+    ensures { Decides (beside_certificates (view.program p.now) t) result }
+{
+    // No entailment has the number 0, so none is copied.
+    let walk = Walk {
+        alloc,
+        program: p,
+        thread: t,
+        purpose: Purpose::Collect(Wanted::Numbered(0, 0)),
+    };
+    let thread = &p.threads.as_slice()[t as usize];
+    let start = Point::start(alloc, p, t)?;
+    let mut none = List::new(alloc);
+    match walk.block(thread.body.as_slice(), start, &mut none) {
+        Ok(end) => {
+            let site = Site {
+                thread: t,
+                place: thread.end,
+            };
+            check_end(p, site, end.point.modes())
         }
         Err(fault) => Err(fault),
     }

@@ -5,9 +5,8 @@ use Rattle.explain.proofs.more.add_more.Goals as goal
 
 pub returns-in-Unnamed : goal.returns-in-Unnamed
 returns-in-Unnamed c =
-    on_ok_weaker c.add_text_warnings.result
-    (added_unnamed c.args.first c.args.name.now c.args.bytes.now c.args.judged.now c.args.text.now c.add_text_warnings.new.text c.requires.found c.in-Unnamed.field-0
-    c.in-Unnamed.is) c.add_text_warnings.ensures
+    added_unnamed c.args.first c.args.name.now c.args.bytes.now c.args.judged.now c.args.text.now c.add_unnamed.new.text c.requires.found c.add_unnamed.result
+    c.in-Unnamed.refusal c.in-Unnamed.is c.add_unnamed.ensures
 
 pub returns-in-Refused : goal.returns-in-Refused
 returns-in-Refused c =

@@ -31,4 +31,4 @@ returns-in-Err-Refused c =
     let i : LevelsInput = record { program = view.parsed c.args.parsed; levels = level_view.levels c.args.l.now } in
     IfOk-weaker c.tell_unnamed.result _ _
     (λ status h. told_unnamed c.args.name.now c.args.bytes.now i c.args.text.now c.tell_unnamed.new.text status c.in-Err-Refused.refusal
-    (subst (λ fault. Decides (name_obligations i.program) (Err fault)) c.in-Err-Refused.field-0-is c.in-Err-Refused.ensures.names) h) c.tell_unnamed.ensures
+    (subst (λ fault. Decides (name_obligations i.program) (Err fault)) c.in-Err-Refused.field-0-is c.in-Err-Refused.ensures.names) h) (c.tell_unnamed.ensures i.program c.requires.spelled)

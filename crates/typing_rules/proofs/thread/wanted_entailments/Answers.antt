@@ -1,7 +1,7 @@
 use Rattle.std.proofs.Common.{◌≡◌, ◌∙◌, ap, map, subst}
 use Rattle.std.specs.Prelude.{IfOk}
 use Rattle.cov_ast.specs.View as view
-use Rattle.typing_law.specs.ThreadEntailments.{all_entailments, thread_entailments, view_entail}
+use Rattle.typing_law.specs.ThreadEntailments.{all_entailments, view_entail}
 use Rattle.typing_law.specs.ThreadObligations.{thread_obligations}
 use Rattle.typing_rules.specs.Keeping.{asked_in_thread, copied_among, wanted_among}
 use Rattle.typing_rules.proofs.AskedLaws.{asked_reached}

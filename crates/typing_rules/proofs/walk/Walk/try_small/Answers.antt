@@ -1,4 +1,4 @@
-use Rattle.std.proofs.Common.{map, sym, refl, None}
+use Rattle.std.proofs.Common.{map, sym, refl}
 use Rattle.std.proofs.lemmas.List.{length-map}
 use Rattle.cov_ast.specs.View as view
 use Rattle.typing_rules.specs.Listed.{entailment_of, entailments_of}

@@ -1,0 +1,12 @@
+mod LeftOutExamples
+pub mod FoundLaws
+pub mod KnownLaws
+mod ForgottenExamples
+pub mod ForgottenLaws
+pub mod KeptLaws
+mod JoinedLaws
+mod JoinedExamples
+pub mod StableLaws
+pub mod StepLaws
+mod LostLaws
+mod LastStore

@@ -1,0 +1,30 @@
+use Rattle.std.proofs.Common.{◌≡◌, ◌+◌, ◌++◌, ◌∷◌, suc, drop, map, ap, sym, ◌∙◌, append_assoc, arith}
+use Rattle.std.proofs.Math.Seq.{drop-cons}
+use Rattle.cov_ast.specs.Plain.{plain}
+use Rattle.cov_ast.specs.View as view
+use Rattle.cov_expr.specs.View.{term}
+use Rattle.entail_losses.specs.Forgotten.{seen}
+use Rattle.entail_losses.specs.Losses.{helping_forgotten, helping_forgotten_line}
+use Rattle.entail_losses.proofs.losses.add_helping_forgotten.Goals as goal
+
+pub loop-one-preserved : goal.loop-one-preserved
+loop-one-preserved c =
+    let p = plain (view.program c.args.p.now) in
+    let names = c.args.names.now in
+    let bytes = c.args.bytes.now in
+    let hyps = map term c.args.hyps.now in
+    let asked = term c.args.goal.now in
+    let all = c.args.parts.now in
+    let i = c.loop-one.one-index in
+    let item = c.one-item.result in
+    let line = helping_forgotten_line p names bytes hyps asked (seen item) in
+    let rest = helping_forgotten p names bytes hyps asked (map seen (drop (i + 1) all)) in
+    let one_more : suc i ≡ i + 1 = omega arith in
+    let next : drop i all ≡ item ∷ drop (i + 1) all =
+    drop-cons all i item c.loop-one-test.true
+    ∙ ap (λ o. o ∷ drop (suc i) all) (sym c.one-item.is)
+    ∙ ap (λ n. item ∷ drop n all) one_more in
+    ap (λ t. t ++ rest) c.in_ok-add_if_forgotten_helps.ensures
+    ∙ append_assoc c.loop-one.text line rest
+    ∙ ap (λ os. c.loop-one.text ++ helping_forgotten p names bytes hyps asked (map seen os)) (sym next)
+    ∙ c.loop-one.invariant

@@ -1,0 +1,14 @@
+use Rattle.std.proofs.Common.{◌≡◌, ◌++◌, drop, map}
+use Rattle.cov_ast.specs.Plain.{plain}
+use Rattle.cov_ast.specs.View as view
+use Rattle.cov_expr.specs.View.{term}
+use Rattle.entail_losses.specs.LeftOut.{seen}
+use Rattle.entail_losses.specs.Losses.{helping_left_out}
+use Rattle.entail_losses.proofs.losses.add_helping_left_out.Given as goal
+
+-- the lines so far, and those of the rest, are all
+abbrev pub invariant-loop-one : goal.invariant-loop-one
+invariant-loop-one l =
+    let p = plain (view.program l.p) in
+    l.text ++ helping_left_out p l.names l.bytes (map term l.hyps) (term l.goal) (map seen (drop l.one-index l.found))
+    ≡ l.fn.text ++ helping_left_out p l.names l.bytes (map term l.hyps) (term l.goal) (map seen l.found)

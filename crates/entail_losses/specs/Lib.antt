@@ -1,0 +1,11 @@
+pub mod LeftOut
+pub mod LeftOutLines
+pub mod WouldBeKnown
+pub mod Forgotten
+pub mod ForgottenLines
+pub mod WouldBeKept
+pub mod Joined
+pub mod WouldBeJoined
+pub mod StateWords
+pub mod OwnStores
+pub mod Losses

@@ -1,0 +1,72 @@
+//! States on the way to a point.
+
+ghost use Rattle.std.specs.Prelude.{◌≡◌, Some};
+ghost use Rattle.std.specs.Option.{option_or};
+ghost use Rattle.cov_ast.specs.View as view;
+ghost use Rattle.statement_paths.specs.Paths as paths;
+ghost use Rattle.entail_losses.specs.LeftOut as spec;
+
+use cov_ast::StmtKind;
+use statement_paths::Step;
+
+/// Of what a state is.
+#[derive(Clone, Copy)]
+pub enum StateKind {
+    /// Of a branch: what holds at its end.
+    Join,
+    /// Of a loop: what holds at its head.
+    Inv,
+    /// Of a note: what holds at its place.
+    Note,
+}
+
+/// A state on the way to a point, with the byte offset of its statement.
+#[derive(Clone, Copy)]
+pub struct StateAt {
+    pub kind: StateKind,
+    pub at: u32,
+}
+
+/// The state of a step, and where it has none, that of the steps behind it.
+pub fn first_state(step: &Step<'_>, behind: Option<StateAt>) -> Option<StateAt>
+    ensures { result ≡ option_or (spec.state_of_step (paths.step step.now)) behind }
+{
+    match state_of_step(step) {
+        Some(state) => Some(state),
+        None => behind,
+    }
+}
+
+/// The state of a step, if it has one.
+fn state_of_step(step: &Step<'_>) -> Option<StateAt>
+    ensures { result ≡ spec.state_of_step (paths.step step.now) }
+{
+    match step {
+        Step::Passed(stmt) => state_of_statement(stmt.at, &stmt.kind),
+        Step::Yes(_, _) | Step::No(_, _) => None,
+        Step::Head(at, _) => state_at(StateKind::Inv, *at),
+    }
+}
+
+/// The state of a statement that is passed, if it has one.
+fn state_of_statement(at: u32, kind: &StmtKind) -> Option<StateAt>
+    ensures { result ≡ spec.state_of_statement at (view.kind kind.now) }
+{
+    match kind {
+        StmtKind::If(_, _, _, _) => state_at(StateKind::Join, at),
+        StmtKind::While(_, _, _) => state_at(StateKind::Inv, at),
+        StmtKind::Note(_) => state_at(StateKind::Note, at),
+        StmtKind::Skip
+        | StmtKind::Assign(_, _, _, _)
+        | StmtKind::Lock(_)
+        | StmtKind::Unlock(_)
+        | StmtKind::Output(_) => None,
+    }
+}
+
+/// A state at a place.
+fn state_at(kind: StateKind, at: u32) -> Option<StateAt>
+    ensures { result ≡ Some (spec.state_at kind at) }
+{
+    Some(StateAt { kind, at })
+}

@@ -1,5 +1,0 @@
-use Rattle.entail_origins.proofs.KeptLaws.{would_be_kept}
-use Rattle.entail_origins.proofs.left_out_laws.forgotten_would_be_kept.Goals as goal
-
-pub returns : goal.returns
-returns c p t steps hypotheses told f k = would_be_kept p t steps hypotheses told f k

@@ -1,0 +1,4 @@
+mod Examples
+pub mod RowLaws
+pub mod Nearness
+pub mod Scripts

@@ -1,0 +1,5 @@
+pub mod Distances
+pub mod EditScripts
+pub mod NearestNames
+pub mod NearestLines
+pub mod Inside
