@@ -1,6 +1,6 @@
 -- The other entailments for which a thread would be refused by V9, and those for which the threads behind it would be: one without a valid certificate changes nothing of
--- what is known behind it, and a thread nothing of what has to hold of another. Behind those of each of these threads, the first refusal of it by a rule that
--- isn't about certificates.
+-- what is known behind it, and a thread nothing of what has to hold of another. In front of all these stands, of each of these threads, its first refusal by a rule that
+-- isn't about certificates: no certificate mends it.
 use Rattle.std.specs.Prelude.{ℕ, ◌+◌, ◌==◌, nat_lt, List, [], ◌∷◌, ◌++◌, length, map, filter, Bool, not, ◌&&◌, Option, Some, None, if◌then◌else◌}
 use Rattle.cov_ast.specs.Obligations.{all_hold, first_false}
 use Rattle.cov_ast.specs.Syntax.{Block, Program, Thread}
@@ -32,22 +32,27 @@ abbrev pub if_any : Option Refusal → List Refusal
 if_any None = []
 if_any (Some r) = r ∷ []
 
--- those of a thread, and behind them its first refusal by a rule that isn't about certificates, as far as which they are tried
-abbrev pub refused_in : Program → (t place number : ℕ) → List Refusal
-refused_in p t place number = others_in p t place number ++ if_any (first_false (beside_certificates p t))
+-- the first refusal of a thread by a rule that isn't about certificates, if it stands at a number or behind that
+abbrev pub if_beside : Program → (t u : ℕ) → List Refusal
+if_beside p t u = if nat_lt u t then [] else if_any (first_false (beside_certificates p u))
 
--- the same of a thread, if it stands behind another; no entailment has the number 0
+-- the same of threads, of which the first has this number
+abbrev pub beside_among : Program → (t u : ℕ) → List Thread → List Refusal
+beside_among p t u [] = []
+beside_among p t u (thread ∷ threads) = if_beside p t u ++ beside_among p t (u + 1) threads
+
+-- the entailments of a thread without a valid certificate, if it stands behind another; no entailment has the number 0
 abbrev pub if_later : Program → (t u : ℕ) → List Refusal
-if_later p t u = if nat_lt t u then refused_in p u 0 0 else []
+if_later p t u = if nat_lt t u then others_in p u 0 0 else []
 
--- the same of threads behind one, of which the first has this number
+-- the same of threads, of which the first has this number
 abbrev pub later_among : Program → (t u : ℕ) → List Thread → List Refusal
 later_among p t u [] = []
 later_among p t u (thread ∷ threads) = if_later p t u ++ later_among p t (u + 1) threads
 
--- the same of a thread, and then of the threads behind it
+-- what fails of a thread and of those behind it by another rule, then the entailments of the thread, and then those of the threads behind it
 abbrev pub others_onward : Program → (t place number : ℕ) → List Refusal
-others_onward p t place number = refused_in p t place number ++ later_among p t 0 p.threads
+others_onward p t place number = beside_among p t 0 p.threads ++ others_in p t place number ++ later_among p t 0 p.threads
 
 -- the same, where the declarations keep the rules
 abbrev pub others_declared : Program → (t place number : ℕ) → List Refusal

@@ -4,8 +4,8 @@
 //!   where it comes from (`entail_origins`), and its certificate (`entail_text`); then what is found for it (there too), a certificate or a memory that breaks it; and
 //!   where no certificate is, where the types come from that make up the goal (`entail_origins`), which hypotheses the state drops that is asked of, and which of what was lost on the
 //!   way would help (`entail_losses`).
-//! - [`other_refusals`]: the others of its thread, and of the threads behind it, that have no valid certificate, as refusals; and behind those of each thread the
-//!   first refusal of it by a rule that isn't about certificates.
+//! - [`other_refusals`]: of its thread and of the threads behind it, the first refusal of each by a rule that isn't about certificates, and then the other entailments that have no
+//!   valid certificate, as refusals.
 //! - [`refused_entailment_is_listed`] and [`refusal_is_told`], which are laws: there is always such an entailment, and it is the one
 //!   whose certificate isn't valid. `specs/RefusedEntailment.antt` says so.
 //! - [`hypotheses_are_of_the_site`], a law too: the hypotheses of an entailment are what is known at the point of its site, with one

@@ -17,9 +17,9 @@ use std::alloc::Global;
 use typing_rules::{Searched, check_beside_certificates, searched_entailments};
 use verify::check_declared;
 
-/// The refusals by V9 of the thread of one, beside that one, and of the threads behind it, in the order in which entailments are tried: those that are tried where no
-/// other rule but V9 and V13 fails before in their thread; and behind those of each thread the first of it by such a rule, if one fails. None of a refusal for another
-/// rule. It takes twice the time of a check of these threads, and memory for the refusals.
+/// Of the thread of a refusal by V9 and of those behind it, the first refusal of each by a rule other than V9 and V13, if one fails; and then the other refusals by V9 of these
+/// threads, in the order in which entailments are tried: those that are tried where no such rule fails before in their thread. None of a refusal for another rule.
+/// It takes twice the time of a check of these threads, and memory for the refusals.
 pub fn other_refusals(
     alloc: Global,
     p: &Program,
@@ -88,7 +88,7 @@ fn others_declared(
     }
 }
 
-/// Those of a thread, with its first by another rule, and then of the threads behind it.
+/// Those of a thread, and then of the threads behind it, with what fails by another rule in front.
 fn others_onward(
     alloc: Global,
     p: &Program,
@@ -101,9 +101,65 @@ fn others_onward(
     requires thread { t < length p.now.threads }
     ensures { IfOk result (λ made. made ≡ spec.others_onward (view.program p.now) t place number) }
 {
-    let mut made = refused_in(alloc, p, t, place, number)?;
+    let mut made = List::new(alloc);
+    add_beside_from(alloc, p, t, p.threads.as_slice(), &mut made)?;
+    add_others_in(alloc, p, t, place, number, &mut made)?;
     add_later(alloc, p, t, p.threads.as_slice(), &mut made)?;
     Ok(made)
+}
+
+/// Adds, of threads from one on, the first refusal of each by a rule that isn't about certificates.
+fn add_beside_from(
+    alloc: Global,
+    p: &Program,
+    t: u32,
+    threads: &[ThreadDecl],
+    made: &mut List<Refusal>,
+) -> Result<(), NoMemory>
+    requires formed { IsWellFormed (view.program p.now) }
+    requires declared { IsTrue (all_hold (declaration_obligations (view.program p.now))) }
+    requires all { length threads.now ≡ length p.now.threads }
+    requires few { length threads.now ≤ MOST_THREADS }
+    ensures { OnOk result (made.new ≡ made.old ++ spec.beside_among (view.program p.now) t 0 (map view.thread threads.now)) }
+{
+    for (u, _) in threads.iter().enumerate() {
+        add_if_beside(alloc, p, t, u as u32, made)?;
+    }
+    Ok(())
+}
+
+/// Adds that of a thread, if it doesn't stand in front of another.
+fn add_if_beside(
+    alloc: Global,
+    p: &Program,
+    t: u32,
+    u: u32,
+    made: &mut List<Refusal>,
+) -> Result<(), NoMemory>
+    requires formed { IsWellFormed (view.program p.now) }
+    requires declared { IsTrue (all_hold (declaration_obligations (view.program p.now))) }
+    requires thread { u < length p.now.threads }
+    ensures { OnOk result (made.new ≡ made.old ++ spec.if_beside (view.program p.now) t u) }
+{
+    if u < t {
+        Ok(())
+    } else {
+        add_beside(alloc, p, u, made)
+    }
+}
+
+/// Adds the first refusal of a thread by a rule that isn't about certificates, if there is one.
+fn add_beside(alloc: Global, p: &Program, t: u32, made: &mut List<Refusal>) -> Result<(), NoMemory>
+    requires formed { IsWellFormed (view.program p.now) }
+    requires declared { IsTrue (all_hold (declaration_obligations (view.program p.now))) }
+    requires thread { t < length p.now.threads }
+    ensures { OnOk result (made.new ≡ made.old ++ spec.if_any (first_false (beside_certificates (view.program p.now) t))) }
+{
+    match check_beside_certificates(alloc, p, t) {
+        Ok(()) => Ok(()),
+        Err(CheckFault::Refused(refusal)) => made.push(refusal),
+        Err(CheckFault::NoMemory) => Err(NoMemory),
+    }
 }
 
 /// Adds those of the threads behind one.
@@ -140,43 +196,28 @@ fn add_if_later(
     ensures { OnOk result (made.new ≡ made.old ++ spec.if_later (view.program p.now) t u) }
 {
     if t < u {
-        let more = refused_in(alloc, p, u, 0, 0)?;
-        made.extend_from_slice(more.as_slice())
+        add_others_in(alloc, p, u, 0, 0, made)
     } else {
         Ok(())
     }
 }
 
-/// Those of a thread, and its first by a rule that isn't about certificates.
-fn refused_in(
+/// Adds those of a thread.
+fn add_others_in(
     alloc: Global,
     p: &Program,
     t: u32,
     place: u32,
     number: u32,
-) -> Result<List<Refusal>, NoMemory>
+    made: &mut List<Refusal>,
+) -> Result<(), NoMemory>
     requires formed { IsWellFormed (view.program p.now) }
     requires declared { IsTrue (all_hold (declaration_obligations (view.program p.now))) }
     requires thread { t < length p.now.threads }
-    ensures { IfOk result (λ made. made ≡ spec.refused_in (view.program p.now) t place number) }
+    ensures { OnOk result (made.new ≡ made.old ++ spec.others_in (view.program p.now) t place number) }
 {
-    let mut made = others_in(alloc, p, t, place, number)?;
-    add_beside(alloc, p, t, &mut made)?;
-    Ok(made)
-}
-
-/// Adds the first refusal of a thread by a rule that isn't about certificates, if there is one.
-fn add_beside(alloc: Global, p: &Program, t: u32, made: &mut List<Refusal>) -> Result<(), NoMemory>
-    requires formed { IsWellFormed (view.program p.now) }
-    requires declared { IsTrue (all_hold (declaration_obligations (view.program p.now))) }
-    requires thread { t < length p.now.threads }
-    ensures { OnOk result (made.new ≡ made.old ++ spec.if_any (first_false (beside_certificates (view.program p.now) t))) }
-{
-    match check_beside_certificates(alloc, p, t) {
-        Ok(()) => Ok(()),
-        Err(CheckFault::Refused(refusal)) => made.push(refusal),
-        Err(CheckFault::NoMemory) => Err(NoMemory),
-    }
+    let more = others_in(alloc, p, t, place, number)?;
+    made.extend_from_slice(more.as_slice())
 }
 
 /// Those of a thread.

@@ -1,5 +1,5 @@
--- What is told of the other entailments for which a thread, and those behind it, would be refused by V9, and behind those of each of these threads of its first
--- refusal by a rule that isn't about certificates: of each as of the first, up to so many.
+-- What is told beside a refusal by V9, of its thread and of those behind it: of the first refusal of each by a rule that isn't about certificates, and of the other entailments that
+-- have no valid certificate. Of each it is told as of the first, up to so many.
 use Rattle.std.specs.Prelude.{ℕ, ◌-◌, nat_le, List, [], ◌++◌, Bool, true, false, length, take, flat_map, codes, decimal, if◌then◌else◌}
 use Rattle.cov_ast.specs.Syntax.{Program}
 use Rattle.cov_ast.specs.declared.refusal.Refusal.{Refusal}
