@@ -6,6 +6,8 @@ use Rattle.cov_print.specs.Spelling.{Names, whole}
 use Rattle.entail_losses.specs.LeftOut.{LeftOut}
 use Rattle.entail_losses.specs.StateWords.{kind_text, line_part}
 use Rattle.entail_losses.specs.declared.left_out_states.StateAt.{StateAt}
+use Rattle.entail_losses.specs.declared.left_out_states.StateKind.{StateKind}
+use Rattle.entail_losses.specs.declared.left_out_states.StateKind.TheVariants.{Join, Inv, Note}
 use Rattle.entail_origins.specs.Remarks.{origin_text}
 use Rattle.entail_origins.specs.declared.hypothesis_origin.Origin.{Origin}
 
@@ -21,13 +23,19 @@ predicate_part names helps e = label helps ++ whole names e
 abbrev pub origin_part : Plain → (bytes : List ℕ) → Origin → List ℕ
 origin_part p bytes o = codes "   (" ++ origin_text p bytes o ++ codes ")"
 
+-- what stands in front of a state that would help, if it listed it: what an `inv` lists has to hold at the end of the block too
+abbrev pub helping_label : StateKind → List ℕ
+helping_label Join = codes ", left out by the "
+helping_label Inv = codes ", if each turn keeps it; left out by the "
+helping_label Note = codes ", left out by the "
+
 -- what stands in front of the state
-abbrev pub state_label : (helps : Bool) → List ℕ
-state_label helps = if helps then codes ", left out by the " else codes ", by the "
+abbrev pub state_label : (helps : Bool) → StateKind → List ℕ
+state_label helps kind = if helps then helping_label kind else codes ", by the "
 
 -- which state left it out
 abbrev pub state_part : (bytes : List ℕ) → (helps : Bool) → StateAt → List ℕ
-state_part bytes helps s = state_label helps ++ kind_text s.kind ++ line_part bytes s.at
+state_part bytes helps s = state_label helps s.kind ++ kind_text s.kind ++ line_part bytes s.at
 
 abbrev pub left_out_line : Plain → Names → (bytes : List ℕ) → (helps : Bool) → LeftOut → List ℕ
 left_out_line p names bytes helps o = predicate_part names helps o.term ++ origin_part p bytes o.origin ++ state_part bytes helps o.state

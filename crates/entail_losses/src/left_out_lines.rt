@@ -8,7 +8,7 @@ ghost use Rattle.entail_losses.specs.LeftOut.{seen};
 ghost use Rattle.entail_losses.specs.LeftOutLines as spec;
 
 use crate::left_out_found::LeftOut;
-use crate::left_out_states::StateAt;
+use crate::left_out_states::{StateAt, StateKind};
 use crate::state_words::{add_kind, add_line_part};
 use cov_ast::{NameTable, Program};
 use cov_expr::{Blob, Expr, NoMemory};
@@ -94,18 +94,28 @@ fn add_state_part(
 ) -> Result<(), NoMemory>
     ensures { OnOk result (text.new ≡ text.old ++ spec.state_part bytes.now helps state) }
 {
-    text.extend_from_slice(state_label(helps).as_bytes())?;
+    text.extend_from_slice(state_label(helps, state.kind).as_bytes())?;
     add_kind(state.kind, text)?;
     add_line_part(bytes, state.at, text)
 }
 
 /// What stands in front of a state.
-fn state_label(helps: bool) -> &'static str
-    ensures { result.now ≡ spec.state_label helps }
+fn state_label(helps: bool, kind: StateKind) -> &'static str
+    ensures { result.now ≡ spec.state_label helps kind }
 {
     if helps {
-        ", left out by the "
+        helping_label(kind)
     } else {
         ", by the "
+    }
+}
+
+/// What stands in front of a state that would help, if it listed a predicate.
+fn helping_label(kind: StateKind) -> &'static str
+    ensures { result.now ≡ spec.helping_label kind }
+{
+    match kind {
+        StateKind::Join | StateKind::Note => ", left out by the ",
+        StateKind::Inv => ", if each turn keeps it; left out by the ",
     }
 }

@@ -1,5 +1,5 @@
 -- A line for each variable whose type makes up a goal: where its type comes from. Classes are spelled canonically.
-use Rattle.std.specs.Prelude.{ℕ, ◌==◌, List, [], ◌∷◌, ◌++◌, Bool, true, false, codes, decimal, if◌then◌else◌, Option, Some, None}
+use Rattle.std.specs.Prelude.{ℕ, ◌==◌, List, [], ◌∷◌, ◌++◌, ◌&&◌, Bool, true, false, codes, decimal, if◌then◌else◌, Option, Some, None}
 use Rattle.cov_expr.specs.Term.{Term, const}
 use Rattle.cov_ast.specs.Declarations.{class_of, lock_at, name_of}
 use Rattle.cov_ast.specs.Plain.{Plain}
@@ -140,8 +140,22 @@ later_text p names bytes hidden z (Some c) = forgotten_text p names bytes hidden
 
 -- Lines --------------------------------------------------------------------------------------------------------
 
+-- whether a state that doesn't list the variable sets a type
+abbrev pub is_unlisted : TypeSource → Bool
+is_unlisted source.Stored = false
+is_unlisted (source.Taken l) = false
+is_unlisted (source.Listed by) = false
+is_unlisted (source.Unlisted by) = true
+
+-- whether a type is 0 from its origin on, so that no change turns it into another: of a variable that no other thread may read, by a state that doesn't list it
+abbrev pub is_zero_since : (hidden : Bool) → Option TypeOrigin → Bool
+is_zero_since hidden None = false
+is_zero_since hidden (Some o) = hidden && is_unlisted o.source
+
+-- where a type comes from, and unless it is 0 since, what may have forgotten it
 abbrev pub history_text : Plain → Names → (bytes : List ℕ) → (hidden : Bool) → (z : ℕ) → History → List ℕ
-history_text p names bytes hidden z h = origin_text p names bytes hidden z h.origin ++ later_text p names bytes hidden z h.later
+history_text p names bytes hidden z h =
+    origin_text p names bytes hidden z h.origin ++ (if is_zero_since hidden h.origin then [] else later_text p names bytes hidden z h.later)
 
 -- what stands in front of the words on a variable
 abbrev pub label : Plain → (z : ℕ) → List ℕ

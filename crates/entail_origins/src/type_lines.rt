@@ -155,7 +155,31 @@ fn add_history(
     ensures { OnOk result (text.new ≡ text.old ++ spec.history_text (plain (view.program p.now)) names.now bytes.now hidden z history.now) }
 {
     add_any_origin(p, names, bytes, hidden, z, history.origin, text)?;
-    add_any_later(p, names, bytes, hidden, z, history.later, text)
+    if is_zero_since(hidden, history.origin) {
+        Ok(())
+    } else {
+        add_any_later(p, names, bytes, hidden, z, history.later, text)
+    }
+}
+
+/// Whether a type is 0 from its origin on: of a variable that no other thread may read, by a state that doesn't list it.
+fn is_zero_since(hidden: bool, origin: Option<TypeOrigin>) -> bool
+    ensures { result ≡ spec.is_zero_since hidden origin }
+{
+    match origin {
+        Some(origin) => hidden && is_unlisted(origin.source),
+        None => false,
+    }
+}
+
+/// Whether a state that doesn't list the variable sets a type.
+fn is_unlisted(source: TypeSource) -> bool
+    ensures { result ≡ spec.is_unlisted source }
+{
+    match source {
+        TypeSource::Stored | TypeSource::Taken(_) | TypeSource::Listed(_) => false,
+        TypeSource::Unlisted(_) => true,
+    }
 }
 
 /// Adds where the type of a variable comes from.
