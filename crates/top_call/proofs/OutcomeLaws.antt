@@ -50,7 +50,9 @@ use Rattle.call_verdicts.specs.Annotations.{Annotates, IsSecureAnnotated, annota
 use Rattle.call_verdicts.specs.Levels.{AcceptsForAll, LevelsInput, level_rejection, levels_reading}
 use Rattle.call_verdicts.specs.Swap.{SwapInput, Swaps, due_by, lines_by, misfit_rejection, replacements, swap_reading}
 use Rattle.call_verdicts.proofs.SwapLaws.{names_ordered}
-use Rattle.top_call.specs.Headline.{HoldsSecure, PutsCode, PutsGoodCode, PutsObject}
+use Rattle.top_call.specs.Headline.{PutsCode, PutsGoodCode, PutsObject}
+use Rattle.check_call.specs.Secured.{HoldsSecure}
+use Rattle.check_call.proofs.CallLaws.{OfAccepted, if_told, taken_secure}
 use Rattle.top_call.specs.LevelledPrograms.{HoldsLevels, HoldsSecureForAll}
 use Rattle.top_call.specs.SwappedPrograms.{HoldsSwapped, HoldsText}
 use Rattle.top_call.specs.Laws.{IsOneReply}
@@ -119,21 +121,12 @@ module _ (before after : Shelved) (old new : Sunk) (asked told : ℕ) where
 
 -- A call -------------------------------------------------------------------------------------------------------
 
--- a fact on the files that a shelf tells
-if_told : (told : Option (List File)) (P : List File → Type 0) → ((files : List File) → told ≡ Some files → P files) → IfSome told P
-if_told None P each = tt
-if_told (Some files) P each = each files refl
-
 -- starts and schedules of a program have its sizes
 pub start_fits : (p : Parsed) (bytes m : List ℕ) → IsStart p bytes m → IsMemory (length p.vars) m
 start_fits p bytes m h = subst (λ n. IsMemory n m) (length-map p.vars declaration_of) (start_is_memory (map declaration_of p.vars) (value_of bytes) m h)
 
 pub schedule_fits : (p : Parsed) (bytes k : List ℕ) → IsScheduleText p bytes k → IsSchedule (length p.threads) k
 schedule_fits p bytes k h = (schedule_fine (length p.threads) (value_of bytes) k h).threads_below
-
--- a law of what bytes spell and is accepted
-abbrev pub OfAccepted : (Parsed → Type 0) → Type 0
-OfAccepted Holds = (bytes : List ℕ) (p : Parsed) → length bytes ≤ MOST_BYTES → SpellsProgram bytes p → IsAcceptedText p → Holds p
 
 module _ (j : Judging) (before after : Shelved) (words : List (List ℕ)) (old new : Sunk) (status : Status) (asked judged : ℕ)
     (asking : PerformsAsking before after old new asked judged (plan_for j words) status) where
@@ -150,22 +143,9 @@ module _ (j : Judging) (before after : Shelved) (words : List (List ℕ)) (old n
   pub call_secure : OfAccepted (λ p. IsSecure (meaning p)) → status ≡ s.Done → IfSome before.told (λ files. HoldsSecure files words)
   call_secure is_secure done = if_told before.told (λ files. HoldsSecure files words) holds
     where
-      secure : (name : List ℕ) (files : List File) → Takes files (λ p. Puts (λ reply. reply ≡ verdict p) old new status) (accepted_program name)
-          → (bytes : List ℕ) × (held files name ≡ Some bytes) × (tree : trees.Program) × SpellsTree bytes tree
-          × AreNamesInOrder (program_of bytes tree) × IsSecure (meaning (program_of bytes tree))
-      secure name files (bytes, at, fits, (p, spells, (none, puts))) =
-          let accepted = not_rejected p none in (
-            bytes,
-            at,
-            spells.0,
-            spells.1,
-            subst AreNamesInOrder spells.2 (names_hold p accepted),
-            subst (λ q. IsSecure (meaning q)) spells.2 (is_secure bytes p fits spells accepted),
-          )
-
       holds : (files : List File) → before.told ≡ Some files → HoldsSecure files words
       holds files told name is =
-          secure name files (performs_took before after old new status files (accepted_program name) (λ p reply. reply ≡ verdict p) (λ p. 0) told
+          taken_secure is_secure old new status name files (performs_took before after old new status files (accepted_program name) (λ p reply. reply ≡ verdict p) (λ p. 0) told
           (subst IsResult (sym done) tt) (call_by (codes "check" ∷ name ∷ []) is))
 
   -- what is put to the code of an accepted program, where each reply tells it

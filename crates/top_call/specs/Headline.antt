@@ -1,4 +1,4 @@
--- The headline: what it says of a file that it is accepted, and what is put of its code.
+-- The second half of the headline: what is put of the code of a file that is accepted. The first half is `HoldsSecure` of `check_call`.
 use Rattle.std.specs.Prelude.{◌≡◌, ℕ, List, [], ◌∷◌, codes, Some, Ok}
 use Rattle.cov_grammar.specs.PlacedTrees as trees
 use Rattle.cov_io.specs.Shelves.{File, held}
@@ -6,21 +6,12 @@ use Rattle.cov_io.specs.Sinks.{Sunk, Writes}
 use Rattle.cov_text.specs.Text.{program_of}
 use Rattle.code_text.specs.Listing.{IsListingOf}
 use Rattle.compiled_code.specs.GoodCode.{IsGoodCode}
-use Rattle.flow_model.specs.Secure.{IsSecure}
 use Rattle.policy_class.specs.Resolved.{resolved}
 use Rattle.object_code.specs.Object.{IsObjectOf}
 use Rattle.risc_machine.specs.Faults.{AreGood}
 use Rattle.risc_machine.specs.declared.parts.Parts.{Parts}
-use Rattle.call_judge.specs.Meaning.{AreNamesInOrder, meaning}
+use Rattle.call_judge.specs.Meaning.{AreNamesInOrder}
 use Rattle.call_inputs.specs.Programs.{SpellsTree}
-
--- A file that is checked holds a program that is secure: from any two fit starts, under every schedule, its two runs agree
--- after each step, on the public output too.
-abbrev pub HoldsSecure : List File → (words : List (List ℕ)) → Type 0
-HoldsSecure files words =
-    (name : List ℕ) → words ≡ codes "check" ∷ name ∷ []
-    → (bytes : List ℕ) × (held files name ≡ Some bytes) × (tree : trees.Program) × SpellsTree bytes tree
-    × AreNamesInOrder (program_of bytes tree) × IsSecure (meaning (program_of bytes tree))
 
 -- What is put tells a code, to which no fault applies, and a file holds a program for which this code is good: each
 -- run of the code is a run of the program, from any two fit starts, under every schedule, two runs of the code agree after each

@@ -3,13 +3,14 @@
 ghost use Rattle.std.specs.Prelude.{◌≡◌, ◌≢◌, ◌⊎◌, IfSome, IsTrue, map, string_bytes, ◌≤◌};
 ghost use Rattle.call_inputs.specs.Plans.{IsMet, Performs, PerformsAsking};
 ghost use Rattle.call_reports.specs.Ends.{Ends};
+ghost use Rattle.check_call.specs.Secured.{HoldsSecure};
 ghost use Rattle.cov_io.specs.Counters.{Rose};
 ghost use Rattle.cov_io.specs.Shelves.{Passes};
 ghost use Rattle.thread_swap.specs.Judges as judges;
 ghost use Rattle.thread_swap.specs.RulesSay.{by_rules};
 ghost use Rattle.top_call.specs.AcceptedRuns.{RunsAccepted};
 ghost use Rattle.top_call.specs.AnnotatedPrograms.{PutsAnnotated};
-ghost use Rattle.top_call.specs.Headline.{HoldsSecure, PutsCode, PutsObject};
+ghost use Rattle.top_call.specs.Headline.{PutsCode, PutsObject};
 ghost use Rattle.top_call.specs.LevelledPrograms.{HoldsSecureForAll};
 ghost use Rattle.top_call.specs.Outcome.{IsSuccess, Outcome, plan_for};
 ghost use Rattle.top_call.specs.SwappedPrograms.{HoldsSwapped};

@@ -1,0 +1,2 @@
+-- What the call of `check` alone promises.
+pub mod CallLaws
