@@ -1,5 +1,5 @@
 -- A small program, and what is said of types in it, by computation.
-use Rattle.std.proofs.Common.{◌≡◌, ℕ, List, [], ◌∷◌, Option, Some, None, refl, codes, lit<}
+use Rattle.std.proofs.Common.{◌≡◌, ℕ, List, [], ◌∷◌, ◌++◌, length, Option, Some, None, refl, codes, lit<}
 use Rattle.std.proofs.lemmas.Fmt.{decimal_digit}
 use Rattle.cov_expr.specs.Term.{Term, const, var, bin}
 use Rattle.cov_expr.specs.declared.expr.Op.TheVariants.{Eq, Add, Both}
@@ -13,7 +13,9 @@ use Rattle.statement_paths.specs.Paths.{Step, passed, yes, head}
 use Rattle.entail_origins.specs.AskedVariables.{variables_of}
 use Rattle.point_law.specs.After.{start}
 use Rattle.entail_origins.specs.GoalTypes.{goal_of, goals_of}
-use Rattle.entail_origins.specs.TypeLines.{type_lines}
+use Rattle.entail_origins.specs.FollowedTypes.{at_point, followed}
+use Rattle.entail_origins.specs.TypeLines.{lines_of, type_lines}
+use Rattle.entail_origins.specs.declared.followed_types.VariableAt.{VariableAt}
 use Rattle.entail_origins.specs.TypeOrigins.{history, locks_over, change_at}
 use Rattle.entail_origins.specs.declared.type_origin.By.TheVariants as by
 use Rattle.entail_origins.specs.declared.type_origin.TypeChange.TheVariants as change
@@ -62,55 +64,55 @@ noted = passed 4 (s.note (stated ((2, const 0) ∷ [])))
 abbrev story : (z : ℕ) → List Step → History
 story z steps = history (controls_of program) (locks_over program z) z steps
 
-abbrev from : (at : ℕ) → TypeSource → Option Later → History
-from at source later = record { origin = Some (record { source = source; at = at }); later = later }
+abbrev from : (index at : ℕ) → TypeSource → Option Later → History
+from index at source later = record { origin = Some (record { source = source; at = at; index = index }); later = later }
 
 -- One step -----------------------------------------------------------------------------------------------------
 
 the_start : story 2 [] ≡ record { origin = None; later = None }
 the_start = refl
 
-an_assignment : story 2 (stored ∷ []) ≡ from 2 source.Stored None
+an_assignment : story 2 (stored ∷ []) ≡ from 0 2 source.Stored None
 an_assignment = refl
 
-a_lock : story 1 (taken ∷ []) ≡ from 1 (source.Taken 0) None
+a_lock : story 1 (taken ∷ []) ≡ from 0 1 (source.Taken 0) None
 a_lock = refl
 
 -- `o` isn't under the lock
 another_lock : story 2 (taken ∷ []) ≡ record { origin = None; later = None }
 another_lock = refl
 
-a_retype : story 1 (raised ∷ []) ≡ from 3 (source.Listed by.Retype) None
+a_retype : story 1 (raised ∷ []) ≡ from 0 3 (source.Listed by.Retype) None
 a_retype = refl
 
 a_control : story 2 (raised ∷ []) ≡ record { origin = None; later = Some (change_at 3 (change.ControlStored 0)) }
 a_control = refl
 
-a_join : story 1 (joined ((1, const 1) ∷ []) ∷ []) ≡ from 4 (source.Listed by.Join) None
+a_join : story 1 (joined ((1, const 1) ∷ []) ∷ []) ≡ from 0 4 (source.Listed by.Join) None
 a_join = refl
 
 -- a join sets what it doesn't list, and a note leaves it
-a_join_of_others : story 1 (joined [] ∷ []) ≡ from 4 (source.Unlisted by.Join) None
+a_join_of_others : story 1 (joined [] ∷ []) ≡ from 0 4 (source.Unlisted by.Join) None
 a_join_of_others = refl
 
-a_note : story 2 (noted ∷ []) ≡ from 4 (source.Listed by.Noted) None
+a_note : story 2 (noted ∷ []) ≡ from 0 4 (source.Listed by.Noted) None
 a_note = refl
 
-a_note_of_others : story 1 (taken ∷ noted ∷ []) ≡ from 1 (source.Taken 0) None
+a_note_of_others : story 1 (taken ∷ noted ∷ []) ≡ from 0 1 (source.Taken 0) None
 a_note_of_others = refl
 
-a_head : story 2 (head 6 (stated []) ∷ yes 6 (var 1) ∷ []) ≡ from 6 (source.Unlisted by.LoopState) None
+a_head : story 2 (head 6 (stated []) ∷ yes 6 (var 1) ∷ []) ≡ from 0 6 (source.Unlisted by.LoopState) None
 a_head = refl
 
 -- Several steps ------------------------------------------------------------------------------------------------
 
-the_last_counts : story 2 (noted ∷ stored ∷ []) ≡ from 2 source.Stored None
+the_last_counts : story 2 (noted ∷ stored ∷ []) ≡ from 1 2 source.Stored None
 the_last_counts = refl
 
-what_came_later_is_none : story 2 (raised ∷ noted ∷ []) ≡ from 4 (source.Listed by.Noted) None
+what_came_later_is_none : story 2 (raised ∷ noted ∷ []) ≡ from 1 4 (source.Listed by.Noted) None
 what_came_later_is_none = refl
 
-the_last_change : story 2 (stored ∷ raised ∷ returned ∷ []) ≡ from 2 source.Stored (Some (change_at 5 (change.Returned 0)))
+the_last_change : story 2 (stored ∷ raised ∷ returned ∷ []) ≡ from 0 2 source.Stored (Some (change_at 5 (change.Returned 0)))
 the_last_change = refl
 
 -- Variables ----------------------------------------------------------------------------------------------------
@@ -162,6 +164,40 @@ repeats = s.loop (var 2) (stated ((2, const 1) ∷ [])) (s.more 6 (s.assign 2 (v
 at_its_head_and_its_end : goals_of program 0 repeats (start program 0) ≡ const 0 ∷ const 1 ∷ bin Eq (var 0) (const 0) ∷ []
 at_its_head_and_its_end = refl
 
+-- Variables behind a type --------------------------------------------------------------------------------------
+
+abbrev told : (most : ℕ) → List Step → (z : ℕ) → List VariableAt
+told most steps z = followed program 0 most steps most (at_point (length steps) z ∷ [])
+
+-- those of the value, in front of the assignment
+behind_a_value : told 9 (taken ∷ stored ∷ []) 2 ≡ at_point 2 2 ∷ at_point 1 2 ∷ at_point 1 1 ∷ []
+behind_a_value = refl
+
+-- and behind these, in turn
+behind_an_earlier_value : told 9 (stored ∷ noted ∷ stored ∷ stored ∷ []) 2 ≡ at_point 4 2 ∷ at_point 3 2 ∷ at_point 3 1 ∷ at_point 2 2 ∷ at_point 2 1 ∷ []
+behind_an_earlier_value = refl
+
+one_more_than_are_told : told 1 (taken ∷ stored ∷ []) 2 ≡ at_point 2 2 ∷ at_point 1 2 ∷ []
+one_more_than_are_told = refl
+
+-- o := buf as 1
+abbrev written : Step
+written = passed 4 (s.assign 2 (var 1) (Some (const 1)) [])
+
+not_behind_a_written_type : told 9 (taken ∷ written ∷ []) 2 ≡ at_point 2 2 ∷ []
+not_behind_a_written_type = refl
+
+-- o := m + n
+no_control : told 9 (passed 2 (s.assign 2 (bin Add (var 0) (var 3)) None []) ∷ []) 2 ≡ at_point 1 2 ∷ at_point 0 3 ∷ []
+no_control = refl
+
+-- o := n; buf := o; o := o + buf: `n` is behind both variables of the sum, and is told of once
+abbrev twice : List Step
+twice = taken ∷ passed 2 (s.assign 2 (var 3) None []) ∷ passed 3 (s.assign 1 (var 2) None []) ∷ stored ∷ []
+
+no_variable_twice : told 9 twice 2 ≡ at_point 4 2 ∷ at_point 3 2 ∷ at_point 3 1 ∷ at_point 1 3 ∷ at_point 2 2 ∷ []
+no_variable_twice = refl
+
 -- Lines --------------------------------------------------------------------------------------------------------
 
 -- the place 3 stands in line 3, and 4 in line 4
@@ -169,8 +205,13 @@ abbrev text : List ℕ
 text = 10 ∷ 120 ∷ 10 ∷ 10 ∷ 120 ∷ 120 ∷ 120 ∷ 120 ∷ []
 
 a_control_and_an_assignment : type_lines program 0 text (taken ∷ stored ∷ raised ∷ []) q.Printed (s.output (bin Add (var 0) (var 2)))
-    ≡ codes "  type of m:  1, as that of every control\n  type of o:  from the assignment, line 2; then m is stored to, line 3, which turns a type that mentions it into its class `0` (high)\n"
+    ≡ codes "  type of m:  1, as that of every control\n  type of o:  from the assignment, line 2, of `o + buf`; then m is stored to, line 3, which turns a type that mentions it into its class `0` (high)\n"
+    ++ codes "  type of o at line 2:  its class `0` (high), from the start of the thread\n  type of buf at line 2:  its class `m == 0`, from the lock l, line 2\n"
 a_control_and_an_assignment = simp (decimal_digit 0 (lit< tt), decimal_digit 2 (lit< tt), decimal_digit 3 (lit< tt))
+
+a_written_type : type_lines program 0 text (taken ∷ written ∷ []) q.Printed (s.output (var 2))
+    ≡ codes "  type of o:  from the assignment, line 4, which says that it is `1`\n"
+a_written_type = simp (decimal_digit 1 (lit< tt), decimal_digit 4 (lit< tt))
 
 not_stable : type_lines program 0 text (taken ∷ returned ∷ []) q.Guard (s.branch (var 1) s.done s.done (stated []))
     ≡ codes "  type of buf:  its class `m == 0`, since it isn't stable here: the thread doesn't assume that no other writes it, and holds no lock that it is under\n"
@@ -192,6 +233,9 @@ by_its_lock = simp (decimal_digit 0 (lit< tt), decimal_digit 2 (lit< tt))
 
 at_the_start : type_lines program 0 text [] (q.TypeOf e.Here 2) s.skip ≡ codes "  type of o:  its class `0` (high), from the start of the thread\n"
 at_the_start = simp (decimal_digit 0 (lit< tt))
+
+others : lines_of program 0 [] text [] 0 (at_point 0 2 ∷ []) ≡ codes "  more types behind these are left out\n"
+others = refl
 
 no_lines : type_lines program 0 text [] (q.Invariant 0) (s.unlock 0) ≡ []
 no_lines = refl

@@ -3,7 +3,8 @@ use Rattle.std.proofs.Common.{◌≡◌, ◌≤◌, ◌<◌, ℕ, zero, suc, ◌
 use Rattle.std.specs.Prelude.{◌||◌, ◌&&◌, not}
 use Rattle.std.specs.Option.{option_or}
 use Rattle.std.proofs.lemmas.Bool.{cases_Bool, cases_lt}
-use Rattle.std.proofs.lemmas.List.{append-nil, get_or_past}
+use Rattle.std.proofs.lemmas.List.{append-nil, get_or_past, length-append}
+use Rattle.std.proofs.lemmas.List.Elements.{All-nil, All-push}
 use Rattle.std.proofs.lemmas.List.FromFn.{get_or-map-range_with_len, length-map-range_with_len}
 use Rattle.std.proofs.Math.ListN.{get_or-map}
 use Rattle.cov_expr.specs.Term.{Term}
@@ -264,48 +265,53 @@ module _ (p : Plain) (t z : ℕ) (declared : (x : ℕ) → length p.vars ≤ x �
 
   -- Several steps ----------------------------------------------------------------------------------------------
 
-  longer : (done : List Step) (s : Step) (o : Option TypeOrigin) → IsFrom p t z done o → type_after_steps p t z (done ++ s ∷ []) ≡ type_after_steps p t z done
-      → IsFrom p t z (done ++ s ∷ []) o
-  longer done s None from same = same ∙ from
-  longer done s (Some o) from same = record {
+  longer : (done : List Step) (s : Step) (o : Option TypeOrigin) → IsFrom p t z done o → set_by cs ls z s ≡ None
+      → type_after_steps p t z (done ++ s ∷ []) ≡ type_after_steps p t z done → IsFrom p t z (done ++ s ∷ []) o
+  longer done s None from sets same = same ∙ from
+  longer done s (Some o) from sets same = record {
     front = from.front;
     step = from.step;
     back = from.back ++ s ∷ [];
     parts = ap (λ ss. ss ++ s ∷ []) from.parts ∙ append_assoc from.front (from.step ∷ from.back) (s ∷ []);
+    counted = from.counted;
     placed = from.placed;
+    last = All-push (λ r. set_by cs ls z r ≡ None) from.back s from.last sets;
     sets = from.sets;
     says = same ∙ from.says;
   }
 
-  one_step : (done : List Step) (s : Step) (h : History) → IsTold p t z done h → IsTold p t z (done ++ s ∷ []) (history_after_step cs ls z s h)
+  one_step : (done : List Step) (s : Step) (h : History) → IsTold p t z done h → IsTold p t z (done ++ s ∷ []) (history_after_step cs ls z (length done) s h)
   one_step done s h told = by_source (set_by cs ls z s) refl
     where
       same : set_by cs ls z s ≡ None → changed_by cs s ≡ None → type_after_steps p t z (done ++ s ∷ []) ≡ type_after_steps p t z done
       same e k = ap (λ a. given_type a z) (appended p t done (s ∷ []) (start p t)) ∙ unset s (point_after_steps p t done) e k
 
       by_change : set_by cs ls z s ≡ None → (y : Option TypeChange) → changed_by cs s ≡ y → IsTold p t z (done ++ s ∷ []) (changed_at (place_of s) y h)
-      by_change e None k = λ later some. longer done s h.origin (told later (sym (ap is_some (same e k)) ∙ some)) (same e k)
+      by_change e None k = λ later some. longer done s h.origin (told later (sym (ap is_some (same e k)) ∙ some)) e (same e k)
       by_change e (Some y) k = λ later some. let c : ◌≡◌ {A = Option Later} (Some (change_at (place_of s) y)) None = later in cc
 
-      by_source : (x : Option TypeSource) → set_by cs ls z s ≡ x → IsTold p t z (done ++ s ∷ []) (with_step (place_of s) x (changed_by cs s) h)
+      by_source : (x : Option TypeSource) → set_by cs ls z s ≡ x → IsTold p t z (done ++ s ∷ []) (with_step (length done) (place_of s) x (changed_by cs s) h)
       by_source None e = by_change e (changed_by cs s) refl
       by_source (Some x) e = λ later some. record {
         front = done;
         step = s;
         back = [];
         parts = refl;
+        counted = refl;
         placed = refl;
+        last = All-nil (λ r. set_by cs ls z r ≡ None);
         sets = e;
         says =
             let last = ap (λ a. given_type a z) (appended p t done (s ∷ []) (start p t)) in
             last ∙ gives s (point_after_steps p t done) x e (sym (ap is_some last) ∙ some);
       }
 
-  along : (done rest : List Step) (h : History) → IsTold p t z done h → IsTold p t z (done ++ rest) (history_after_steps cs ls z rest h)
-  along done [] h told = subst (λ ss. IsTold p t z ss h) (sym (append-nil done)) told
-  along done (s ∷ rest) h told =
-      subst (λ ss. IsTold p t z ss (history_after_steps cs ls z rest (history_after_step cs ls z s h))) (append_assoc done (s ∷ []) rest)
-      (along (done ++ s ∷ []) rest (history_after_step cs ls z s h) (one_step done s h told))
+  along : (index : ℕ) (done rest : List Step) (h : History) → length done ≡ index → IsTold p t z done h → IsTold p t z (done ++ rest) (history_after_steps cs ls z index rest h)
+  along index done [] h counted told = subst (λ ss. IsTold p t z ss h) (sym (append-nil done)) told
+  along index done (s ∷ rest) h counted told =
+      subst (λ ss. IsTold p t z ss (history_after_steps cs ls z (index + 1) rest (history_after_step cs ls z index s h))) (append_assoc done (s ∷ []) rest)
+      (along (index + 1) (done ++ s ∷ []) rest (history_after_step cs ls z index s h) (length-append done (s ∷ []) ∙ ap (λ n. n + 1) counted)
+      (subst (λ n. IsTold p t z (done ++ s ∷ []) (history_after_step cs ls z n s h)) counted (one_step done s h told)))
 
   pub tells : (ss : List Step) → TellsOfType p t z ss
-  tells ss = along [] ss no_history (λ later some. at_start some)
+  tells ss = along 0 [] ss no_history refl (λ later some. at_start some)

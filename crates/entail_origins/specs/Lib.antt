@@ -8,5 +8,7 @@ pub mod OwnEntailments
 pub mod TypeOrigins
 pub mod AskedVariables
 pub mod GoalTypes
+pub mod KnownTypes
+pub mod FollowedTypes
 pub mod TypeLines
 pub mod TypesFromOrigins

@@ -1,21 +1,22 @@
--- A line for each variable whose type makes up a goal: where its type comes from. Classes are spelled canonically.
-use Rattle.std.specs.Prelude.{ℕ, ◌==◌, List, [], ◌∷◌, ◌++◌, ◌&&◌, Bool, true, false, codes, decimal, if◌then◌else◌, Option, Some, None}
+-- A line for each variable whose type makes up a goal: where its type comes from; and behind these, where it comes from an assignment, lines
+-- for the variables of its value. Classes, values and written types are spelled canonically.
+use Rattle.std.specs.Prelude.{ℕ, ◌+◌, ◌-◌, ◌==◌, length, map, take, List, [], ◌∷◌, ◌++◌, ◌&&◌, Bool, true, false, codes, decimal, if◌then◌else◌, Option, Some, None}
+use Rattle.std.specs.List.{slice_get}
 use Rattle.cov_expr.specs.Term.{Term, const}
 use Rattle.cov_ast.specs.Declarations.{class_of, lock_at, name_of}
 use Rattle.cov_ast.specs.Plain.{Plain}
-use Rattle.cov_ast.specs.Syntax.{Stm}
+use Rattle.cov_ast.specs.Syntax.{Stm, assign}
 use Rattle.cov_ast.specs.Tables.{has}
 use Rattle.cov_print.specs.Spelling.{Names, whole}
-use Rattle.point_law.specs.Point.{controls_of}
 use Rattle.entail_origins.specs.declared.kinds.Question.{Question}
 use Rattle.text_parts.specs.VariableNames.{variable_names}
-use Rattle.cov_ast.specs.LocksAlong.{no_locks}
-use Rattle.statement_paths.specs.LocksHeld.{held_along}
-use Rattle.statement_paths.specs.VariableSets.{hidden, stable}
-use Rattle.statement_paths.specs.Paths.{Step}
+use Rattle.statement_paths.specs.Paths.{Step, passed, yes, no, head, place_of}
 use Rattle.text_parts.specs.Lines.{line}
 use Rattle.entail_origins.specs.AskedVariables.{variables_of}
+use Rattle.entail_origins.specs.FollowedTypes.{at_point, followed}
+use Rattle.entail_origins.specs.KnownTypes.{known_after_steps}
 use Rattle.entail_origins.specs.TypeOrigins.{history, locks_over}
+use Rattle.entail_origins.specs.declared.followed_types.VariableAt.{VariableAt}
 use Rattle.entail_origins.specs.declared.known_types.Known.{Known}
 use Rattle.entail_origins.specs.declared.type_origin.By.{By}
 use Rattle.entail_origins.specs.declared.type_origin.By.TheVariants as by
@@ -26,16 +27,6 @@ use Rattle.entail_origins.specs.declared.type_origin.Later.{Later}
 use Rattle.entail_origins.specs.declared.type_origin.TypeOrigin.{TypeOrigin}
 use Rattle.entail_origins.specs.declared.type_origin.TypeSource.{TypeSource}
 use Rattle.entail_origins.specs.declared.type_origin.TypeSource.TheVariants as source
-
--- What is known of the variables at a point --------------------------------------------------------------------
-
--- for a thread that holds these locks
-abbrev pub known_at : Plain → (t : ℕ) → (held : List Bool) → Known
-known_at p t held = record { controls = controls_of p; stable = stable p t held; hidden = hidden p t held }
-
--- behind steps from the start of a thread
-abbrev pub known_after_steps : Plain → (t : ℕ) → List Step → Known
-known_after_steps p t steps = known_at p t (held_along steps (no_locks p))
 
 -- The words on an origin ---------------------------------------------------------------------------------------
 
@@ -87,28 +78,51 @@ source_text p names hidden z (source.Taken l) = taken_text p names z l
 source_text p names hidden z (source.Listed by) = listed_text by
 source_text p names hidden z (source.Unlisted by) = unlisted_text p names hidden z by
 
--- what stands behind the line of it
-abbrev pub source_end : TypeSource → List ℕ
-source_end source.Stored = []
-source_end (source.Taken l) = []
-source_end (source.Listed by) = []
-source_end (source.Unlisted by) = codes ", doesn't list it"
+-- an expression in quotes, behind some words that begin them
+abbrev pub quoted : Names → (words : List ℕ) → (e : Term) → List ℕ
+quoted names words e = words ++ whole names e ++ codes "`"
+
+-- a value, or the type that is written for it
+abbrev pub value_text : Names → (q : Option Term) → (e : Term) → List ℕ
+value_text names None e = quoted names (codes ", of `") e
+value_text names (Some q) e = quoted names (codes ", which says that it is `") q
+
+-- of what a statement stores
+abbrev pub stored_text : Names → Stm → List ℕ
+stored_text names (assign x e q retypes) = value_text names q e
+stored_text names s = []
+
+-- the same of a step, if there is one
+abbrev pub stored_in : Names → Option Step → List ℕ
+stored_in names None = []
+stored_in names (Some (passed at s)) = stored_text names s
+stored_in names (Some (yes at e)) = []
+stored_in names (Some (no at e)) = []
+stored_in names (Some (head at inv)) = []
+
+-- what stands behind the line of what sets a type, in the step with an index
+abbrev pub source_end : Names → List Step → (index : ℕ) → TypeSource → List ℕ
+source_end names steps index source.Stored = stored_in names (slice_get steps index)
+source_end names steps index (source.Taken l) = []
+source_end names steps index (source.Listed by) = []
+source_end names steps index (source.Unlisted by) = codes ", doesn't list it"
 
 -- the line of a place of the program's text
 abbrev pub place_text : (bytes : List ℕ) → (at : ℕ) → List ℕ
 place_text bytes at = codes ", line " ++ decimal (line bytes at)
 
-abbrev pub set_text : Plain → Names → (bytes : List ℕ) → (hidden : Bool) → (z : ℕ) → TypeOrigin → List ℕ
-set_text p names bytes hidden z o = source_text p names hidden z o.source ++ place_text bytes o.at ++ source_end o.source
+abbrev pub set_text : Plain → Names → (bytes : List ℕ) → List Step → (hidden : Bool) → (z : ℕ) → TypeOrigin → List ℕ
+set_text p names bytes steps hidden z o =
+    source_text p names hidden z o.source ++ place_text bytes o.at ++ source_end names steps o.index o.source
 
 -- a type that no step sets is the class
 abbrev pub start_text : Plain → Names → (z : ℕ) → List ℕ
 start_text p names z = class_text p names z ++ codes ", from the start of the thread"
 
--- where the type of a variable comes from
-abbrev pub origin_text : Plain → Names → (bytes : List ℕ) → (hidden : Bool) → (z : ℕ) → Option TypeOrigin → List ℕ
-origin_text p names bytes hidden z None = start_text p names z
-origin_text p names bytes hidden z (Some o) = set_text p names bytes hidden z o
+-- where the type of a variable behind steps comes from
+abbrev pub origin_text : Plain → Names → (bytes : List ℕ) → List Step → (hidden : Bool) → (z : ℕ) → Option TypeOrigin → List ℕ
+origin_text p names bytes steps hidden z None = start_text p names z
+origin_text p names bytes steps hidden z (Some o) = set_text p names bytes steps hidden z o
 
 -- The words on a later change ----------------------------------------------------------------------------------
 
@@ -153,13 +167,22 @@ is_zero_since hidden None = false
 is_zero_since hidden (Some o) = hidden && is_unlisted o.source
 
 -- where a type comes from, and unless it is 0 since, what may have forgotten it
-abbrev pub history_text : Plain → Names → (bytes : List ℕ) → (hidden : Bool) → (z : ℕ) → History → List ℕ
-history_text p names bytes hidden z h =
-    origin_text p names bytes hidden z h.origin ++ (if is_zero_since hidden h.origin then [] else later_text p names bytes hidden z h.later)
+abbrev pub history_text : Plain → Names → (bytes : List ℕ) → List Step → (hidden : Bool) → (z : ℕ) → History → List ℕ
+history_text p names bytes steps hidden z h =
+    origin_text p names bytes steps hidden z h.origin ++ (if is_zero_since hidden h.origin then [] else later_text p names bytes hidden z h.later)
+
+-- where a type is looked at: in front of a step, which is in the line of an assignment, or at the point of which is asked
+abbrev pub point_text : (bytes : List ℕ) → Option Step → List ℕ
+point_text bytes None = []
+point_text bytes (Some s) = codes " at line " ++ decimal (line bytes (place_of s))
+
+-- behind so many of the steps
+abbrev pub point_behind : (bytes : List ℕ) → List Step → (count : ℕ) → List ℕ
+point_behind bytes steps count = point_text bytes (slice_get steps count)
 
 -- what stands in front of the words on a variable
-abbrev pub label : Plain → (z : ℕ) → List ℕ
-label p z = codes "  type of " ++ name_of p z ++ codes ":  "
+abbrev pub label : Plain → (bytes : List ℕ) → List Step → VariableAt → List ℕ
+label p bytes steps v = codes "  type of " ++ name_of p v.var ++ point_behind bytes steps v.steps ++ codes ":  "
 
 -- of a variable that isn't stable
 abbrev pub shared_text : Plain → Names → (z : ℕ) → List ℕ
@@ -168,7 +191,7 @@ shared_text p names z = class_text p names z ++ codes ", since it isn't stable h
 module _ (p : Plain) (names : Names) (bytes : List ℕ) (steps : List Step) (known : Known) where
   -- of a variable that is tracked
   abbrev pub tracked_text : (z : ℕ) → List ℕ
-  tracked_text z = history_text p names bytes (has known.hidden z) z (history known.controls (locks_over p z) z steps)
+  tracked_text z = history_text p names bytes steps (has known.hidden z) z (history known.controls (locks_over p z) z steps)
 
   -- where the type of a variable behind steps comes from
   abbrev pub type_text : (z : ℕ) → List ℕ
@@ -176,14 +199,24 @@ module _ (p : Plain) (names : Names) (bytes : List ℕ) (steps : List Step) (kno
       if has known.controls z then codes "1, as that of every control" else
       (if has known.stable z then tracked_text z else shared_text p names z)
 
-  abbrev pub type_line : (z : ℕ) → List ℕ
-  type_line z = label p z ++ type_text z ++ codes "\n"
+-- the text on a variable behind steps
+abbrev pub behind_text : Plain → (t : ℕ) → Names → (bytes : List ℕ) → List Step → (z : ℕ) → List ℕ
+behind_text p t names bytes steps z = type_text p names bytes steps (known_after_steps p t steps) z
 
-  abbrev pub lines_of : List ℕ → List ℕ
-  lines_of [] = []
-  lines_of (z ∷ zs) = type_line z ++ lines_of zs
+module _ (p : Plain) (t : ℕ) (names : Names) (bytes : List ℕ) (steps : List Step) where
+  abbrev pub type_line : VariableAt → List ℕ
+  type_line v = label p bytes steps v ++ behind_text p t names bytes (take v.steps steps) v.var ++ codes "\n"
 
--- The lines on the variables whose types make up the goal of what is asked of a statement. The steps are those of a thread to the
--- point of which is asked.
+  -- at most so many lines, and a word on others
+  abbrev pub lines_of : (most : ℕ) → List VariableAt → List ℕ
+  lines_of most [] = []
+  lines_of most (v ∷ vs) = if most == 0 then codes "  more types behind these are left out\n" else type_line v ++ lines_of (most - 1) vs
+
+  -- the lines on variables, and on those behind their types, as far as there are eight at most
+  abbrev pub lines_behind : List ℕ → List ℕ
+  lines_behind zs = let most = length zs + 8 in lines_of most (followed p t most steps most (map (at_point (length steps)) zs))
+
+-- The lines on the variables whose types make up the goal of what is asked of a statement, and on those behind them. The steps are those
+-- of a thread to the point of which is asked.
 abbrev pub type_lines : Plain → (t : ℕ) → (bytes : List ℕ) → List Step → Question → Stm → List ℕ
-type_lines p t bytes steps question s = lines_of p (variable_names p.vars) bytes steps (known_after_steps p t steps) (variables_of question s)
+type_lines p t bytes steps question s = lines_behind p t (variable_names p.vars) bytes steps (variables_of question s)

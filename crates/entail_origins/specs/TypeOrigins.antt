@@ -3,7 +3,7 @@
 -- By the rules of types: a join and what a loop states set every type, listed or not; a note and the new types of an assignment to a
 -- control set those that they list. A type is forgotten where it mentions a control that is stored to, or what a lock that is given
 -- back protects.
-use Rattle.std.specs.Prelude.{ℕ, ◌==◌, List, [], ◌∷◌, Bool, map, if◌then◌else◌, Option, Some, None}
+use Rattle.std.specs.Prelude.{ℕ, ◌+◌, ◌==◌, List, [], ◌∷◌, Bool, map, if◌then◌else◌, Option, Some, None}
 use Rattle.std.specs.List.{list_any}
 use Rattle.cov_expr.specs.Term.{Term}
 use Rattle.cov_ast.specs.Declarations.{lists}
@@ -88,9 +88,9 @@ module _ (controls locks : List Bool) (z : ℕ) where
 
 -- The history of a type ----------------------------------------------------------------------------------------
 
--- a type that was set here, and not changed since
-abbrev pub set_at : (at : ℕ) → TypeSource → History
-set_at at source = record { origin = Some (record { source = source; at = at }); later = None }
+-- a type that was set by the step with this index, and not changed since
+abbrev pub set_at : (index at : ℕ) → TypeSource → History
+set_at index at source = record { origin = Some (record { source = source; at = at; index = index }); later = None }
 
 abbrev pub change_at : (at : ℕ) → TypeChange → Later
 change_at at change = record { change = change; at = at }
@@ -101,22 +101,23 @@ changed_at at None h = h
 changed_at at (Some change) h = record h { later = Some (change_at at change) }
 
 -- what sets the type begins a new history
-abbrev pub with_step : (at : ℕ) → Option TypeSource → Option TypeChange → History → History
-with_step at (Some source) change h = set_at at source
-with_step at None change h = changed_at at change h
+abbrev pub with_step : (index at : ℕ) → Option TypeSource → Option TypeChange → History → History
+with_step index at (Some source) change h = set_at index at source
+with_step index at None change h = changed_at at change h
 
 -- from the start of the thread
 abbrev pub no_history : History
 no_history = record { origin = None; later = None }
 
+-- The index of a step is how many stand in front of it.
 module _ (controls locks : List Bool) (z : ℕ) where
-  abbrev pub history_after_step : Step → History → History
-  history_after_step s h = with_step (place_of s) (set_by controls locks z s) (changed_by controls s) h
+  abbrev pub history_after_step : (index : ℕ) → Step → History → History
+  history_after_step index s h = with_step index (place_of s) (set_by controls locks z s) (changed_by controls s) h
 
-  abbrev pub history_after_steps : List Step → History → History
-  history_after_steps [] h = h
-  history_after_steps (s ∷ ss) h = history_after_steps ss (history_after_step s h)
+  abbrev pub history_after_steps : (index : ℕ) → List Step → History → History
+  history_after_steps index [] h = h
+  history_after_steps index (s ∷ ss) h = history_after_steps (index + 1) ss (history_after_step index s h)
 
   -- the history of the type of the variable behind steps from the start of the thread
   abbrev pub history : List Step → History
-  history ss = history_after_steps ss no_history
+  history ss = history_after_steps 0 ss no_history

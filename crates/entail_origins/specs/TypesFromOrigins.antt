@@ -1,5 +1,6 @@
 -- What the history of a type says of the type at the point behind steps, by the rules of types.
-use Rattle.std.specs.Prelude.{◌≡◌, ℕ, List, [], ◌∷◌, ◌++◌, Bool, true, Option, Some, None, is_some}
+use Rattle.std.specs.List.{All}
+use Rattle.std.specs.Prelude.{◌≡◌, ℕ, length, List, [], ◌∷◌, ◌++◌, Bool, true, Option, Some, None, is_some}
 use Rattle.cov_expr.specs.Term.{Term}
 use Rattle.cov_ast.specs.Declarations.{class_of}
 use Rattle.cov_ast.specs.Plain.{Plain}
@@ -64,13 +65,16 @@ type_by_source_in p t z s a source = type_by_source p t z (stored_in p t s a) (t
 abbrev pub type_after_steps : Plain → (t z : ℕ) → List Step → Option Term
 type_after_steps p t z steps = given_type (point_after_steps p t steps) z
 
--- One of the steps is at the place of an origin, and the type behind all of them is what the source of the origin says of it.
+-- The step with the index of an origin is at its place and no later one sets the type, and the type behind all of them is what the source
+-- of the origin says of it, from the point behind those in front.
 pub record ComesFrom (p : Plain) (t z : ℕ) (steps : List Step) (o : TypeOrigin) : Type 0 where
   pub front : List Step
   pub step : Step
   pub back : List Step
   pub parts : steps ≡ front ++ step ∷ back
+  pub counted : length front ≡ o.index
   pub placed : place_of step ≡ o.at
+  pub last : All (λ s. set_by (controls_of p) (locks_over p z) z s ≡ None) back
   pub sets : set_by (controls_of p) (locks_over p z) z step ≡ Some o.source
   pub says : type_after_steps p t z steps ≡ type_by_source_in p t z step (point_after_steps p t front) o.source
 

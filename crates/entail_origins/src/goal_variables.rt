@@ -67,7 +67,7 @@ fn assigned_value(kind: &StmtKind) -> Option<&Expr>
 }
 
 /// The value that an assignment stores, where its type is that of its variables.
-fn untyped_value(kind: &StmtKind) -> Option<&Expr>
+pub fn untyped_value(kind: &StmtKind) -> Option<&Expr>
     ensures { option_map (λ e. term e.now) result ≡ spec.untyped_value (view.kind kind.now) }
 {
     match kind {

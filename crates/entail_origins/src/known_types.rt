@@ -5,7 +5,7 @@ ghost use Rattle.cov_ast.specs.Plain.{plain};
 ghost use Rattle.cov_ast.specs.View as view;
 ghost use Rattle.cov_ast.specs.WellFormed.{IsWellFormed};
 ghost use Rattle.statement_paths.specs.Paths as paths;
-ghost use Rattle.entail_origins.specs.TypeLines as spec;
+ghost use Rattle.entail_origins.specs.KnownTypes as spec;
 
 use cov_ast::{NumberSet, Program};
 use cov_expr::NoMemory;

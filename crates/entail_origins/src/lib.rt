@@ -3,11 +3,11 @@
 //! - [`question`]: what the entailment with a number asks, of those of the statement at a place ([`Question`], [`End`]): of which variable,
 //!   of which lock, at the end of which block. [`add_question`]: the same as a line of text. [`questions`] and [`add_question_line`]: the
 //!   same of a statement that is at hand ([`Asked`]).
-//! - [`add_given`]: the predicates that a step on the way to a statement may give ([`Given`], [`HypothesisSource`]). [`remarks`]: a few words
+//! - [`add_given`]: the predicates that a step on the way to a statement may give ([`Given`], [`GivenTerm`], [`HypothesisSource`]). [`remarks`]: a few words
 //!   on each hypothesis, with the line of its origin, the last step that gives it ([`Origin`], [`origin_of`], [`origin_at`]). [`add_origin`] and
 //!   [`add_any_origin`]: the words on one.
 //! - [`add_type_lines`]: a line for each variable whose type makes up the goal: the last step on the way that sets it, and the last after it
-//!   that may forget it.
+//!   that may forget it; and where that step is an assignment, such lines for the variables of its value in front of it, and so on.
 //!
 //! Laws have no body. Of questions: [`each_entailment_has_a_question`] and [`what_is_listed_is_asked`], that they go by the rules of types.
 //! Of hypotheses: [`predicates_have_origins`], that each predicate of a point is given by a step to it. Of types:
@@ -23,11 +23,14 @@
 //! | `remark`, `hypothesis_laws` | `Remarks`, `Points` | the words on an origin; the point behind steps, whose predicates have origins |
 //! | `type_origin`, `type_steps` | `TypeOrigins` | what a step does to the type of a variable, and which steps count |
 //! | `goal_variables` | `AskedVariables` | whose types make up a goal |
-//! | `known_types`, `type_lines`, `type_classes`, `type_words` | `TypeLines` | the lines, by what is known of the variables at the point |
+//! | `known_types` | `KnownTypes` | what is known of the variables at a point |
+//! | `followed_types` | `FollowedTypes` | of which variables is told behind those of a goal |
+//! | `type_lines`, `type_classes`, `type_words` | `TypeLines` | the lines, by what is known of the variables at the point |
 //! | `type_laws` | `TypesFromOrigins`, `GoalTypes` | what a history says of the type at a point; the goal of a question, by the types there |
 #![tactic(auto)]
 
 mod assignments;
+mod followed_types;
 mod given;
 mod goal_variables;
 mod hypothesis_laws;
@@ -47,7 +50,7 @@ mod type_origin;
 mod type_steps;
 mod type_words;
 
-pub use given::{Given, add_given};
+pub use given::{Given, GivenTerm, add_given};
 pub use hypothesis_laws::predicates_have_origins;
 pub use hypothesis_origin::{HypothesisSource, Origin, origin_at, origin_of};
 pub use kinds::{Asked, End, Question};

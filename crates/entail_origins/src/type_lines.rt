@@ -1,6 +1,6 @@
 //! The lines on the variables whose types make up a goal.
 
-ghost use Rattle.std.specs.Prelude.{◌≡◌, ◌<◌, ◌++◌, OnOk, length, map};
+ghost use Rattle.std.specs.Prelude.{◌≡◌, ◌<◌, ◌++◌, OnOk, length, map, option_map};
 ghost use Rattle.cov_ast.specs.Plain.{plain};
 ghost use Rattle.cov_ast.specs.Tables.{has};
 ghost use Rattle.cov_ast.specs.View as view;
@@ -9,24 +9,29 @@ ghost use Rattle.statement_paths.specs.Paths as paths;
 ghost use Rattle.entail_origins.specs.TypeLines as spec;
 ghost use Rattle.entail_origins.specs.TypeOrigins.{history, locks_over};
 
+use crate::followed_types::{VariableAt, at_point, first_steps, follow};
 use crate::goal_variables::variables_of;
 use crate::kinds::Question;
 use crate::known_types::{Known, known_after_steps};
 use crate::type_classes::{add_class, add_default, add_shared, add_start};
 use crate::type_origin::{By, History, Later, TypeChange, TypeOrigin, TypeSource};
 use crate::type_steps::{history_of, locks_over};
-use crate::type_words::{change_end, change_word, list_word, listed_text, source_end};
+use crate::type_words::{add_stored, change_end, change_word, list_word, listed_text};
 use cov_ast::{NameTable, Program, StmtKind};
 use cov_expr::{Blob, NoMemory};
 use statement_paths::Step;
 use std::alloc::Global;
 use text_parts::{add_lock_name, add_number, add_variable_name, position, variable_names};
 
-/// Adds a line for each variable whose type makes up the goal of what is asked of a statement: where that type comes from. `steps` are
-/// those from the start of the thread to the point of which is asked, and `bytes` are the text of the program.
+/// How many variables are told of behind those of the goal.
+const MOST_BEHIND: usize = 8;
+
+/// Adds a line for each variable whose type makes up the goal of what is asked of a statement: where that type comes from; and at most
+/// eight more for the variables behind these types. `steps` are those from the start of the thread to the point of which is asked, and
+/// `bytes` are the text of the program.
 ///
-/// For each such variable it takes time in proportion to the text, to what the steps list, to the lists of the locks and to the class of the
-/// variable; once, to the names, and for each variable of the program to the classes.
+/// For each such variable it takes time in proportion to the text, to what the steps list, to the lists of the locks, to the class of the
+/// variable and to the variables of the program; once, to the names, and for each variable of the program to the classes.
 pub fn add_type_lines(
     alloc: Global,
     p: &Program,
@@ -41,36 +46,64 @@ pub fn add_type_lines(
     requires thread { t < length p.now.threads }
     ensures { OnOk result (text.new ≡ text.old ++ spec.type_lines (plain (view.program p.now)) t bytes.now (map paths.step steps.now) question (view.kind kind.now)) }
 {
-    let known = known_after_steps(alloc, p, t, steps)?;
     let variables = variables_of(alloc, question, kind)?;
     let names = variable_names(alloc, p)?;
-    add_lines(
+    add_lines_behind(
         alloc,
         p,
+        t,
         &names,
         bytes,
         steps,
-        &known,
         variables.as_slice(),
         text,
     )
 }
 
-/// Adds the line of each of some variables.
-fn add_lines(
+/// Adds the lines of some variables, and of those behind their types.
+fn add_lines_behind(
     alloc: Global,
     p: &Program,
+    t: u32,
     names: &NameTable,
     bytes: &[u8],
     steps: &[Step<'_>],
-    known: &Known,
     variables: &[u32],
     text: &mut Blob,
 ) -> Result<(), NoMemory>
-    ensures { OnOk result (text.new ≡ text.old ++ spec.lines_of (plain (view.program p.now)) names.now bytes.now (map paths.step steps.now) known.now variables.now) }
+    requires formed { IsWellFormed (view.program p.now) }
+    requires thread { t < length p.now.threads }
+    ensures { OnOk result (text.new ≡ text.old ++ spec.lines_behind (plain (view.program p.now)) t names.now bytes.now (map paths.step steps.now) variables.now) }
 {
-    for z in variables {
-        add_line(alloc, p, names, bytes, steps, known, *z, text)?;
+    let most = variables.len() + MOST_BEHIND;
+    let mut all = at_point(alloc, steps.len(), variables)?;
+    follow(alloc, p, t, most, steps, &mut all)?;
+    add_lines(alloc, p, t, names, bytes, steps, most, all.as_slice(), text)
+}
+
+/// Adds the line of each of some variables, at most so many.
+fn add_lines(
+    alloc: Global,
+    p: &Program,
+    t: u32,
+    names: &NameTable,
+    bytes: &[u8],
+    steps: &[Step<'_>],
+    most: usize,
+    variables: &[VariableAt],
+    text: &mut Blob,
+) -> Result<(), NoMemory>
+    requires formed { IsWellFormed (view.program p.now) }
+    requires thread { t < length p.now.threads }
+    ensures { OnOk result (text.new ≡ text.old ++ spec.lines_of (plain (view.program p.now)) t names.now bytes.now (map paths.step steps.now) most variables.now) }
+{
+    let mut left = most;
+    for v in variables {
+        if left == 0 {
+            return text.extend_from_slice(b"  more types behind these are left out\n");
+        }
+        left -= 1;
+        add_line(alloc, p, t, names, bytes, steps, v, text)?;
     }
     Ok(())
 }
@@ -79,27 +112,89 @@ fn add_lines(
 fn add_line(
     alloc: Global,
     p: &Program,
+    t: u32,
     names: &NameTable,
     bytes: &[u8],
     steps: &[Step<'_>],
-    known: &Known,
-    z: u32,
+    v: &VariableAt,
     text: &mut Blob,
 ) -> Result<(), NoMemory>
-    ensures { OnOk result (text.new ≡ text.old ++ spec.type_line (plain (view.program p.now)) names.now bytes.now (map paths.step steps.now) known.now z) }
+    requires formed { IsWellFormed (view.program p.now) }
+    requires thread { t < length p.now.threads }
+    ensures { OnOk result (text.new ≡ text.old ++ spec.type_line (plain (view.program p.now)) t names.now bytes.now (map paths.step steps.now) v.now) }
 {
-    add_label(p, z, text)?;
-    add_type(alloc, p, names, bytes, steps, known, z, text)?;
+    add_label(p, bytes, steps, v, text)?;
+    add_type_behind(
+        alloc,
+        p,
+        t,
+        names,
+        bytes,
+        first_steps(steps, v.steps),
+        v.var,
+        text,
+    )?;
     text.extend_from_slice(b"\n")
 }
 
 /// Adds what stands in front of the words on a variable.
-fn add_label(p: &Program, z: u32, text: &mut Blob) -> Result<(), NoMemory>
-    ensures { OnOk result (text.new ≡ text.old ++ spec.label (plain (view.program p.now)) z) }
+fn add_label(
+    p: &Program,
+    bytes: &[u8],
+    steps: &[Step<'_>],
+    v: &VariableAt,
+    text: &mut Blob,
+) -> Result<(), NoMemory>
+    ensures { OnOk result (text.new ≡ text.old ++ spec.label (plain (view.program p.now)) bytes.now (map paths.step steps.now) v.now) }
 {
     text.extend_from_slice(b"  type of ")?;
-    add_variable_name(p, z, text)?;
+    add_variable_name(p, v.var, text)?;
+    add_point_behind(bytes, steps, v.steps, text)?;
     text.extend_from_slice(b":  ")
+}
+
+/// Adds where a type is looked at behind so many of the steps.
+fn add_point_behind(
+    bytes: &[u8],
+    steps: &[Step<'_>],
+    count: usize,
+    text: &mut Blob,
+) -> Result<(), NoMemory>
+    ensures { OnOk result (text.new ≡ text.old ++ spec.point_behind bytes.now (map paths.step steps.now) count) }
+{
+    add_point(bytes, steps.get(count), text)
+}
+
+/// Adds the line of the step in front of which a type is looked at, if that isn't the point of which is asked.
+fn add_point(bytes: &[u8], step: Option<&Step<'_>>, text: &mut Blob) -> Result<(), NoMemory>
+    ensures { OnOk result (text.new ≡ text.old ++ spec.point_text bytes.now (option_map (λ s. paths.step s.now) step.entry)) }
+{
+    match step {
+        Some(step) => {
+            text.extend_from_slice(b" at line ")?;
+            add_number(position(bytes, step.place() as usize).line, text)
+        }
+        None => Ok(()),
+    }
+}
+
+/// Adds where the type of a variable behind steps comes from.
+fn add_type_behind(
+    alloc: Global,
+    p: &Program,
+    t: u32,
+    names: &NameTable,
+    bytes: &[u8],
+    steps: &[Step<'_>],
+    z: u32,
+    text: &mut Blob,
+) -> Result<(), NoMemory>
+    requires formed { IsWellFormed (view.program p.now) }
+    requires thread { t < length p.now.threads }
+    ensures { OnOk result (text.new ≡ text.old ++ spec.behind_text (plain (view.program p.now)) t names.now bytes.now (map paths.step steps.now) z) }
+{
+    let known = known_after_steps(alloc, p, t, steps)?;
+    add_type(alloc, p, names, bytes, steps, &known, z, text)
 }
 
 /// Adds where the type of a variable comes from.
@@ -139,7 +234,16 @@ fn add_tracked(
 {
     let locks = locks_over(alloc, p, z)?;
     let history = history_of(&known.controls, &locks, z, steps);
-    add_history(p, names, bytes, known.hidden.has(z), z, &history, text)
+    add_history(
+        p,
+        names,
+        bytes,
+        steps,
+        known.hidden.has(z),
+        z,
+        &history,
+        text,
+    )
 }
 
 /// Adds the history of the type of a variable.
@@ -147,14 +251,15 @@ fn add_history(
     p: &Program,
     names: &NameTable,
     bytes: &[u8],
+    steps: &[Step<'_>],
     hidden: bool,
     z: u32,
     history: &History,
     text: &mut Blob,
 ) -> Result<(), NoMemory>
-    ensures { OnOk result (text.new ≡ text.old ++ spec.history_text (plain (view.program p.now)) names.now bytes.now hidden z history.now) }
+    ensures { OnOk result (text.new ≡ text.old ++ spec.history_text (plain (view.program p.now)) names.now bytes.now (map paths.step steps.now) hidden z history.now) }
 {
-    add_any_origin(p, names, bytes, hidden, z, history.origin, text)?;
+    add_any_origin(p, names, bytes, steps, hidden, z, history.origin, text)?;
     if is_zero_since(hidden, history.origin) {
         Ok(())
     } else {
@@ -187,15 +292,16 @@ fn add_any_origin(
     p: &Program,
     names: &NameTable,
     bytes: &[u8],
+    steps: &[Step<'_>],
     hidden: bool,
     z: u32,
     origin: Option<TypeOrigin>,
     text: &mut Blob,
 ) -> Result<(), NoMemory>
-    ensures { OnOk result (text.new ≡ text.old ++ spec.origin_text (plain (view.program p.now)) names.now bytes.now hidden z origin) }
+    ensures { OnOk result (text.new ≡ text.old ++ spec.origin_text (plain (view.program p.now)) names.now bytes.now (map paths.step steps.now) hidden z origin) }
 {
     match origin {
-        Some(origin) => add_origin(p, names, bytes, hidden, z, origin, text),
+        Some(origin) => add_origin(p, names, bytes, steps, hidden, z, origin, text),
         None => add_start(p, names, z, text),
     }
 }
@@ -205,16 +311,48 @@ fn add_origin(
     p: &Program,
     names: &NameTable,
     bytes: &[u8],
+    steps: &[Step<'_>],
     hidden: bool,
     z: u32,
     origin: TypeOrigin,
     text: &mut Blob,
 ) -> Result<(), NoMemory>
-    ensures { OnOk result (text.new ≡ text.old ++ spec.set_text (plain (view.program p.now)) names.now bytes.now hidden z origin) }
+    ensures { OnOk result (text.new ≡ text.old ++ spec.set_text (plain (view.program p.now)) names.now bytes.now (map paths.step steps.now) hidden z origin) }
 {
     add_source(p, names, hidden, z, origin.source, text)?;
     add_place(bytes, origin.at, text)?;
-    text.extend_from_slice(source_end(origin.source).as_bytes())
+    add_source_end(names, steps, origin.index, origin.source, text)
+}
+
+/// Adds what stands behind the line of what sets a type, in the step with an index.
+fn add_source_end(
+    names: &NameTable,
+    steps: &[Step<'_>],
+    index: usize,
+    source: TypeSource,
+    text: &mut Blob,
+) -> Result<(), NoMemory>
+    ensures { OnOk result (text.new ≡ text.old ++ spec.source_end names.now (map paths.step steps.now) index source) }
+{
+    match source {
+        TypeSource::Stored => add_stored_in(names, steps.get(index), text),
+        TypeSource::Taken(_) | TypeSource::Listed(_) => Ok(()),
+        TypeSource::Unlisted(_) => text.extend_from_slice(b", doesn't list it"),
+    }
+}
+
+/// Adds the value that is stored in a step, or the type that is written for it.
+fn add_stored_in(
+    names: &NameTable,
+    step: Option<&Step<'_>>,
+    text: &mut Blob,
+) -> Result<(), NoMemory>
+    ensures { OnOk result (text.new ≡ text.old ++ spec.stored_in names.now (option_map (λ s. paths.step s.now) step.entry)) }
+{
+    match step {
+        Some(Step::Passed(stmt)) => add_stored(names, &stmt.kind, text),
+        Some(Step::Yes(_, _) | Step::No(_, _) | Step::Head(_, _)) | None => Ok(()),
+    }
 }
 
 /// Adds what sets the type of a variable.

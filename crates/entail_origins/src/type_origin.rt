@@ -26,11 +26,12 @@ pub enum TypeSource {
     Unlisted(By),
 }
 
-/// Where a type comes from: what sets it, and the byte offset of the statement that does.
+/// Where a type comes from: what sets it, the byte offset of the statement that does, and how many steps stand in front of its step.
 #[derive(Clone, Copy, PartialEq, Eq)]
 pub struct TypeOrigin {
     pub source: TypeSource,
     pub at: u32,
+    pub index: usize,
 }
 
 /// What may forget a type.

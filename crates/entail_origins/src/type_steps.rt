@@ -23,35 +23,36 @@ pub fn history_of(controls: &Mask, locks: &NumberSet, z: u32, steps: &[Step<'_>]
         origin: None,
         later: None,
     };
-    for step in steps {
-        so_far = history_after_step(controls, locks, z, step, so_far);
+    for (index, step) in steps.iter().enumerate() {
+        so_far = history_after_step(controls, locks, z, index, step, so_far);
     }
     so_far
 }
 
-/// The history with a step more.
+/// The history with a step more, that with this index.
 fn history_after_step(
     controls: &Mask,
     locks: &NumberSet,
     z: u32,
+    index: usize,
     step: &Step<'_>,
     so_far: History,
 ) -> History
-    ensures { result ≡ spec.history_after_step controls.now locks.now z (paths.step step.now) so_far }
+    ensures { result ≡ spec.history_after_step controls.now locks.now z index (paths.step step.now) so_far }
 {
     let at = step.place();
     match set_by(controls, locks, z, step) {
-        Some(source) => set_at(at, source),
+        Some(source) => set_at(index, at, source),
         None => changed_at(at, changed_by(controls, step), so_far),
     }
 }
 
-/// A type that was set at a place, and not changed since.
-fn set_at(at: u32, source: TypeSource) -> History
-    ensures { result ≡ spec.set_at at source }
+/// A type that was set by the step with an index, and not changed since.
+fn set_at(index: usize, at: u32, source: TypeSource) -> History
+    ensures { result ≡ spec.set_at index at source }
 {
     History {
-        origin: Some(TypeOrigin { source, at }),
+        origin: Some(TypeOrigin { source, at, index }),
         later: None,
     }
 }

@@ -1,9 +1,15 @@
 //! The words on an origin, and on a later change.
 
-ghost use Rattle.std.specs.Prelude.{◌≡◌};
+ghost use Rattle.std.specs.Prelude.{◌≡◌, ◌++◌, OnOk, codes, option_map};
+ghost use Rattle.cov_ast.specs.View as view;
+ghost use Rattle.cov_expr.specs.View.{term};
+ghost use Rattle.cov_print.specs.Spelling.{whole};
 ghost use Rattle.entail_origins.specs.TypeLines as spec;
 
-use crate::type_origin::{By, TypeChange, TypeSource};
+use crate::type_origin::{By, TypeChange};
+use cov_ast::{NameTable, StmtKind};
+use cov_expr::{Blob, Expr, NoMemory};
+use cov_print::add_expr;
 
 /// What lists types, or doesn't.
 pub fn list_word(by: By) -> &'static str
@@ -29,14 +35,39 @@ pub fn listed_text(by: By) -> &'static str
     }
 }
 
-/// What stands behind the line of what sets a type.
-pub fn source_end(source: TypeSource) -> &'static str
-    ensures { result.now ≡ spec.source_end source }
+/// Adds the value that a statement stores, or the type that is written for it.
+pub fn add_stored(names: &NameTable, kind: &StmtKind, text: &mut Blob) -> Result<(), NoMemory>
+    ensures { OnOk result (text.new ≡ text.old ++ spec.stored_text names.now (view.kind kind.now)) }
 {
-    match source {
-        TypeSource::Stored | TypeSource::Taken(_) | TypeSource::Listed(_) => "",
-        TypeSource::Unlisted(_) => ", doesn't list it",
+    match kind {
+        StmtKind::Assign(_, e, q, _) => add_value(names, q, e, text),
+        StmtKind::Skip
+        | StmtKind::Lock(_)
+        | StmtKind::Unlock(_)
+        | StmtKind::If(_, _, _, _)
+        | StmtKind::While(_, _, _)
+        | StmtKind::Note(_)
+        | StmtKind::Output(_) => Ok(()),
     }
+}
+
+/// Adds a value, or the type that is written for it.
+fn add_value(names: &NameTable, q: &Option<Expr>, e: &Expr, text: &mut Blob) -> Result<(), NoMemory>
+    ensures { OnOk result (text.new ≡ text.old ++ spec.value_text names.now (option_map term q.now) (term e.now)) }
+{
+    match q {
+        None => add_quoted(names, b", of `", e, text),
+        Some(q) => add_quoted(names, b", which says that it is `", q, text),
+    }
+}
+
+/// Adds an expression in quotes, behind some words that begin them.
+fn add_quoted(names: &NameTable, words: &[u8], e: &Expr, text: &mut Blob) -> Result<(), NoMemory>
+    ensures { OnOk result (text.new ≡ text.old ++ spec.quoted names.now words.now (term e.now)) }
+{
+    text.extend_from_slice(words)?;
+    add_expr(names, false, e, text)?;
+    text.extend_from_slice(b"`")
 }
 
 /// What is done that may forget a type.
