@@ -9,4 +9,4 @@ mod JoinedExamples
 pub mod StableLaws
 pub mod StepLaws
 mod LostLaws
-mod LastStore
+pub mod UnknownLaws

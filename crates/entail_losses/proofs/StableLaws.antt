@@ -48,7 +48,7 @@ not_listed l marks x h =
     let written = none_of l.nowrite marks x hidden.0 in
     (written.0, λ i. written.1 i || hidden.1 i)
 
-in_table : (n : ℕ) (f : ℕ → Bool) (x : ℕ) → has (table n f) x ≡ true → f x ≡ true
+pub in_table : (n : ℕ) (f : ℕ → Bool) (x : ℕ) → has (table n f) x ≡ true → f x ≡ true
 in_table n f x h = elim (cases_lt x n) [
   | inl inside ↦ sym (table_at n f x inside) ∙ h
   | inr past ↦ absurd (true≢false (sym h ∙ get_or_past (table n f) x false (omega (arith, table_length n f, past))))

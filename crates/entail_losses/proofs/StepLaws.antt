@@ -34,7 +34,7 @@ pub at_end : (es : List Term) (e : Term) → has_term (es ++ e ∷ []) e ≡ tru
 at_end es e =
     has_term_append es (e ∷ []) e ∙ or_right (has_term es e) (has_term (e ∷ []) e) (or_left (same e e) false (same_refl e))
 
-stays_with : (es : List Term) (e h : Term) → has_term es h ≡ true → has_term (with_term es e) h ≡ true
+pub stays_with : (es : List Term) (e h : Term) → has_term es h ≡ true → has_term (with_term es e) h ≡ true
 stays_with es e h k = by_case (has_term es e)
   where
     by_case : (b : Bool) → has_term (if b then es else es ++ e ∷ []) h ≡ true
@@ -42,7 +42,7 @@ stays_with es e h k = by_case (has_term es e)
     by_case false = stays_at_end es (e ∷ []) h k
 
 -- one that is added is there
-is_with : (es : List Term) (e : Term) → has_term (with_term es e) e ≡ true
+pub is_with : (es : List Term) (e : Term) → has_term (with_term es e) e ≡ true
 is_with es e = by_case (has_term es e) refl
   where
     by_case : (b : Bool) → has_term es e ≡ b → has_term (if b then es else es ++ e ∷ []) e ≡ true
@@ -63,11 +63,11 @@ are_with es (f ∷ fs) h k = elim (or_cases (same f h) (has_term fs h) k) [
 pub in_distinct : (es : List Term) (h : Term) → has_term es h ≡ true → has_term (distinct_terms es) h ≡ true
 in_distinct es h k = are_with [] es h k
 
-stays_with_if : (b : Bool) (es : List Term) (e h : Term) → has_term es h ≡ true → has_term (with_term_if b es e) h ≡ true
+pub stays_with_if : (b : Bool) (es : List Term) (e h : Term) → has_term es h ≡ true → has_term (with_term_if b es e) h ≡ true
 stays_with_if true es e h k = stays_with es e h k
 stays_with_if false es e h k = k
 
-is_with_if : (b : Bool) (es : List Term) (e : Term) → b ≡ true → has_term (with_term_if b es e) e ≡ true
+pub is_with_if : (b : Bool) (es : List Term) (e : Term) → b ≡ true → has_term (with_term_if b es e) e ≡ true
 is_with_if true es e h = is_with es e
 is_with_if false es e h = absurd (true≢false (sym h))
 
@@ -76,7 +76,7 @@ stays_with_option es None h k = k
 stays_with_option es (Some e) h k = stays_with es e h k
 
 -- one that passes a test is there behind it
-in_filter : (keep : Term → Bool) (es : List Term) (h : Term) → keep h ≡ true → has_term es h ≡ true → has_term (filter keep es) h ≡ true
+pub in_filter : (keep : Term → Bool) (es : List Term) (h : Term) → keep h ≡ true → has_term es h ≡ true → has_term (filter keep es) h ≡ true
 in_filter keep [] h passes k = k
 in_filter keep (e ∷ es) h passes k = by_case (λ m. in_filter keep es h passes m) (keep e) refl (or_cases (same e h) (has_term es h) k)
   where

@@ -7,5 +7,6 @@ pub mod WouldBeKept
 pub mod Joined
 pub mod WouldBeJoined
 pub mod StateWords
-pub mod OwnStores
+pub mod Unknowns
+pub mod UnknownLines
 pub mod Losses

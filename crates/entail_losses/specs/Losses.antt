@@ -1,6 +1,6 @@
 -- What is told of the predicates that were lost on the way to the point of which an entailment asks: those of which one alone would help, where there are
--- such; else none, where a memory breaks the entailment even with all of them; and else all. Then the last store to a variable of the goal of which nothing is
--- known, where that is of a value over itself.
+-- such; else none, where a memory breaks the entailment even with all of them; and else all. Then why nothing is known of variables of the goal that no
+-- hypothesis mentions.
 use Rattle.std.specs.Prelude.{ℕ, List, [], ◌∷◌, ◌++◌, map, Bool, true, if◌then◌else◌}
 use Rattle.cov_expr.specs.Term.{Term}
 use Rattle.cov_ast.specs.Plain.{Plain, plain}
@@ -11,7 +11,7 @@ use Rattle.entail_losses.specs.ForgottenLines.{forgotten_line, forgotten_lines}
 use Rattle.entail_losses.specs.Joined.{with_joined}
 use Rattle.entail_losses.specs.LeftOut.{LeftOut, left_out}
 use Rattle.entail_losses.specs.LeftOutLines.{left_out_line, left_out_lines}
-use Rattle.entail_losses.specs.OwnStores.{own_store_lines}
+use Rattle.entail_losses.specs.UnknownLines.{unknown_lines}
 use Rattle.entail_text.specs.Findings.{is_hopeless, would_help}
 use Rattle.statement_paths.specs.Paths.{Step}
 use Rattle.statement_paths.specs.VariableSets.{stable_after_steps}
@@ -70,4 +70,4 @@ module _ (p : Plain) (names : Names) (bytes : List ℕ) (hyps : List Term) (goal
 abbrev pub losses : Program → (t : ℕ) → (bytes : List ℕ) → List Step → (hyps : List Term) → (goal : Term) → List ℕ
 losses p t bytes steps hyps goal =
     lines_along (plain p) (variable_names p.vars) bytes hyps goal (stable_after_steps (plain p) t steps) steps
-    ++ own_store_lines (variable_names p.vars) bytes steps hyps goal
+    ++ unknown_lines (plain p) t (variable_names p.vars) bytes (stable_after_steps (plain p) t steps) steps hyps goal

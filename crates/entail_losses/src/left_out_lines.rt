@@ -72,7 +72,7 @@ fn label(helps: bool) -> &'static str
 }
 
 /// Adds what gives a predicate, and its line.
-fn add_origin_part(
+pub fn add_origin_part(
     p: &Program,
     bytes: &[u8],
     origin: Origin,

@@ -17,7 +17,7 @@ use crate::joined_found::add_joined;
 use crate::left_out_found::LeftOut;
 use crate::left_out_lines::{add_left_out_line, add_left_out_lines};
 use crate::left_out_search::left_out;
-use crate::own_stores::add_own_store;
+use crate::unknown_lines::add_unknown_lines;
 use cov_ast::{NameTable, Program};
 use cov_expr::{Blob, Expr, List, NoMemory, copy};
 use entail_text::{is_hopeless, would_help};
@@ -27,16 +27,16 @@ use text_parts::variable_names;
 
 /// Adds what is told of the predicates that were lost on the way to the point of which an entailment of a thread asks, behind these steps: a line for each of which one alone would help;
 /// where there are none, and where no memory is found that breaks the entailment even with all of them, a line for each: the predicate, what gives it, and
-/// the state that leaves it out, or the store that forgets it. Then a line of the last store to a variable of the goal of which nothing is known, where that is of a value over itself. `bytes` are the text of the program.
+/// the state that leaves it out, or the store that forgets it. Then a line for each of the first variables of the goal that no hypothesis mentions: why nothing is known of it. `bytes` are the text of the program.
 ///
 /// It takes time in proportion to the steps and what they spell, times the hypotheses, and to the text, and for each loss, of which there are 24 at most, the
 /// time of a search for a certificate, and that of one search for a memory.
-pub fn add_losses(
+pub fn add_losses<'p>(
     alloc: Global,
-    p: &Program,
+    p: &'p Program,
     t: u32,
     bytes: &[u8],
-    steps: &[Step<'_>],
+    steps: &[Step<'p>],
     hyps: &[Expr],
     goal: &Expr,
     text: &mut Blob,
@@ -55,7 +55,7 @@ pub fn add_losses(
         parts: parts.as_slice(),
     };
     add_lost(alloc, p, &names, bytes, hyps, goal, lost, text)?;
-    add_own_store(&names, bytes, steps, hyps, goal, text)
+    add_unknown_lines(alloc, p, t, &names, bytes, &stable, steps, hyps, goal, text)
 }
 
 /// What was lost: predicates that states left out, and parts that stores forgot.

@@ -1,0 +1,433 @@
+//! Why nothing is known of a variable behind steps.
+
+ghost use Rattle.std.specs.Prelude.{◌≡◌, ◌<◌, ℕ, IfOk, length, map, option_map};
+ghost use Rattle.cov_expr.specs.Trees as tree;
+ghost use Rattle.cov_expr.specs.View.{term};
+ghost use Rattle.cov_ast.specs.Declarations.{lock_at};
+ghost use Rattle.cov_ast.specs.Plain.{plain};
+ghost use Rattle.cov_ast.specs.Tables.{has};
+ghost use Rattle.cov_ast.specs.View as view;
+ghost use Rattle.cov_ast.specs.WellFormed.{IsWellFormed};
+ghost use Rattle.entail_losses.specs.Unknowns as spec;
+ghost use Rattle.entail_origins.specs.GivenViews.{given_term};
+ghost use Rattle.point_law.specs.Terms.{each_variable};
+ghost use Rattle.statement_paths.specs.LocksHeld.{held_after};
+ghost use Rattle.statement_paths.specs.Paths as paths;
+
+use crate::left_out_found::is_over;
+use crate::left_out_states::{StateAt, StateKind};
+use cov_ast::{NumberSet, Program, State, StmtKind, first_outside};
+use cov_expr::{Expr, NoMemory, mentions};
+use entail_origins::{GivenTerm, HypothesisSource, Origin};
+use mode_state::ModeState;
+use statement_paths::{Step, pass_block, stable_set};
+use std::alloc::Global;
+
+/// A predicate, with what gives it.
+#[derive(Clone, Copy)]
+pub struct Fact<'p> {
+    pub origin: Origin,
+    pub term: GivenTerm<'p>,
+}
+
+/// What forgets a predicate, with the byte offset of its statement.
+#[derive(Clone, Copy)]
+pub enum Loss {
+    /// A store to this variable.
+    Stored(u32, u32),
+    /// The return of this lock.
+    Returned(u32, u32),
+}
+
+/// What the last step that counts tells of a variable, with the byte offset of its statement.
+#[derive(Clone, Copy)]
+pub enum Reason<'p> {
+    /// No step counts.
+    Unmentioned,
+    /// An assignment to it of a value over itself.
+    Own(u32),
+    /// An assignment to it that gives no equation, since this variable isn't stable there.
+    NoEquation(u32, u32),
+    /// A guard that mentions it and gives no predicate, for the same reason.
+    NoGuard(u32, u32),
+    /// A state that lists nothing that mentions it.
+    Unlisted(StateAt),
+    /// This lock, which it is under, and whose invariant doesn't mention it.
+    Taken(u32, u32),
+    /// Something gives a predicate that mentions it, which is known since.
+    Known(Fact<'p>),
+    /// The same, and it is forgotten since.
+    Forgotten(Fact<'p>, Loss),
+}
+
+/// Why nothing is known of a variable behind steps from the start of a thread. Each step is looked at once, and for each the variables of the program.
+pub fn reason_of<'p>(
+    alloc: Global,
+    p: &'p Program,
+    t: u32,
+    x: u32,
+    steps: &[Step<'p>],
+) -> Result<Reason<'p>, NoMemory>
+    requires formed { IsWellFormed (view.program p.now) }
+    requires thread { t < length p.now.threads }
+    ensures { IfOk result (λ made. spec.seen made ≡ spec.reason (plain (view.program p.now)) t x (map paths.step steps.now)) }
+{
+    let mut modes = ModeState::start(alloc, p, t)?;
+    let mut so_far = Reason::Unmentioned;
+    for step in steps {
+        follow_step(step, &mut modes);
+        let stable = stable_set(alloc, p, &modes)?;
+        so_far = after_step(p, x, &stable, step, so_far);
+    }
+    Ok(so_far)
+}
+
+/// Takes and gives back the locks that are taken and given back in a step.
+fn follow_step(step: &Step<'_>, modes: &mut ModeState)
+    ensures { modes.new ≡ record modes.old { held = held_after (paths.step step.now) (modes.old).held } }
+{
+    match step {
+        Step::Passed(stmt) => match &stmt.kind {
+            StmtKind::Lock(l) => modes.take(*l),
+            StmtKind::Unlock(l) => modes.give(*l),
+            StmtKind::If(_, a, _, _) => pass_block(a.as_slice(), modes),
+            StmtKind::Skip
+            | StmtKind::Assign(_, _, _, _)
+            | StmtKind::While(_, _, _)
+            | StmtKind::Note(_)
+            | StmtKind::Output(_) => {}
+        },
+        Step::Yes(_, _) | Step::No(_, _) | Step::Head(_, _) => {}
+    }
+}
+
+/// What a step makes of what was told so far, where these variables are stable behind it.
+fn after_step<'p>(
+    p: &'p Program,
+    x: u32,
+    stable: &NumberSet,
+    step: &Step<'p>,
+    so_far: Reason<'p>,
+) -> Reason<'p>
+    ensures { spec.seen result ≡ spec.after_step x stable.now (plain (view.program p.now)) (paths.step step.now) (spec.seen so_far.entry) }
+{
+    match step {
+        Step::Passed(stmt) => after_statement(p, x, stable, stmt.at, &stmt.kind, so_far),
+        Step::Yes(at, guard) => after_guard(
+            x,
+            stable,
+            *at,
+            HypothesisSource::GuardHolds,
+            GivenTerm::Written(guard),
+            guard,
+            so_far,
+        ),
+        Step::No(at, guard) => after_guard(
+            x,
+            stable,
+            *at,
+            HypothesisSource::GuardFails,
+            GivenTerm::Negation(guard),
+            guard,
+            so_far,
+        ),
+        Step::Head(at, inv) => {
+            after_state(x, StateKind::Inv, HypothesisSource::LoopState, *at, inv)
+        }
+    }
+}
+
+/// The same of a statement that is passed.
+fn after_statement<'p>(
+    p: &'p Program,
+    x: u32,
+    stable: &NumberSet,
+    at: u32,
+    kind: &'p StmtKind,
+    so_far: Reason<'p>,
+) -> Reason<'p>
+    ensures { spec.seen result ≡ spec.after_statement x stable.now (plain (view.program p.now)) at (view.kind kind.now) (spec.seen so_far.entry) }
+{
+    match kind {
+        StmtKind::Skip | StmtKind::Output(_) => so_far,
+        StmtKind::Assign(y, value, _, _) => after_assignment(x, stable, at, *y, value, so_far),
+        StmtKind::Lock(l) => after_lock(p, x, at, *l, so_far),
+        StmtKind::Unlock(l) => after_unlock(stable, at, *l, so_far),
+        StmtKind::If(_, _, _, join) => {
+            after_state(x, StateKind::Join, HypothesisSource::Join, at, join)
+        }
+        StmtKind::While(guard, inv, _) => after_loop(x, stable, at, guard, inv),
+        StmtKind::Note(note) => after_state(x, StateKind::Note, HypothesisSource::Noted, at, note),
+    }
+}
+
+/// The same of an assignment to a variable.
+fn after_assignment<'p>(
+    x: u32,
+    stable: &NumberSet,
+    at: u32,
+    y: u32,
+    value: &'p Expr,
+    so_far: Reason<'p>,
+) -> Reason<'p>
+    ensures { spec.seen result ≡ spec.after_assignment x stable.now at y (term value.now) (spec.seen so_far.entry) }
+{
+    if y == x {
+        after_own(x, stable, at, value)
+    } else {
+        after_other(x, stable, at, y, value, so_far)
+    }
+}
+
+/// The same of an assignment to the variable itself, which begins anew.
+fn after_own<'p>(x: u32, stable: &NumberSet, at: u32, value: &'p Expr) -> Reason<'p>
+    ensures { spec.seen result ≡ spec.after_own x stable.now at (term value.now) }
+{
+    if mentions(value, x) {
+        Reason::Own(at)
+    } else if !stable.has(x) {
+        Reason::NoEquation(at, x)
+    } else {
+        match first_outside(value, stable) {
+            Some(y) => Reason::NoEquation(at, y),
+            None => equation(at, x, value),
+        }
+    }
+}
+
+/// The same of an assignment to another variable.
+fn after_other<'p>(
+    x: u32,
+    stable: &NumberSet,
+    at: u32,
+    y: u32,
+    value: &'p Expr,
+    so_far: Reason<'p>,
+) -> Reason<'p>
+    ensures { spec.seen result ≡ spec.after_other x stable.now at y (term value.now) (spec.seen so_far.entry) }
+{
+    if mentions(value, x) && !mentions(value, y) && stable.has(y) && is_over(stable, value) {
+        equation(at, y, value)
+    } else {
+        after_store(at, y, so_far)
+    }
+}
+
+/// An equation that an assignment gives.
+fn equation(at: u32, y: u32, value: &Expr) -> Reason<'_>
+    ensures { spec.seen result ≡ spec.known (spec.equation at y (term value.now)) }
+{
+    known(
+        at,
+        HypothesisSource::Assigned,
+        GivenTerm::Equation(y, value),
+    )
+}
+
+/// A predicate that something at a place gives.
+fn known(at: u32, source: HypothesisSource, made: GivenTerm<'_>) -> Reason<'_>
+    ensures { spec.seen result ≡ spec.known (spec.fact_at at source (given_term made.entry)) }
+{
+    Reason::Known(Fact {
+        origin: Origin { source, at },
+        term: made,
+    })
+}
+
+/// What a store to a variable makes of what was told so far.
+fn after_store(at: u32, y: u32, so_far: Reason<'_>) -> Reason<'_>
+    ensures { spec.seen result ≡ spec.after_store at y (spec.seen so_far.entry) }
+{
+    match so_far {
+        Reason::Known(fact) => {
+            if is_about(fact.term, y) {
+                Reason::Forgotten(fact, Loss::Stored(at, y))
+            } else {
+                so_far
+            }
+        }
+        Reason::Unmentioned
+        | Reason::Own(_)
+        | Reason::NoEquation(_, _)
+        | Reason::NoGuard(_, _)
+        | Reason::Unlisted(_)
+        | Reason::Taken(_, _)
+        | Reason::Forgotten(_, _) => so_far,
+    }
+}
+
+/// What the return of a lock makes of what was told so far.
+fn after_unlock<'p>(stable: &NumberSet, at: u32, l: u32, so_far: Reason<'p>) -> Reason<'p>
+    ensures { spec.seen result ≡ spec.after_unlock stable.now at l (spec.seen so_far.entry) }
+{
+    match so_far {
+        Reason::Known(fact) => {
+            if is_term_over(stable, fact.term) {
+                so_far
+            } else {
+                Reason::Forgotten(fact, Loss::Returned(at, l))
+            }
+        }
+        Reason::Unmentioned
+        | Reason::Own(_)
+        | Reason::NoEquation(_, _)
+        | Reason::NoGuard(_, _)
+        | Reason::Unlisted(_)
+        | Reason::Taken(_, _)
+        | Reason::Forgotten(_, _) => so_far,
+    }
+}
+
+/// Whether a predicate mentions a variable.
+fn is_about(made: GivenTerm<'_>, y: u32) -> bool
+    ensures { result ≡ tree.mentions (given_term made.entry) y }
+{
+    match made {
+        GivenTerm::Written(e) | GivenTerm::Negation(e) => mentions(e, y),
+        GivenTerm::Equation(x, value) => x == y || mentions(value, y),
+    }
+}
+
+/// Whether each variable of a predicate is in a set.
+fn is_term_over(set: &NumberSet, made: GivenTerm<'_>) -> bool
+    ensures { result ≡ each_variable (has set.now) (given_term made.entry) }
+{
+    match made {
+        GivenTerm::Written(e) | GivenTerm::Negation(e) => is_over(set, e),
+        GivenTerm::Equation(x, value) => set.has(x) && is_over(set, value),
+    }
+}
+
+/// What a guard, or its negation, makes of what was told so far.
+fn after_guard<'p>(
+    x: u32,
+    stable: &NumberSet,
+    at: u32,
+    source: HypothesisSource,
+    made: GivenTerm<'p>,
+    guard: &Expr,
+    so_far: Reason<'p>,
+) -> Reason<'p>
+    requires same_mentions { (y : ℕ) → tree.mentions (given_term made) y ≡ tree.mentions (term guard.now) y }
+    requires same_occurrences { tree.occurrences (given_term made) ≡ tree.occurrences (term guard.now) }
+    ensures { spec.seen result ≡ spec.after_guard x stable.now at source (given_term made.entry) (spec.seen so_far.entry) }
+{
+    if mentions(guard, x) {
+        match first_outside(guard, stable) {
+            Some(y) => without_guard(x, stable, at, y, so_far),
+            None => known(at, source, made),
+        }
+    } else {
+        so_far
+    }
+}
+
+/// What a guard tells that gives no predicate, since this variable isn't stable, or the variable itself.
+fn without_guard<'p>(x: u32, stable: &NumberSet, at: u32, y: u32, so_far: Reason<'p>) -> Reason<'p>
+    ensures { spec.seen result ≡ spec.unless_known (spec.seen so_far.entry) (spec.no_guard at (spec.unstable_first x stable.now y)) }
+{
+    let first = if stable.has(x) { y } else { x };
+    unless_known(so_far, Reason::NoGuard(at, first))
+}
+
+/// What was told so far where a predicate is known, and else something other.
+fn unless_known<'p>(so_far: Reason<'p>, other: Reason<'p>) -> Reason<'p>
+    ensures { spec.seen result ≡ spec.unless_known (spec.seen so_far.entry) (spec.seen other.entry) }
+{
+    match so_far {
+        Reason::Known(_) => so_far,
+        Reason::Unmentioned
+        | Reason::Own(_)
+        | Reason::NoEquation(_, _)
+        | Reason::NoGuard(_, _)
+        | Reason::Unlisted(_)
+        | Reason::Taken(_, _)
+        | Reason::Forgotten(_, _) => other,
+    }
+}
+
+/// What a loop that is passed tells: what it states, and that its guard doesn't hold.
+fn after_loop<'p>(
+    x: u32,
+    stable: &NumberSet,
+    at: u32,
+    guard: &'p Expr,
+    inv: &'p State,
+) -> Reason<'p>
+    ensures { spec.seen result ≡ spec.after_loop x stable.now at (term guard.now) (view.state inv.now) }
+{
+    let stated = after_state(x, StateKind::Inv, HypothesisSource::LoopState, at, inv);
+    after_guard(
+        x,
+        stable,
+        at,
+        HypothesisSource::LoopLeft,
+        GivenTerm::Negation(guard),
+        guard,
+        stated,
+    )
+}
+
+/// What a state tells, which begins anew.
+fn after_state<'p>(
+    x: u32,
+    kind: StateKind,
+    source: HypothesisSource,
+    at: u32,
+    state: &'p State,
+) -> Reason<'p>
+    ensures { spec.seen result ≡ spec.after_state x kind source at (view.state state.now) }
+{
+    match first_about(x, state.preds.as_slice()) {
+        Some(e) => known(at, source, GivenTerm::Written(e)),
+        None => Reason::Unlisted(StateAt { kind, at }),
+    }
+}
+
+/// The first of some predicates that mentions a variable.
+fn first_about(x: u32, preds: &[Expr]) -> Option<&Expr>
+    ensures { option_map (λ e. term e.now) result ≡ spec.first_about x (map term preds.now) }
+{
+    for e in preds {
+        if mentions(e, x) {
+            return Some(e);
+        }
+    }
+    None
+}
+
+/// What a lock that is taken makes of what was told so far.
+fn after_lock<'p>(p: &'p Program, x: u32, at: u32, l: u32, so_far: Reason<'p>) -> Reason<'p>
+    ensures { spec.seen result ≡ spec.after_lock x (lock_at (plain (view.program p.now)) l) at l (spec.seen so_far.entry) }
+{
+    match p.locks.as_slice().get(l as usize) {
+        Some(lock) => {
+            if let Some(e) = &lock.inv
+                && mentions(e, x)
+            {
+                known(at, HypothesisSource::Invariant(l), GivenTerm::Written(e))
+            } else if lock.lists(x) && !is_tested_before(x, so_far) {
+                Reason::Taken(at, l)
+            } else {
+                so_far
+            }
+        }
+        None => so_far,
+    }
+}
+
+/// Whether a guard that mentions a variable was looked at where it wasn't stable.
+fn is_tested_before(x: u32, so_far: Reason<'_>) -> bool
+    ensures { result ≡ spec.is_tested_before x (spec.seen so_far.entry) }
+{
+    match so_far {
+        Reason::NoGuard(_, y) => y == x,
+        Reason::Unmentioned
+        | Reason::Own(_)
+        | Reason::NoEquation(_, _)
+        | Reason::Unlisted(_)
+        | Reason::Taken(_, _)
+        | Reason::Known(_)
+        | Reason::Forgotten(_, _) => false,
+    }
+}
