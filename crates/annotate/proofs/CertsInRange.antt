@@ -1,7 +1,7 @@
 -- Certificates of a class have variables in range and words, where hypotheses and goal do.
 use Rattle.std.proofs.Common.{◌≡◌, ◌⊎◌, inl, inr, ℕ, zero, suc, ◌<◌, ◌==◌, ◌&&◌, ◌||◌, not, List, [], ◌∷◌, ◌++◌, Bool, true, false, if◌then◌else◌, Option, Some, None, refl, sym, ap, ◌∙◌, subst, true≢false, slice_get, All, arith}
 use Rattle.std.proofs.lemmas.Bool.{and_parts}
-use Rattle.std.proofs.lemmas.List.Elements.{All-head, All-tail}
+use Rattle.std.proofs.lemmas.List.Elements.{All-cons, All-head, All-nil, All-tail}
 use Rattle.cov_expr.specs.declared.expr.Op.{Op}
 use Rattle.cov_expr.specs.declared.expr.Op.TheVariants.{Eq, Both, Either}
 use Rattle.cov_expr.specs.declared.expr.TheConstants.{HOLE}
@@ -44,13 +44,13 @@ module _ (n : ℕ) where
   in_range_of (neg e) h w = in_range_of e h w
   in_range_of (bin op a b) h w = (in_range_of a h.0 w.0, in_range_of b h.1 w.1)
 
-  below_of : (e : Term) → IsInRangeOfWords n e → HasVarsBelow e n
+  pub below_of : (e : Term) → IsInRangeOfWords n e → HasVarsBelow e n
   below_of (const k) f = tt
   below_of (var x) f = f.0
   below_of (neg e) f = below_of e f
   below_of (bin op a b) f = (below_of a f.0, below_of b f.1)
 
-  words_of : (e : Term) → IsInRangeOfWords n e → HasWords e
+  pub words_of : (e : Term) → IsInRangeOfWords n e → HasWords e
   words_of (const k) f = f
   words_of (var x) f = f.1
   words_of (neg e) f = words_of e f
@@ -76,6 +76,14 @@ module _ (n : ℕ) where
   all_in_range [] h w = tt
   all_in_range (e ∷ es) h w =
       (in_range_of e (All-head (λ e. HasVarsBelow e n) e es h) (All-head HasWords e es w), all_in_range es (All-tail (λ e. HasVarsBelow e n) e es h) (All-tail HasWords e es w))
+
+  pub all_below : (es : List Term) → AreInRangeOfWords n es → All (λ e. HasVarsBelow e n) es
+  all_below [] f = All-nil (λ e. HasVarsBelow e n)
+  all_below (e ∷ es) f = All-cons (λ e. HasVarsBelow e n) e es (below_of e f.0) (all_below es f.1)
+
+  pub all_words : (es : List Term) → AreInRangeOfWords n es → All HasWords es
+  all_words [] f = All-nil HasWords
+  all_words (e ∷ es) f = All-cons HasWords e es (words_of e f.0) (all_words es f.1)
 
   opened_in_range : (e : Term) (x : ℕ) → IsInRangeOfWords n e → IsTemplateInRangeOfWords n (opened e x)
   opened_in_range (const k) x f = f

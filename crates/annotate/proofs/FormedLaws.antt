@@ -1,8 +1,7 @@
 -- The annotated program of a well formed one is well formed.
 use Rattle.std.proofs.Common.{◌≡◌, ℕ, suc, ◌+◌, ◌<◌, ◌≤◌, ◌==◌, List, [], ◌∷◌, ◌++◌, length, map, refl, sym, ap, subst, All, IsTrue}
 use Rattle.std.specs.Str.{bytes_eq}
-use Rattle.std.proofs.lemmas.List.Elements.{All-cons, All-contains, All-head, All-nil, All-tail}
-use Rattle.cov_expr.specs.declared.expr.TheConstants.{HOLE}
+use Rattle.std.proofs.lemmas.List.Elements.{All-cons, All-contains, All-head, All-nil, All-tail, All-weaker}
 use Rattle.cov_expr.specs.declared.limits.TheConstants.{MOST_THREADS}
 use Rattle.cov_expr.specs.Trees.{nodes}
 use Rattle.cov_ast.specs.Syntax.{Cert, Stm, skip, assign, lock, unlock, branch, loop, note, output, Block, done, more, Thread, Program, Parsed}
@@ -10,27 +9,38 @@ use Rattle.cov_ast.specs.WellFormed.{are_distinct, block_size, BlockHasWords, Ce
 use Rattle.policy_class.specs.Resolved.{lock_id, resolved, resolved_lock, resolved_variable, var_id}
 use Rattle.typing_law.specs.ThreadEntailments.{PlacedEntailment, thread_entailments}
 use Rattle.cert_search.proofs.Sound.{search_sound}
-use Rattle.annotate.specs.Annotated.{annotated, choices, IsChoice}
-use Rattle.annotate.specs.AnnotatedText.{annotated_text, AreVariablesNamed}
+use Rattle.annotate.specs.Annotated.{annotated, choices, IsChoice, IsOfWordsBelow}
 use Rattle.annotate.specs.WithCertificates.{put_in, put_in_program, put_in_stm, put_in_thread, put_in_threads}
 use Rattle.annotate.proofs.PutLaws.{proofs_have}
 use Rattle.annotate.proofs.ChoiceLaws.{choices_are}
-use Rattle.annotate.proofs.CertsInRange.{class_in_range, IsCertInRangeOfWords}
+use Rattle.annotate.proofs.CertsInRange.{all_below, all_words, below_of, class_in_range, IsCertInRangeOfWords, words_of}
 use Rattle.annotate.proofs.PointsInRange.{entailments_in_range, Every, IsPlacedInRangeOfWords}
-use Rattle.annotate.proofs.TextLaws.{text_is_read}
 
 -- Choices ------------------------------------------------------------------------------------------------------
 
-module _ (depth : ℕ) (p : Program) (formed : IsWellFormed p) (t : ℕ) where
+module _ (p : Program) (formed : IsWellFormed p) (t : ℕ) where
   all_placed : (gs : List PlacedEntailment) → Every (IsPlacedInRangeOfWords p formed t) gs → All (IsPlacedInRangeOfWords p formed t) gs
   all_placed [] h = All-nil (IsPlacedInRangeOfWords p formed t)
   all_placed (g ∷ gs) h = All-cons (IsPlacedInRangeOfWords p formed t) g gs h.0 (all_placed gs h.1)
 
+  pub listed_in_range : All (λ g. IsOfWordsBelow (length p.vars) g.entailment) (thread_entailments p t)
+  listed_in_range =
+      let n = length p.vars in
+      All-weaker (IsPlacedInRangeOfWords p formed t) (λ g. IsOfWordsBelow n g.entailment)
+      (λ g f. record {
+        hyps_below = all_below n g.entailment.hyps f.0;
+        hyp_words = all_words n g.entailment.hyps f.0;
+        goal_below = below_of n g.entailment.goal f.1;
+        goal_words = words_of n g.entailment.goal f.1;
+      })
+      (thread_entailments p t) (all_placed (thread_entailments p t) (entailments_in_range p formed t))
+
+module _ (depth : ℕ) (p : Program) (formed : IsWellFormed p) (t : ℕ) where
   choice_in_range : (x : ℕ) (c : ℕ × Cert) → IsChoice depth p t x c → IsCertInRangeOfWords (length p.vars) (length p.locks) c.1
   choice_in_range x c h =
       let g = h.of in
       let f : IsPlacedInRangeOfWords p formed t g =
-      All-contains (IsPlacedInRangeOfWords p formed t) (thread_entailments p t) g (all_placed (thread_entailments p t) (entailments_in_range p formed t)) h.listed in
+      All-contains (IsPlacedInRangeOfWords p formed t) (thread_entailments p t) g (all_placed p formed t (thread_entailments p t) (entailments_in_range p formed t)) h.listed in
       class_in_range (length p.vars) (length p.locks) depth g.entailment.hyps g.entailment.goal c.1 f.0 f.1
       (search_sound depth g.entailment.hyps g.entailment.goal c.1 h.found).passes
 
@@ -188,7 +198,3 @@ choices_below depth p formed t place =
     subst (λ m. All (λ c. IsCertInRange m (length p.locks) c.1) (choices depth (resolved p) t place)) (length_map (resolved_variable (var_id p) (lock_id p)) p.vars)
     (subst (λ k. All (λ c. IsCertInRange (length (resolved p).vars) k c.1) (choices depth (resolved p) t place)) (length_map (resolved_lock (var_id p) (lock_id p)) p.locks)
     (choices_in_range depth (resolved p) formed t place))
-
-pub annotated_text_read : (depth : ℕ) (p : Parsed) → IsWellFormed (resolved p) → AreVariablesNamed p → length p.names ≤ HOLE
-    → resolved (annotated_text depth p) ≡ annotated depth (resolved p)
-annotated_text_read depth p formed named few = text_is_read depth p formed named few (choices_below depth p formed)

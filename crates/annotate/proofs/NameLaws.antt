@@ -18,11 +18,11 @@ use Rattle.cov_ast.proofs.ObligationLaws.{both_hold, none_refused}
 use Rattle.policy_class.specs.Resolved.{declared_names, is_among, is_declared, lock_named, lock_names, name_obligations, resolved, resolved_term, resolved_var, text_of, thread_named, use_obligation, var_named, var_names, w1_from}
 use Rattle.typing_law.specs.Accepted.{IsAccepted, program_obligations}
 use Rattle.annotate.specs.Annotated.{annotated, choices, first_refused}
-use Rattle.annotate.specs.AnnotatedText.{annotated_text, AreVariablesNamed, IsAsRead, name_number, unresolved_cert, unresolved_choice, unresolved_choices, uses_at}
-use Rattle.annotate.specs.WithCertificates.{put_in_threads}
+use Rattle.annotate.specs.AnnotatedText.{annotated_text, AreVariablesNamed, IsAsRead, name_number, unresolved_cert, unresolved_choice, uses_at, with_choices}
+use Rattle.annotate.specs.WithCertificates.{put_in_program, put_in_threads}
 use Rattle.annotate.proofs.UseLaws.{kept_have, kept_or_new, placed, uses_in_order}
-use Rattle.annotate.proofs.TextLaws.{among_at, each_named, named_there, names_length}
-use Rattle.annotate.proofs.FormedLaws.{annotated_text_read, block_in_range, block_silent, body_fine, choices_below, each_thread, threads_length_same}
+use Rattle.annotate.proofs.TextLaws.{among_at, choices_read, each_named, named_there, names_length}
+use Rattle.annotate.proofs.FormedLaws.{block_in_range, block_silent, body_fine, choices_below, each_thread, threads_length_same}
 
 -- Uses in certificates -----------------------------------------------------------------------------------------
 
@@ -181,38 +181,42 @@ threads_named chosen t (h ∷ hs) = ap (λ ns. thread_named h ∷ ns) (threads_n
 
 -- Texts --------------------------------------------------------------------------------------------------------
 
-module _ (depth : ℕ) (p : Parsed) (formed : IsWellFormed (resolved p)) (read : IsAsRead p) where
-  -- what is so of the use of each variable, and of each use of the text, is so of each use of the annotated text
+module _ (picked : (t place : ℕ) → List (ℕ × Cert)) (p : Parsed) (below : (t place : ℕ) → All (λ c. IsCertInRange (length p.vars) (length p.locks) c.1) (picked t place))
+    (formed : IsWellFormed (resolved p)) (read : IsAsRead p) where
+  abbrev unresolved : (t place : ℕ) → List (ℕ × Cert)
+  unresolved t place = map (unresolved_choice p) (picked t place)
+
+  -- what is so of the use of each variable, and of each use of the text, is so of each use of the text with what is chosen
   uses_have : (Q : Use → Type 0) → ((x : ℕ) → x < length p.vars → Q (record { name = name_number p x; lock = false }))
-      → All (λ u. Q (use_of u)) p.uses → All (λ u. Q (use_of u)) (annotated_text depth p).uses
+      → All (λ u. Q (use_of u)) p.uses → All (λ u. Q (use_of u)) (with_choices picked p).uses
   uses_have Q of_variable h =
-      kept_have (λ u. Q (use_of u)) (λ u. Q (use_of u)) (λ u k. k) p.uses (annotated_text depth p).uses h
-      (kept_or_new (λ u. Q (use_of u)) (unresolved_choices depth p) inside p)
+      kept_have (λ u. Q (use_of u)) (λ u. Q (use_of u)) (λ u k. k) p.uses (with_choices picked p).uses h
+      (kept_or_new (λ u. Q (use_of u)) unresolved inside p)
     where
       of_cert : (place : ℕ) (c : ℕ × Cert) → IsCertInRange (length p.vars) (length p.locks) c.1 → All (λ u. Q (use_of u)) (uses_at place (unresolved_cert p c.1))
       of_cert place c r =
           All-map (λ u. Q (use_of u)) (placed place) (uses_in_cert (unresolved_cert p c.1)) (used_cert p Q of_variable (length p.locks) c.1 r)
 
-      inside : (t place : ℕ) → All (λ c. All (λ u. Q (use_of u)) (uses_at place c.1)) (unresolved_choices depth p t place)
+      inside : (t place : ℕ) → All (λ c. All (λ u. Q (use_of u)) (uses_at place c.1)) (unresolved t place)
       inside t place =
-          All-map (λ c. All (λ u. Q (use_of u)) (uses_at place c.1)) (unresolved_choice p) (choices depth (resolved p) t place)
+          All-map (λ c. All (λ u. Q (use_of u)) (uses_at place c.1)) (unresolved_choice p) (picked t place)
           (All-weaker (λ c. IsCertInRange (length p.vars) (length p.locks) c.1) (λ c. All (λ u. Q (use_of u)) (uses_at place (unresolved_cert p c.1))) (of_cert place)
-          (choices depth (resolved p) t place) (choices_below depth p formed t place))
+          (picked t place) (below t place))
 
-  certs_below : (m t place : ℕ) → All (λ c. IsCertInRange (length p.names) m c.1) (unresolved_choices depth p t place)
+  certs_below : (m t place : ℕ) → All (λ c. IsCertInRange (length p.names) m c.1) (unresolved t place)
   certs_below m t place =
       let small : length p.vars ≤ HOLE = omega (arith, read.ready.limits.variables) in
-      All-map (λ c. IsCertInRange (length p.names) m c.1) (unresolved_choice p) (choices depth (resolved p) t place)
+      All-map (λ c. IsCertInRange (length p.names) m c.1) (unresolved_choice p) (picked t place)
       (All-weaker (λ c. IsCertInRange (length p.vars) (length p.locks) c.1) (λ c. IsCertInRange (length p.names) m (unresolved_cert p c.1))
-      (λ c r. cert_below p read.named small (length p.locks) m c.1 r) (choices depth (resolved p) t place) (choices_below depth p formed t place))
+      (λ c r. cert_below p read.named small (length p.locks) m c.1 r) (picked t place) (below t place))
 
-  after_in_order : HasUsesInOrder (annotated_text depth p)
-  after_in_order = uses_in_order (unresolved_choices depth p) p read.in_order
+  after_in_order : HasUsesInOrder (with_choices picked p)
+  after_in_order = uses_in_order unresolved p read.in_order
 
-  after_ready : IsReady (annotated_text depth p)
+  after_ready : IsReady (with_choices picked p)
   after_ready =
       let n = length p.names in
-      let chosen = unresolved_choices depth p in
+      let chosen = unresolved in
       let r = read.ready in
       record {
         ids = record {
@@ -235,23 +239,33 @@ module _ (depth : ℕ) (p : Parsed) (formed : IsWellFormed (resolved p)) (read :
         uses = λ u inside. subst (λ us. Contains us u) (sym after_in_order) inside;
       }
 
-  pub annotated_as_read : IsAsRead (annotated_text depth p)
-  annotated_as_read = record { ready = after_ready; in_order = after_in_order; named = read.named; few = read.few }
+  pub choices_as_read : IsAsRead (with_choices picked p)
+  choices_as_read = record { ready = after_ready; in_order = after_in_order; named = read.named; few = read.few }
 
-  pub annotated_is_read : resolved (annotated_text depth p) ≡ annotated depth (resolved p)
-  annotated_is_read = annotated_text_read depth p formed read.named read.few
+  pub choices_are_read : resolved (with_choices picked p) ≡ put_in_program picked (resolved p)
+  choices_are_read = choices_read picked p formed read.named read.few below
 
-  pub names_stay : IsTrue (all_hold (name_obligations p)) → IsTrue (all_hold (name_obligations (annotated_text depth p)))
-  names_stay h =
+  pub names_in_order : IsTrue (all_hold (name_obligations p)) → IsTrue (all_hold (name_obligations (with_choices picked p)))
+  names_in_order h =
       let both = both_hold (w1_from [] (declared_names p)) (map (use_obligation p) p.uses) h in
-      let declared : declared_names (annotated_text depth p) ≡ declared_names p =
-      ap (λ ns. map var_named p.vars ++ map lock_named p.locks ++ ns) (threads_named (unresolved_choices depth p) 0 p.threads) in
-      let used = declared_all p (annotated_text depth p).uses
+      let declared : declared_names (with_choices picked p) ≡ declared_names p =
+      ap (λ ns. map var_named p.vars ++ map lock_named p.locks ++ ns) (threads_named unresolved 0 p.threads) in
+      let used = declared_all p (with_choices picked p).uses
       (uses_have (λ u. IsTrue (is_among (if u.lock then lock_names p else var_names p) (text_of p u.name)))
       (λ x k. ap (is_among (var_names p)) (name_is p read.named x k).0 ∙ among_at (var_names p) x (subst (λ n. x < n) (sym (names_length p.vars)) k))
       (all_declared p p.uses both.1)) in
-      list_all-append (λ o. o.holds) (w1_from [] (declared_names (annotated_text depth p))) (map (use_obligation p) (annotated_text depth p).uses)
+      list_all-append (λ o. o.holds) (w1_from [] (declared_names (with_choices picked p))) (map (use_obligation p) (with_choices picked p).uses)
       ∙ (λ i. (ap (λ ns. all_hold (w1_from [] ns)) declared ∙ both.0) i && used i)
+
+module _ (depth : ℕ) (p : Parsed) (formed : IsWellFormed (resolved p)) (read : IsAsRead p) where
+  pub annotated_as_read : IsAsRead (annotated_text depth p)
+  annotated_as_read = choices_as_read (choices depth (resolved p)) p (choices_below depth p formed) formed read
+
+  pub annotated_is_read : resolved (annotated_text depth p) ≡ annotated depth (resolved p)
+  annotated_is_read = choices_are_read (choices depth (resolved p)) p (choices_below depth p formed) formed read
+
+  pub names_stay : IsTrue (all_hold (name_obligations p)) → IsTrue (all_hold (name_obligations (annotated_text depth p)))
+  names_stay = names_in_order (choices depth (resolved p)) p (choices_below depth p formed) formed read
 
   pub first_is : IsTrue (all_hold (name_obligations p))
       → first_false (name_obligations (annotated_text depth p) ++ program_obligations (resolved (annotated_text depth p))) ≡ first_refused depth (resolved p)

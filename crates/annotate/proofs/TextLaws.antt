@@ -14,9 +14,8 @@ use Rattle.cov_ast.specs.Syntax.{Cert, Proof, Stm, Block, done, more, Thread, Va
 use Rattle.cov_ast.specs.Syntax as s
 use Rattle.cov_ast.specs.WellFormed.{are_distinct, IsCertInRange, IsTemplateBelow, IsWellFormed}
 use Rattle.policy_class.specs.Resolved.{is_among, lock_id, resolved, resolved_block, resolved_cert, resolved_proof, resolved_state, resolved_stm, resolved_term, resolved_thread, resolved_var, resolved_variable, var_id, var_names}
-use Rattle.annotate.specs.Annotated.{annotated, choices}
-use Rattle.annotate.specs.AnnotatedText.{annotated_text, AreVariablesNamed, name_number, unresolved_cert, unresolved_choice, unresolved_choices}
-use Rattle.annotate.specs.WithCertificates.{chosen_for, for_others, proof_of, put_in, put_in_stm, put_in_threads, with_certs}
+use Rattle.annotate.specs.AnnotatedText.{AreVariablesNamed, name_number, unresolved_cert, unresolved_choice, with_choices}
+use Rattle.annotate.specs.WithCertificates.{chosen_for, for_others, proof_of, put_in, put_in_program, put_in_stm, put_in_threads, with_certs}
 
 -- Names --------------------------------------------------------------------------------------------------------
 
@@ -228,16 +227,17 @@ module _ (v l : ℕ → ℕ) where
 threads_same : (f g : (t place : ℕ) → List (ℕ × Cert)) → ((t place : ℕ) → f t place ≡ g t place) → (t : ℕ) (hs : List Thread) → put_in_threads f t hs ≡ put_in_threads g t hs
 threads_same f g e t hs = λ i. put_in_threads (λ u x. e u x i) t hs
 
-pub text_is_read : (depth : ℕ) (p : Parsed) → IsWellFormed (resolved p) → AreVariablesNamed p → length p.names ≤ HOLE
-    → ((t place : ℕ) → All (λ c. IsCertInRange (length p.vars) (length p.locks) c.1) (choices depth (resolved p) t place))
-    → resolved (annotated_text depth p) ≡ annotated depth (resolved p)
-text_is_read depth p formed named few inside =
+pub choices_read : (chosen : (t place : ℕ) → List (ℕ × Cert)) (p : Parsed) → IsWellFormed (resolved p) → AreVariablesNamed p → length p.names ≤ HOLE
+    → ((t place : ℕ) → All (λ c. IsCertInRange (length p.vars) (length p.locks) c.1) (chosen t place))
+    → resolved (with_choices chosen p) ≡ put_in_program chosen (resolved p)
+choices_read chosen p formed named few inside =
     let v = var_id p in
     let l = lock_id p in
-    let same : (t place : ℕ) → map (read_choice v l) (unresolved_choices depth p t place) ≡ choices depth (resolved p) t place =
-    λ t place. again (choices depth (resolved p) t place) (inside t place) in
-    let threads = threads_read v l (unresolved_choices depth p) 0 p.threads
-    ∙ threads_same (λ u x. map (read_choice v l) (unresolved_choices depth p u x)) (choices depth (resolved p)) same 0 (map (resolved_thread v l) p.threads) in
+    let unresolved : (t place : ℕ) → List (ℕ × Cert) = λ t place. map (unresolved_choice p) (chosen t place) in
+    let same : (t place : ℕ) → map (read_choice v l) (unresolved t place) ≡ chosen t place =
+    λ t place. again (chosen t place) (inside t place) in
+    let threads = threads_read v l unresolved 0 p.threads
+    ∙ threads_same (λ u x. map (read_choice v l) (unresolved u x)) chosen same 0 (map (resolved_thread v l) p.threads) in
     λ i. record { version = p.version; vars = (resolved p).vars; locks = (resolved p).locks; threads = threads i }
   where
     again : (cs : List (ℕ × Cert)) → All (λ c. IsCertInRange (length p.vars) (length p.locks) c.1) cs → map (read_choice (var_id p) (lock_id p)) (map (unresolved_choice p) cs) ≡ cs

@@ -2,13 +2,14 @@
 --
 -- An entailment keeps its certificate where that is valid. Where it isn't, and the class of a depth has a valid one, it has the first that the search
 -- comes to. Else it keeps what it has, and is open.
-use Rattle.std.specs.Prelude.{◌≡◌, ◌⊎◌, ℕ, ◌==◌, List, [], ◌∷◌, ◌++◌, map, filter, flat_map, Contains, true, false, not, if◌then◌else◌, Option, Some, None}
+use Rattle.std.specs.Prelude.{◌≡◌, ◌⊎◌, ℕ, ◌==◌, List, [], ◌∷◌, ◌++◌, map, filter, flat_map, All, Contains, true, false, not, if◌then◌else◌, Option, Some, None}
+use Rattle.cov_expr.specs.Words.{HasVarsBelow, HasWords}
 use Rattle.cov_ast.specs.Obligations.{first_false}
 use Rattle.cov_ast.specs.Syntax.{Cert, Proof, Block, Program}
 use Rattle.cov_ast.specs.declared.refusal.Refusal.{Refusal}
 use Rattle.mode_compat.specs.Compatible.{numbered, threads_of}
 use Rattle.typing_law.specs.Accepted.{program_obligations}
-use Rattle.typing_law.specs.Entailments.{cert_for, is_proved}
+use Rattle.typing_law.specs.Entailments.{Entailment, cert_for, is_proved}
 use Rattle.typing_law.specs.ThreadEntailments.{PlacedEntailment, is_proved_in, proofs_at, thread_entailments}
 use Rattle.cert_search.specs.Classes.{IsFound, HasNone}
 use Rattle.cert_search.specs.Searching.{search}
@@ -67,6 +68,13 @@ IsAnnotated depth before after g =
     × (is_proved before g.number g.entailment ≡ false
     → IsFound depth g.entailment.hyps g.entailment.goal (cert_for after g.number)
     ⊎ (HasNone depth g.entailment.hyps g.entailment.goal × (cert_for after g.number ≡ cert_for before g.number)))
+
+-- The expressions of an entailment are of words, and of variables below a bound.
+pub record IsOfWordsBelow (vars : ℕ) (g : Entailment) : Type 0 where
+  pub hyps_below : All (λ h. HasVarsBelow h vars) g.hyps
+  pub hyp_words : All HasWords g.hyps
+  pub goal_below : HasVarsBelow g.goal vars
+  pub goal_words : HasWords g.goal
 
 -- What is open -------------------------------------------------------------------------------------------------
 

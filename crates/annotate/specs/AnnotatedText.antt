@@ -122,5 +122,9 @@ put_in_text chosen p = record {
   threads = put_in_threads chosen 0 p.threads;
 }
 
+-- with what is chosen for its program, each variable of a certificate by the number of its name
+abbrev pub with_choices : (chosen : (t place : ℕ) → List (ℕ × Cert)) → Parsed → Parsed
+with_choices chosen p = put_in_text (λ t place. map (unresolved_choice p) (chosen t place)) p
+
 abbrev pub annotated_text : (depth : ℕ) → Parsed → Parsed
 annotated_text depth p = put_in_text (unresolved_choices depth p) p

@@ -78,8 +78,8 @@ fn searched_text(
     text_with(alloc, p, chosen.as_slice())
 }
 
-/// The text with what is chosen for each of its threads.
-fn text_with(alloc: Global, p: Parsed, chosen: &[ThreadChoices]) -> Result<Parsed, NoMemory>
+/// The text with what is chosen for each of its threads, each variable of a certificate by the number of its name.
+pub fn text_with(alloc: Global, p: Parsed, chosen: &[ThreadChoices]) -> Result<Parsed, NoMemory>
     requires { length chosen.now ≡ length p.threads }
     ensures { IfOk result (λ made. view.parsed made ≡ put_in_text (chosen_in chosen.now) (view.parsed p)) }
 {

@@ -22,10 +22,10 @@ ghost use Rattle.policy_class.specs.Resolved.{lock_id, name_obligations, resolve
 ghost use Rattle.typing_law.specs.Accepted.{IsAccepted, program_obligations};
 ghost use Rattle.typing_law.specs.Entailments.{cert_for};
 ghost use Rattle.typing_law.specs.ThreadEntailments.{proofs_at, thread_entailments};
-ghost use Rattle.annotate.specs.Annotated.{annotated, choices, first_refused, IsAnnotated, IsChoice, unproved};
-ghost use Rattle.annotate.specs.AnnotatedText.{annotated_text, AreKeptOrNew, IsAsRead, IsUseOfChosen, put_in_text, unresolved_cert, uses_at};
+ghost use Rattle.annotate.specs.Annotated.{annotated, choices, first_refused, IsAnnotated, IsChoice, IsOfWordsBelow, unproved};
+ghost use Rattle.annotate.specs.AnnotatedText.{annotated_text, AreKeptOrNew, IsAsRead, IsUseOfChosen, put_in_text, unresolved_cert, uses_at, with_choices};
 ghost use Rattle.annotate.specs.NotFound.{not_found};
-ghost use Rattle.annotate.specs.WithCertificates.{AreRisingAbove, chosen_for, is_given, new_among, program_without_proofs, proof_of, thread_without_proofs, with_certs};
+ghost use Rattle.annotate.specs.WithCertificates.{AreRisingAbove, chosen_for, is_given, new_among, program_without_proofs, proof_of, put_in_program, thread_without_proofs, with_certs};
 
 /// Where certificates are put in among the proofs of a statement, each number has the one that is chosen for it, else the one that it had. Each proof keeps its
 /// place and its number; it keeps its certificate where none is chosen for the number, and where a proof of the number stands before it. Those that are chosen
@@ -99,6 +99,28 @@ pub fn annotated_text_is_read()
     ensures rest { (depth : ℕ) → (p : syntax.Parsed) → let made = annotated_text depth p in
         (made.version ≡ p.version) × (made.names ≡ p.names) × (made.vars ≡ p.vars) × (made.locks ≡ p.locks)
         × (map thread_without_proofs made.threads ≡ map thread_without_proofs p.threads) }
+{}
+
+/// Into a text as reading gives it, certificates in the numbers of declared variables may be put, by threads and places of statements. Its names stay in order, it is again as
+/// reading gives it, and it is read as its program with these certificates in it, of which the declarations are as before, and so are the entailments that are listed.
+pub fn certificates_may_be_put_in()
+    ensures names { (chosen : (t : ℕ) → (place : ℕ) → List (ℕ × syntax.Cert)) → (p : syntax.Parsed) → IsWellFormed (resolved p) → IsAsRead p
+        → ((t : ℕ) → (place : ℕ) → All (λ c. IsCertInRange (length p.vars) (length p.locks) c.1) (chosen t place))
+        → IsTrue (all_hold (name_obligations p)) → IsTrue (all_hold (name_obligations (with_choices chosen p))) }
+    ensures read { (chosen : (t : ℕ) → (place : ℕ) → List (ℕ × syntax.Cert)) → (p : syntax.Parsed) → IsWellFormed (resolved p) → IsAsRead p
+        → ((t : ℕ) → (place : ℕ) → All (λ c. IsCertInRange (length p.vars) (length p.locks) c.1) (chosen t place)) → IsAsRead (with_choices chosen p) }
+    ensures program { (chosen : (t : ℕ) → (place : ℕ) → List (ℕ × syntax.Cert)) → (p : syntax.Parsed) → IsWellFormed (resolved p) → IsAsRead p
+        → ((t : ℕ) → (place : ℕ) → All (λ c. IsCertInRange (length p.vars) (length p.locks) c.1) (chosen t place))
+        → resolved (with_choices chosen p) ≡ put_in_program chosen (resolved p) }
+    ensures declarations { (chosen : (t : ℕ) → (place : ℕ) → List (ℕ × syntax.Cert)) → (p : syntax.Program)
+        → declaration_obligations (put_in_program chosen p) ≡ declaration_obligations p }
+    ensures entailments { (chosen : (t : ℕ) → (place : ℕ) → List (ℕ × syntax.Cert)) → (p : syntax.Program) → (t : ℕ)
+        → thread_entailments (put_in_program chosen p) t ≡ thread_entailments p t }
+{}
+
+/// The entailments that are listed of a well formed program are of words and of its variables.
+pub fn listed_entailments_are_in_range()
+    ensures { (p : syntax.Program) → IsWellFormed p → (t : ℕ) → All (λ g. IsOfWordsBelow (length p.vars) g.entailment) (thread_entailments p t) }
 {}
 
 /// Each text of a program that is read is as reading gives it.

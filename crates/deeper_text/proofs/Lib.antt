@@ -1,0 +1,2 @@
+pub mod FoundRange
+pub mod TextLaws

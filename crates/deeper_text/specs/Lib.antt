@@ -1,0 +1,2 @@
+pub mod DeeperText
+pub mod Inside
