@@ -12,8 +12,8 @@ use Rattle.risc_machine.specs.declared.parts.ThreadCode.{ThreadCode}
 use Rattle.cov_expr.specs.Names.{IsName}
 use Rattle.risc_machine.specs.declared.parts.CodeBad.TheVariants as bad
 use Rattle.risc_machine.proofs.StepLaws.{line_good, none_left}
-use Rattle.code_text.specs.Inside.SpelledLines.{IsSpelled, IsOfWords}
-use Rattle.code_text.specs.Listing.{declared, head, spelled, listing, thread_rows, IsListed}
+use Rattle.code_text.specs.Inside.SpelledLines.{IsOfWords}
+use Rattle.code_text.specs.Listing.{declared, head, spelled, listing, thread_rows, IsListed, IsSpelled}
 
 pub good_lines : (p : Parts) → AreGood p → (k : ℕ) (d : ThreadCode) → k < length p.threads → (i : ℕ) (e : Line) → i < length (get_or p.threads k d).lines
     → IsSpelled p.vars p.locks (get_or (get_or p.threads k d).lines i e)

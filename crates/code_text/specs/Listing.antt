@@ -84,6 +84,12 @@ spelled (f ∷ fs) = f ++ row_end fs
 abbrev pub listing : Parts → List ℕ
 listing p = flat_map spelled (rows p)
 
+-- A line has registers, and names of its variable and its lock.
+pub record IsSpelled (vars locks : List (List ℕ)) (l : Line) : Type 0 where
+  pub registers : IsTrue (has_registers l.instr)
+  pub variable : IsTrue (has_variable (length vars) l.instr)
+  pub lock : IsTrue (has_lock (length locks) l.instr)
+
 -- Parts that have a listing -------------------------------------------------------------------------------------
 
 -- the numbers of an instruction that are no ids of names are words

@@ -4,9 +4,9 @@ ghost use Rattle.std.specs.Prelude.{◌≡◌, ◌++◌, ◌∷◌, ◌+◌, ◌
 ghost use Rattle.risc_machine.specs.Faults.{has_registers, has_variable, has_lock};
 ghost use Rattle.cov_expr.specs.Names.{IsName};
 ghost use Rattle.code_text.specs.Inside.SpelledLines as inside;
-ghost use Rattle.code_text.specs.Inside.SpelledLines.{IsSpelled, AreOfWords, IsOfWords};
+ghost use Rattle.code_text.specs.Inside.SpelledLines.{AreOfWords, IsOfWords};
 ghost use Rattle.code_text.specs.Listing as spec;
-ghost use Rattle.code_text.specs.Listing.{HasWords, IsListed};
+ghost use Rattle.code_text.specs.Listing.{HasWords, IsListed, IsSpelled};
 
 use cov_expr::{List, Name, NoMemory, Op};
 use itoa::Buffer;
@@ -96,7 +96,8 @@ fn add_lines(parts: &Parts, lines: &[Line], out: &mut List<u8>) -> Result<(), No
     Ok(())
 }
 
-fn add_line(parts: &Parts, line: &Line, out: &mut List<u8>) -> Result<(), NoMemory>
+/// Adds a line of code, as it stands in a listing, by the names of variables and locks of its parts.
+pub fn add_line(parts: &Parts, line: &Line, out: &mut List<u8>) -> Result<(), NoMemory>
     requires { IsSpelled (parts.now).vars (parts.now).locks line.now }
     ensures text { OnOk result (out.new ≡ out.old ++ spec.spelled (spec.line (parts.now).vars (parts.now).locks line.now)) }
     ensures words { OnOk result (HasWords (line.now).instr) }

@@ -33,8 +33,8 @@ pub fn compile(alloc: Global, v: &Verdict<'_>) -> Result<Code, NoMemory>
     }
 }
 
-/// The parts of the code.
-fn parts_of(alloc: Global, program: &Program) -> Result<Parts, NoMemory>
+/// The parts of the code of a well formed program, accepted or not; that they are code says `compiled_is_code` of `compiled_code`.
+pub fn parts_of(alloc: Global, program: &Program) -> Result<Parts, NoMemory>
     requires { IsWellFormed (view.program program.now) }
     ensures { IfOk result (λ parts. parts ≡ compiled (view.program program.now)) }
 {

@@ -1,18 +1,11 @@
--- Which lines are written, in which parts, and what is known of them behind that.
-use Rattle.std.specs.Prelude.{ℕ, List, [], ◌∷◌, codes, decimal, length, IsTrue, All}
+-- What is known of lines behind their writing, and the words and fields of instructions.
+use Rattle.std.specs.Prelude.{ℕ, List, [], ◌∷◌, codes, decimal, All}
 use Rattle.cov_expr.specs.Names.{IsName}
-use Rattle.risc_machine.specs.Faults.{has_registers, has_variable, has_lock}
 use Rattle.risc_machine.specs.declared.parts.Instr.{Instr}
 use Rattle.risc_machine.specs.declared.parts.Instr.TheVariants.{Load, Store, Jump, Jz, Nop, MovC, MovR, Bin, Acquire, Release, Out}
 use Rattle.risc_machine.specs.declared.parts.Line.{Line}
 use Rattle.risc_machine.specs.declared.parts.ThreadCode.{ThreadCode}
 use Rattle.code_text.specs.Listing.{register, name, sign, HasWords}
-
--- A line has registers, and names of its variable and its lock.
-pub record IsSpelled (vars locks : List (List ℕ)) (l : Line) : Type 0 where
-  pub registers : IsTrue (has_registers l.instr)
-  pub variable : IsTrue (has_variable (length vars) l.instr)
-  pub lock : IsTrue (has_lock (length locks) l.instr)
 
 abbrev pub AreOfWords : List Line → Type 0
 AreOfWords ls = All (λ l. HasWords l.instr) ls

@@ -1,0 +1,4 @@
+mod CountLaws
+mod BodyLaws
+mod RowLaws
+mod MadeLaws

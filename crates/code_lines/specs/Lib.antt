@@ -1,0 +1,4 @@
+pub mod CodeShares
+pub mod CodeLines
+pub mod CompiledShares
+pub mod Inside
