@@ -19,7 +19,7 @@ use Rattle.typing_law.specs.Counts.{is_entailment}
 use Rattle.typing_law.specs.ThreadEntailments.{entailment_among, thread_entailments}
 use Rattle.typing_law.specs.ThreadObligations.{thread_obligations}
 use Rattle.typing_law.specs.Accepted.{program_obligations}
-use Rattle.entail_refused.specs.Asked.{asked, asked_in, lines_of_entailment}
+use Rattle.entail_refused.specs.Asked.{asked, entailment_in, lines_of_entailment}
 use Rattle.entail_refused.specs.RefusedEntailment.{IsToldOf, NamesUnproved}
 use Rattle.entail_refused.proofs.Asks.{Ask, ask, asks, asks-append}
 use Rattle.entail_refused.proofs.RefusedListed.{refused_listed}
@@ -148,8 +148,8 @@ told_of_named p bytes t r inside declared rule names =
     let found = entailment_among (thread_entailments p t) r.place n in
     let there : nat_lt t (length p.threads) ≡ true = search (rules, arith) in
     (λ i. asked p bytes (rule i) (names.of_thread i) r.place (names.counted i))
-    ∙ ap (λ b. if b then asked_in p bytes t r.place n else []) there
-    ∙ ap (λ b. if b then lines_of_entailment p bytes t found else []) declared
+    ∙ ap (λ b. if b then lines_of_entailment p bytes t (entailment_in p t r.place n) else []) there
+    ∙ ap (λ b. lines_of_entailment p bytes t (if b then found else None)) declared
     ∙ ap (lines_of_entailment p bytes t) names.first
 
 pub refusal_told_of : (p : Program) → (bytes : List ℕ) → IsWellFormed p → (r : Refusal) → first_false (program_obligations p) ≡ Some r → r.rule ≡ V9 → IsToldOf p bytes r

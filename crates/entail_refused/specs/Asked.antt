@@ -21,6 +21,10 @@ use Rattle.entail_refused.specs.GivenElsewhere.{given_lines}
 use Rattle.entail_refused.specs.Remarked.{remarks_on}
 use Rattle.entail_refused.specs.Sites.{Site, site_of}
 
+-- the entailment of a number at a place of a thread, of a program whose declarations keep the rules
+abbrev pub entailment_in : (p : Program) → (t place number : ℕ) → Option PlacedEntailment
+entailment_in p t place number = if all_hold (declaration_obligations p) then entailment_among (thread_entailments p t) place number else None
+
 -- the text of the program is that of its places
 module _ (p : Program) (bytes : List ℕ) where
   -- its goal, its hypotheses, each with where it comes from, and the certificate that the thread gives for it
@@ -42,13 +46,9 @@ module _ (p : Program) (bytes : List ℕ) where
   lines_of_entailment t None = []
   lines_of_entailment t (Some g) = lines_at_site t (site_of p t g.place g.number) g
 
-  -- the entailment of a number at a place, of a program whose declarations keep the rules
-  abbrev pub asked_in : (t place number : ℕ) → List ℕ
-  asked_in t place number = if all_hold (declaration_obligations p) then lines_of_entailment t (entailment_among (thread_entailments p t) place number) else []
-
-  -- the same, where the program has so many threads
+  -- the entailment of a number at a place, where the program has so many threads
   abbrev pub asked_of : (t place number : ℕ) → List ℕ
-  asked_of t place number = if nat_lt t (length p.threads) then asked_in t place number else []
+  asked_of t place number = if nat_lt t (length p.threads) then lines_of_entailment t (entailment_in p t place number) else []
 
   -- the entailment that a refusal for V9 names, by its thread, its place and its number
   abbrev pub unproved : (thread : Option ℕ) → (place : ℕ) → Detail → List ℕ

@@ -7,4 +7,5 @@ pub mod RefusedEntailment
 pub mod SiteHypotheses
 pub mod GivenCertificates
 pub mod OtherRefusals
+pub mod Suggested
 pub mod Inside

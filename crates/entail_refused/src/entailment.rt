@@ -1,12 +1,10 @@
 //! What a refusal for want of a valid certificate asked.
 
-ghost use Rattle.std.specs.Prelude.{◌≡◌, ◌<◌, ◌++◌, IsTrue, OnOk, Some, length, option_map};
-ghost use Rattle.cov_ast.specs.Obligations.{all_hold};
+ghost use Rattle.std.specs.Prelude.{◌≡◌, ◌<◌, ◌++◌, IfOk, OnOk, Some, length, option_map};
 ghost use Rattle.cov_ast.specs.View as view;
 ghost use Rattle.cov_ast.specs.WellFormed.{IsWellFormed};
 ghost use Rattle.entail_text.specs.Findings.{found_for, seen};
-ghost use Rattle.mode_compat.specs.Declared.{declaration_obligations};
-ghost use Rattle.typing_law.specs.ThreadEntailments.{entailment_among, thread_entailments, view_entail};
+ghost use Rattle.typing_law.specs.ThreadEntailments.{view_entail};
 ghost use Rattle.entail_refused.specs.Asked as spec;
 ghost use Rattle.entail_refused.specs.Sites as sites;
 
@@ -36,35 +34,10 @@ pub fn add_asked(
     requires { IsWellFormed (view.program p.now) }
     ensures { OnOk result (text.new ≡ text.old ++ spec.asked (view.program p.now) bytes.now refusal.now.rule refusal.now.thread refusal.now.place refusal.now.detail) }
 {
-    match refusal.rule {
-        Rule::V9 => add_unproved(
-            alloc,
-            p,
-            bytes,
-            refusal.thread,
-            refusal.place,
-            refusal.detail,
-            text,
-        ),
-        _ => Ok(()),
-    }
-}
-
-/// Adds what is told of the entailment that a refusal for V9 names.
-fn add_unproved(
-    alloc: Global,
-    p: &Program,
-    bytes: &[u8],
-    thread: Option<u32>,
-    place: u32,
-    detail: Detail,
-    text: &mut Blob,
-) -> Result<(), NoMemory>
-    requires { IsWellFormed (view.program p.now) }
-    ensures { OnOk result (text.new ≡ text.old ++ spec.unproved (view.program p.now) bytes.now thread place detail) }
-{
-    match (thread, detail) {
-        (Some(t), Detail::Number(n)) => add_entailment_of(alloc, p, bytes, t, place, n, text),
+    match (refusal.rule, refusal.thread, refusal.detail) {
+        (Rule::V9, Some(t), Detail::Number(n)) => {
+            add_entailment_of(alloc, p, bytes, t, refusal.place, n, text)
+        }
         _ => Ok(()),
     }
 }
@@ -82,52 +55,31 @@ fn add_entailment_of(
     requires { IsWellFormed (view.program p.now) }
     ensures { OnOk result (text.new ≡ text.old ++ spec.asked_of (view.program p.now) bytes.now t place number) }
 {
-    if (t as usize) < p.threads.len() {
-        add_of_thread(alloc, p, bytes, t, place, number, text)
-    } else {
-        Ok(())
+    if t as usize >= p.threads.len() {
+        return Ok(());
     }
-}
-
-/// Adds what is told of an entailment of a thread, where the declarations keep the rules.
-fn add_of_thread(
-    alloc: Global,
-    p: &Program,
-    bytes: &[u8],
-    t: u32,
-    place: u32,
-    number: u32,
-    text: &mut Blob,
-) -> Result<(), NoMemory>
-    requires formed { IsWellFormed (view.program p.now) }
-    requires thread { t < length p.now.threads }
-    ensures { OnOk result (text.new ≡ text.old ++ spec.asked_in (view.program p.now) bytes.now t place number) }
-{
-    match check_declared(alloc, p) {
-        Ok(()) => add_entailment(alloc, p, bytes, t, place, number, text),
-        Err(CheckFault::Refused(_)) => Ok(()),
-        Err(CheckFault::NoMemory) => Err(NoMemory),
-    }
-}
-
-/// Adds what is told of an entailment of a thread.
-fn add_entailment(
-    alloc: Global,
-    p: &Program,
-    bytes: &[u8],
-    t: u32,
-    place: u32,
-    number: u32,
-    text: &mut Blob,
-) -> Result<(), NoMemory>
-    requires formed { IsWellFormed (view.program p.now) }
-    requires declared { IsTrue (all_hold (declaration_obligations (view.program p.now))) }
-    requires thread { t < length p.now.threads }
-    ensures { OnOk result (text.new ≡ text.old ++ spec.lines_of_entailment (view.program p.now) bytes.now t (entailment_among (thread_entailments (view.program p.now) t) place number)) }
-{
-    match entailment_at(alloc, p, t, place, number)? {
+    match entailment_in(alloc, p, t, place, number)? {
         Some(e) => add_found(alloc, p, bytes, t, &e, text),
         None => Ok(()),
+    }
+}
+
+/// The entailment of a number at a place of a thread, where the declarations keep the rules.
+pub fn entailment_in(
+    alloc: Global,
+    p: &Program,
+    t: u32,
+    place: u32,
+    number: u32,
+) -> Result<Option<Entail>, NoMemory>
+    requires formed { IsWellFormed (view.program p.now) }
+    requires thread { t < length p.now.threads }
+    ensures { IfOk result (λ found. option_map view_entail found ≡ spec.entailment_in (view.program p.now) t place number) }
+{
+    match check_declared(alloc, p) {
+        Ok(()) => entailment_at(alloc, p, t, place, number),
+        Err(CheckFault::Refused(_)) => Ok(None),
+        Err(CheckFault::NoMemory) => Err(NoMemory),
     }
 }
 

@@ -6,6 +6,7 @@
 //!   way would help (`entail_losses`).
 //! - [`other_refusals`]: of its thread and of the threads behind it, the first refusal of each by a rule that isn't about certificates, and then the other entailments that have no
 //!   valid certificate, as refusals.
+//! - [`sort_refusals`]: refusals by whether a certificate is found for what was asked, each such with the certificate (`specs/Suggested.antt`).
 //! - [`refused_entailment_is_listed`] and [`refusal_is_told`], which are laws: there is always such an entailment, and it is the one
 //!   whose certificate isn't valid. `specs/RefusedEntailment.antt` says so.
 //! - [`hypotheses_are_of_the_site`], a law too: the hypotheses of an entailment are what is known at the point of its site, with one
@@ -26,8 +27,10 @@ mod others;
 mod remarked;
 mod site;
 mod site_laws;
+mod suggested;
 
 pub use entailment::add_asked;
 pub use laws::{refusal_is_told, refused_entailment_is_listed};
 pub use others::other_refusals;
 pub use site_laws::{hypotheses_are_of_the_site, sites_lead_to_the_point_asked};
+pub use suggested::{Found, Sorted, sort_refusals};
