@@ -18,8 +18,9 @@ The parts are
 - `memory`: commands in more and more room for addresses: they answer whole, or with status 6 and nothing;
 - `allocations`: each request for memory of each command is refused in turn, where there is cc: the same;
 - `explanations`: N mutated programs by EXPLAINS: the first line and the status are those of `check`, with the line and the column in front, V9 shows what was asked,
-  and a wrong token what could stand at its place; with `--points` they are the same, points are told where the names are in order, and those of one line are among those of all; and with `--suggest` the text and
-  the status are those of `annotate` at depth 2, or what that leaves open stands in comments behind a text.
+  and a wrong token what could stand at its place; with `--points` they are the same, points are told where the names are in order, and those of one line are among those of all; with `--code` the lines are those
+  that `compile` lists, each once with its position, or what `--first` tells; and with `--suggest` the text and
+  the status are those of `annotate` at depth 2, or `check` says of the text what stands behind it, and no more is told as open there than `annotate` tells.
 
 A text that takes more than ten seconds is told, and so is a process that a signal ends. The status is 1 where something is told. With all parts it
 takes an hour or so on one processor, and some ten minutes with `--count 10000`.
@@ -572,6 +573,7 @@ def limit_rows():
                   + "".join(f"{x} := {e}; " for x, e in sums)
                   + "".join(f"note {{ {', '.join(f'{x} == {e}' for x, e in sums)}, v64 == v1 * {i} }}; " for i in range(2, notes + 2)) + "}", f"annotate p {steps}")
     last = "\n" + "skip; " * 256
+    yield row("`--code` of 20,000 statements", low(128) + f"thread t assume nowrite {all_of(128)} {{ " + "v0 := 1; " * 20_000 + "}", "--code p")
     yield row("`--points` of 20,000 statements", low(128) + f"thread t assume nowrite {all_of(128)} {{ " + "v0 := 1; " * 20_000 + "}", "--points p")
     yield row("`--points` of 256 statements behind 19,700 assignments to 128 variables", low(128) + f"thread t assume nowrite {all_of(128)} {{ "
               + "".join(f"v{i % 128} := {i % 7}; " for i in range(19_700)) + last + "}", "--points p 2")
@@ -738,7 +740,7 @@ def allocations_part(options, folder, found):
             refused_in_turn(options.program, words, folder, made, f"{title}: {' '.join(words)}", found)
     for title, text in (("writer", WRITER), ("unproved", UNPROVED), ("malformed", b"var ring: low;"), ("twice", b"var a: low; var a: low;")):
         write(folder, "p", text)
-        for words in (["p"], ["--points", "p"], ["--points", "p", "1"], ["--suggest", "p"]):
+        for words in (["p"], ["--points", "p"], ["--points", "p", "1"], ["--suggest", "p"], ["--code", "p"]):
             refused_in_turn(options.explains, words, folder, made, f"{title}: explain {' '.join(words)}", found)
 
 
@@ -778,15 +780,42 @@ def told_points(explains, folder, due):
     return answer, wrong
 
 
+PLACE = re.compile(rb" at \d+")
+CODE_LINE = re.compile(rb"^ *(\d+)  (\d .*)$", re.M)
+CODE_END = re.compile(rb"^ *(\d+)  // the end of the thread$", re.M)
+
+
+def told_code(program, explains, folder, due):
+    """What is told of the code of the file p, and whether it isn't as it has to be: of an accepted program the lines that `compile` lists, each once, in order and with its
+    position, and of others what `--first` tells."""
+    answer = ended(explains, ["--code", "p"], folder)
+    if due[1] != 0:
+        return answer, answer != ended(explains, ["--first", "p"], folder)
+    listed, sizes = ended(program, ["compile", "p"], folder)[0], []
+    lines = [line for line in listed.splitlines() if line[:1].isdigit()]
+    for name in re.finditer(rb"^thread \S+ (\d+)$", listed, re.M):
+        sizes.append(int(name.group(1)))
+    told = CODE_LINE.findall(answer[0])
+    positions = [i for size in sizes for i in range(size)]
+    wrong = not answer[0].startswith(due[0]) or answer[1] != 0 or [line for _, line in told] != lines \
+        or [int(i) for i, _ in told] != positions or [int(i) for i in CODE_END.findall(answer[0])] != sizes
+    return answer, wrong
+
+
 def told_suggestions(program, explains, folder):
-    """What is suggested for the file p, and whether it isn't as `annotate p 2` has to make it: the same text and status where that is accepted, and else the same lines,
-    as comments, behind a text."""
+    """What is suggested for the file p, and whether it isn't as it has to be by `annotate p 2` and `check`: where `annotate` accepts, the same text and status. Else a text of which
+    `check` says what the first comment behind it says, places aside, or which it accepts; and what is told there as open, `annotate` tells too, in that order."""
     due, answer = ended(program, ["annotate", "p", "2"], folder), ended(explains, ["--suggest", "p"], folder)
     if due[1] == 0:
         return answer, answer != due
     if b" W" in due[0][:10] or due[1] != 1:
         return answer, answer[1] != due[1]
-    return answer, answer[1] != 1 or not answer[0].endswith(b"".join(b"// " + line for line in due[0].splitlines(keepends=True)))
+    lines = answer[0].splitlines(keepends=True)
+    comments = [line[3:] for line in lines if line.startswith(b"// ")]
+    write(folder, "q", b"".join(lines[:len(lines) - len(comments)]))
+    judged, rest = ended(program, ["check", "q"], folder), iter(due[0].splitlines(keepends=True)[1:])
+    wrong = judged[1] != answer[1] or bool(comments) != (answer[1] == 1) or any(line not in rest for line in comments[1:])
+    return answer, wrong or bool(comments) and PLACE.sub(b"", comments[0]) != PLACE.sub(b"", judged[0])
 
 
 def some_explanations(order):
@@ -810,6 +839,9 @@ def some_explanations(order):
             points, wrong = told_points(explains, folder, due)
             if wrong:
                 found.append((text, points, due))
+            coded, wrong = told_code(program, explains, folder, due)
+            if wrong:
+                found.append((text, coded, due))
             suggested, wrong = told_suggestions(program, explains, folder)
             if wrong:
                 found.append((text, suggested, due))

@@ -1,5 +1,5 @@
 -- Laws of what is told of bytes beside their explanation.
-use Rattle.std.proofs.Common.{◌≡◌, ℕ, Bool, List, [], ◌++◌, append-nil, Result, OnOk, Option, Some, None, sym, ap, subst, ◌∙◌}
+use Rattle.std.proofs.Common.{◌≡◌, ℕ, Bool, true, List, [], ◌++◌, append-nil, Result, OnOk, Option, Some, None, sym, ap, subst, ◌∙◌}
 use Rattle.std.proofs.lemmas.Bool.{cond-true, cond-false}
 use Rattle.std.proofs.lemmas.Result.{on_ok_weaker}
 use Rattle.cov_expr.specs.declared.list.NoMemory.{NoMemory}
@@ -19,7 +19,7 @@ use Rattle.policy_class.specs.Resolved.{name_obligations, resolved}
 use Rattle.entail_refused.proofs.DeclaredLaws.{some_refused}
 use Rattle.explain.specs.HiddenText.{text_warnings}
 use Rattle.explain.specs.Warnings.{warnings}
-use Rattle.explain.specs.Tellings.{Adds, AddsPoints, asked_lines, program_points, refusal_lines, unnamed_asked}
+use Rattle.explain.specs.Tellings.{Adds, AddsCode, AddsPoints, asked_lines, compiled_lines, program_points, refusal_lines, unnamed_asked}
 use Rattle.explain.specs.WarningSentences.{warning_lines}
 use Rattle.typing_trace.specs.PointLines.{point_lines}
 
@@ -116,4 +116,32 @@ module _ (name bytes : List ℕ) (number : Option ℕ) (judged : Judged) (old ne
         point_lines (view.program program.value) bytes number,
         (h.0, h.1, points_named h.0 (view.program program.value) bytes number named.held named.is),
         subst (λ q. new ≡ old ++ point_lines (view.program q) bytes number) same is,
+      )
+
+-- Code -----------------------------------------------------------------------------------------------------------
+
+-- What was added is what is told of bytes of which this was found, where the code is asked for.
+abbrev pub IsCodeAdded : (name bytes : List ℕ) → Judged → (old new : List ℕ) → Type 0
+IsCodeAdded name bytes judged old new = (more : List ℕ) × AddsCode name bytes (reply_to name judged) more × (new ≡ old ++ more)
+
+module _ (name bytes : List ℕ) (judged : Judged) (old new : List ℕ) where
+  pub code_of_malformed : (fault : _) → judged ≡ j.Malformed fault → IsAdded true name bytes judged old new → IsCodeAdded name bytes judged old new
+  code_of_malformed fault e added = subst (λ x. IsCodeAdded name bytes x old new) (sym e) (subst (λ x. IsAdded true name bytes x old new) e added)
+
+  pub code_of_unnamed : (refusal : Refusal) → judged ≡ j.Unnamed refusal → IsAdded true name bytes judged old new → IsCodeAdded name bytes judged old new
+  code_of_unnamed refusal e added = subst (λ x. IsCodeAdded name bytes x old new) (sym e) (subst (λ x. IsAdded true name bytes x old new) e added)
+
+  pub code_of_refused : (refusal : Refusal) (program : _) → judged ≡ j.Refused refusal program → IsAdded true name bytes judged old new
+      → IsCodeAdded name bytes judged old new
+  code_of_refused refusal program e added = subst (λ x. IsCodeAdded name bytes x old new) (sym e) (subst (λ x. IsAdded true name bytes x old new) e added)
+
+  pub code_of_accepted : Finds bytes judged → (counts : Totals) (program : _) → judged ≡ j.Accepted counts program → (lent : declared.Program) → lent ≡ program.value
+      → new ≡ old ++ compiled_lines (view.program lent) bytes → IsCodeAdded name bytes judged old new
+  code_of_accepted found counts program e lent same is =
+      let h = subst (Finds bytes) e found in
+      let named = h.2.0 in
+      subst (λ x. IsCodeAdded name bytes x old new) (sym e) (
+        compiled_lines (view.program program.value) bytes,
+        (h.0, h.1, ap (λ q. compiled_lines q bytes) named.is),
+        subst (λ q. new ≡ old ++ compiled_lines (view.program q) bytes) same is,
       )

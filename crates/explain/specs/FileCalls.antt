@@ -22,8 +22,8 @@ use Rattle.explain.specs.LevelTellings.{TellsOver, malformed_lines}
 use Rattle.explain.specs.SuggestedTexts.{suggested_lines, suggested_status}
 use Rattle.explain.specs.Tellings.{IsTold}
 use Rattle.explain.specs.declared.manner.Manner.{Manner}
-use Rattle.explain.specs.declared.manner.PointsTold.{PointsTold}
-use Rattle.explain.specs.declared.manner.PointsTold.TheVariants.{Nowhere, Everywhere, InLine}
+use Rattle.explain.specs.declared.manner.Beside.{Beside}
+use Rattle.explain.specs.declared.manner.Beside.TheVariants.{Remarks, Points, PointsOf, Code}
 
 -- What is told of a file to which `check` replies so, by how it was read: its bytes were fetched, and the reply to them is explained, with
 -- warnings where they are accepted; or they weren't, and the report of `check` is all.
@@ -71,6 +71,10 @@ asks_for_first words = nat_lt 1 (length words) && bytes_eq (get_or words 0 []) (
 abbrev pub asks_for_suggestions : List (List ℕ) → Bool
 asks_for_suggestions words = length words == 2 && bytes_eq (get_or words 0 []) (codes "--suggest")
 
+-- whether the words ask for the code of a program: a first word, and the program
+abbrev pub asks_for_code : List (List ℕ) → Bool
+asks_for_code words = length words == 2 && bytes_eq (get_or words 0 []) (codes "--code")
+
 -- the number that digits spell behind others, which spell this one; none where one is no digit, or where the digits but for the last spell more than a text has bytes
 abbrev pub number_from : ℕ → List ℕ → Option ℕ
 number_from n [] = Some n
@@ -81,31 +85,36 @@ abbrev pub line_number : List ℕ → Option ℕ
 line_number [] = None
 line_number (b ∷ bs) = number_from 0 (b ∷ bs)
 
-abbrev pub in_line : Option ℕ → PointsTold
-in_line None = Nowhere
-in_line (Some n) = InLine n
+abbrev pub in_line : Option ℕ → Beside
+in_line None = Remarks
+in_line (Some n) = PointsOf n
 
 -- which points words ask for, of which the first is `--points`: behind it stands a file, or a file and the number of a line
-abbrev pub points_by : List (List ℕ) → PointsTold
-points_by words = if length words == 2 then Everywhere else (if length words == 3 then in_line (line_number (get_or words 2 [])) else Nowhere)
+abbrev pub points_by : List (List ℕ) → Beside
+points_by words = if length words == 2 then Points else (if length words == 3 then in_line (line_number (get_or words 2 [])) else Remarks)
 
--- which points the words ask for
-abbrev pub points_of : List (List ℕ) → PointsTold
-points_of words = if nat_lt 1 (length words) && bytes_eq (get_or words 0 []) (codes "--points") then points_by words else Nowhere
+-- whether words ask for code, of which the first isn't `--points`
+abbrev pub code_by : List (List ℕ) → Beside
+code_by words = if asks_for_code words then Code else Remarks
 
--- the files that the words name, by which points they ask for
-abbrev pub files_by : PointsTold → List (List ℕ) → List (List ℕ)
-files_by Nowhere words = if asks_for_first words then drop 1 words else words
-files_by Everywhere words = take 1 (drop 1 words)
-files_by (InLine n) words = take 1 (drop 1 words)
+-- what the words ask for beside the explanation
+abbrev pub beside_of : List (List ℕ) → Beside
+beside_of words = if nat_lt 1 (length words) && bytes_eq (get_or words 0 []) (codes "--points") then points_by words else code_by words
+
+-- the files that the words name, by what they ask for
+abbrev pub files_by : Beside → List (List ℕ) → List (List ℕ)
+files_by Remarks words = if asks_for_first words then drop 1 words else words
+files_by Points words = take 1 (drop 1 words)
+files_by (PointsOf n) words = take 1 (drop 1 words)
+files_by Code words = take 1 (drop 1 words)
 
 -- the files that the words name
 abbrev pub files_of : List (List ℕ) → List (List ℕ)
-files_of words = files_by (points_of words) words
+files_of words = files_by (beside_of words) words
 
 -- how they are told of: where there are several, an accepted one is named
 abbrev pub manner_of : List (List ℕ) → Manner
-manner_of words = record { named = nat_lt 1 (length (files_of words)); first = asks_for_first words; points = points_of words }
+manner_of words = record { named = nat_lt 1 (length (files_of words)); first = asks_for_first words; beside = beside_of words }
 
 -- What is said of the shelf as it is left, and of what the calls come to, holds.
 module _ (left : Shelved → Outcome → Type 0) where

@@ -1,31 +1,59 @@
 -- What is told beside a refusal by V9, of its thread and of those behind it: of the first refusal of each by a rule that isn't about certificates, and of the other entailments that
--- have no valid certificate. Of each it is told as of the first, up to so many.
-use Rattle.std.specs.Prelude.{ℕ, ◌-◌, nat_le, List, [], ◌++◌, Bool, true, false, length, take, flat_map, codes, decimal, if◌then◌else◌}
+-- have no valid certificate. Of one for which a certificate is found that is told in short, behind the others; of each of these it is told as of the first, up to so many.
+use Rattle.std.specs.Prelude.{ℕ, ◌-◌, ◌==◌, List, [], ◌++◌, Bool, true, false, length, take, flat_map, codes, decimal, if◌then◌else◌}
 use Rattle.cov_ast.specs.Syntax.{Program}
 use Rattle.cov_ast.specs.declared.refusal.Refusal.{Refusal}
 use Rattle.call_judge.specs.Check.{name_in}
 use Rattle.call_reports.specs.Replies.{refused}
+use Rattle.call_reports.specs.Reports.{report_of}
 use Rattle.entail_refused.specs.Asked.{asked}
 use Rattle.entail_refused.specs.OtherRefusals.{other_refusals}
-use Rattle.explain.specs.Explanations.{explanation}
+use Rattle.entail_refused.specs.Suggested.{found_among, open_among}
+use Rattle.entail_refused.specs.declared.suggested.Found.{Found}
+use Rattle.explain.specs.Explanations.{explanation, where_is}
 use Rattle.refusal_names.specs.RefusalNames.{refusal_names}
-use Rattle.explain.specs.declared.others.TheConstants.{MOST_TOLD}
+use Rattle.explain.specs.declared.others.TheConstants.{MOST_SOUGHT, MOST_TOLD}
 
--- a refusal: the explanation, and what it is about, by name, or what was asked
+-- One refusal --------------------------------------------------------------------------------------------------
+
+-- the explanation, and what it is about, by name, or what was asked
 unfoldable pub refusal_text : (name bytes : List ℕ) → Program → Refusal → List ℕ
 refusal_text name bytes p r =
     explanation name bytes (refused r (name_in p.threads r.thread))
     ++ (refusal_names p bytes r.rule r.thread r.place r.detail ++ asked p bytes r.rule r.thread r.place r.detail)
 
--- how many there are besides
-abbrev pub left_line : ℕ → List ℕ
-left_line n = codes "and as many more refusals: " ++ decimal n ++ codes "\n"
+-- in short: where it is and the report of `check`, and the certificate that is found
+unfoldable pub brief_text : (name bytes : List ℕ) → Program → Found → List ℕ
+brief_text name bytes p f =
+    where_is name bytes f.refusal.place ++ (report_of (refused f.refusal (name_in p.threads f.refusal.thread)) ++ (codes "  suggestion:   " ++ (f.entry ++ codes "\n")))
 
--- the first of some refusals, and how many there are besides
-abbrev pub lines_of : (name bytes : List ℕ) → Program → List Refusal → List ℕ
-lines_of name bytes p rs =
-    if nat_le (length rs) MOST_TOLD then flat_map (refusal_text name bytes p) rs
-    else flat_map (refusal_text name bytes p) (take MOST_TOLD rs) ++ left_line (length rs - MOST_TOLD)
+-- Several ------------------------------------------------------------------------------------------------------
+
+-- those that are told in short, if there are any
+abbrev pub suggested_head : List ℕ
+suggested_head = codes "a certificate is found for each of these, and goes into the `by` of its statement, in the place of one that it gives for this number; `suggest` writes such into the program\n"
+
+unfoldable pub suggested_lines : (name bytes : List ℕ) → Program → List Found → List ℕ
+suggested_lines name bytes p found = if length found == 0 then [] else suggested_head ++ flat_map (brief_text name bytes p) found
+
+-- how many there are besides, if there are any: of those for which none is found, and of those for which none is sought
+abbrev pub left_line : ℕ → List ℕ
+left_line n = if n == 0 then [] else codes "and as many more refusals: " ++ (decimal n ++ codes "\n")
+
+abbrev pub unsought_line : ℕ → List ℕ
+unsought_line n = if n == 0 then [] else codes "and as many more that weren't looked at: " ++ (decimal n ++ codes "\n")
+
+-- the first of those for which none is found, and how many there are besides
+unfoldable pub open_lines : (name bytes : List ℕ) → Program → List Refusal → List ℕ
+open_lines name bytes p rs = flat_map (refusal_text name bytes p) (take MOST_TOLD rs) ++ left_line (length rs - MOST_TOLD)
+
+-- of those that are looked at
+unfoldable pub sought_lines : (name bytes : List ℕ) → Program → List Refusal → List ℕ
+sought_lines name bytes p rs = open_lines name bytes p (open_among p rs) ++ suggested_lines name bytes p (found_among p rs)
+
+-- of all
+unfoldable pub lines_of : (name bytes : List ℕ) → Program → List Refusal → List ℕ
+lines_of name bytes p rs = sought_lines name bytes p (take MOST_SOUGHT rs) ++ unsought_line (length rs - MOST_SOUGHT)
 
 -- beside a refusal of a program
 unfoldable pub other_lines : (name bytes : List ℕ) → Program → Refusal → List ℕ

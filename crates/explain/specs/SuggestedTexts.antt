@@ -1,5 +1,6 @@
 -- What is told of a program for which certificates are searched: its canonical spelling with those that are found, and as comments behind it what is refused
--- first of that and which of the entailments that are tried are left unproved. Where its declarations aren't in order, that is explained.
+-- first of that and which of the entailments that are tried are left unproved. Where its declarations aren't in order, that is explained. Those that the deeper
+-- search finds are put in first, and behind that what `annotate` finds for the rest.
 use Rattle.std.specs.Prelude.{ℕ, List, [], ◌++◌, flat_map, codes, Option, Some, None}
 use Rattle.annotate.specs.Annotated.{first_refused, unproved}
 use Rattle.annotate.specs.AnnotatedText.{annotated_text}
@@ -15,6 +16,7 @@ use Rattle.cov_ast.specs.Obligations.{first_false}
 use Rattle.cov_ast.specs.Syntax.{Parsed, Thread}
 use Rattle.cov_ast.specs.declared.refusal.Refusal.{Refusal}
 use Rattle.cov_print.specs.Spelling.{spelling}
+use Rattle.deeper_text.specs.DeeperText.{deeper_text}
 use Rattle.explain.specs.LevelTellings.{refused_lines, unnamed_lines}
 use Rattle.mode_compat.specs.Declared.{declaration_obligations}
 use Rattle.policy_class.specs.Resolved.{name_obligations, resolved}
@@ -39,9 +41,13 @@ abbrev pub closing : List Thread → Option Refusal → List Open → List ℕ
 closing threads None gs = []
 closing threads (Some r) gs = closing_comments threads r gs
 
--- the text with what is found, and the comments behind it
+-- the text with what is found by the search of the greatest depth, and the comments behind it
+abbrev pub annotated_lines : List Thread → Parsed → List ℕ
+annotated_lines threads p = spelling (annotated_text MOST_DEPTH p) ++ closing threads (first_refused MOST_DEPTH (resolved p)) (unproved MOST_DEPTH (resolved p))
+
+-- the same of the text with what the deeper search finds
 abbrev pub searched_lines : Parsed → List ℕ
-searched_lines p = spelling (annotated_text MOST_DEPTH p) ++ closing (resolved p).threads (first_refused MOST_DEPTH (resolved p)) (unproved MOST_DEPTH (resolved p))
+searched_lines p = annotated_lines (resolved p).threads (deeper_text p)
 
 -- what is told, by the first obligation of the declarations that doesn't hold, and by the first of the names
 abbrev pub declared_lines : (name bytes : List ℕ) → Parsed → Option Refusal → List ℕ
@@ -65,7 +71,7 @@ status_by None otherwise = otherwise
 
 -- of what a search comes to
 abbrev pub searched_status : Parsed → Status
-searched_status p = status_by (first_refused MOST_DEPTH (resolved p)) s.Done
+searched_status p = status_by (first_refused MOST_DEPTH (resolved (deeper_text p))) s.Done
 
 -- of a text whose names are in order, and of any
 abbrev pub declared_status : Parsed → Status

@@ -1,7 +1,9 @@
 -- All that is told of the bytes of a file: the explanation of what `check` replies to them; then, where they are malformed by a token, what
 -- could stand at its place, where they are refused, what the refusal is about and what is warned of in them, and where they are accepted, what
 -- is warned of in them and in the program that they spell. Where they are refused for a name that isn't declared, the nearest one that is.
-use Rattle.std.specs.Prelude.{◌≡◌, ℕ, List, [], ◌++◌, Bool, codes, if◌then◌else◌, Option, Some, None}
+use Rattle.std.specs.Prelude.{◌≡◌, ℕ, List, [], ◌++◌, Bool, true, codes, if◌then◌else◌, Option, Some, None}
+use Rattle.code_lines.specs.CodeLines.{code_lines}
+use Rattle.compiled_code.specs.Compiled.{compiled}
 use Rattle.cov_ast.specs.Obligations.{all_hold}
 use Rattle.cov_ast.specs.Syntax.{Parsed, Program}
 use Rattle.cov_ast.specs.declared.refusal.Refusal.{Refusal}
@@ -16,8 +18,8 @@ use Rattle.explain.specs.Explanations.{explanation}
 use Rattle.explain.specs.OtherTellings.{others_unless}
 use Rattle.explain.specs.WarningSentences.{warning_lines}
 use Rattle.explain.specs.declared.manner.Manner.{Manner}
-use Rattle.explain.specs.declared.manner.PointsTold.{PointsTold}
-use Rattle.explain.specs.declared.manner.PointsTold.TheVariants.{Nowhere, Everywhere, InLine}
+use Rattle.explain.specs.declared.manner.Beside.{Beside}
+use Rattle.explain.specs.declared.manner.Beside.TheVariants.{Remarks, Points, PointsOf, Code}
 use Rattle.typing_trace.specs.PointLines.{point_lines}
 use Rattle.call_judge.specs.Meaning.{meaning}
 use Rattle.call_inputs.specs.Programs.{SpellsProgram}
@@ -70,11 +72,22 @@ AddsPoints bytes number (refused refusal thread) text = (p : Parsed) × SpellsPr
 AddsPoints bytes number (accepted threads statements entailments) text = (p : Parsed) × SpellsProgram bytes p × (text ≡ program_points p bytes number)
 AddsPoints bytes number reply text = text ≡ []
 
--- what is told beside the explanation, by whether points are asked for
-abbrev pub AddsBeside : PointsTold → (first : Bool) (name bytes : List ℕ) → Reply → (text : List ℕ) → Type 0
-AddsBeside Nowhere first name bytes reply text = Adds first name bytes reply text
-AddsBeside Everywhere first name bytes reply text = AddsPoints bytes None reply text
-AddsBeside (InLine n) first name bytes reply text = AddsPoints bytes (Some n) reply text
+-- the code of a program whose text these bytes are
+abbrev pub compiled_lines : Program → (bytes : List ℕ) → List ℕ
+compiled_lines p bytes = code_lines p (compiled p) bytes
+
+-- What is told of bytes to which `check` replies so, beside the explanation, where the code is asked for: of accepted ones the code of the program that they spell,
+-- and of others what is told without, of a refusal the first alone.
+abbrev pub AddsCode : (name bytes : List ℕ) → Reply → (text : List ℕ) → Type 0
+AddsCode name bytes (accepted threads statements entailments) text = (p : Parsed) × SpellsProgram bytes p × (text ≡ compiled_lines (resolved p) bytes)
+AddsCode name bytes reply text = Adds true name bytes reply text
+
+-- what is told beside the explanation, by what is asked for
+abbrev pub AddsBeside : Beside → (first : Bool) (name bytes : List ℕ) → Reply → (text : List ℕ) → Type 0
+AddsBeside Remarks first name bytes reply text = Adds first name bytes reply text
+AddsBeside Points first name bytes reply text = AddsPoints bytes None reply text
+AddsBeside (PointsOf n) first name bytes reply text = AddsPoints bytes (Some n) reply text
+AddsBeside Code first name bytes reply text = AddsCode name bytes reply text
 
 -- what stands in front of the report of a file that is accepted, where files are named: its name
 abbrev pub accepted_front : (name : List ℕ) → Reply → List ℕ
@@ -88,4 +101,4 @@ name_front named name reply = if named then accepted_front name reply else []
 -- told beside it.
 abbrev pub IsTold : Manner → (name bytes : List ℕ) → Reply → (text : List ℕ) → Type 0
 IsTold h name bytes reply text =
-    (more : List ℕ) × AddsBeside h.points h.first name bytes reply more × (text ≡ name_front h.named name reply ++ (explanation name bytes reply ++ more))
+    (more : List ℕ) × AddsBeside h.beside h.first name bytes reply more × (text ≡ name_front h.named name reply ++ (explanation name bytes reply ++ more))

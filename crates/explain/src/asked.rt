@@ -2,9 +2,9 @@
 
 ghost use Rattle.std.specs.Prelude.{◌≡◌, map, string_bytes};
 ghost use Rattle.explain.specs.FileCalls as spec;
-ghost use Rattle.explain.specs.declared.manner.PointsTold.TheVariants as PointsTold;
+ghost use Rattle.explain.specs.declared.manner.Beside.TheVariants as Beside;
 
-use crate::manner::PointsTold;
+use crate::manner::Beside;
 use cov_expr::MOST_BYTES;
 
 /// Whether words are `--first` and files.
@@ -28,38 +28,56 @@ pub fn asks_for_suggestions(names: &[String]) -> bool
     names.len() == 2 && names[0].as_str() == "--suggest"
 }
 
-/// Which points words ask for.
-pub fn points_of(names: &[String]) -> PointsTold
-    ensures { result ≡ spec.points_of (map string_bytes names.now) }
+/// Whether words are `--code` and a program.
+pub fn asks_for_code(names: &[String]) -> bool
+    ensures { result ≡ spec.asks_for_code (map string_bytes names.now) }
+{
+    names.len() == 2 && names[0].as_str() == "--code"
+}
+
+/// What words ask for beside the explanation.
+pub fn beside_of(names: &[String]) -> Beside
+    ensures { result ≡ spec.beside_of (map string_bytes names.now) }
 {
     if 1 < names.len() && names[0].as_str() == "--points" {
         points_by(names)
     } else {
-        PointsTold::Nowhere
+        code_by(names)
+    }
+}
+
+/// Whether words ask for the code, of which the first isn't `--points`.
+fn code_by(names: &[String]) -> Beside
+    ensures { result ≡ spec.code_by (map string_bytes names.now) }
+{
+    if asks_for_code(names) {
+        Beside::Code
+    } else {
+        Beside::Remarks
     }
 }
 
 /// Which points words ask for, of which the first is `--points`.
-fn points_by(names: &[String]) -> PointsTold
+fn points_by(names: &[String]) -> Beside
     ensures { result ≡ spec.points_by (map string_bytes names.now) }
 {
     if names.len() == 2 {
-        return PointsTold::Everywhere;
+        return Beside::Points;
     }
     if names.len() == 3 {
         in_line(names[2].as_bytes())
     } else {
-        PointsTold::Nowhere
+        Beside::Remarks
     }
 }
 
 /// The points in front of the statements of the line whose number a word spells, if it spells one.
-fn in_line(word: &[u8]) -> PointsTold
+fn in_line(word: &[u8]) -> Beside
     ensures { result ≡ spec.in_line (spec.line_number word.now) }
 {
     match line_number(word) {
-        Some(number) => PointsTold::InLine(number),
-        None => PointsTold::Nowhere,
+        Some(number) => Beside::PointsOf(number),
+        None => Beside::Remarks,
     }
 }
 
@@ -81,19 +99,19 @@ fn line_number(word: &[u8]) -> Option<usize>
     Some(number)
 }
 
-/// The files that words name, by which points they ask for.
-pub fn files_by(points: PointsTold, names: &[String]) -> &[String]
-    ensures { map string_bytes result.now ≡ spec.files_by points (map string_bytes names.now) }
+/// The files that words name, by what they ask for.
+pub fn files_by(beside: Beside, names: &[String]) -> &[String]
+    ensures { map string_bytes result.now ≡ spec.files_by beside (map string_bytes names.now) }
 {
-    match points {
-        PointsTold::Nowhere => without_first(names),
-        PointsTold::Everywhere | PointsTold::InLine(_) => second(names),
+    match beside {
+        Beside::Remarks => without_first(names),
+        Beside::Points | Beside::PointsOf(_) | Beside::Code => second(names),
     }
 }
 
-/// The files that words name which ask for no points.
+/// The files that words name which ask for neither points nor code.
 fn without_first(names: &[String]) -> &[String]
-    ensures { map string_bytes result.now ≡ spec.files_by PointsTold.Nowhere (map string_bytes names.now) }
+    ensures { map string_bytes result.now ≡ spec.files_by Beside.Remarks (map string_bytes names.now) }
 {
     if asks_for_first(names) {
         &names[1..]
@@ -104,7 +122,7 @@ fn without_first(names: &[String]) -> &[String]
 
 /// The second of some words, if it is there.
 fn second(names: &[String]) -> &[String]
-    ensures { map string_bytes result.now ≡ spec.files_by PointsTold.Everywhere (map string_bytes names.now) }
+    ensures { map string_bytes result.now ≡ spec.files_by Beside.Points (map string_bytes names.now) }
 {
     if 1 < names.len() { &names[1..2] } else { &[] }
 }

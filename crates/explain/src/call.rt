@@ -6,7 +6,7 @@ ghost use Rattle.explain.specs.FileCalls as spec;
 ghost use Rattle.explain.specs.FileCalls.{Answers, AnswersBesides, Explains};
 ghost use Rattle.explain.specs.Inside.Told.{IsLeft, outcome_of};
 
-use crate::asked::{asks_for_first, asks_for_levels, asks_for_suggestions, files_by, points_of};
+use crate::asked::{asks_for_first, asks_for_levels, asks_for_suggestions, beside_of, files_by};
 use crate::files::tell_all;
 use crate::level_files::tell_levels;
 use crate::manner::Manner;
@@ -25,7 +25,7 @@ pub fn explain<S: Shelf, K: Sink>(
     sink: &mut K,
 ) -> Status
     // The shelf is called once for each file, in order, and for fewer only where memory ran out. What is put is told of the files, in order, by what the words
-    // ask for (`--first`: no other refusal behind the first; `--points`: what is known in the program);
+    // ask for (`--first`: no other refusal behind the first; `--points`: what is known in the program; `--code`: the code of the program);
     // the status is the first of theirs that isn't Done. For `--levels`, a program and levels the shelf is called as by `levels`, what is put is
     // told of what `levels` finds, and the status is that of `levels`. For `--suggest` and a program the shelf is called for that, and what is put is its text with the
     // certificates that are found (`specs/SuggestedTexts.antt`).
@@ -78,12 +78,12 @@ fn answer_besides<S: Shelf>(
     if asks_for_suggestions(names) {
         tell_suggested(alloc, names[1].as_str(), shelf, text)
     } else {
-        let points = points_of(names);
-        let files = files_by(points, names);
+        let beside = beside_of(names);
+        let files = files_by(beside, names);
         let manner = Manner {
             named: 1 < files.len(),
             first: asks_for_first(names),
-            points,
+            beside,
         };
         tell_all(alloc, manner, files, shelf, text)
     }

@@ -11,6 +11,8 @@
 //! The words `--points P` and `--points P LINE` ask for what is known in the program of P (`typing_trace`), in the place of what a refusal is about and of warnings: in front
 //! of each statement, or of those that begin in that line.
 //!
+//! The words `--code P` ask for the code of P beside its source (`code_lines`), where it is accepted; else for what `--first P` tells.
+//!
 //! The words `--suggest P` ask for the canonical spelling of P with the certificates that a search finds for what isn't proved of it, also where some of it stays open.
 //!
 //! The words `--levels P L` ask for what `levels` says of the program P and the levels L. Of the first observer for whom the program is refused it

@@ -1,14 +1,16 @@
 //! How files are told of.
 
-/// Whether what is known in a program is told, and where.
+/// What is told beside the explanation.
 #[derive(Clone, Copy)]
-pub enum PointsTold {
-    /// It isn't.
-    Nowhere,
-    /// In front of each statement.
-    Everywhere,
-    /// In front of those that begin in this line, counted from 1.
-    InLine(usize),
+pub enum Beside {
+    /// What a refusal is about, and warnings.
+    Remarks,
+    /// What is known in a program in front of each statement.
+    Points,
+    /// The same, in front of those that begin in this line, counted from 1.
+    PointsOf(usize),
+    /// Of a program that is accepted its code, and of others what a refusal is about, the first alone, and warnings.
+    Code,
 }
 
 /// How files are told of.
@@ -18,6 +20,6 @@ pub struct Manner {
     pub named: bool,
     /// Whether the first refusal alone is told.
     pub first: bool,
-    /// Whether what is known is told, in the place of what a refusal is about and of warnings.
-    pub points: PointsTold,
+    /// What is told beside the explanation.
+    pub beside: Beside,
 }

@@ -1,25 +1,28 @@
 //! What is told of the other entailments for which a thread, and those behind it, would be refused, and of the first refusal of each by a rule that isn't about certificates.
 
-ghost use Rattle.std.specs.Prelude.{◌≡◌, ◌++◌, OnOk, flat_map};
+ghost use Rattle.std.specs.Prelude.{◌≡◌, ◌++◌, OnOk, flat_map, take};
 ghost use Rattle.cov_ast.specs.View as view;
 ghost use Rattle.cov_ast.specs.WellFormed.{IsWellFormed};
 ghost use Rattle.explain.specs.OtherTellings as spec;
 
-use crate::explanation::add_explanation;
+use crate::explanation::{add_explanation, add_report, add_where};
 use call_judge::check::thread_name;
 use call_reports::Answer;
 use cov_ast::{Program, Refusal};
 use cov_expr::{Blob, NoMemory};
-use entail_refused::{add_asked, other_refusals};
+use entail_refused::{Found, add_asked, other_refusals, sort_refusals};
 use refusal_names::add_names;
 use std::alloc::Global;
 use text_parts::add_number;
 
-/// How many others are told.
+/// For how many others a certificate is sought. The search of each takes some time.
+const MOST_SOUGHT: usize = 32;
+
+/// Of how many for which none is found it is told as of the first.
 const MOST_TOLD: usize = 8;
 
 /// Adds what is told of the other entailments for which the thread of a refusal by V9, and those behind it, would be refused, and of the first refusal of each of these threads by
-/// a rule that isn't about certificates, each as if it were the first; nothing where the first alone is to be told.
+/// a rule that isn't about certificates: of one for which a certificate is found in short, and of the others as if it were the first. Nothing is added where the first alone is to be told.
 pub fn add_others_unless(
     alloc: Global,
     first: bool,
@@ -55,7 +58,7 @@ fn add_others(
     add_some(alloc, name, bytes, others.as_slice(), program, text)
 }
 
-/// Adds what is told of refusals: of the first of them, and how many there are besides.
+/// Adds what is told of refusals: of those that are looked at, and how many there are besides.
 fn add_some(
     alloc: Global,
     name: &str,
@@ -67,11 +70,114 @@ fn add_some(
     requires { IsWellFormed (view.program program.now) }
     ensures { OnOk result (text.new ≡ text.old ++ spec.lines_of name.now bytes.now (view.program program.now) others.now) }
 {
-    if others.len() <= MOST_TOLD {
-        return add_each(alloc, name, bytes, others, program, text);
+    add_sought(
+        alloc,
+        name,
+        bytes,
+        first(others, MOST_SOUGHT),
+        program,
+        text,
+    )?;
+    add_unsought(others.len().saturating_sub(MOST_SOUGHT), text)
+}
+
+/// The first of some refusals, so many at the most.
+fn first(all: &[Refusal], most: usize) -> &[Refusal]
+    ensures { result.now ≡ take most all.now }
+{
+    if all.len() <= most { all } else { &all[..most] }
+}
+
+/// Adds what is told of refusals that are looked at: of those for which no certificate is found, and then in short of the others.
+#[tactic(auto, unfolding(crate::specs::OtherTellings::sought_lines))]
+fn add_sought(
+    alloc: Global,
+    name: &str,
+    bytes: &[u8],
+    sought: &[Refusal],
+    program: &Program,
+    text: &mut Blob,
+) -> Result<(), NoMemory>
+    requires { IsWellFormed (view.program program.now) }
+    ensures { OnOk result (text.new ≡ text.old ++ spec.sought_lines name.now bytes.now (view.program program.now) sought.now) }
+{
+    let parts = sort_refusals(alloc, program, sought)?;
+    add_open(alloc, name, bytes, parts.open.as_slice(), program, text)?;
+    add_suggested(alloc, name, bytes, parts.found.as_slice(), program, text)
+}
+
+/// Adds what is told of refusals for which a certificate is found, if there are any.
+#[tactic(auto, unfolding(crate::specs::OtherTellings::suggested_lines))]
+fn add_suggested(
+    alloc: Global,
+    name: &str,
+    bytes: &[u8],
+    found: &[Found],
+    program: &Program,
+    text: &mut Blob,
+) -> Result<(), NoMemory>
+    ensures { OnOk result (text.new ≡ text.old ++ spec.suggested_lines name.now bytes.now (view.program program.now) found.now) }
+{
+    if found.is_empty() {
+        return Ok(());
     }
-    add_each(alloc, name, bytes, &others[..MOST_TOLD], program, text)?;
-    add_left(others.len() - MOST_TOLD, text)
+    text.extend_from_slice(
+        b"a certificate is found for each of these, and goes into the `by` of its statement, in the place of one that it gives for this number; `suggest` writes such into the program\n",
+    )?;
+    add_briefly(alloc, name, bytes, found, program, text)
+}
+
+/// Adds what is told of each in short.
+fn add_briefly(
+    alloc: Global,
+    name: &str,
+    bytes: &[u8],
+    found: &[Found],
+    program: &Program,
+    text: &mut Blob,
+) -> Result<(), NoMemory>
+    ensures { OnOk result (text.new ≡ text.old ++ flat_map (spec.brief_text name.now bytes.now (view.program program.now)) found.now) }
+{
+    for one in found {
+        add_brief(alloc, name, bytes, one, program, text)?;
+    }
+    Ok(())
+}
+
+/// Adds what is told of one in short: where it is, the report of `check`, and the certificate that is found.
+fn add_brief(
+    alloc: Global,
+    name: &str,
+    bytes: &[u8],
+    found: &Found,
+    program: &Program,
+    text: &mut Blob,
+) -> Result<(), NoMemory>
+    ensures { OnOk result (text.new ≡ text.old ++ spec.brief_text name.now bytes.now (view.program program.now) found.now) }
+{
+    let thread = thread_name(program.threads.as_slice(), found.refusal.thread);
+    add_where(name, bytes, found.refusal.place as usize, text)?;
+    add_report(alloc, Answer::Refused(found.refusal, thread), text)?;
+    text.extend_from_slice(b"  suggestion:   ")?;
+    text.extend_from_slice(found.entry.as_slice())?;
+    text.extend_from_slice(b"\n")
+}
+
+/// Adds what is told of the first of refusals for which no certificate is found, and how many there are besides.
+#[tactic(auto, unfolding(crate::specs::OtherTellings::open_lines))]
+fn add_open(
+    alloc: Global,
+    name: &str,
+    bytes: &[u8],
+    left: &[Refusal],
+    program: &Program,
+    text: &mut Blob,
+) -> Result<(), NoMemory>
+    requires { IsWellFormed (view.program program.now) }
+    ensures { OnOk result (text.new ≡ text.old ++ spec.open_lines name.now bytes.now (view.program program.now) left.now) }
+{
+    add_each(alloc, name, bytes, first(left, MOST_TOLD), program, text)?;
+    add_left(left.len().saturating_sub(MOST_TOLD), text)
 }
 
 /// Adds what is told of each of some refusals.
@@ -110,11 +216,26 @@ fn add_refusal(
     add_asked(alloc, program, bytes, refusal, text)
 }
 
-/// Adds how many more there are.
+/// Adds how many more there are for which no certificate is found, if there are any.
 fn add_left(count: usize, text: &mut Blob) -> Result<(), NoMemory>
     ensures { OnOk result (text.new ≡ text.old ++ spec.left_line count) }
 {
+    if count == 0 {
+        return Ok(());
+    }
     text.extend_from_slice(b"and as many more refusals: ")?;
+    add_number(count, text)?;
+    text.extend_from_slice(b"\n")
+}
+
+/// Adds how many more there are that weren't looked at, if there are any.
+fn add_unsought(count: usize, text: &mut Blob) -> Result<(), NoMemory>
+    ensures { OnOk result (text.new ≡ text.old ++ spec.unsought_line count) }
+{
+    if count == 0 {
+        return Ok(());
+    }
+    text.extend_from_slice(b"and as many more that weren't looked at: ")?;
     add_number(count, text)?;
     text.extend_from_slice(b"\n")
 }

@@ -18,14 +18,14 @@ use crate::explanation::add_report;
 use crate::files::tell_unread;
 use crate::level_files::tell_malformed;
 use crate::observers::{add_refused_lines, tell_unnamed};
-use annotate::{Open, Outcome, annotate, texts_are_as_read};
+use annotate::{Open, Outcome, texts_are_as_read};
 use call_inputs::{fetch, parse_text};
 use call_judge::check::thread_name;
 use call_reports::{Answer, Status, Stop, add_number_behind, add_thread_name};
-use cert_search::MOST_DEPTH;
 use cov_ast::{CheckFault, Parsed, Program, Refusal, ThreadDecl};
 use cov_expr::{Blob, MOST_BYTES, NoMemory};
 use cov_io::Shelf;
+use deeper_text::annotate_deeper;
 use policy_class::resolve;
 use std::alloc::Global;
 use tree_copies::copy_text;
@@ -107,7 +107,7 @@ fn tell_named(
     }
 }
 
-/// Adds a text with the certificates that are found for it, and what is left open.
+/// Adds a text with the certificates that are found for it, also by the deeper search, and what is left open.
 fn tell_searched(
     alloc: Global,
     parsed: Parsed,
@@ -121,7 +121,7 @@ fn tell_searched(
     requires declared { IsTrue (all_hold (declaration_obligations (view.program program.now))) }
     ensures { IfOk result (λ status. IsSearched (view.parsed parsed) text.old text.new status) }
 {
-    let outcome = annotate(alloc, parsed, program, MOST_DEPTH)?;
+    let outcome = annotate_deeper(alloc, parsed, program)?;
     add_outcome(alloc, program.threads.as_slice(), &outcome, text)
 }
 

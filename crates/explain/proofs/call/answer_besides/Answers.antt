@@ -26,10 +26,10 @@ returns-else-asks_for_suggestions g c =
     let words = map string_bytes c.args.names.now in
     let left = IsLeft (g.S.Shelf.shelved c.tell_all.new.shelf) (outcome_of c.tell_all.new.text c.tell_all.result) in
     let no : asks_for_suggestions words ≡ false = sym c.asks_for_suggestions.ensures ∙ c.if-asks_for_suggestions.false in
-    let files : map string_bytes c.files_by-files.result.now ≡ files_of words = c.files_by-files.ensures ∙ ap (λ points. files_by points words) c.points_of-points.ensures in
+    let files : map string_bytes c.files_by-files.result.now ≡ files_of words = c.files_by-files.ensures ∙ ap (λ beside. files_by beside words) c.beside_of-beside.ensures in
     let as_many : length c.files_by-files.result.now ≡ length (files_of words) = sym (length-map c.files_by-files.result.now string_bytes) ∙ ap length files in
-    let given : Manner = record { named = nat_lt 1 (length c.files_by-files.result.now); first = c.asks_for_first.result; points = c.points_of-points.result } in
-    let manners : given ≡ manner_of words = λ i. record { named = nat_lt 1 (as_many i); first = c.asks_for_first.ensures i; points = c.points_of-points.ensures i } in
+    let given : Manner = record { named = nat_lt 1 (length c.files_by-files.result.now); first = c.asks_for_first.result; beside = c.beside_of-beside.result } in
+    let manners : given ≡ manner_of words = λ i. record { named = nat_lt 1 (as_many i); first = c.asks_for_first.ensures i; beside = c.beside_of-beside.ensures i } in
     let shelf = g.S.Shelf.shelved c.args.shelf.now in
     subst (AnswersBesides left shelf words) (sym no)
     (subst (λ t. TellsAll left (manner_of words) shelf (files_of words) t s.Done) c.requires

@@ -17,7 +17,7 @@ returns c =
       front ++ (explained ++ more),
       (
         c.answer-answer.ensures.checks bytes c.requires.found,
-        (more, subst (λ r. AddsBeside c.args.manner.points c.args.manner.first name bytes r more) (sym c.answer-answer.ensures.reply) added.1, refl),
+        (more, subst (λ r. AddsBeside c.args.manner.beside c.args.manner.first name bytes r more) (sym c.answer-answer.ensures.reply) added.1, refl),
       ),
       c.status_for-status.ensures,
       added.2 ∙ ap (λ t. t ++ more) (c.in_ok-add_explanation.ensures ∙ ap (λ t. t ++ explained) c.in_ok-add_name.ensures)

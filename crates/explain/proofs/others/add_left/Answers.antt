@@ -1,4 +1,5 @@
-use Rattle.std.proofs.Common.{◌++◌, ◌∙◌, ap, append_assoc, codes, decimal}
+use Rattle.std.proofs.Common.{[], ◌≡◌, ◌++◌, ◌∙◌, OnOk, ap, append_assoc, codes, decimal, if◌then◌else◌, subst, sym}
+use Rattle.std.proofs.lemmas.Bool.{ne_eqb}
 use Rattle.std.proofs.lemmas.Result.{on_ok_weaker}
 use Rattle.explain.proofs.others.add_left.Goals as goal
 
@@ -7,7 +8,9 @@ returns c =
     let old = c.args.text.now in
     let head = codes "and as many more refusals: " in
     let count = decimal c.args.count in
-    let so_far = c.in_ok-add_number.ensures ∙ ap (λ s. s ++ count) c.in_ok-extend_from_slice.ensures.ok ∙ append_assoc old head count in
-    on_ok_weaker c.extend_from_slice-2.result
-    (λ is. is ∙ ap (λ s. s ++ codes "\n") so_far ∙ append_assoc old (head ++ count) (codes "\n"))
-    c.extend_from_slice-2.ensures.ok
+    let end = codes "\n" in
+    let so_far = c.in_ok-add_number.ensures ∙ ap (λ s. s ++ count) c.in_ok-extend_from_slice.ensures.ok in
+    subst (λ b. OnOk c.extend_from_slice-2.result (c.extend_from_slice-2.new.self ≡ old ++ (if b then [] else head ++ (count ++ end)))) (sym (ne_eqb c.args.count 0 c.if-count-eq0.false))
+    (on_ok_weaker c.extend_from_slice-2.result
+    (λ is. is ∙ ap (λ s. s ++ end) so_far ∙ append_assoc (old ++ head) count end ∙ append_assoc old head (count ++ end))
+    c.extend_from_slice-2.ensures.ok)
