@@ -1,8 +1,7 @@
 -- The text with what a deeper search finds is as reading gives it.
-use Rattle.std.proofs.Common.{Result, Ok, Err, IfOk, ◌≡◌, ℕ, ◌<◌, ◌≤◌, List, [], length, map, take, get_or, Option, None, sym, ap, ◌∙◌, subst, All, IsTrue, append-nil, inl, inr}
+use Rattle.std.proofs.Common.{Result, Ok, Err, IfOk, ◌≡◌, ℕ, ◌<◌, ◌≤◌, List, [], length, map, take, get_or, Option, sym, ap, ◌∙◌, subst, All, inl, inr}
 use Rattle.std.proofs.lemmas.Bool.{cases_lt}
 use Rattle.std.proofs.lemmas.List.{length-map}
-use Rattle.annotate.proofs.NameLaws.{first_behind}
 use Rattle.annotate.proofs.ThreadChoiceLaws.{chosen_past}
 use Rattle.annotate.proofs.UseLaws.{text_same}
 use Rattle.annotate.specs.Annotated.{first_refused, unproved}
@@ -13,7 +12,6 @@ use Rattle.annotate.specs.declared.choices.ThreadChoices.{ThreadChoices}
 use Rattle.annotate.specs.declared.outcome.Open.{Open}
 use Rattle.annotate.specs.declared.outcome.Outcome.{Outcome}
 use Rattle.cert_search.specs.declared.finder.TheConstants.{MOST_DEPTH}
-use Rattle.cov_ast.specs.Obligations.{Obligation, all_hold, first_false}
 use Rattle.cov_ast.specs.Syntax.{Cert, Parsed, Program}
 use Rattle.cov_ast.specs.View as view
 use Rattle.cov_ast.specs.declared.parsed.Parsed.{Parsed as Tree}
@@ -33,9 +31,6 @@ choices_below p formed t place =
     subst (λ m. All (λ c. IsCertInRange m (length p.locks) c.1) (deeper_choices (resolved p) t place)) (length-map p.vars (resolved_variable (var_id p) (lock_id p)))
     (subst (λ k. All (λ c. IsCertInRange (length (resolved p).vars) k c.1) (deeper_choices (resolved p) t place)) (length-map p.locks (resolved_lock (var_id p) (lock_id p)))
     (chosen_in_range (resolved p) formed (tried (resolved p)) t place))
-
-pub none_where_held : (es : List Obligation) → IsTrue (all_hold es) → first_false es ≡ None
-none_where_held es h = ap first_false (sym (append-nil es)) ∙ first_behind es [] h
 
 -- what the code has of it, in the numbers of names, is the text with what is chosen
 pub text_is : (p : Parsed) (numbers : List ℕ × ℕ) (fs : List Found) (made : List ThreadChoices) (n : ℕ)

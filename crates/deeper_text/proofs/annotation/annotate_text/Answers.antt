@@ -1,9 +1,10 @@
-use Rattle.std.proofs.Common.{◌≡◌, ◌∙◌, Err, IsTrue, None, Some, ap, subst, sym}
+use Rattle.std.proofs.Common.{◌≡◌, ◌∙◌, [], Err, IsTrue, None, Some, ap, append-nil, subst, sym}
 use Rattle.cov_ast.specs.Obligations.{Decides, all_hold, first_false}
 use Rattle.cov_ast.specs.View as view
 use Rattle.mode_compat.specs.Declared.{declaration_obligations}
 use Rattle.policy_class.specs.Resolved.{name_obligations, resolved}
-use Rattle.deeper_text.proofs.TextLaws.{first_of, none_where_held, unproved_of}
+use Rattle.annotate.proofs.NameLaws.{first_behind}
+use Rattle.deeper_text.proofs.TextLaws.{first_of, unproved_of}
 use Rattle.deeper_text.proofs.annotation.annotate_text.Goals as goal
 
 pub annotate-requires-clause-declared : goal.annotate-requires-clause-declared
@@ -18,7 +19,8 @@ unreachable-requires c =
     let fails = subst (λ fault. Decides (name_obligations again) (Err fault)) c.in-Err-Refused.field-0-is c.in-Err-Refused.ensures.names in
     let some : first_false (name_obligations (view.parsed c.args.text)) ≡ Some c.in-Err-Refused.field-0-0 =
     subst (λ q. first_false (name_obligations q) ≡ Some c.in-Err-Refused.field-0-0) c.in_ok-again.ensures fails in
-    let none : first_false (name_obligations (view.parsed c.args.text)) ≡ None = none_where_held (name_obligations (view.parsed c.args.text)) c.requires.names in
+    let es = name_obligations (view.parsed c.args.text) in
+    let none : first_false es ≡ None = ap first_false (sym (append-nil es)) ∙ first_behind es [] c.requires.names in
     cc
 
 pub returns-in-Ok-clause-first : goal.returns-in-Ok-clause-first
