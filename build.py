@@ -1,11 +1,11 @@
 #!/usr/bin/env python3
 """Proves a program of the repository with all that it stands on, and builds it: for the launcher.
 
-usage: build.py CRATE PROGRAM        (as build.py covern_cli /tmp/covern)
+usage: build.py CRATE PROGRAM [BACKEND]      (as build.py covern_cli /tmp/covern)
 
 The kit's `rattle` proves the crates side by side, one a processor where there is memory for them, or as many as `RT_JOBS` says, first those behind which most is still to be
-proved (by the bytes of their code, and how many crates are loaded for it). LLVM then builds the program CRATE, which is written to PROGRAM, as old as the start of its build: what
-is edited meanwhile is newer. What is proved is kept in the folder out/ of each crate, by a sum of the kit, of the crate's files and of all crates below it: a later build proves
+proved (by the bytes of their code, and how many crates are loaded for it). LLVM then builds the program CRATE, or the kit's own compiler where BACKEND is `rattle`, which is
+sooner done and whose programs are slower. It is written to PROGRAM, as old as the start of its build: what is edited meanwhile is newer. What is proved is kept in the folder out/ of each crate, by a sum of the kit, of the crate's files and of all crates below it: a later build proves
 what has changed and what stands on that, and another program only what it needs besides. A line comes for each crate, and the status is 1, with what `rattle` said, where one isn't
 proved, or takes a handle or has anything that nothing proves.
 
@@ -120,8 +120,8 @@ def lanes_free():
 class Build:
     """The crates of a program, with the sum of each, and what is left to prove behind it."""
 
-    def __init__(self, kit, root):
-        self.kit, self.root = kit, root
+    def __init__(self, kit, root, backend):
+        self.kit, self.root, self.backend = kit, root, backend
         self.crates = crates_of(root)
         self.sums, self.below, self.weight, self.behind = {}, {}, {}, {}
         for name, libraries in self.crates.items():
@@ -198,16 +198,15 @@ class Build:
         folder, kit = os.path.join(TOP, 'crates', self.root), self.kit
         words, how = self.words(self.root, jobs)
         with tempfile.TemporaryDirectory() as made:
-            checked, compiled = os.path.join(made, 'checked'), os.path.join(made, 'program.o')
-            said = kit.run('rattle', ['check', *words, *how, '-o', checked], folder)
+            compiled, linked = os.path.join(made, 'program.o'), os.path.join(made, 'program')
+            said = kit.run('rattle', ['build', *words, *how, '--toolchain', kit.path('toolchain'), '--backend', self.backend, '-o', compiled], folder)
             self.is_well(self.root, said)
-            kit.run('rattle', ['build', *words, '--crate-checked', checked, '--toolchain', kit.path('toolchain'), '--backend', 'llvm', '-o', compiled], folder)
-            kit.run('rattle-link', ['--target', 'x86_64-unknown-linux-gnu', '--toolchain', kit.path('toolchain'), '-o', os.path.join(made, 'program'), compiled,
+            kit.run('rattle-link', ['--target', 'x86_64-unknown-linux-gnu', '--toolchain', kit.path('toolchain'), '-o', linked, compiled,
                                     kit.path('c', 'libos_c.a'), kit.path('c', 'liblibc_c.a')], folder)
             for name in self.crates:
                 self.is_as_begun(name)
-            os.utime(os.path.join(made, 'program'), (began, began))
-            shutil.move(os.path.join(made, 'program'), to)
+            os.utime(linked, (began, began))
+            shutil.move(linked, to)
 
     def all(self, to, began):
         """Proves all that isn't kept, side by side, and the program last."""
@@ -241,7 +240,8 @@ class Build:
 
 
 def main():
-    if len(sys.argv) != 3:
+    backend = sys.argv[3] if len(sys.argv) == 4 else 'llvm'
+    if len(sys.argv) not in (3, 4) or backend not in ('llvm', 'rattle'):
         print(__doc__, file=sys.stderr)
         return 2
     root, to = sys.argv[1], os.path.abspath(sys.argv[2])
@@ -251,7 +251,7 @@ def main():
         for number in (signal.SIGTERM, signal.SIGINT, signal.SIGHUP):
             signal.signal(number, lambda number, _: kit.end(128 + number))
         os.makedirs(os.path.dirname(to), exist_ok=True)
-        Build(kit, root).all(to, began)
+        Build(kit, root, backend).all(to, began)
     except (Failed, OSError) as failed:
         print(failed)
         return 1

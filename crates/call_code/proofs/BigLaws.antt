@@ -22,9 +22,9 @@ use Rattle.call_code.specs.Codes.{code_of}
 use Rattle.call_code.specs.Inside.{IsOfText}
 use Rattle.call_code.specs.declared.codes.Coded.{Coded}
 use Rattle.call_inputs.proofs.PlanLaws.{IsSoundReply}
-use Rattle.call_inputs.specs.Inputs.{PairInput}
+use Rattle.replay_inputs.specs.Inputs.{PairInput}
 use Rattle.call_inputs.specs.Rejections.{UnlessRejected}
-use Rattle.call_judge.proofs.ApartLaws.{secure_not_apart}
+use Rattle.schedule_replay.proofs.ApartLaws.{secure_not_apart}
 use Rattle.call_judge.specs.Check.{rejection}
 use Rattle.call_judge.specs.Starts.{unfit_by, unfit_starts}
 use Rattle.call_reports.specs.AnswerViews.{Gets}

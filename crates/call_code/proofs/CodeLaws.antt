@@ -28,7 +28,7 @@ use Rattle.call_code.specs.Inside.{IsCodeOf, IsOfText, Rejects}
 use Rattle.call_code.specs.declared.codes.Coded.{Coded}
 use Rattle.call_inputs.proofs.PlanLaws.{IsSoundReply}
 use Rattle.call_inputs.specs.Rejections.{Rejection, UnlessRejected, rejected}
-use Rattle.call_judge.proofs.ApartLaws.{schedule_front}
+use Rattle.schedule_replay.proofs.ApartLaws.{schedule_front}
 use Rattle.call_judge.specs.Check.{rejection, totals}
 use Rattle.call_reports.proofs.AnswerLaws.{gets_onward, stops_onward}
 use Rattle.call_reports.specs.AnswerViews.{Gets, Stops}

@@ -2,7 +2,7 @@
 use Rattle.std.proofs.Common.{◌≡◌, refl, sym, ap, ◌∙◌}
 use Rattle.call_code.specs.Codes.{code_of}
 use Rattle.call_inputs.proofs.PlanLaws.{IsSoundReply, one_sound}
-use Rattle.call_inputs.specs.Inputs.{PairInput, RunInput}
+use Rattle.replay_inputs.specs.Inputs.{PairInput, RunInput}
 use Rattle.call_reports.specs.Replies.{ran, status_of}
 use Rattle.call_reports.specs.declared.answers.Status.TheVariants as s
 use Rattle.policy_class.specs.Resolved.{resolved}

@@ -1,11 +1,11 @@
 -- `big`: what is replied to the program of a number of rounds and a schedule.
 use Rattle.std.specs.Prelude.{◌≡◌, ℕ, List, ◌++◌, length, map, codes, if◌then◌else◌}
 use Rattle.std.specs.Str.{bytes_eq}
-use Rattle.call_inputs.specs.Inputs.{PairInput}
+use Rattle.replay_inputs.specs.Inputs.{PairInput}
 use Rattle.call_inputs.specs.Plans.{Plan, does}
 use Rattle.call_inputs.specs.Programs.{IsShownFault, SpellsProgram}
 use Rattle.call_inputs.specs.Readings.{Reading, argument, gives, then_read}
-use Rattle.call_inputs.specs.Steps as step
+use Rattle.replay_inputs.specs.Steps as step
 use Rattle.call_reports.specs.Replies.{Reply, ran}
 use Rattle.cov_ast.specs.Plain.{plain}
 use Rattle.cov_ast.specs.Syntax.{Parsed, Program, Var}

@@ -1,12 +1,12 @@
 -- `run-code` and `pair-code`: what is replied to a program, a start or two and a schedule, by the code of the program.
 use Rattle.std.specs.Prelude.{◌≡◌, ℕ, List, length}
 use Rattle.call_code.specs.Codes.{accepted_pair, code_end, code_of, code_start}
-use Rattle.call_inputs.specs.Inputs.{PairInput, RunInput}
+use Rattle.replay_inputs.specs.Inputs.{PairInput, RunInput}
 use Rattle.call_inputs.specs.Plans.{Plan, does}
 use Rattle.call_inputs.specs.Readings.{Reading, gives, then_read, tries}
-use Rattle.call_inputs.specs.Steps as step
+use Rattle.replay_inputs.specs.Steps as step
 use Rattle.call_judge.specs.Check.{rejection}
-use Rattle.call_reports.specs.CodeReports.{code_pair_report, code_report}
+use Rattle.replay_reports.specs.CodeReports.{code_pair_report, code_report}
 use Rattle.call_reports.specs.Replies.{Reply, ran}
 use Rattle.cov_ast.specs.Plain.{plain}
 use Rattle.cov_ast.specs.Syntax.{Program}

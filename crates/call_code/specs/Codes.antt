@@ -1,6 +1,6 @@
 -- The code of a program: what `compile` replies, and from which starts and to which ends code runs.
 use Rattle.std.specs.Prelude.{◌≡◌, ℕ, List, length, replicate}
-use Rattle.call_inputs.specs.Inputs.{PairInput}
+use Rattle.replay_inputs.specs.Inputs.{PairInput}
 use Rattle.call_inputs.specs.Plans.{Plan, does}
 use Rattle.call_inputs.specs.Readings.{Reading, gives, tries}
 use Rattle.call_judge.specs.Check.{accepted_program, rejection}

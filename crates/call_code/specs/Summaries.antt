@@ -5,7 +5,8 @@ use Rattle.flow_model.specs.Source.{Run}
 use Rattle.risc_machine.specs.Machine.{CodeState}
 use Rattle.call_reports.specs.Replies.{Reply}
 use Rattle.call_reports.specs.Reports.{report_of}
-use Rattle.call_reports.specs.RunReports.{lines_from, number_line, pair_line}
+use Rattle.call_reports.specs.Lines.{number_line}
+use Rattle.replay_reports.specs.RunReports.{lines_from, pair_line}
 
 -- the number of rounds, and the line of a check that accepts the program
 abbrev pub head : (rounds : ℕ) → (line : Reply) → List ℕ

@@ -4,7 +4,7 @@ ghost use Rattle.std.specs.Prelude.{◌≡◌, ◌++◌, ◌≤◌, IfOk, MatchR
 ghost use Rattle.call_code.specs.BigReplies as spec;
 ghost use Rattle.call_code.specs.Codes.{code_start};
 ghost use Rattle.call_code.specs.Inside.{IsAcceptedCode};
-ghost use Rattle.call_inputs.specs.InputViews.{IsRunOf};
+ghost use Rattle.replay_inputs.specs.InputViews.{IsRunOf};
 ghost use Rattle.call_inputs.specs.Plans.{CarriesOut};
 ghost use Rattle.call_inputs.specs.Programs.{IsShownFault, SpellsProgram};
 ghost use Rattle.call_inputs.specs.Rejections.{UnlessRejected};
@@ -29,12 +29,13 @@ ghost use Rattle.source_machine.specs.SourceMachine.{run_of};
 
 use crate::codes::{Coded, check_starts, coded_text, start};
 use crate::summaries::{add_code_part, add_head, add_source_part};
-use call_inputs::{read_entries, read_text};
+use call_inputs::read_text;
 use call_reports::{Answer, Stop};
 use cov_ast::{Parsed, Program, VarDecl};
 use cov_expr::{Blob, List, NoMemory};
 use cov_gen::{SECRET, big as big_text};
 use cov_io::Shelf;
+use replay_inputs::read_entries;
 use risc_machine::{Code, Risc};
 use schedule_replay::{pair, pair_code, run};
 use source_machine::Source;

@@ -3,7 +3,7 @@
 ghost use Rattle.std.specs.Prelude.{IfOk};
 ghost use Rattle.call_code.specs.CodeRuns.{CodeRunsTogether, PairsCode, pair_code_plan};
 ghost use Rattle.call_code.specs.Inside.{IsAcceptedCode};
-ghost use Rattle.call_inputs.specs.InputViews.{IsPairInput, IsRunOf, pair_input};
+ghost use Rattle.replay_inputs.specs.InputViews.{IsPairInput, IsRunOf, pair_input};
 ghost use Rattle.call_inputs.specs.Plans.{CarriesOut};
 ghost use Rattle.call_inputs.specs.Rejections.{UnlessRejected};
 ghost use Rattle.call_judge.specs.Check.{rejection};
@@ -16,10 +16,11 @@ ghost use Rattle.flow_model.specs.Agreement.{AreFitStarts};
 ghost use Rattle.flow_model.specs.FirstDifference.{first_bad_start};
 
 use crate::codes::{Coded, check_starts, coded_text, start};
-use call_inputs::{PairInput, read_pair};
-use call_reports::{Answer, Stop, code_pair_report};
+use call_reports::{Answer, Stop};
 use cov_expr::{Blob, List, NoMemory};
 use cov_io::Shelf;
+use replay_inputs::{PairInput, read_pair};
+use replay_reports::code_pair_report;
 use schedule_replay::pair_code as replay_pair;
 use std::alloc::Global;
 

@@ -3,7 +3,7 @@
 ghost use Rattle.std.specs.Prelude.{◌≡◌, IfOk};
 ghost use Rattle.call_code.specs.CodeRuns.{RunsCode, report_on_code, run_code_plan};
 ghost use Rattle.call_code.specs.Inside.{IsAcceptedCode};
-ghost use Rattle.call_inputs.specs.InputViews.{IsRunInput, IsRunOf, run_input};
+ghost use Rattle.replay_inputs.specs.InputViews.{IsRunInput, IsRunOf, run_input};
 ghost use Rattle.call_inputs.specs.Plans.{CarriesOut};
 ghost use Rattle.call_inputs.specs.Rejections.{UnlessRejected};
 ghost use Rattle.call_judge.specs.Check.{rejection};
@@ -12,10 +12,11 @@ ghost use Rattle.call_reports.specs.Replies as replies;
 ghost use Rattle.cov_ast.specs.View as view;
 
 use crate::codes::{Coded, coded_text, start};
-use call_inputs::{RunInput, read_run};
-use call_reports::{Answer, Stop, code_report};
+use call_reports::{Answer, Stop};
 use cov_expr::{Blob, List, NoMemory};
 use cov_io::Shelf;
+use replay_inputs::{RunInput, read_run};
+use replay_reports::code_report;
 use schedule_replay::run_code as replay;
 use std::alloc::Global;
 

@@ -7,9 +7,10 @@ ghost use Rattle.source_machine.specs.SourceMachine.{run_of};
 ghost use Rattle.call_code.specs.Summaries as spec;
 ghost use Rattle.call_judge.specs.Check.{accepted_with};
 
-use call_reports::{Totals, add_accepted, add_number, add_numbered, add_pairs};
+use call_reports::{Totals, add_accepted, add_number, add_numbered};
 use cov_ast::Program;
 use cov_expr::{Blob, NoMemory};
+use replay_reports::add_pairs;
 use risc_machine::Risc;
 use source_machine::Source;
 

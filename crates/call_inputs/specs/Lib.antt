@@ -2,8 +2,4 @@ pub mod Readings
 pub mod Rejections
 pub mod Plans
 pub mod Programs
-pub mod Inputs
-pub mod InputViews
-pub mod Expressions
 pub mod Steps
-pub mod Inside

@@ -24,8 +24,8 @@ use Rattle.policy_class.proofs.ResolvedLaws.{resolved_formed}
 use Rattle.call_inputs.specs.Programs.{SpellsProgram}
 use Rattle.call_judge.specs.Meaning.{AreNamesInOrder}
 use Rattle.call_judge.proofs.CheckLaws.{none_false}
-use Rattle.call_judge.proofs.NumberWords.{text_words}
-use Rattle.call_judge.proofs.WordTrees.{program_words}
+use Rattle.text_law.proofs.NumberWords.{text_words}
+use Rattle.text_law.proofs.WordTrees.{program_words}
 
 -- Words ----------------------------------------------------------------------------------------------------------
 

@@ -1,9 +1,7 @@
 pub mod Replies
 pub mod AnswerViews
+pub mod Lines
 pub mod Reports
-pub mod RunReports
-pub mod CodeReports
 pub mod Differences
-pub mod TrialReports
 pub mod Ends
 pub mod Inside

@@ -7,8 +7,7 @@ ghost use Rattle.call_reports.specs.Replies.{differ};
 ghost use Rattle.call_reports.specs.Reports as spec;
 
 use crate::lines::{add_between, add_number_behind};
-use crate::run_reports::add_thread_name;
-use cov_ast::{LockDecl, Program, VarDecl};
+use cov_ast::{LockDecl, Program, ThreadDecl, VarDecl};
 use cov_expr::{Blob, List, NoMemory};
 use flow_model::{BadStart, Differ};
 use std::alloc::Global;
@@ -71,6 +70,16 @@ fn add_lock_name(locks: &[LockDecl], l: u32, text: &mut Blob) -> Result<(), NoMe
 {
     match locks.get(l as usize) {
         Some(lock) => text.extend_from_slice(lock.name.text()),
+        None => Ok(()),
+    }
+}
+
+/// Adds the name of a thread, by its number.
+pub fn add_thread_name(threads: &[ThreadDecl], t: u32, text: &mut Blob) -> Result<(), NoMemory>
+    ensures { OnOk result (text.new ≡ text.old ++ names.name_at (map view.thread threads.now) t) }
+{
+    match threads.get(t as usize) {
+        Some(thread) => text.extend_from_slice(thread.name.text()),
         None => Ok(()),
     }
 }

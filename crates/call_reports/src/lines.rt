@@ -1,7 +1,7 @@
 //! Names, numbers and texts, added to a line.
 
 ghost use Rattle.std.specs.Prelude.{◌≡◌, ◌++◌, OnOk, codes, decimal};
-ghost use Rattle.call_reports.specs.RunReports as spec;
+ghost use Rattle.call_reports.specs.Lines as spec;
 
 use cov_expr::{Blob, Name, NoMemory};
 use itoa::Buffer;

@@ -8,7 +8,7 @@ use Rattle.flow_model.specs.declared.agreement.Differ.TheVariants as differs
 use Rattle.refute.specs.Trials.{trial_steps}
 use Rattle.schedule_replay.specs.declared.replays.Found.{Found}
 use Rattle.call_reports.specs.Replies.{ran}
-use Rattle.call_reports.specs.TrialReports.{apart_report, none_report}
+use Rattle.replay_reports.specs.TrialReports.{apart_report, none_report}
 use Rattle.call_run.specs.Refutes.{reply_to_trials, report_on_trial}
 
 -- var a: low; var s: high; thread t { .. }

@@ -14,10 +14,10 @@ use Rattle.policy_class.specs.Resolved.{lock_id, resolved, resolved_thread, reso
 use Rattle.refute.proofs.FirstLaws.{found_one, together_or_apart}
 use Rattle.schedule_replay.specs.Replays.{IsFirstStepApart}
 use Rattle.schedule_replay.specs.declared.replays.Found.{Found}
-use Rattle.call_inputs.specs.Inputs.{PairInput}
+use Rattle.replay_inputs.specs.Inputs.{PairInput}
 use Rattle.call_inputs.specs.Rejections.{UnlessRejected}
 use Rattle.call_inputs.proofs.PlanLaws.{IsSoundReply}
-use Rattle.call_judge.proofs.ApartLaws.{secure_not_apart}
+use Rattle.schedule_replay.proofs.ApartLaws.{secure_not_apart}
 use Rattle.call_judge.specs.Meaning.{meaning}
 use Rattle.call_judge.specs.Starts.{unfit_by, unfit_starts}
 use Rattle.call_reports.specs.Differences.{differ_text}

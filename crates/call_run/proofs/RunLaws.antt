@@ -20,8 +20,8 @@ use Rattle.policy_class.specs.Resolved.{lock_id, name_obligations, resolved, res
 use Rattle.refute.proofs.FirstLaws.{same_number}
 use Rattle.schedule_replay.specs.Replays.{StopsAt, after_steps}
 use Rattle.schedule_replay.specs.declared.replays.Until.{Until}
-use Rattle.call_inputs.specs.Inputs.{RunInput}
-use Rattle.call_inputs.specs.InputViews.{IsRunOf}
+use Rattle.replay_inputs.specs.Inputs.{RunInput}
+use Rattle.replay_inputs.specs.InputViews.{IsRunOf}
 use Rattle.call_inputs.specs.Rejections.{UnlessRejected}
 use Rattle.call_inputs.proofs.PlanLaws.{IsSoundReply, one_sound}
 use Rattle.call_reports.specs.Replies.{Reply, ran, status_of}

@@ -1,6 +1,6 @@
 -- Words of private contracts: what steps of the code give. To believe what `covern` promises, nothing here need be read.
 use Rattle.std.specs.Prelude.{◌≡◌, ℕ, List, Some, None}
-use Rattle.call_inputs.specs.Inputs.{RunInput}
+use Rattle.replay_inputs.specs.Inputs.{RunInput}
 use Rattle.call_inputs.specs.Plans.{Plan, does}
 use Rattle.call_reports.specs.Replies.{Reply, refused}
 use Rattle.cov_ast.specs.Obligations.{first_false}

@@ -1,13 +1,13 @@
 -- `pair`: what is replied to a program, two starts and a schedule.
 use Rattle.std.specs.Prelude.{◌≡◌, ◌⊎◌, ℕ, List, length}
-use Rattle.call_inputs.specs.Inputs.{PairInput}
+use Rattle.replay_inputs.specs.Inputs.{PairInput}
 use Rattle.call_inputs.specs.Plans.{Plan, does}
 use Rattle.call_inputs.specs.Readings.{Reading, gives, then_read, tries}
-use Rattle.call_inputs.specs.Steps as step
+use Rattle.replay_inputs.specs.Steps as step
 use Rattle.call_judge.specs.Starts.{unfit_starts}
 use Rattle.call_reports.specs.Differences.{differ_text}
 use Rattle.call_reports.specs.Replies.{Reply, differ, ran}
-use Rattle.call_reports.specs.RunReports.{pair_report}
+use Rattle.replay_reports.specs.RunReports.{pair_report}
 use Rattle.cov_ast.specs.Plain.{plain}
 use Rattle.cov_ast.specs.Syntax.{Program}
 use Rattle.flow_model.specs.Source.{after, begin}

@@ -4,7 +4,7 @@ use Rattle.call_inputs.specs.Plans.{Plan, does}
 use Rattle.call_inputs.specs.Readings.{Reading, gives, then_read, tries}
 use Rattle.call_inputs.specs.Steps as step
 use Rattle.call_reports.specs.Replies.{Reply, ran, refuted}
-use Rattle.call_reports.specs.TrialReports.{apart_report, none_report}
+use Rattle.replay_reports.specs.TrialReports.{apart_report, none_report}
 use Rattle.cov_ast.specs.Plain.{plain}
 use Rattle.cov_ast.specs.Syntax.{Parsed, Program}
 use Rattle.policy_class.specs.Resolved.{resolved}

@@ -1,12 +1,12 @@
 -- `run` and `run-until`: what is replied to a program, a start and a schedule, and to an expression at which a run is to stop.
 use Rattle.std.specs.Prelude.{◌≡◌, ℕ, List, [], ◌++◌, length, take, Option, Some, None, if◌then◌else◌}
-use Rattle.call_inputs.specs.Inputs.{RunInput}
+use Rattle.replay_inputs.specs.Inputs.{RunInput}
 use Rattle.call_inputs.specs.Plans.{Plan, does}
 use Rattle.call_inputs.specs.Readings.{Reading, gives, then_read, tries}
 use Rattle.call_inputs.specs.Rejections.{Rejection, by_rule}
-use Rattle.call_inputs.specs.Steps as step
+use Rattle.replay_inputs.specs.Steps as step
 use Rattle.call_reports.specs.Replies.{Reply, ran}
-use Rattle.call_reports.specs.RunReports.{run_report, stop_line}
+use Rattle.replay_reports.specs.RunReports.{run_report, stop_line}
 use Rattle.cov_ast.specs.Obligations.{Obligation, all_hold, first_false}
 use Rattle.cov_ast.specs.Plain.{plain}
 use Rattle.cov_ast.specs.Syntax.{Parsed, Program}

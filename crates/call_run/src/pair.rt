@@ -1,14 +1,14 @@
 //! `pair`: two runs of a program from two starts under one schedule, side by side.
 
 ghost use Rattle.std.specs.Prelude.{◌≡◌, ◌≤◌, IfOk, length};
-ghost use Rattle.call_inputs.specs.InputViews.{IsPairInput, IsRunOf, pair_input};
+ghost use Rattle.replay_inputs.specs.InputViews.{IsPairInput, IsRunOf, pair_input};
 ghost use Rattle.call_inputs.specs.Plans.{CarriesOut};
 ghost use Rattle.call_inputs.specs.Rejections.{UnlessRejected};
 ghost use Rattle.call_judge.specs.Starts.{unfit_by, unfit_starts};
 ghost use Rattle.call_reports.specs.AnswerViews.{Gets, seen};
 ghost use Rattle.call_reports.specs.Differences as names;
 ghost use Rattle.call_reports.specs.Replies as replies;
-ghost use Rattle.call_reports.specs.RunReports as reports;
+ghost use Rattle.replay_reports.specs.RunReports as reports;
 ghost use Rattle.call_run.specs.Pairs.{Pairs, RunsFit, pair_plan};
 ghost use Rattle.call_run.specs.Runs.{declared_rejection};
 ghost use Rattle.cov_ast.specs.Plain.{plain};
@@ -19,12 +19,13 @@ ghost use Rattle.flow_model.specs.FirstDifference.{first_bad_start};
 ghost use Rattle.source_machine.specs.SourceMachine.{run_of};
 
 use crate::run::declared;
-use call_inputs::{PairInput, read_pair};
-use call_reports::{Answer, Stop, bad_name, differ_text, pair_report};
+use call_reports::{Answer, Stop, bad_name, differ_text};
 use cov_ast::Program;
 use cov_expr::{List, NoMemory};
 use cov_io::Shelf;
 use flow_model::starts;
+use replay_inputs::{PairInput, read_pair};
+use replay_reports::pair_report;
 use schedule_replay::{Found, pair as replay_pair};
 use source_machine::Source;
 use std::alloc::Global;

@@ -1,7 +1,7 @@
 //! `run`: one run of a program whose declarations are in order, from a start under a schedule.
 
 ghost use Rattle.std.specs.Prelude.{◌≡◌, IfOk, MatchResult};
-ghost use Rattle.call_inputs.specs.InputViews.{IsRunInput, IsRunOf, run_input};
+ghost use Rattle.replay_inputs.specs.InputViews.{IsRunInput, IsRunOf, run_input};
 ghost use Rattle.call_inputs.specs.Plans.{CarriesOut};
 ghost use Rattle.call_inputs.specs.Rejections.{UnlessRejected};
 ghost use Rattle.call_reports.specs.AnswerViews.{Gets, Stops};
@@ -13,12 +13,13 @@ ghost use Rattle.cov_ast.specs.View as view;
 ghost use Rattle.cov_ast.specs.WellFormed.{IsWellFormed};
 ghost use Rattle.policy_class.specs.Resolved.{resolved, without_value};
 
-use call_inputs::{RunInput, read_run};
-use call_reports::{Answer, Stop, run_report};
+use call_reports::{Answer, Stop};
 use cov_ast::{CheckFault, Parsed, Program};
 use cov_expr::{Blob, List, NoMemory};
 use cov_io::Shelf;
 use policy_class::resolve;
+use replay_inputs::{RunInput, read_run};
+use replay_reports::run_report;
 use schedule_replay::run as replay;
 use source_machine::Source;
 use std::alloc::Global;

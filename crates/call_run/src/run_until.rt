@@ -1,7 +1,7 @@
 //! `run-until`: one run of a program up to the first step after which an expression holds.
 
 ghost use Rattle.std.specs.Prelude.{◌≡◌, ◌↔◌, ◌+◌, ◌≤◌, IfOk, IsTrue, length};
-ghost use Rattle.call_inputs.specs.InputViews.{IsRunInput, IsRunOf, run_input};
+ghost use Rattle.replay_inputs.specs.InputViews.{IsRunInput, IsRunOf, run_input};
 ghost use Rattle.call_inputs.specs.Plans.{CarriesOut};
 ghost use Rattle.call_inputs.specs.Rejections.{UnlessRejected};
 ghost use Rattle.call_reports.specs.AnswerViews.{Gets};
@@ -18,11 +18,12 @@ ghost use Rattle.cov_io.specs.Shelves.{Shelved};
 ghost use Rattle.source_machine.specs.SourceMachine.{run_of};
 
 use crate::run::declared;
-use call_inputs::{RunInput, read_expression, read_run};
-use call_reports::{Answer, Stop, stop_report};
+use call_reports::{Answer, Stop};
 use cov_ast::Program;
 use cov_expr::{Blob, Expr, List, NoMemory, copy, eval};
 use cov_io::Shelf;
+use replay_inputs::{RunInput, read_expression, read_run};
+use replay_reports::stop_report;
 use schedule_replay::{Until, run_until as replay_until};
 use source_machine::Source;
 use std::alloc::Global;

@@ -16,11 +16,12 @@ ghost use Rattle.watch.specs.TrialWords as words;
 
 use crate::run::declared;
 use call_inputs::read_program;
-use call_reports::{Answer, Stop, apart_report, none_report};
+use call_reports::{Answer, Stop};
 use cov_ast::{Parsed, Program};
 use cov_expr::{Blob, NoMemory};
 use cov_io::Shelf;
 use refute::{Trial, Trials, refute as first_apart};
+use replay_reports::{apart_report, none_report};
 use schedule_replay::Found;
 use std::alloc::Global;
 use watch::{Maker, raw_word};

@@ -28,9 +28,9 @@ use Rattle.level_text.specs.TextTrees.{LevelText, Listing}
 use Rattle.level_text.proofs.ReadyLaws.{levels_ready}
 use Rattle.level_text.proofs.TextSummaries.{text_named}
 use Rattle.call_judge.proofs.FormedLaws.{position_most}
-use Rattle.call_judge.proofs.NumberWords.{text_words}
-use Rattle.call_judge.proofs.WordShapes.{Gives, OfOption, act_law, any_law, behind_law, closed_law, many_law, opt_law, placed_law, seq_law}
-use Rattle.call_judge.proofs.WordTerms.{expr_words}
+use Rattle.text_law.proofs.NumberWords.{text_words}
+use Rattle.text_law.proofs.WordShapes.{Gives, OfOption, act_law, any_law, behind_law, closed_law, many_law, opt_law, placed_law, seq_law}
+use Rattle.text_law.proofs.WordTerms.{expr_words}
 
 -- Classes --------------------------------------------------------------------------------------------------------------------
 

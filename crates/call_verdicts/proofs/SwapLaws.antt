@@ -27,8 +27,8 @@ use Rattle.call_inputs.proofs.PlanLaws.{IsSoundReply, one_sound, stopped_unasked
 use Rattle.call_judge.specs.Inside.{IsUnnamed}
 use Rattle.cov_io.specs.Shelves.{Shelved}
 use Rattle.call_judge.proofs.FormedLaws.{position_most}
-use Rattle.call_judge.proofs.NumberWords.{text_words}
-use Rattle.call_judge.proofs.WordTrees.{program_words}
+use Rattle.text_law.proofs.NumberWords.{text_words}
+use Rattle.text_law.proofs.WordTrees.{program_words}
 use Rattle.call_reports.specs.AnswerViews.{Stops}
 use Rattle.call_reports.specs.Replies.{malformed, ran}
 use Rattle.call_reports.specs.declared.answers.Answer.{Answer}

@@ -10,7 +10,7 @@ use Rattle.call_inputs.specs.Steps as step
 use Rattle.call_judge.specs.Check.{IsAcceptedText, name_rejection, rejection_by, thread_name}
 use Rattle.call_judge.specs.Meaning.{meaning}
 use Rattle.call_reports.specs.Replies.{Reply, spelled}
-use Rattle.call_reports.specs.RunReports.{name_at}
+use Rattle.call_reports.specs.Differences.{name_at}
 use Rattle.cov_ast.specs.Obligations.{first_false}
 use Rattle.cov_ast.specs.Syntax.{Parsed, Thread}
 use Rattle.cov_ast.specs.declared.refusal.Refusal.{Refusal}

@@ -4,3 +4,4 @@ pub mod PairLaws
 pub mod QuietLaws
 pub mod QuietCodeLaws
 pub mod ReadLaws
+pub mod ApartLaws

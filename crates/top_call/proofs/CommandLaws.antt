@@ -11,8 +11,8 @@ use Rattle.top_call.specs.Commands.{Command, command_of, is_swap, plan_of, depth
 use Rattle.call_code.proofs.BigLaws.{sum_sound}
 use Rattle.call_code.proofs.CodeLaws.{compile_sound}
 use Rattle.call_code.proofs.ObjectLaws.{code_reading, object_sound, unobject_sound}
-use Rattle.call_inputs.proofs.ExpressionLaws.{expression_reading}
-use Rattle.call_inputs.proofs.InputLaws.{schedule_reading, start_reading}
+use Rattle.replay_inputs.proofs.ExpressionLaws.{expression_reading}
+use Rattle.replay_inputs.proofs.InputLaws.{schedule_reading, start_reading}
 use Rattle.call_inputs.proofs.PlanLaws.{AsksNothing, IsResult, IsSound, one_sound}
 use Rattle.call_inputs.proofs.TextLaws.{program_reading}
 use Rattle.call_judge.specs.Check.{verdict}

@@ -5,7 +5,7 @@ use Rattle.std.proofs.lemmas.List.{length-map}
 use Rattle.cov_expr.specs.Words.{IsMemory, IsSchedule}
 use Rattle.cov_expr.specs.declared.limits.TheConstants.{MOST_BYTES}
 use Rattle.schedule_replay.specs.Json.{value_of}
-use Rattle.call_inputs.specs.Inputs.{IsScheduleText, IsStart, declaration_of}
+use Rattle.replay_inputs.specs.Inputs.{IsScheduleText, IsStart, declaration_of}
 use Rattle.cov_ast.specs.Syntax.{Parsed}
 use Rattle.cov_io.specs.Counters.{Rose}
 use Rattle.cov_io.specs.Shelves.{File, Passes, Shelved, held}
@@ -57,7 +57,7 @@ use Rattle.top_call.specs.LevelledPrograms.{HoldsLevels, HoldsSecureForAll}
 use Rattle.top_call.specs.SwappedPrograms.{HoldsSwapped, HoldsText}
 use Rattle.top_call.specs.Laws.{IsOneReply}
 use Rattle.top_call.specs.Outcome.{IsSuccess, Outcome, plan_for}
-use Rattle.call_inputs.proofs.InputLaws.{schedule_fine, start_is_memory}
+use Rattle.replay_inputs.proofs.InputLaws.{schedule_fine, start_is_memory}
 use Rattle.call_inputs.proofs.PlanLaws.{IsResult, IsSound, Puts, at_end, performs_exact, performs_asking, performs_fault, performs_met, performs_passes, performs_took, reply_one}
 use Rattle.call_inputs.proofs.ReadingLaws.{Reliable, reads_onward}
 use Rattle.call_inputs.proofs.TextLaws.{program_reading, some_one}

@@ -1,7 +1,7 @@
 //! Laws of what commands reply.
 
 ghost use Rattle.std.specs.Prelude.{◌≡◌, ◌≢◌, ◌≤◌, ℕ, List, None, length};
-ghost use Rattle.call_inputs.specs.Inputs.{IsScheduleText, IsStart, PairInput};
+ghost use Rattle.replay_inputs.specs.Inputs.{IsScheduleText, IsStart, PairInput};
 ghost use Rattle.call_inputs.specs.Programs.{SpellsProgram};
 ghost use Rattle.call_judge.specs.Check.{IsAcceptedText};
 ghost use Rattle.call_judge.specs.Starts.{unfit_starts};

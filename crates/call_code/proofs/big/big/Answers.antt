@@ -8,12 +8,12 @@ use Rattle.cov_io.specs.Shelves.{Shelved}
 use Rattle.call_code.specs.BigReplies.{SumsUp, big_plan, made, starts_with_secrets}
 use Rattle.call_code.specs.Codes.{accepted_pair}
 use Rattle.call_inputs.proofs.PlanLaws.{carried_not, carried_on, carried_tries, read_on, text_read}
-use Rattle.call_inputs.specs.Inputs.{PairInput}
+use Rattle.replay_inputs.specs.Inputs.{PairInput}
 use Rattle.call_inputs.specs.Plans.{CarriesOut, GetsAt, does}
 use Rattle.call_inputs.specs.Programs.{IsShownFault, SpellsProgram}
 use Rattle.call_inputs.specs.Readings.{Reading, then_read}
 use Rattle.call_inputs.specs.Rejections.{UnlessRejected}
-use Rattle.call_inputs.specs.Steps.{entries}
+use Rattle.replay_inputs.specs.Steps.{entries}
 use Rattle.call_judge.specs.Check.{rejection}
 use Rattle.call_judge.specs.Starts.{unfit_starts}
 use Rattle.call_reports.specs.AnswerViews.{Gets}

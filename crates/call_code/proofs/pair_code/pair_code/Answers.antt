@@ -2,9 +2,9 @@ use Rattle.std.proofs.Common.{◌≡◌, Err, sym, subst, rules}
 use Rattle.call_code.specs.Codes.{accepted_pair}
 use Rattle.call_code.specs.CodeRuns.{PairsCode, pair_code_plan}
 use Rattle.call_inputs.proofs.PlanLaws.{carried_not, carried_on, carried_tries}
-use Rattle.call_inputs.specs.InputViews as inputs
+use Rattle.replay_inputs.specs.InputViews as inputs
 use Rattle.call_inputs.specs.Plans.{CarriesOut}
-use Rattle.call_inputs.specs.Steps.{pair_input}
+use Rattle.replay_inputs.specs.Steps.{pair_input}
 use Rattle.call_judge.specs.Check.{rejection}
 use Rattle.call_judge.specs.Starts.{unfit_starts}
 use Rattle.call_code.proofs.pair_code.pair_code.Goals as goal

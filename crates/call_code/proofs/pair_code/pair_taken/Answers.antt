@@ -7,8 +7,8 @@ use Rattle.flow_model.specs.FirstDifference.{first_bad_start}
 use Rattle.risc_machine.specs.declared.parts.Parts.{Parts}
 use Rattle.call_code.proofs.CodeLaws.{by_code, gets_rejected}
 use Rattle.call_code.specs.CodeRuns.{CodeRunsTogether, PairsCode}
-use Rattle.call_inputs.specs.InputViews.{IsRunOf}
-use Rattle.call_inputs.specs.InputViews as inputs
+use Rattle.replay_inputs.specs.InputViews.{IsRunOf}
+use Rattle.replay_inputs.specs.InputViews as inputs
 use Rattle.call_inputs.specs.Rejections.{UnlessRejected}
 use Rattle.call_judge.specs.Check.{rejection}
 use Rattle.call_judge.specs.Starts.{unfit_by, unfit_starts}

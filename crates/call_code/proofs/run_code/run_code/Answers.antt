@@ -1,9 +1,9 @@
 use Rattle.std.proofs.Common.{◌≡◌, Err, sym, subst, rules}
 use Rattle.call_code.specs.CodeRuns.{RunsCode, accepted_run, run_code_plan}
 use Rattle.call_inputs.proofs.PlanLaws.{carried_not, carried_on, carried_try}
-use Rattle.call_inputs.specs.InputViews as inputs
+use Rattle.replay_inputs.specs.InputViews as inputs
 use Rattle.call_inputs.specs.Plans.{CarriesOut}
-use Rattle.call_inputs.specs.Steps.{run_input}
+use Rattle.replay_inputs.specs.Steps.{run_input}
 use Rattle.call_judge.specs.Check.{rejection}
 use Rattle.call_code.proofs.run_code.run_code.Goals as goal
 

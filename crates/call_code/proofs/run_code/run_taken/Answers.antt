@@ -3,8 +3,8 @@ use Rattle.cov_ast.specs.View as view
 use Rattle.cov_expr.specs.Words.{IsMemory, IsSchedule}
 use Rattle.call_code.proofs.CodeLaws.{by_code, gets_rejected}
 use Rattle.call_code.specs.CodeRuns.{RunsCode, report_on_code}
-use Rattle.call_inputs.specs.InputViews.{IsRunOf}
-use Rattle.call_inputs.specs.InputViews as inputs
+use Rattle.replay_inputs.specs.InputViews.{IsRunOf}
+use Rattle.replay_inputs.specs.InputViews as inputs
 use Rattle.call_inputs.specs.Rejections.{UnlessRejected}
 use Rattle.call_judge.specs.Check.{rejection}
 use Rattle.call_reports.specs.AnswerViews.{Gets}

@@ -2,7 +2,7 @@ use Rattle.std.proofs.Common.{◌≡◌, ◌++◌, ℕ, List, map, ap, ◌∙◌
 use Rattle.std.specs.Prelude.{codes}
 use Rattle.std.proofs.lemmas.Result.{on_ok_weaker}
 use Rattle.cov_ast.specs.View as view
-use Rattle.call_reports.specs.RunReports.{lines_from, pair_line}
+use Rattle.replay_reports.specs.RunReports.{lines_from, pair_line}
 use Rattle.call_code.specs.Summaries.{agreement}
 use Rattle.call_code.proofs.summaries.add_code_part.Goals as goal
 

@@ -2,7 +2,7 @@ use Rattle.std.proofs.Common.{◌≡◌, ◌++◌, ℕ, List, map, ap, ◌∙◌
 use Rattle.std.proofs.lemmas.Result.{on_ok_weaker}
 use Rattle.cov_ast.specs.View as view
 use Rattle.source_machine.specs.SourceMachine.{run_of}
-use Rattle.call_reports.specs.RunReports.{lines_from, pair_line}
+use Rattle.replay_reports.specs.RunReports.{lines_from, pair_line}
 use Rattle.call_code.specs.Summaries.{source_head}
 use Rattle.call_code.proofs.summaries.add_source_part.Goals as goal
 

@@ -1,9 +1,9 @@
 use Rattle.std.proofs.Common.{◌≡◌, Err, sym, subst, rules}
-use Rattle.call_inputs.specs.InputViews.{pair_input}
-use Rattle.call_inputs.specs.Inputs.{PairInput}
+use Rattle.replay_inputs.specs.InputViews.{pair_input}
+use Rattle.replay_inputs.specs.Inputs.{PairInput}
 use Rattle.call_inputs.specs.Plans.{CarriesOut}
 use Rattle.call_inputs.specs.Readings.{Reading, gives, tries}
-use Rattle.call_inputs.specs.Steps as step
+use Rattle.replay_inputs.specs.Steps as step
 use Rattle.call_inputs.proofs.PlanLaws.{carried_not, carried_on, carried_tries}
 use Rattle.call_judge.specs.Starts.{unfit_starts}
 use Rattle.call_run.specs.Pairs.{Pairs, pair_plan}

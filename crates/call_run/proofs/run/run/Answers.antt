@@ -1,9 +1,9 @@
 use Rattle.std.proofs.Common.{◌≡◌, Err, sym, subst, rules}
-use Rattle.call_inputs.specs.InputViews.{run_input}
-use Rattle.call_inputs.specs.Inputs.{RunInput}
+use Rattle.replay_inputs.specs.InputViews.{run_input}
+use Rattle.replay_inputs.specs.Inputs.{RunInput}
 use Rattle.call_inputs.specs.Plans.{CarriesOut}
 use Rattle.call_inputs.specs.Readings.{Reading, gives, tries}
-use Rattle.call_inputs.specs.Steps as step
+use Rattle.replay_inputs.specs.Steps as step
 use Rattle.call_inputs.proofs.PlanLaws.{carried_not, carried_on, carried_try}
 use Rattle.call_run.specs.Runs.{Runs, declared_rejection, run_plan}
 use Rattle.call_run.proofs.run.run.Goals as goal

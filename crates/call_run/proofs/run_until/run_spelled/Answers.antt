@@ -5,12 +5,12 @@ use Rattle.cov_ast.specs.View as view
 use Rattle.cov_expr.specs.Term.{Term}
 use Rattle.cov_expr.specs.View.{term}
 use Rattle.cov_expr.specs.declared.expr.Expr.{Expr}
-use Rattle.call_inputs.specs.Expressions.{IsExpression, IsExpressionFault}
-use Rattle.call_inputs.specs.InputViews.{run_input}
-use Rattle.call_inputs.specs.Inputs.{RunInput}
+use Rattle.replay_inputs.specs.Expressions.{IsExpression, IsExpressionFault}
+use Rattle.replay_inputs.specs.InputViews.{run_input}
+use Rattle.replay_inputs.specs.Inputs.{RunInput}
 use Rattle.call_inputs.specs.Plans.{CarriesOut}
 use Rattle.call_inputs.specs.Readings.{Reading, gives, tries}
-use Rattle.call_inputs.specs.Steps.{expression}
+use Rattle.replay_inputs.specs.Steps.{expression}
 use Rattle.call_inputs.proofs.PlanLaws.{carried_not, carried_on, carried_try, text_read}
 use Rattle.call_run.specs.Inside.{until_plan}
 use Rattle.call_run.specs.Runs.{RunsUntil, UntilInput, declared_rejection}

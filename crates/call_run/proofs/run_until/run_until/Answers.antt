@@ -1,7 +1,7 @@
 use Rattle.std.proofs.Common.{◌≡◌, Err, sym, subst, rules}
-use Rattle.call_inputs.specs.InputViews.{run_input}
+use Rattle.replay_inputs.specs.InputViews.{run_input}
 use Rattle.call_inputs.specs.Plans.{CarriesOut}
-use Rattle.call_inputs.specs.Steps as step
+use Rattle.replay_inputs.specs.Steps as step
 use Rattle.call_inputs.proofs.PlanLaws.{carried_not, carried_on}
 use Rattle.call_run.specs.Runs.{RunsUntil, run_until_plan, until_reading}
 use Rattle.call_run.proofs.run_until.run_until.Goals as goal

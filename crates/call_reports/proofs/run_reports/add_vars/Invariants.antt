@@ -1,9 +1,0 @@
-use Rattle.std.proofs.Common.{◌≡◌, ◌++◌, drop, map}
-use Rattle.cov_ast.specs.View as view
-use Rattle.call_reports.specs.RunReports as spec
-use Rattle.call_reports.proofs.run_reports.add_vars.Given as goal
-
--- the lines that are written, and those of what is left, are all of them
-abbrev pub invariant-loop-x : goal.invariant-loop-x
-invariant-loop-x l =
-    l.text ++ spec.lines_from (spec.var_line l.memory) l.x (map view.var (drop l.x l.vars)) ≡ l.fn.text ++ spec.lines_from (spec.var_line l.memory) 0 (map view.var l.vars)

@@ -1,0 +1,5 @@
+pub mod Inputs
+pub mod InputViews
+pub mod Expressions
+pub mod Steps
+pub mod Inside

@@ -1,0 +1,3 @@
+pub mod RunReports
+pub mod CodeReports
+pub mod TrialReports

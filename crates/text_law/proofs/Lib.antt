@@ -1,0 +1,4 @@
+pub mod NumberWords
+pub mod WordShapes
+pub mod WordTerms
+pub mod WordTrees
