@@ -4,10 +4,10 @@
 usage: build.py CRATE PROGRAM [BACKEND]      (as build.py covern_cli /tmp/covern)
 
 The kit's `rattle` proves the crates side by side, one a processor where there is memory for them, or as many as `RT_JOBS` says, first those behind which most is still to be
-proved (by the bytes of their code, and how many crates are loaded for it). LLVM then builds the program CRATE, or the kit's own compiler where BACKEND is `rattle`, which is
-sooner done and whose programs are slower. It is written to PROGRAM, as old as the start of its build: what is edited meanwhile is newer. What is proved is kept in the folder out/ of each crate, by a sum of the kit, of the crate's files and of all crates below it: a later build proves
-what has changed and what stands on that, and another program only what it needs besides. A line comes for each crate, and the status is 1, with what `rattle` said, where one isn't
-proved, or takes a handle or has anything that nothing proves.
+proved (by the bytes and the `?` of their code). LLVM then builds the program CRATE, or the kit's own compiler where BACKEND is `rattle`, which is sooner done and whose programs
+are slower. It is written to PROGRAM, as old as the start of its build: what is edited meanwhile is newer. What is proved is kept in the folder out/ of each crate, by a sum of the
+kit, of the crate's files and of all crates below it: a later build proves what has changed and what stands on that, and another program only what it needs besides. A line comes
+for each crate, and the status is 1, with what `rattle` said, where one isn't proved, or takes a handle or has anything that nothing proves.
 
 This is no gate. `rt ci` proves every crate from nothing, whatever is kept, and also that contracts can be met; it tries the must-fail edits, and plays the cases.
 """
@@ -127,7 +127,7 @@ class Build:
         for name, libraries in self.crates.items():
             self.below[name] = list(dict.fromkeys(it for library in self.ours(name) for it in [*self.below[library], library]))
             self.sums[name] = self.sum_of(name)
-            self.weight[name] = 500 * len(self.below[name]) + sum(os.path.getsize(os.path.join(TOP, 'crates', name, it)) for it in files_of(name, PARTS[:1]))
+            self.weight[name] = self.weight_of(name)
         for name in reversed(list(self.crates)):
             self.behind[name] = self.weight[name] + max((self.behind[it] for it in self.crates if name in self.crates[it]), default=0)
 
@@ -143,6 +143,11 @@ class Build:
             with open(os.path.join(TOP, 'crates', name, file), 'rb') as its:
                 total.update(repr((file, its.read())).encode())
         return total.hexdigest()
+
+    def weight_of(self, name):
+        """About how long a proof takes, in bytes of code: as for so many, whatever the crate has; and for each `?` as for so many more (as fitted over 27 crates)."""
+        texts = [open(os.path.join(TOP, 'crates', name, it), 'rb').read() for it in files_of(name, PARTS[:1])]
+        return 7000 + sum(len(text) + 440 * text.count(b'?') for text in texts)
 
     def kept(self, name):
         """The folder in which a crate is kept. `rt ci` looks for no sources there, and leaves it as it is."""
@@ -219,11 +224,12 @@ class Build:
         with concurrent.futures.ThreadPoolExecutor(lanes) as pool:
             while left or running:
                 ready = [it for it in left if all(below in done for below in self.below[it])]
+                most = max(self.behind[it] for it in [*left, *(it for it, _ in running.values())])
                 for at, name in enumerate(ready):
-                    idle = lanes - sum(jobs for _, jobs in running.values())
-                    if idle > 0:
-                        # where nothing else waits, a proof gets the processors that are idle
-                        jobs = max(1, min(4, idle // (len(ready) - at)))
+                    if len(running) < lanes:
+                        # where nothing else waits, a proof gets the processors that are idle; that behind which most is left gets two parts
+                        idle = lanes - sum(jobs for _, jobs in running.values())
+                        jobs = max(1, min(4, idle // (len(ready) - at)), 2 if self.behind[name] == most and lanes > 1 else 1)
                         left.remove(name)
                         running[pool.submit(self.prove, name, jobs)] = name, jobs
                 for ended in concurrent.futures.wait(running, return_when=concurrent.futures.FIRST_COMPLETED).done:
