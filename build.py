@@ -213,6 +213,11 @@ class Build:
             os.utime(linked, (began, began))
             shutil.move(linked, to)
 
+    def parts(self, name, left, running, lanes):
+        """In how many parts a crate is proved: its share of the processors, by weight beside what needn't wait for it; what runs already counts half."""
+        beside = sum(self.weight[it] for it in left if it != name and name not in self.below[it]) + sum(self.weight[it] for it in running) / 2
+        return max(1, min(4, lanes, round(lanes * self.weight[name] / (self.weight[name] + beside))))
+
     def all(self, to, began):
         """Proves all that isn't kept, side by side, and the program last."""
         lanes = lanes_free()
@@ -224,16 +229,13 @@ class Build:
         with concurrent.futures.ThreadPoolExecutor(lanes) as pool:
             while left or running:
                 ready = [it for it in left if all(below in done for below in self.below[it])]
-                most = max(self.behind[it] for it in [*left, *(it for it, _ in running.values())])
-                for at, name in enumerate(ready):
+                for name in ready:
                     if len(running) < lanes:
-                        # where nothing else waits, a proof gets the processors that are idle; that behind which most is left gets two parts
-                        idle = lanes - sum(jobs for _, jobs in running.values())
-                        jobs = max(1, min(4, idle // (len(ready) - at)), 2 if self.behind[name] == most and lanes > 1 else 1)
+                        jobs = self.parts(name, left, running.values(), lanes)
                         left.remove(name)
-                        running[pool.submit(self.prove, name, jobs)] = name, jobs
+                        running[pool.submit(self.prove, name, jobs)] = name
                 for ended in concurrent.futures.wait(running, return_when=concurrent.futures.FIRST_COMPLETED).done:
-                    name, _ = running.pop(ended)
+                    name = running.pop(ended)
                     try:
                         ended.result()
                     except (Failed, OSError) as failed:
