@@ -15,7 +15,7 @@ use Rattle.cov_text.specs.GivenTrees.{expr_of, pair_of, proof_of, state_of, stat
 use Rattle.cov_print.specs.Unplaced.{unplaced_stm, unplaced_block}
 use Rattle.cov_print.proofs.Written as w
 use Rattle.cov_print.proofs.Keeps.{two}
-use Rattle.annotate.specs.WithCertificates.{chosen_for, for_others, with_certs}
+use Rattle.annotate.specs.WithCertificates.{chosen_for, for_others, with_certs, with_proofs, with_proofs_stm}
 use Rattle.annotate.proofs.SpeltCerts.{AreClean, clean_append, clean_left, clean_right, clean_word, IsNewProof, new_piece, Piece, token_of}
 
 -- What is put in -----------------------------------------------------------------------------------------------
@@ -32,20 +32,11 @@ proofs_with (s.note j) cs qs = with_certs cs qs
 proofs_with (s.output e) cs qs = with_certs cs qs
 
 module _ (chosen : (place : ℕ) → List (ℕ × Cert)) where
-  abbrev mutual
-    pub stm_with : s.Stm → s.Stm
-    stm_with s.skip = s.skip
-    stm_with (s.assign x e q retypes) = s.assign x e q retypes
-    stm_with (s.lock l) = s.lock l
-    stm_with (s.unlock l) = s.unlock l
-    stm_with (s.branch e a b join) = s.branch e (block_with a) (block_with b) join
-    stm_with (s.loop e inv b) = s.loop e inv (block_with b)
-    stm_with (s.note j) = s.note j
-    stm_with (s.output e) = s.output e
+  abbrev pub stm_with : s.Stm → s.Stm
+  stm_with c = with_proofs_stm (λ d at proofs. proofs_with d (chosen at) proofs) c
 
-    pub block_with : s.Block → s.Block
-    block_with s.done = s.done
-    block_with (s.more at c proofs b) = s.more at (stm_with c) (proofs_with c (chosen at) proofs) (block_with b)
+  abbrev pub block_with : s.Block → s.Block
+  block_with b = with_proofs (λ d at proofs. proofs_with d (chosen at) proofs) b
 
 -- Changes ------------------------------------------------------------------------------------------------------
 

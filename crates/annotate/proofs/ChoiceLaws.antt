@@ -5,7 +5,7 @@ use Rattle.std.specs.List.{list_any, range_with_len}
 use Rattle.std.proofs.lemmas.Bool.{cases_lt}
 use Rattle.std.proofs.lemmas.List.{get_or_past, map-append}
 use Rattle.std.proofs.lemmas.List.Elements.{All-cons, All-nil, Contains-append_left, Contains-append_right, Contains-push}
-use Rattle.cov_ast.specs.Syntax.{Cert, Proof, Stm, skip, assign, lock, unlock, branch, loop, note, output, Block, done, more, Thread, Program}
+use Rattle.cov_ast.specs.Syntax.{Cert, Proof, Stm, branch, loop, Block, done, more, Thread, Program}
 use Rattle.cov_ast.specs.WellFormed.{are_distinct, places, places_within, IsWellFormed}
 use Rattle.entail_cert.specs.Valid.{is_valid}
 use Rattle.mode_compat.specs.Compatible.{no_thread, numbered, threads_of}
@@ -143,15 +143,10 @@ among_changed chosen (r ∷ rs) x h = go (r.0 == x) refl h (among_changed chosen
 module _ (chosen : ℕ → List (ℕ × Cert)) where
   mutual
     within_put_in : (c : Stm) → proofs_within (put_in_stm chosen c) ≡ map (changed chosen) (proofs_within c)
-    within_put_in skip = refl
-    within_put_in (assign x e q retypes) = refl
-    within_put_in (lock l) = refl
-    within_put_in (unlock l) = refl
     within_put_in (branch e a b join) =
         (λ i. placed_put_in a i ++ placed_put_in b i) ∙ sym (map-append (changed chosen) (placed_proofs a) (placed_proofs b))
     within_put_in (loop e inv b) = placed_put_in b
-    within_put_in (note j) = refl
-    within_put_in (output e) = refl
+    within_put_in _ = refl
 
     placed_put_in : (b : Block) → placed_proofs (put_in chosen b) ≡ map (changed chosen) (placed_proofs b)
     placed_put_in done = refl
@@ -161,14 +156,9 @@ module _ (chosen : ℕ → List (ℕ × Cert)) where
 
 mutual
   places_within_are : (c : Stm) → map (λ r. r.0) (proofs_within c) ≡ places_within c
-  places_within_are skip = refl
-  places_within_are (assign x e q retypes) = refl
-  places_within_are (lock l) = refl
-  places_within_are (unlock l) = refl
   places_within_are (branch e a b join) = map-append (λ r. r.0) (placed_proofs a) (placed_proofs b) ∙ (λ i. places_are a i ++ places_are b i)
   places_within_are (loop e inv b) = places_are b
-  places_within_are (note j) = refl
-  places_within_are (output e) = refl
+  places_within_are _ = refl
 
   places_are : (b : Block) → map (λ r. r.0) (placed_proofs b) ≡ places b
   places_are done = refl

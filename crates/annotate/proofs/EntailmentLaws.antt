@@ -6,7 +6,7 @@ use Rattle.std.proofs.lemmas.List.{append-nil}
 use Rattle.cov_expr.specs.Term.{neg}
 use Rattle.cov_ast.specs.Obligations.{Obligation}
 use Rattle.cov_ast.specs.Plain.{Plain, plain}
-use Rattle.cov_ast.specs.Syntax.{Cert, Proof, Stm, skip, assign, lock, unlock, branch, loop, note, output, Block, done, more, Thread, Program}
+use Rattle.cov_ast.specs.Syntax.{Cert, Proof, Stm, skip, assign, lock, branch, loop, output, Block, done, more, Thread, Program}
 use Rattle.mode_compat.specs.Compatible.{numbered}
 use Rattle.point_law.specs.Point.{Point}
 use Rattle.point_law.specs.After.{start, with_guard, meet}
@@ -117,14 +117,8 @@ module _ (p : Plain) (t : ℕ) where
 
   mutual
     after_stm_same : (c : Stm) (a : Point) → after_stm p t (without_proofs_stm c) a ≡ after_stm p t c a
-    after_stm_same skip a = refl
-    after_stm_same (assign x e q retypes) a = refl
-    after_stm_same (lock l) a = refl
-    after_stm_same (unlock l) a = refl
     after_stm_same (branch e yes_block no_block join) a = λ i. meet p t (after_block_same yes_block (with_guard p t a e) i) join
-    after_stm_same (loop e inv b) a = refl
-    after_stm_same (note j) a = refl
-    after_stm_same (output e) a = refl
+    after_stm_same _ a = refl
 
     after_block_same : (b : Block) (a : Point) → after_block p t (without_proofs b) a ≡ after_block p t b a
     after_block_same done a = refl
@@ -132,10 +126,6 @@ module _ (p : Plain) (t : ℕ) where
 
   mutual
     stm_entailments_same : (c : Stm) (at : ℕ) (a : Point) → stm_entailments p t (without_proofs_stm c) at a ≡ stm_entailments p t c at a
-    stm_entailments_same skip at a = refl
-    stm_entailments_same (assign x e q retypes) at a = refl
-    stm_entailments_same (lock l) at a = refl
-    stm_entailments_same (unlock l) at a = refl
     stm_entailments_same (branch e yes_block no_block join) at a =
         let yes_start = with_guard p t a e in
         let no_start = with_guard p t a (neg e) in
@@ -150,8 +140,7 @@ module _ (p : Plain) (t : ℕ) where
         let gs = state_follows a inv ++ guard_follows p t head e ∷ [] in
         λ i. placed_from at 1 gs
         ++ (block_entailments_same b body_start i ++ placed_from at (suc (length gs)) (state_follows (after_block_same b body_start i) inv))
-    stm_entailments_same (note j) at a = refl
-    stm_entailments_same (output e) at a = refl
+    stm_entailments_same _ at a = refl
 
     block_entailments_same : (b : Block) (a : Point) → block_entailments p t (without_proofs b) a ≡ block_entailments p t b a
     block_entailments_same done a = refl
@@ -180,7 +169,6 @@ module _ (p : Plain) (t : ℕ) where
       ),
     )
     parts_alike (lock l) at proofs a = (alike_itself _, (alike_itself _, (alike_itself _, tt)))
-    parts_alike (unlock l) at proofs a = (alike_itself _, (alike_itself _, (proved_alike at proofs 1 _, (numbers_alike at _ proofs, tt))))
     parts_alike (branch e yes_block no_block join) at proofs a =
         let yes_start = with_guard p t a e in
         let no_start = with_guard p t a (neg e) in
@@ -230,8 +218,8 @@ module _ (p : Plain) (t : ℕ) where
             ),
           ),
         )
-    parts_alike (note j) at proofs a = (alike_itself _, (alike_itself _, (proved_alike at proofs 1 _, (numbers_alike at _ proofs, tt))))
     parts_alike (output e) at proofs a = (alike_itself _, (alike_itself _, (proved_alike at proofs 1 (guard_follows p t a e ∷ []), (numbers_alike at _ proofs, tt))))
+    parts_alike _ at proofs a = (alike_itself _, (alike_itself _, (proved_alike at proofs 1 _, (numbers_alike at _ proofs, tt))))
 
     block_alike : (b : Block) (a : Point) → Alike (block_obligations p t (without_proofs b) a) (block_obligations p t b a)
     block_alike done a = alike_itself []

@@ -78,14 +78,9 @@ module _ (chosen : ℕ → List (ℕ × Cert)) (small : (x : ℕ) → All (λ c.
 
   mutual
     stms_same : (c : Stm) → stms_in (unplaced_stm (put_in_stm chosen c)) ≡ stms_in (unplaced_stm c)
-    stms_same s.skip = refl
-    stms_same (s.assign x e q ts) = refl
-    stms_same (s.lock x) = refl
-    stms_same (s.unlock x) = refl
     stms_same (s.branch e a b j) = λ i. count_same a i + count_same b i
     stms_same (s.loop e j b) = count_same b
-    stms_same (s.note j) = refl
-    stms_same (s.output e) = refl
+    stms_same _ = refl
 
     count_same : (b : Block) → count (unplaced_block (put_in chosen b)) ≡ count (unplaced_block b)
     count_same done = refl

@@ -4,7 +4,7 @@ use Rattle.std.specs.Str.{bytes_eq}
 use Rattle.std.proofs.lemmas.List.Elements.{All-cons, All-contains, All-head, All-nil, All-tail, All-weaker}
 use Rattle.cov_expr.specs.declared.limits.TheConstants.{MOST_THREADS}
 use Rattle.cov_expr.specs.Trees.{nodes}
-use Rattle.cov_ast.specs.Syntax.{Cert, Stm, skip, assign, lock, unlock, branch, loop, note, output, Block, done, more, Thread, Program, Parsed}
+use Rattle.cov_ast.specs.Syntax.{Cert, Stm, branch, loop, Block, done, more, Thread, Program, Parsed}
 use Rattle.cov_ast.specs.WellFormed.{are_distinct, block_size, BlockHasWords, CertHasWords, IsBlockInRange, IsBodyFine, IsCertInRange, IsSilent, IsSilentStm, IsStmInRange, IsThreadInRange, IsWellFormed, most_size, places, places_within, stm_size, state_size, StmHasWords}
 use Rattle.policy_class.specs.Resolved.{lock_id, resolved, resolved_lock, resolved_variable, var_id}
 use Rattle.typing_law.specs.ThreadEntailments.{PlacedEntailment, thread_entailments}
@@ -56,14 +56,9 @@ module _ (chosen : ℕ → List (ℕ × Cert)) where
   module _ (n l : ℕ) (inside : (x : ℕ) → All (λ c. IsCertInRange n l c.1) (chosen x)) where
     mutual
       stm_in_range : (c : Stm) → IsStmInRange n l c → IsStmInRange n l (put_in_stm chosen c)
-      stm_in_range skip r = r
-      stm_in_range (assign x e q retypes) r = r
-      stm_in_range (lock k) r = r
-      stm_in_range (unlock k) r = r
       stm_in_range (branch e a b join) r = (r.0, block_in_range a r.1, block_in_range b r.2, r.3)
       stm_in_range (loop e inv b) r = (r.0, r.1, block_in_range b r.2)
-      stm_in_range (note j) r = r
-      stm_in_range (output e) r = r
+      stm_in_range _ r = r
 
       pub block_in_range : (b : Block) → IsBlockInRange n l b → IsBlockInRange n l (put_in chosen b)
       block_in_range done r = r
@@ -72,14 +67,9 @@ module _ (chosen : ℕ → List (ℕ × Cert)) where
   module _ (words : (x : ℕ) → All (λ c. CertHasWords c.1) (chosen x)) where
     mutual
       stm_has_words : (c : Stm) → StmHasWords c → StmHasWords (put_in_stm chosen c)
-      stm_has_words skip r = r
-      stm_has_words (assign x e q retypes) r = r
-      stm_has_words (lock k) r = r
-      stm_has_words (unlock k) r = r
       stm_has_words (branch e a b join) r = (r.0, block_has_words a r.1, block_has_words b r.2, r.3)
       stm_has_words (loop e inv b) r = (r.0, r.1, block_has_words b r.2)
-      stm_has_words (note j) r = r
-      stm_has_words (output e) r = r
+      stm_has_words _ r = r
 
       block_has_words : (b : Block) → BlockHasWords b → BlockHasWords (put_in chosen b)
       block_has_words done r = r
@@ -87,14 +77,9 @@ module _ (chosen : ℕ → List (ℕ × Cert)) where
 
   mutual
     within_same : (c : Stm) → places_within (put_in_stm chosen c) ≡ places_within c
-    within_same skip = refl
-    within_same (assign x e q retypes) = refl
-    within_same (lock k) = refl
-    within_same (unlock k) = refl
     within_same (branch e a b join) = λ i. places_same a i ++ places_same b i
     within_same (loop e inv b) = places_same b
-    within_same (note j) = refl
-    within_same (output e) = refl
+    within_same _ = refl
 
     places_same : (b : Block) → places (put_in chosen b) ≡ places b
     places_same done = refl
@@ -102,14 +87,9 @@ module _ (chosen : ℕ → List (ℕ × Cert)) where
 
   mutual
     stm_size_same : (c : Stm) → stm_size (put_in_stm chosen c) ≡ stm_size c
-    stm_size_same skip = refl
-    stm_size_same (assign x e q retypes) = refl
-    stm_size_same (lock k) = refl
-    stm_size_same (unlock k) = refl
     stm_size_same (branch e a b join) = λ i. nodes e + size_same a i + size_same b i + state_size join
     stm_size_same (loop e inv b) = λ i. nodes e + state_size inv + size_same b i
-    stm_size_same (note j) = refl
-    stm_size_same (output e) = refl
+    stm_size_same _ = refl
 
     size_same : (b : Block) → block_size (put_in chosen b) ≡ block_size b
     size_same done = refl
@@ -117,14 +97,9 @@ module _ (chosen : ℕ → List (ℕ × Cert)) where
 
   mutual
     stm_silent : (c : Stm) → IsSilentStm c → IsSilentStm (put_in_stm chosen c)
-    stm_silent skip r = r
-    stm_silent (assign x e q retypes) r = r
-    stm_silent (lock k) r = r
-    stm_silent (unlock k) r = r
     stm_silent (branch e a b join) r = (block_silent a r.0, block_silent b r.1)
     stm_silent (loop e inv b) r = block_silent b r
-    stm_silent (note j) r = r
-    stm_silent (output e) r = r
+    stm_silent _ r = r
 
     pub block_silent : (b : Block) → IsSilent b → IsSilent (put_in chosen b)
     block_silent done r = r

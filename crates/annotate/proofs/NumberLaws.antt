@@ -7,14 +7,14 @@ use Rattle.std.proofs.lemmas.List.{append-nil, append_assoc}
 use Rattle.std.proofs.lemmas.List.Elements.{filter-append}
 use Rattle.cov_expr.specs.Term.{neg}
 use Rattle.cov_ast.specs.Plain.{Plain, plain}
-use Rattle.cov_ast.specs.Syntax.{Stm, skip, assign, lock, unlock, branch, loop, note, output, Block, done, more, Program}
+use Rattle.cov_ast.specs.Syntax.{Stm, skip, lock, branch, loop, output, Block, done, more, Program}
 use Rattle.cov_ast.specs.WellFormed.{are_distinct, places, places_within}
 use Rattle.mode_compat.specs.Compatible.{numbered}
 use Rattle.point_law.specs.Point.{Point}
 use Rattle.point_law.specs.After.{start, with_guard, meet}
 use Rattle.typing_law.specs.Blocks.{after_stm, after_block}
 use Rattle.typing_law.specs.Counts.{entailment_count}
-use Rattle.typing_law.specs.Entailments.{Entailment, guard_follows, state_follows, assign_entailments, unlock_entailments}
+use Rattle.typing_law.specs.Entailments.{Entailment, guard_follows, state_follows}
 use Rattle.typing_law.specs.ThreadEntailments.{PlacedEntailment, all_entailments, block_entailments, placed_from, reached, stm_entailments, thread_entailments}
 use Rattle.typing_law.specs.ThreadObligations.{thread_obligations}
 
@@ -129,9 +129,7 @@ module _ (p : Plain) (t : ℕ) where
   mutual
     stm_elsewhere : (c : Stm) (at : ℕ) (a : Point) (x : ℕ) → (x == at) ≡ false → is_in x (places_within c) ≡ false → at_place x (stm_entailments p t c at a) ≡ []
     stm_elsewhere skip at a x h k = refl
-    stm_elsewhere (assign y e q retypes) at a x h k = elsewhere x at 1 (assign_entailments p t a y e q retypes) h
     stm_elsewhere (lock l) at a x h k = refl
-    stm_elsewhere (unlock l) at a x h k = elsewhere x at 1 (unlock_entailments p t a l) h
     stm_elsewhere (branch e yes_block no_block join) at a x h k =
         let yes_start = with_guard p t a e in
         let no_start = with_guard p t a (neg e) in
@@ -152,8 +150,8 @@ module _ (p : Plain) (t : ℕ) where
         between x (placed_from at 1 gs) (block_entailments p t b body_start) (placed_from at (suc (length gs)) hs) (elsewhere x at 1 gs h)
         (elsewhere x at (suc (length gs)) hs h)
         ∙ block_elsewhere b body_start x k
-    stm_elsewhere (note j) at a x h k = elsewhere x at 1 (state_follows a j) h
     stm_elsewhere (output e) at a x h k = elsewhere x at 1 (guard_follows p t a e ∷ []) h
+    stm_elsewhere _ at a x h k = elsewhere x at 1 _ h
 
     block_elsewhere : (b : Block) (a : Point) (x : ℕ) → is_in x (places b) ≡ false → at_place x (block_entailments p t b a) ≡ []
     block_elsewhere done a x h = refl
@@ -166,9 +164,7 @@ module _ (p : Plain) (t : ℕ) where
   -- of the statement itself
   own : (c : Stm) (at : ℕ) (a : Point) → is_in at (places_within c) ≡ false → AreNumbered at (at_place at (stm_entailments p t c at a))
   own skip at a k = ([], refl)
-  own (assign y e q retypes) at a k = (assign_entailments p t a y e q retypes, here at 1 (assign_entailments p t a y e q retypes))
   own (lock l) at a k = ([], refl)
-  own (unlock l) at a k = (unlock_entailments p t a l, here at 1 (unlock_entailments p t a l))
   own (branch e yes_block no_block join) at a k =
       let yes_start = with_guard p t a e in
       let no_start = with_guard p t a (neg e) in
@@ -187,16 +183,14 @@ module _ (p : Plain) (t : ℕ) where
       let gs = state_follows a inv ++ guard_follows p t head e ∷ [] in
       let hs = state_follows (after_block p t b body_start) inv in
       around at gs hs (block_entailments p t b body_start) (block_elsewhere b body_start at k)
-  own (note j) at a k = (state_follows a j, here at 1 (state_follows a j))
   own (output e) at a k = (guard_follows p t a e ∷ [], here at 1 (guard_follows p t a e ∷ []))
+  own _ at a k = (_, here at 1 _)
 
   mutual
     stm_numbered : (c : Stm) (at : ℕ) (a : Point) (x : ℕ) → (x == at) ≡ false → IsTrue (are_distinct (◌==◌) (places_within c))
         → AreNumbered x (at_place x (stm_entailments p t c at a))
     stm_numbered skip at a x h d = ([], refl)
-    stm_numbered (assign y e q retypes) at a x h d = ([], elsewhere x at 1 (assign_entailments p t a y e q retypes) h)
     stm_numbered (lock l) at a x h d = ([], refl)
-    stm_numbered (unlock l) at a x h d = ([], elsewhere x at 1 (unlock_entailments p t a l) h)
     stm_numbered (branch e yes_block no_block join) at a x h d =
         let yes_start = with_guard p t a e in
         let no_start = with_guard p t a (neg e) in
@@ -223,8 +217,8 @@ module _ (p : Plain) (t : ℕ) where
               (elsewhere x at (suc (length gs)) hs h)
               ∙ made.1,
         )
-    stm_numbered (note j) at a x h d = ([], elsewhere x at 1 (state_follows a j) h)
     stm_numbered (output e) at a x h d = ([], elsewhere x at 1 (guard_follows p t a e ∷ []) h)
+    stm_numbered _ at a x h d = ([], elsewhere x at 1 _ h)
 
     block_numbered : (b : Block) (a : Point) (x : ℕ) → IsTrue (are_distinct (◌==◌) (places b)) → AreNumbered x (at_place x (block_entailments p t b a))
     block_numbered done a x d = ([], refl)

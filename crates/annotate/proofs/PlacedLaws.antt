@@ -2,7 +2,7 @@
 use Rattle.std.proofs.Common.{◌≡◌, ℕ, zero, suc, ◌+◌, List, [], ◌∷◌, map, get_or, refl, sym, ap, ◌∙◌, arith}
 use Rattle.cov_ast.specs.Plain.{Cmds, plain, plain_block, plain_stm, plain_thread}
 use Rattle.cov_ast.specs.Plain as code
-use Rattle.cov_ast.specs.Syntax.{Cert, Stm, skip, assign, lock, unlock, branch, loop, note, output, Block, done, more, Thread, Program}
+use Rattle.cov_ast.specs.Syntax.{Cert, Stm, branch, loop, Block, done, more, Thread, Program}
 use Rattle.mode_compat.specs.Compatible.{no_thread, numbered}
 use Rattle.annotate.specs.WithCertificates.{program_without_proofs, put_in, put_in_program, put_in_stm, put_in_thread, put_in_threads, thread_without_proofs, without_proofs, without_proofs_stm}
 
@@ -10,14 +10,9 @@ use Rattle.annotate.specs.WithCertificates.{program_without_proofs, put_in, put_
 
 mutual
   plain_stm_same : (c : Stm) (at : ℕ) (rest : Cmds) → plain_stm (without_proofs_stm c) at rest ≡ plain_stm c at rest
-  plain_stm_same skip at rest = refl
-  plain_stm_same (assign x e q retypes) at rest = refl
-  plain_stm_same (lock l) at rest = refl
-  plain_stm_same (unlock l) at rest = refl
   plain_stm_same (branch e a b join) at rest = λ i. code.next at (code.branch e (plain_block_same a i) (plain_block_same b i)) rest
   plain_stm_same (loop e inv b) at rest = λ i. code.next at (code.loop e (plain_block_same b i)) rest
-  plain_stm_same (note j) at rest = refl
-  plain_stm_same (output e) at rest = refl
+  plain_stm_same _ at rest = refl
 
   plain_block_same : (b : Block) → plain_block (without_proofs b) ≡ plain_block b
   plain_block_same done = refl
@@ -43,14 +38,9 @@ numbered_same p t = numbered_in p.threads t
 module _ (chosen : (place : ℕ) → List (ℕ × Cert)) where
   mutual
     stm_kept : (c : Stm) → without_proofs_stm (put_in_stm chosen c) ≡ without_proofs_stm c
-    stm_kept skip = refl
-    stm_kept (assign x e q retypes) = refl
-    stm_kept (lock l) = refl
-    stm_kept (unlock l) = refl
     stm_kept (branch e a b join) = λ i. branch e (block_kept a i) (block_kept b i) join
     stm_kept (loop e inv b) = λ i. loop e inv (block_kept b i)
-    stm_kept (note j) = refl
-    stm_kept (output e) = refl
+    stm_kept _ = refl
 
     block_kept : (b : Block) → without_proofs (put_in chosen b) ≡ without_proofs b
     block_kept done = refl

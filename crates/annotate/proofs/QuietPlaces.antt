@@ -95,16 +95,13 @@ abbrev mutual
 mutual
   within_placed : (c : Stm) (at x : ℕ) → Member x (asking_within c at) → (at ≡ x) ⊎ Member x (places_within c)
   within_placed skip at x h = absurd h
-  within_placed (assign y e q retypes) at x h = h
   within_placed (lock l) at x h = absurd h
-  within_placed (unlock l) at x h = h
   within_placed (branch e a b join) at x (inl h) = inl h
   within_placed (branch e a b join) at x (inr h) =
       inr (⊎_elim (λ i. in_left x (places a) (places b) (asking_placed a x i)) (λ i. in_right x (places a) (places b) (asking_placed b x i)) (in_either x (asking a) (asking b) h))
   within_placed (loop e inv b) at x (inl h) = inl h
   within_placed (loop e inv b) at x (inr h) = inr (asking_placed b x h)
-  within_placed (note j) at x h = h
-  within_placed (output e) at x h = h
+  within_placed _ at x h = h
 
   asking_placed : (b : Block) (x : ℕ) → Member x (asking b) → Member x (places b)
   asking_placed done x h = absurd h
@@ -134,9 +131,7 @@ module _ (P : ℕ → Type 0) where
     within_quiet : (c : Stm) (at : ℕ) (rest : List ℕ) → Differ (at ∷ places_within c ++ rest)
         → ((x : ℕ) → Member x (at ∷ places_within c ++ rest) → (Member x (asking_within c at) → ⊥) → (Member x rest → ⊥) → P x) → QuietWithin c at
     within_quiet skip at rest d f = f at (inl refl) (λ h. h) d.0
-    within_quiet (assign x e q retypes) at rest d f = tt
     within_quiet (lock l) at rest d f = f at (inl refl) (λ h. h) d.0
-    within_quiet (unlock l) at rest d f = tt
     within_quiet (branch e a b join) at rest d f =
         let inner = differ_left (places a ++ places b) rest d.1 in (
           block_quiet a (differ_left (places a) (places b) inner)
@@ -154,8 +149,7 @@ module _ (P : ℕ → Type 0) where
         block_quiet b (differ_left (places b) rest d.1)
         (λ x m n. f x (inr (in_left x (places b) rest m))
         (λ h. ⊎_elim (λ i. d.0 (subst (λ y. Member y (places b ++ rest)) (sym i) (in_left x (places b) rest m))) n h) (differ_apart x (places b) rest d.1 m))
-    within_quiet (note j) at rest d f = tt
-    within_quiet (output e) at rest d f = tt
+    within_quiet _ at rest d f = tt
 
     block_quiet : (b : Block) → Differ (places b) → ((x : ℕ) → Member x (places b) → (Member x (asking b) → ⊥) → P x) → Quiet b
     block_quiet done d f = tt
@@ -173,13 +167,10 @@ module _ (P : ℕ → Type 0) where
     mutual
       within_unresolved : (c : Stm) (at : ℕ) → QuietWithin (Rattle.policy_class.specs.Resolved.resolved_stm f l c) at → QuietWithin c at
       within_unresolved skip at h = h
-      within_unresolved (assign x e q retypes) at h = tt
       within_unresolved (lock k) at h = h
-      within_unresolved (unlock k) at h = tt
       within_unresolved (branch e a b join) at h = (quiet_unresolved a h.0, quiet_unresolved b h.1)
       within_unresolved (loop e inv b) at h = quiet_unresolved b h
-      within_unresolved (note j) at h = tt
-      within_unresolved (output e) at h = tt
+      within_unresolved _ at h = tt
 
       quiet_unresolved : (b : Block) → Quiet (resolved_block f l b) → Quiet b
       quiet_unresolved done h = tt
@@ -197,14 +188,9 @@ module _ (chosen : ℕ → List (ℕ × Cert)) where
 
   mutual
     stm_same : (c : Stm) (at : ℕ) → QuietWithin Nothing c at → stm_with chosen c ≡ put_in_stm chosen c
-    stm_same skip at h = refl
-    stm_same (assign x e q retypes) at h = refl
-    stm_same (lock l) at h = refl
-    stm_same (unlock l) at h = refl
     stm_same (branch e a b join) at h = λ i. branch e (block_same a h.0 i) (block_same b h.1 i) join
     stm_same (loop e inv b) at h = λ i. loop e inv (block_same b h i)
-    stm_same (note j) at h = refl
-    stm_same (output e) at h = refl
+    stm_same _ at h = refl
 
     block_same : (b : Block) → Quiet Nothing b → block_with chosen b ≡ put_in chosen b
     block_same done h = refl
@@ -212,13 +198,8 @@ module _ (chosen : ℕ → List (ℕ × Cert)) where
 
     proofs_same : (c : Stm) (at : ℕ) (qs : List Proof) → QuietWithin Nothing c at → proofs_with c (chosen at) qs ≡ with_certs (chosen at) qs
     proofs_same skip at qs h = sym (ap (λ cs. with_certs cs qs) h ∙ none_put qs)
-    proofs_same (assign x e q retypes) at qs h = refl
     proofs_same (lock l) at qs h = sym (ap (λ cs. with_certs cs qs) h ∙ none_put qs)
-    proofs_same (unlock l) at qs h = refl
-    proofs_same (branch e a b join) at qs h = refl
-    proofs_same (loop e inv b) at qs h = refl
-    proofs_same (note j) at qs h = refl
-    proofs_same (output e) at qs h = refl
+    proofs_same _ at qs h = refl
 
 -- Entailments --------------------------------------------------------------------------------------------------
 

@@ -28,17 +28,12 @@ use Rattle.annotate.proofs.TextNames.{before, behind, braces_alike, out, outside
 module _ (named : ℕ → Bool) where
   mutual
     stm_words : (c : s.Stm) (ps : List Proof) → w.stm named (unplaced_stm c) ps ≡ w.stm named c ps
-    stm_words s.skip ps = refl
-    stm_words (s.assign x e q rs) ps = refl
-    stm_words (s.lock l) ps = refl
-    stm_words (s.unlock l) ps = refl
     stm_words (s.branch e a b join) ps =
         λ i. plain k.If ∷ (w.whole named e ++ ((plain k.OpenBrace ∷ (block_words a i ++ plain k.CloseBrace ∷ []))
         ++ (plain k.Else ∷ ((plain k.OpenBrace ∷ (block_words b i ++ plain k.CloseBrace ∷ [])) ++ (w.stated named k.Join join ++ w.by named ps)))))
     stm_words (s.loop e inv b) ps =
         λ i. plain k.While ∷ (w.whole named e ++ (w.stated named k.Inv inv ++ ((plain k.OpenBrace ∷ (block_words b i ++ plain k.CloseBrace ∷ [])) ++ w.by named ps)))
-    stm_words (s.note j) ps = refl
-    stm_words (s.output e) ps = refl
+    stm_words _ ps = refl
 
     block_words : (b : s.Block) → w.block named (unplaced_block b) ≡ w.block named b
     block_words s.done = refl

@@ -199,14 +199,9 @@ module _ (v l : ℕ → ℕ) where
   module _ (chosen : (place : ℕ) → List (ℕ × Cert)) where
     mutual
       stm_read : (c : Stm) → resolved_stm v l (put_in_stm chosen c) ≡ put_in_stm (λ x. map read_choice (chosen x)) (resolved_stm v l c)
-      stm_read s.skip = refl
-      stm_read (s.assign x e q retypes) = refl
-      stm_read (s.lock k) = refl
-      stm_read (s.unlock k) = refl
       stm_read (s.branch e a b join) = λ i. s.branch (resolved_term v l e) (block_read a i) (block_read b i) (resolved_state v l join)
       stm_read (s.loop e inv b) = λ i. s.loop (resolved_term v l e) (resolved_state v l inv) (block_read b i)
-      stm_read (s.note j) = refl
-      stm_read (s.output e) = refl
+      stm_read _ = refl
 
       block_read : (b : Block) → resolved_block v l (put_in chosen b) ≡ put_in (λ x. map read_choice (chosen x)) (resolved_block v l b)
       block_read done = refl

@@ -14,7 +14,7 @@ use Rattle.cov_ast.specs.WellFormed.{places, places_within}
 use Rattle.cov_ast.specs.declared.parsed.NameUse.{NameUse}
 use Rattle.mode_compat.specs.Compatible.{no_thread}
 use Rattle.annotate.specs.AnnotatedText.{AreKeptOrNew, becomes, IsUseOfChosen, part_of_cert, part_of_new, parts_in, parts_in_block, parts_in_stm, parts_in_threads, parts_of_proofs, put_in_text, stays, uses_at, uses_with, UsesPart}
-use Rattle.annotate.specs.WithCertificates.{chosen_for, for_others, proof_of, put_in, put_in_stm, put_in_threads, with_certs}
+use Rattle.annotate.specs.WithCertificates.{chosen_for, for_others, proof_of, put_in, put_in_threads, with_certs, with_proofs, with_proofs_stm}
 use Rattle.annotate.proofs.PutLaws.{AllChosen, chosen_is, for_others_same, others_have}
 
 abbrev before_of : UsesPart → List Use
@@ -77,23 +77,6 @@ regrouped a b c d =
     ap (λ x. a ++ (b ++ (c ++ x))) (append-nil d) ∙ ap (λ x. a ++ x) (sym (append_assoc b c d)) ∙ sym (append_assoc a (b ++ c) d)
     ∙ ap (λ x. x ++ d) (sym (append_assoc a b c))
 
--- what the proofs of statements become
-module _ (made : ℕ → List Proof → List Proof) where
-  abbrev mutual
-    remade_stm : Stm → Stm
-    remade_stm s.skip = s.skip
-    remade_stm (s.assign x e q retypes) = s.assign x e q retypes
-    remade_stm (s.lock l) = s.lock l
-    remade_stm (s.unlock l) = s.unlock l
-    remade_stm (s.branch e a b join) = s.branch e (remade a) (remade b) join
-    remade_stm (s.loop e inv b) = s.loop e inv (remade b)
-    remade_stm (s.note j) = s.note j
-    remade_stm (s.output e) = s.output e
-
-    remade : Block → Block
-    remade done = done
-    remade (more at c proofs b) = more at (remade_stm c) (made at proofs) (remade b)
-
 -- with one of the two kinds of uses of parts
 module _ (kind : UsesPart → List Use) (stays_is : (us : List Use) → kind (stays us) ≡ us) (chosen : ℕ → List (ℕ × Cert)) (made : ℕ → List Proof → List Proof)
     (proofs_are : (at : ℕ) (proofs : List Proof) → flat_map kind (parts_of_proofs at (chosen at) proofs) ≡ flat_map uses_in_proof (made at proofs)) where
@@ -102,23 +85,22 @@ module _ (kind : UsesPart → List Use) (stays_is : (us : List Use) → kind (st
 
   -- in front of the uses of proofs
   mutual
-    stm_uses : (c : Stm) (qs : List Proof) → flat_map kind (parts_in_stm chosen c) ++ flat_map uses_in_proof qs ≡ uses_in_stm (remade_stm made c) qs
+    stm_uses : (c : Stm) (qs : List Proof) → flat_map kind (parts_in_stm chosen c) ++ flat_map uses_in_proof qs ≡ uses_in_stm (with_proofs_stm (λ _. made) c) qs
     stm_uses s.skip qs = refl
     stm_uses (s.assign x e q retypes) qs = ap (λ us. us ++ flat_map uses_in_proof qs)
         (one (uses_in_stm (s.assign x e q retypes) []) ∙ append-nil (as_variable x ++ uses_in e ++ uses_in_option q ++ flat_map uses_in_type retypes))
-    stm_uses (s.lock l) qs = ap (λ us. us ++ flat_map uses_in_proof qs) (one (uses_in_stm (s.lock l) []))
-    stm_uses (s.unlock l) qs = ap (λ us. us ++ flat_map uses_in_proof qs) (one (uses_in_stm (s.unlock l) []))
     stm_uses (s.branch e a b join) qs =
         ap (λ us. us ++ flat_map uses_in_proof qs)
         ((λ i. stays_is (uses_in e) i ++ flat_map-append kind (parts_in_block chosen a) (parts_in_block chosen b ++ stays (uses_in_state join) ∷ []) i)
         ∙ (λ i. uses_in e ++ (block_uses a i ++ flat_map-append kind (parts_in_block chosen b) (stays (uses_in_state join) ∷ []) i))
-        ∙ (λ i. uses_in e ++ (uses_in_block (remade made a) ++ (block_uses b i ++ (stays_is (uses_in_state join) i ++ []))))
-        ∙ regrouped (uses_in e) (uses_in_block (remade made a)) (uses_in_block (remade made b)) (uses_in_state join))
+        ∙ (λ i. uses_in e ++ (uses_in_block (with_proofs (λ _. made) a) ++ (block_uses b i ++ (stays_is (uses_in_state join) i ++ []))))
+        ∙ regrouped (uses_in e) (uses_in_block (with_proofs (λ _. made) a)) (uses_in_block (with_proofs (λ _. made) b)) (uses_in_state join))
     stm_uses (s.loop e inv b) qs = λ i. stays_is (uses_in e ++ uses_in_state inv) i ++ block_uses b i ++ flat_map uses_in_proof qs
     stm_uses (s.note j) qs = ap (λ us. us ++ flat_map uses_in_proof qs) (one (uses_in_state j))
     stm_uses (s.output e) qs = ap (λ us. us ++ flat_map uses_in_proof qs) (one (uses_in e))
+    stm_uses c qs = ap (λ us. us ++ flat_map uses_in_proof qs) (one (uses_in_stm c []))
 
-    block_uses : (b : Block) → flat_map kind (parts_in_block chosen b) ≡ uses_in_block (remade made b)
+    block_uses : (b : Block) → flat_map kind (parts_in_block chosen b) ≡ uses_in_block (with_proofs (λ _. made) b)
     block_uses done = refl
     block_uses (more at c proofs b) =
         flat_map-append kind (parts_in_stm chosen c) (parts_of_proofs at (chosen at) proofs ++ parts_in_block chosen b)
@@ -130,43 +112,23 @@ module _ (kind : UsesPart → List Use) (stays_is : (us : List Use) → kind (st
 -- Programs -----------------------------------------------------------------------------------------------------
 
 mutual
-  stm_again : (c : Stm) → remade_stm (λ at qs. qs) c ≡ c
-  stm_again s.skip = refl
-  stm_again (s.assign x e q retypes) = refl
-  stm_again (s.lock l) = refl
-  stm_again (s.unlock l) = refl
+  stm_again : (c : Stm) → with_proofs_stm (λ _ at qs. qs) c ≡ c
   stm_again (s.branch e a b join) = λ i. s.branch e (block_again a i) (block_again b i) join
   stm_again (s.loop e inv b) = λ i. s.loop e inv (block_again b i)
-  stm_again (s.note j) = refl
-  stm_again (s.output e) = refl
+  stm_again _ = refl
 
-  block_again : (b : Block) → remade (λ at qs. qs) b ≡ b
+  block_again : (b : Block) → with_proofs (λ _ at qs. qs) b ≡ b
   block_again done = refl
   block_again (more at c proofs b) = λ i. more at (stm_again c i) proofs (block_again b i)
 
 module _ (chosen : (place : ℕ) → List (ℕ × Cert)) where
-  mutual
-    stm_put_in : (c : Stm) → remade_stm (λ at qs. with_certs (chosen at) qs) c ≡ put_in_stm chosen c
-    stm_put_in s.skip = refl
-    stm_put_in (s.assign x e q retypes) = refl
-    stm_put_in (s.lock l) = refl
-    stm_put_in (s.unlock l) = refl
-    stm_put_in (s.branch e a b join) = λ i. s.branch e (block_put_in a i) (block_put_in b i) join
-    stm_put_in (s.loop e inv b) = λ i. s.loop e inv (block_put_in b i)
-    stm_put_in (s.note j) = refl
-    stm_put_in (s.output e) = refl
-
-    block_put_in : (b : Block) → remade (λ at qs. with_certs (chosen at) qs) b ≡ put_in chosen b
-    block_put_in done = refl
-    block_put_in (more at c proofs b) = λ i. more at (stm_put_in c i) (with_certs (chosen at) proofs) (block_put_in b i)
-
   block_before : (b : Block) → flat_map before_of (parts_in_block chosen b) ≡ uses_in_block b
   block_before b =
       block_uses before_of (λ us. refl) chosen (λ at qs. qs) (λ at qs. proofs_before at (chosen at) qs) b ∙ ap uses_in_block (block_again b)
 
   block_after : (b : Block) → flat_map after_of (parts_in_block chosen b) ≡ uses_in_block (put_in chosen b)
   block_after b =
-      block_uses after_of (λ us. refl) chosen (λ at qs. with_certs (chosen at) qs) (λ at qs. proofs_after at (chosen at) qs) b ∙ ap uses_in_block (block_put_in b)
+      block_uses after_of (λ us. refl) chosen (λ at qs. with_certs (chosen at) qs) (λ at qs. proofs_after at (chosen at) qs) b
 
 module _ (chosen : (t place : ℕ) → List (ℕ × Cert)) where
   threads_before : (t : ℕ) (hs : List Thread) → flat_map before_of (parts_in_threads chosen t hs) ≡ flat_map uses_in_thread hs
@@ -219,14 +181,9 @@ proofs_stay place (q ∷ qs) = proofs_stay place qs
 
 mutual
   stm_stays : (c : Stm) → AllStay (parts_in_stm nothing c)
-  stm_stays s.skip = tt
-  stm_stays (s.assign x e q retypes) = tt
-  stm_stays (s.lock l) = tt
-  stm_stays (s.unlock l) = tt
   stm_stays (s.branch e a b join) = stay_append (parts_in_block nothing a) _ (block_stays a) (stay_append (parts_in_block nothing b) _ (block_stays b) tt)
   stm_stays (s.loop e inv b) = block_stays b
-  stm_stays (s.note j) = tt
-  stm_stays (s.output e) = tt
+  stm_stays _ = tt
 
   block_stays : (b : Block) → AllStay (parts_in_block nothing b)
   block_stays done = tt
@@ -242,7 +199,7 @@ certs_same [] = refl
 certs_same (q ∷ qs) = ap (λ rs. q ∷ rs) (certs_same qs)
 
 block_same : (b : Block) → put_in nothing b ≡ b
-block_same b = sym (block_put_in nothing b) ∙ (λ i. remade (λ at qs. certs_same qs i) b) ∙ block_again b
+block_same b = (λ i. with_proofs (λ _ at qs. certs_same qs i) b) ∙ block_again b
 
 threads_same : (t : ℕ) (hs : List Thread) → put_in_threads (λ u. nothing) t hs ≡ hs
 threads_same t [] = refl
@@ -310,13 +267,9 @@ module _ (IsNew : NameUse → Type 0) where
     mutual
       stm_makes : (c : Stm) → AllMakeNew (parts_in_stm chosen c)
       stm_makes s.skip = tt
-      stm_makes (s.assign x e q retypes) = (tt, tt)
-      stm_makes (s.lock l) = (tt, tt)
-      stm_makes (s.unlock l) = (tt, tt)
       stm_makes (s.branch e a b join) = (tt, make_append (parts_in_block chosen a) _ (block_makes a) (make_append (parts_in_block chosen b) _ (block_makes b) (tt, tt)))
       stm_makes (s.loop e inv b) = (tt, block_makes b)
-      stm_makes (s.note j) = (tt, tt)
-      stm_makes (s.output e) = (tt, tt)
+      stm_makes _ = (tt, tt)
 
       block_makes : (b : Block) → AllMakeNew (parts_in_block chosen b)
       block_makes done = tt
@@ -426,17 +379,12 @@ module _ (x n : ℕ) (d : Cert) where
   module _ (chosen : (place : ℕ) → List (ℕ × Cert)) (h : chosen_for (chosen x) n ≡ Some d) where
     mutual
       stm_becomes : (c : Stm) → Contains (places_within c) x → Becomes (uses_at x d) (parts_in_stm chosen c)
-      stm_becomes s.skip k = absurd (not_in_none x k)
-      stm_becomes (s.assign y e q retypes) k = absurd (not_in_none x k)
-      stm_becomes (s.lock l) k = absurd (not_in_none x k)
-      stm_becomes (s.unlock l) k = absurd (not_in_none x k)
       stm_becomes (s.branch e a b join) k =
           ⊎_elim (λ i. becomes_left (uses_at x d) (parts_in_block chosen a) _ (block_becomes a i))
           (λ i. becomes_right (uses_at x d) (parts_in_block chosen a) _ (becomes_left (uses_at x d) (parts_in_block chosen b) _ (block_becomes b i)))
           (Contains-append_cases (places a) (places b) x k)
       stm_becomes (s.loop e inv b) k = block_becomes b k
-      stm_becomes (s.note j) k = absurd (not_in_none x k)
-      stm_becomes (s.output e) k = absurd (not_in_none x k)
+      stm_becomes _ k = absurd (not_in_none x k)
 
       block_becomes : (b : Block) → Contains (places b) x → Becomes (uses_at x d) (parts_in_block chosen b)
       block_becomes done k = absurd (not_in_none x k)

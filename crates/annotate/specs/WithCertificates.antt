@@ -42,21 +42,29 @@ AreRisingAbove m (n ∷ ns) = (m < n) × AreRisingAbove n ns
 
 -- Statements and blocks ----------------------------------------------------------------------------------------
 
-module _ (chosen : (place : ℕ) → List (ℕ × Cert)) where
+-- the same statements with other proofs, which are made of each statement, its place and the proofs that it has
+module _ (made : Stm → (place : ℕ) → List Proof → List Proof) where
   abbrev mutual
-    pub put_in_stm : Stm → Stm
-    put_in_stm s.skip = s.skip
-    put_in_stm (s.assign x e q retypes) = s.assign x e q retypes
-    put_in_stm (s.lock l) = s.lock l
-    put_in_stm (s.unlock l) = s.unlock l
-    put_in_stm (s.branch e a b join) = s.branch e (put_in a) (put_in b) join
-    put_in_stm (s.loop e inv b) = s.loop e inv (put_in b)
-    put_in_stm (s.note j) = s.note j
-    put_in_stm (s.output e) = s.output e
+    pub with_proofs_stm : Stm → Stm
+    with_proofs_stm s.skip = s.skip
+    with_proofs_stm (s.assign x e q retypes) = s.assign x e q retypes
+    with_proofs_stm (s.lock l) = s.lock l
+    with_proofs_stm (s.unlock l) = s.unlock l
+    with_proofs_stm (s.branch e a b join) = s.branch e (with_proofs a) (with_proofs b) join
+    with_proofs_stm (s.loop e inv b) = s.loop e inv (with_proofs b)
+    with_proofs_stm (s.note j) = s.note j
+    with_proofs_stm (s.output e) = s.output e
 
-    pub put_in : Block → Block
-    put_in done = done
-    put_in (more at c proofs b) = more at (put_in_stm c) (with_certs (chosen at) proofs) (put_in b)
+    pub with_proofs : Block → Block
+    with_proofs done = done
+    with_proofs (more at c proofs b) = more at (with_proofs_stm c) (made c at proofs) (with_proofs b)
+
+module _ (chosen : (place : ℕ) → List (ℕ × Cert)) where
+  abbrev pub put_in_stm : Stm → Stm
+  put_in_stm c = with_proofs_stm (λ _ at proofs. with_certs (chosen at) proofs) c
+
+  abbrev pub put_in : Block → Block
+  put_in b = with_proofs (λ _ at proofs. with_certs (chosen at) proofs) b
 
   abbrev pub put_in_thread : Thread → Thread
   put_in_thread h = record { name = h.name; at = h.at; modes = h.modes; body = put_in h.body; end = h.end }
@@ -72,21 +80,12 @@ put_in_program chosen p = record { version = p.version; vars = p.vars; locks = p
 
 -- Without proofs -----------------------------------------------------------------------------------------------
 
-abbrev mutual
-  pub without_proofs_stm : Stm → Stm
-  without_proofs_stm s.skip = s.skip
-  without_proofs_stm (s.assign x e q retypes) = s.assign x e q retypes
-  without_proofs_stm (s.lock l) = s.lock l
-  without_proofs_stm (s.unlock l) = s.unlock l
-  without_proofs_stm (s.branch e a b join) = s.branch e (without_proofs a) (without_proofs b) join
-  without_proofs_stm (s.loop e inv b) = s.loop e inv (without_proofs b)
-  without_proofs_stm (s.note j) = s.note j
-  without_proofs_stm (s.output e) = s.output e
+abbrev pub without_proofs_stm : Stm → Stm
+without_proofs_stm c = with_proofs_stm (λ _ at proofs. []) c
 
-  -- the same statements, of which none has a proof
-  pub without_proofs : Block → Block
-  without_proofs done = done
-  without_proofs (more at c proofs b) = more at (without_proofs_stm c) [] (without_proofs b)
+-- the same statements, of which none has a proof
+abbrev pub without_proofs : Block → Block
+without_proofs b = with_proofs (λ _ at proofs. []) b
 
 abbrev pub thread_without_proofs : Thread → Thread
 thread_without_proofs h = record { name = h.name; at = h.at; modes = h.modes; body = without_proofs h.body; end = h.end }
