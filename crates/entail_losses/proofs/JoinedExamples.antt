@@ -1,12 +1,14 @@
 -- Small ways past branches, and what their joins left out, by computation.
-use Rattle.std.proofs.Common.{◌≡◌, ℕ, List, [], ◌∷◌, None, true, false, refl}
+use Rattle.std.proofs.Common.{◌≡◌, ℕ, List, [], ◌∷◌, Some, None, true, false, refl}
 use Rattle.cov_expr.specs.declared.expr.Op.TheVariants.{Eq}
 use Rattle.cov_expr.specs.Term.{Term, const, var, bin}
 use Rattle.cov_ast.specs.Plain.{Plain}
 use Rattle.cov_ast.specs.Syntax as s
 use Rattle.entail_losses.specs.Joined.{with_joined}
 use Rattle.entail_losses.specs.LeftOut.{LeftOut, left_out_at, state_at}
+use Rattle.entail_losses.specs.declared.left_out_states.StateAt.{StateAt}
 use Rattle.entail_losses.specs.declared.left_out_states.StateKind.TheVariants as of
+use Rattle.entail_losses.specs.declared.left_out_states.States.{States}
 use Rattle.entail_origins.specs.Origins.{given}
 use Rattle.entail_origins.specs.declared.hypothesis_origin.HypothesisSource.TheVariants.{Assigned, GuardHolds, Noted}
 use Rattle.statement_paths.specs.Paths.{Step, passed}
@@ -32,6 +34,10 @@ noted at es rest = s.more at (s.note (stated es)) [] rest
 abbrev either : s.Block → s.Block → (listed : List Term) → Step
 either a b listed = passed 5 (s.branch (var 2) a b (stated listed))
 
+-- a join alone
+abbrev only : StateAt → States
+only state = record { first = state; last = None }
+
 -- at a point where three variables are stable, and nothing else is told
 abbrev joined : (hypotheses : List Term) → List Step → List LeftOut
 joined hypotheses steps = with_joined hypotheses program [] (true ∷ true ∷ true ∷ []) steps
@@ -39,16 +45,21 @@ joined hypotheses steps = with_joined hypotheses program [] (true ∷ true ∷ t
 -- One predicate ------------------------------------------------------------------------------------------------
 
 -- x := 1 in both
-by_both : joined [] (either (assigned 6 0 1 s.done) (assigned 8 0 1 s.done) [] ∷ []) ≡ left_out_at 6 (state_at of.Join 5) (given Assigned (equals 0 1)) ∷ []
+by_both : joined [] (either (assigned 6 0 1 s.done) (assigned 8 0 1 s.done) [] ∷ []) ≡ left_out_at 6 (only (state_at of.Join 5)) (given Assigned (equals 0 1)) ∷ []
 by_both = refl
 
 -- in front of further steps, which touch another variable
 further : joined [] (either (assigned 6 0 1 s.done) (assigned 8 0 1 s.done) [] ∷ passed 9 (s.assign 1 (const 2) None []) ∷ [])
-    ≡ left_out_at 6 (state_at of.Join 5) (given Assigned (equals 0 1)) ∷ []
+    ≡ left_out_at 6 (only (state_at of.Join 5)) (given Assigned (equals 0 1)) ∷ []
 further = refl
 
+-- in front of two further states
+up_to_a_note : joined [] (either (assigned 6 0 1 s.done) (assigned 8 0 1 s.done) [] ∷ passed 9 (s.note (stated [])) ∷ passed 10 (s.note (stated [])) ∷ [])
+    ≡ left_out_at 6 (record { first = state_at of.Join 5; last = Some (state_at of.Note 10) }) (given Assigned (equals 0 1)) ∷ []
+up_to_a_note = refl
+
 -- by a note in one of them
-by_a_note : joined [] (either (noted 6 (equals 0 1 ∷ []) s.done) (assigned 8 1 3 (assigned 9 0 1 s.done)) [] ∷ []) ≡ left_out_at 6 (state_at of.Join 5) (given Noted (equals 0 1)) ∷ []
+by_a_note : joined [] (either (noted 6 (equals 0 1 ∷ []) s.done) (assigned 8 1 3 (assigned 9 0 1 s.done)) [] ∷ []) ≡ left_out_at 6 (only (state_at of.Join 5)) (given Noted (equals 0 1)) ∷ []
 by_a_note = refl
 
 -- None ---------------------------------------------------------------------------------------------------------
@@ -79,7 +90,7 @@ not_stable = refl
 -- Several ------------------------------------------------------------------------------------------------------
 
 -- behind what was told otherwise; from the end of the first block back
-in_order : with_joined [] program (left_out_at 1 (state_at of.Note 2) (given GuardHolds (var 2)) ∷ []) (true ∷ true ∷ true ∷ [])
+in_order : with_joined [] program (left_out_at 1 (only (state_at of.Note 2)) (given GuardHolds (var 2)) ∷ []) (true ∷ true ∷ true ∷ [])
     (either (assigned 6 0 1 (assigned 7 1 3 s.done)) (assigned 8 1 3 (assigned 9 0 1 s.done)) [] ∷ [])
-    ≡ left_out_at 1 (state_at of.Note 2) (given GuardHolds (var 2)) ∷ left_out_at 7 (state_at of.Join 5) (given Assigned (equals 1 3)) ∷ left_out_at 6 (state_at of.Join 5) (given Assigned (equals 0 1)) ∷ []
+    ≡ left_out_at 1 (only (state_at of.Note 2)) (given GuardHolds (var 2)) ∷ left_out_at 7 (only (state_at of.Join 5)) (given Assigned (equals 1 3)) ∷ left_out_at 6 (only (state_at of.Join 5)) (given Assigned (equals 0 1)) ∷ []
 in_order = refl

@@ -12,14 +12,14 @@ use Rattle.cov_ast.specs.Plain.{Plain, plain_block}
 use Rattle.cov_ast.specs.Syntax.{State, Block, done, more, skip, assign, lock, unlock, branch, loop, note, output}
 use Rattle.cov_ast.specs.Tables.{has}
 use Rattle.entail_losses.specs.Forgotten.{untouched_along}
-use Rattle.entail_losses.specs.Joined.{StillGiven, given_at, is_still_given, is_unjoined, still_given, still_terms, unjoined, with_joined, with_one_given, with_one_unjoined, with_still_given, with_still_of_step, with_unjoined}
-use Rattle.entail_losses.specs.LeftOut.{LeftOut, gives_nothing, is_known, state_at, state_of_step, untouched_by}
+use Rattle.entail_losses.specs.Joined.{StillGiven, from_join, given_at, is_still_given, is_unjoined, still_given, still_terms, unjoined, with_joined, with_one_given, with_one_unjoined, with_still_given, with_still_of_step, with_unjoined}
+use Rattle.entail_losses.specs.LeftOut.{LeftOut, gives_nothing, is_known, state_of_step, states_of, states_of_steps, untouched_by}
 use Rattle.entail_losses.specs.WouldBeJoined.{WouldBeJoined}
 use Rattle.entail_losses.specs.WouldBeKnown.{first_state, listing, step_with}
 use Rattle.entail_losses.specs.declared.joined_found.TheConstants.{MOST_LEFT_OUT}
 use Rattle.entail_losses.specs.declared.joined_given.TheConstants.{MOST_GIVEN}
 use Rattle.entail_losses.specs.declared.left_out_states.StateAt.{StateAt}
-use Rattle.entail_losses.specs.declared.left_out_states.StateKind.TheVariants.{Join}
+use Rattle.entail_losses.specs.declared.left_out_states.States.{States}
 use Rattle.entail_losses.proofs.FoundLaws.{not_among}
 use Rattle.entail_losses.proofs.KeptLaws.{same_kept}
 use Rattle.entail_losses.proofs.KnownLaws.{IsKept, held_joined, held_listing, held_step, held_steps, none_first, stays, unstated}
@@ -157,20 +157,20 @@ module _ (p : Plain) (t : ℕ) where
 -- What a join leaves out ---------------------------------------------------------------------------------------
 
 -- one of those that the first block still gives, which the second gives too, and which the join doesn't list
-pub record IsUnjoined (hypotheses second listed : List Term) (at : ℕ) (gs : List StillGiven) (o : LeftOut) : Type 0 where
+pub record IsUnjoined (hypotheses second listed : List Term) (states : States) (gs : List StillGiven) (o : LeftOut) : Type 0 where
   pub from : StillGiven
   pub given : Contains gs from
   pub same : from.term ≡ o.term
-  pub state : o.state ≡ state_at Join at
+  pub names : states_of o ≡ states
   pub in_second : has_term second o.term ≡ true
   pub unlisted : has_term listed o.term ≡ false
   pub unknown : is_known hypotheses o.term ≡ false
 
-module _ (hypotheses second listed : List Term) (at : ℕ) where
+module _ (hypotheses second listed : List Term) (states : States) where
   abbrev New : List StillGiven → LeftOut → Type 0
-  New gs o = IsUnjoined hypotheses second listed at gs o
+  New gs o = IsUnjoined hypotheses second listed states gs o
 
-  one_unjoined : (g : StillGiven) (found : List LeftOut) → is_unjoined hypotheses second listed found g.term ≡ true → New (g ∷ []) (unjoined at g)
+  one_unjoined : (g : StillGiven) (found : List LeftOut) → is_unjoined hypotheses second listed found g.term ≡ true → New (g ∷ []) (unjoined states g)
   one_unjoined g found h =
       let few = nat_lt (length found) MOST_LEFT_OUT in
       let not_closed = not (is_closed g.term) in
@@ -185,18 +185,18 @@ module _ (hypotheses second listed : List Term) (at : ℕ) where
         from = g;
         given = Contains-push [] g;
         same = refl;
-        state = refl;
+        names = refl;
         in_second = right_true (few && not_closed) there three;
         unlisted = not-true (has_term listed g.term) (right_true (few && not_closed && there) unlisted four);
         unknown = not-true (is_known hypotheses g.term) (right_true (few && not_closed && there && unlisted) unknown five);
       }
 
-  in_one_unjoined : (g : StillGiven) (found : List LeftOut) (o : LeftOut) → Contains (with_one_unjoined hypotheses second listed at g found) o → Contains found o ⊎ New (g ∷ []) o
+  in_one_unjoined : (g : StillGiven) (found : List LeftOut) (o : LeftOut) → Contains (with_one_unjoined hypotheses second listed states g found) o → Contains found o ⊎ New (g ∷ []) o
   in_one_unjoined g found o k = by_case (is_unjoined hypotheses second listed found g.term) refl k
     where
-      by_case : (b : Bool) → is_unjoined hypotheses second listed found g.term ≡ b → Contains (if b then found ++ unjoined at g ∷ [] else found) o
+      by_case : (b : Bool) → is_unjoined hypotheses second listed found g.term ≡ b → Contains (if b then found ++ unjoined states g ∷ [] else found) o
           → Contains found o ⊎ New (g ∷ []) o
-      by_case true is h = elim (Contains-push_cases found (unjoined at g) o h) [
+      by_case true is h = elim (Contains-push_cases found (unjoined states g) o h) [
         | inl old ↦ inl old
         | inr same ↦ inr (subst (New (g ∷ [])) same (one_unjoined g found is))
       ]
@@ -207,16 +207,16 @@ module _ (hypotheses second listed : List Term) (at : ℕ) where
     from = new.from;
     given = includes new.from new.given;
     same = new.same;
-    state = new.state;
+    names = new.names;
     in_second = new.in_second;
     unlisted = new.unlisted;
     unknown = new.unknown;
   }
 
-  in_unjoined : (gs : List StillGiven) (found : List LeftOut) (o : LeftOut) → Contains (with_unjoined hypotheses second listed at gs found) o → Contains found o ⊎ New gs o
+  in_unjoined : (gs : List StillGiven) (found : List LeftOut) (o : LeftOut) → Contains (with_unjoined hypotheses second listed states gs found) o → Contains found o ⊎ New gs o
   in_unjoined [] found o k = inl k
   in_unjoined (g ∷ gs) found o k =
-      elim (in_unjoined gs (with_one_unjoined hypotheses second listed at g found) o k) [
+      elim (in_unjoined gs (with_one_unjoined hypotheses second listed states g found) o k) [
         | inl so_far ↦ elim (in_one_unjoined g found o so_far) [
           | inl old ↦ inl old
           | inr new ↦ inr (wider_unjoined (g ∷ []) (g ∷ gs) o (λ h. Contains-append_left (g ∷ []) gs h) new)
@@ -253,7 +253,8 @@ module _ (p : Plain) (hypotheses : List Term) (marks : List Bool) where
     pub back : List Step
     pub parts : ss ≡ front ++ passed at (branch guard first second join) ∷ back
     pub new : let kept = untouched_along p true marks back in
-        IsUnjoined hypotheses (still_terms p kept (to_second_end at (branch guard first second join))) join.preds at (still_given p kept (to_first_end at (branch guard first second join))) o
+        IsUnjoined hypotheses (still_terms p kept (to_second_end at (branch guard first second join))) join.preds (from_join at (states_of_steps back))
+        (still_given p kept (to_first_end at (branch guard first second join))) o
 
   longer : (s : Step) (ss : List Step) (o : LeftOut) → IsByJoin ss o → IsByJoin (s ∷ ss) o
   longer s ss o found = record {
@@ -278,7 +279,8 @@ module _ (p : Plain) (hypotheses : List Term) (marks : List Bool) where
     by_join (passed at (branch guard first second join) ∷ ss) o k =
         let kept = untouched_along p true marks ss in
         let whole = branch guard first second join in
-        elim (in_unjoined hypotheses (still_terms p kept (to_second_end at whole)) join.preds at (still_given p kept (to_first_end at whole)) (with_joined hypotheses p told marks ss) o k) [
+        elim (in_unjoined hypotheses (still_terms p kept (to_second_end at whole)) join.preds (from_join at (states_of_steps ss)) (still_given p kept (to_first_end at whole))
+        (with_joined hypotheses p told marks ss) o k) [
           | inl old ↦ further (passed at whole) ss o (by_join ss o old)
           | inr new ↦ inr (record { front = []; at = at; guard = guard; first = first; second = second; join = join; back = ss; parts = refl; new = new })
         ]
@@ -341,7 +343,8 @@ module _ (p : Plain) (t : ℕ) (steps : List Step) (hypotheses : List Term) (o :
         join = found.join;
         back = back;
         parts = found.parts;
-        state = new.state;
+        state = ap (λ s. s.first) new.names;
+        last = ap (λ s. s.last) new.names;
         unlisted = new.unlisted;
         at_first_end =
             subst (λ a. Knows p t a e) (sym (appended p t front (to_first_end found.at whole) (start p t)))

@@ -1,9 +1,9 @@
--- What was left out would be known at the point, did the states list it, and the first of these doesn't.
+-- What was left out would be known at the point, did the states list it, and none of these does.
 use Rattle.std.proofs.Common.{◌≡◌, ℕ, List, [], ◌∷◌, ◌++◌, append-nil, Bool, true, false, Option, Some, None, inl, inr, refl, sym, ◌∙◌, ap, subst, Contains, true≢false}
 use Rattle.std.specs.Option.{option_or}
 use Rattle.std.proofs.lemmas.Bool.{cases_Bool, or_cases}
 use Rattle.std.proofs.lemmas.List.Elements.{Contains-append_left, Contains-append_right, Contains-push}
-use Rattle.cov_expr.proofs.Trees.{same_is}
+use Rattle.cov_expr.proofs.Trees.{has_term_append, same_is}
 use Rattle.cov_expr.specs.Term.{Term, neg}
 use Rattle.cov_expr.specs.Trees.{has_term, is_closed, same}
 use Rattle.cov_ast.specs.Plain.{Plain}
@@ -23,10 +23,11 @@ use Rattle.statement_paths.specs.Paths.{Step, passed, yes, no, head}
 use Rattle.point_law.specs.After.{start}
 use Rattle.point_law.specs.Point.{Point, is_over_stable}
 use Rattle.point_law.specs.Terms.{each_variable}
-use Rattle.entail_losses.specs.LeftOut.{LeftOut, left_out, search_along, gives_nothing, is_known, state_of_step}
-use Rattle.entail_losses.specs.WouldBeKnown.{WouldBeKnown, first_listed, first_state, predicates_of_step, listing, own_or, step_with}
+use Rattle.entail_losses.specs.LeftOut.{LeftOut, left_out, search_along, gives_nothing, is_known, state_of_step, states_of_steps}
+use Rattle.entail_losses.specs.WouldBeKnown.{WouldBeKnown, first_state, listed_by, predicates_of_step, listing, step_with}
 use Rattle.entail_losses.specs.declared.left_out_states.StateAt.{StateAt}
-use Rattle.entail_losses.proofs.FoundLaws.{IsFresh, found_behind, found_in_step, fresh_step, is_given, not_among}
+use Rattle.entail_losses.specs.declared.left_out_states.States.{States}
+use Rattle.entail_losses.proofs.FoundLaws.{IsFresh, first_is, first_of, found_behind, found_in_step, fresh_step, is_given, not_among}
 use Rattle.entail_losses.proofs.StableLaws.{kept_before, kept_of, stable_in_front}
 use Rattle.entail_losses.proofs.StepLaws.{Knows, each_more, gives, keeps}
 
@@ -86,7 +87,7 @@ module _ (p : Plain) (t : ℕ) (hypotheses : List Term) where
       let there : IsKept next.held ss e = subst (λ held. IsKept held ss e) (held_step p t s a ∙ sym (held_listing p t e s a)) later in
       stays so_far rest next e there (keeps p t s a e kept over stable k)
 
--- What the first state lists -------------------------------------------------------------------------------------
+-- What states list -----------------------------------------------------------------------------------------------
 
 -- a predicate that a step gives, and that is over other variables than an assignment's own
 pub record IsGivenTerm (p : Plain) (s : Step) (e : Term) : Type 0 where
@@ -158,9 +159,9 @@ module _ (p : Plain) (t : ℕ) (hypotheses : List Term) where
       subst (λ steps. Knows p t (after_steps p t steps next) g.term) (no_listing g.term ss none)
       (stays p t hypotheses ss [] next g.term (subst (λ steps. IsKept p t hypotheses next.held steps g.term) (sym (append-nil ss)) over) first)
 
-  -- What isn't found, although it is over kept variables and no hypothesis, and the first state lists it, is known at the point.
+  -- What isn't found, although it is over kept variables and no hypothesis, and a state lists it, is known at the point.
   listed_is_known : (ss : List Step) (a : Point) (e : Term) → is_closed e ≡ false → is_known hypotheses e ≡ false → IsKept p t hypotheses a.held ss e
-      → IsFresh (found_behind p hypotheses (marks_at a.held ss) ss) e → has_term (first_listed ss) e ≡ true → Knows p t (after_steps p t ss a) e
+      → IsFresh (found_behind p hypotheses (marks_at a.held ss) ss) e → has_term (listed_by ss) e ≡ true → Knows p t (after_steps p t ss a) e
   listed_is_known [] a e not_closed unknown over fresh listed = absurd (true≢false (sym listed))
   listed_is_known (s ∷ ss) a e not_closed unknown over fresh listed =
       let marks = marks_at (held_after s a.held) ss in
@@ -169,20 +170,19 @@ module _ (p : Plain) (t : ℕ) (hypotheses : List Term) where
       let there : IsKept p t hypotheses (after_step p t s a).held ss e = subst (λ held. IsKept p t hypotheses held ss e) (held_step p t s a) later in
       let fewer : IsFresh (found_behind p hypotheses (marks_at (after_step p t s a).held ss) ss) e
       = subst (λ held. IsFresh (found_behind p hypotheses (marks_at held ss) ss) e) (held_step p t s a) (fresh_step p hypotheses marks s ss e fresh) in
-      by_state (λ h. listed_is_known ss (after_step p t s a) e not_closed unknown there fewer h) there
-      (λ state g some. found_in_step p hypotheses marks s ss state (given g.source e) some g.there g.gives_some (record { not_closed = not_closed; over = later; unknown = unknown }) fresh)
-      (state_of_step s) listed
+      elim (or_cases (has_term (predicates_of_step s) e) (has_term (listed_by ss) e) (sym (has_term_append (predicates_of_step s) (listed_by ss) e) ∙ listed)) [
+        | inl here ↦
+            given_here there
+            (λ states g some. found_in_step p hypotheses marks s ss states (given g.source e) some g.there g.gives_some
+            (record { not_closed = not_closed; over = later; unknown = unknown }) fresh)
+            (listed_is_given p s e here) (states_of_steps ss) refl
+        | inr behind ↦ listed_is_known ss (after_step p t s a) e not_closed unknown there fewer behind
+      ]
     where
-      given_here : IsKept p t hypotheses (after_step p t s a).held ss e → ((state : StateAt) → IsGivenTerm p s e → first_state ss ≡ Some state → ⊥)
-          → IsGivenTerm p s e → (y : Option StateAt) → first_state ss ≡ y → Knows p t (after_steps p t ss (after_step p t s a)) e
-      given_here there found g None none = without_states s ss a (given g.source e) none g.there g.gives_some there
-      given_here there found g (Some state) some = absurd (found state g some)
-
-      by_state : (has_term (first_listed ss) e ≡ true → Knows p t (after_steps p t ss (after_step p t s a)) e) → IsKept p t hypotheses (after_step p t s a).held ss e
-          → ((state : StateAt) → IsGivenTerm p s e → first_state ss ≡ Some state → ⊥)
-          → (x : Option StateAt) → has_term (own_or x (predicates_of_step s) (first_listed ss)) e ≡ true → Knows p t (after_steps p t ss (after_step p t s a)) e
-      by_state rest there found None h = rest h
-      by_state rest there found (Some state) h = given_here there found (listed_is_given p s e h) (first_state ss) refl
+      given_here : IsKept p t hypotheses (after_step p t s a).held ss e → ((states : States) → IsGivenTerm p s e → states_of_steps ss ≡ Some states → ⊥)
+          → IsGivenTerm p s e → (y : Option States) → states_of_steps ss ≡ y → Knows p t (after_steps p t ss (after_step p t s a)) e
+      given_here there found g None none = without_states s ss a (given g.source e) (first_is ss ∙ ap first_of none) g.there g.gives_some there
+      given_here there found g (Some states) some = absurd (found states g some)
 
 -- The law --------------------------------------------------------------------------------------------------------
 
@@ -213,8 +213,9 @@ would_be_known p t steps hypotheses o k =
       parts = found.parts;
       placed = found.new.placed;
       gives = found.new.gives;
-      first = found.first;
-      unlisted = λ among. elim (cases_Bool (has_term (first_listed back) o.term)) [
+      first = first_is back ∙ ap first_of found.states;
+      states = found.states;
+      unlisted = λ among. elim (cases_Bool (has_term (listed_by back) o.term)) [
         | inl listed ↦
             let known : Knows p t (after_steps p t back next) o.term
             = listed_is_known p t hypotheses back next o.term missing.not_closed missing.unknown over fresh listed in

@@ -12,8 +12,10 @@ use Rattle.entail_origins.specs.declared.hypothesis_origin.HypothesisSource.TheV
 use Rattle.statement_paths.specs.Paths.{Step, passed, no, head}
 use Rattle.entail_losses.specs.LeftOut.{LeftOut, left_out, left_out_at, state_at}
 use Rattle.entail_losses.specs.LeftOutLines.{left_out_line}
-use Rattle.entail_losses.specs.WouldBeKnown.{first_listed, first_state, listing}
+use Rattle.entail_losses.specs.WouldBeKnown.{first_state, listed_by, listing}
+use Rattle.entail_losses.specs.declared.left_out_states.StateAt.{StateAt}
 use Rattle.entail_losses.specs.declared.left_out_states.StateKind.TheVariants as of
+use Rattle.entail_losses.specs.declared.left_out_states.States.{States}
 
 -- lock door has x and the invariant x <= 2
 abbrev program : Plain
@@ -47,31 +49,43 @@ noted at es = passed at (s.note (stated es))
 abbrev choice : Step
 choice = passed 8 (s.branch (var 1) s.done s.done (stated []))
 
+-- one state, and a first and a last one
+abbrev only : StateAt → States
+only state = record { first = state; last = None }
+
+abbrev up_to : (last : StateAt) → (first : StateAt) → States
+up_to last first = record { first = first; last = Some last }
+
 abbrev small_by_note : LeftOut
-small_by_note = left_out_at 3 (state_at of.Note 7) (given (Invariant 0) small)
+small_by_note = left_out_at 3 (only (state_at of.Note 7)) (given (Invariant 0) small)
 
 -- One predicate ------------------------------------------------------------------------------------------------
 
 by_a_note : left_out program (var 1 ∷ []) (true ∷ true ∷ []) (taken ∷ noted 7 (var 1 ∷ []) ∷ []) ≡ small_by_note ∷ []
 by_a_note = refl
 
--- the first state behind the step counts
-by_the_first : left_out program [] (true ∷ true ∷ []) (taken ∷ noted 7 [] ∷ choice ∷ []) ≡ small_by_note ∷ []
-by_the_first = refl
+-- by two states, and by three
+by_both : left_out program [] (true ∷ true ∷ []) (taken ∷ noted 7 [] ∷ choice ∷ [])
+    ≡ left_out_at 3 (up_to (state_at of.Join 8) (state_at of.Note 7)) (given (Invariant 0) small) ∷ []
+by_both = refl
 
-by_a_branch : left_out program [] (true ∷ true ∷ []) (one ∷ choice ∷ []) ≡ left_out_at 4 (state_at of.Join 8) (given Assigned is_one) ∷ []
+by_three : left_out program [] (true ∷ true ∷ []) (taken ∷ noted 7 [] ∷ choice ∷ noted 9 [] ∷ [])
+    ≡ left_out_at 3 (up_to (state_at of.Note 9) (state_at of.Note 7)) (given (Invariant 0) small) ∷ []
+by_three = refl
+
+by_a_branch : left_out program [] (true ∷ true ∷ []) (one ∷ choice ∷ []) ≡ left_out_at 4 (only (state_at of.Join 8)) (given Assigned is_one) ∷ []
 by_a_branch = refl
 
-by_a_head : left_out program [] (true ∷ true ∷ []) (no 5 (var 1) ∷ head 6 (stated []) ∷ []) ≡ left_out_at 5 (state_at of.Inv 6) (given GuardFails (neg (var 1))) ∷ []
+by_a_head : left_out program [] (true ∷ true ∷ []) (no 5 (var 1) ∷ head 6 (stated []) ∷ []) ≡ left_out_at 5 (only (state_at of.Inv 6)) (given GuardFails (neg (var 1))) ∷ []
 by_a_head = refl
 
 by_a_loop : left_out program [] (true ∷ true ∷ []) (one ∷ passed 6 (s.loop (var 1) (stated []) s.done) ∷ [])
-    ≡ left_out_at 4 (state_at of.Inv 6) (given Assigned is_one) ∷ []
+    ≡ left_out_at 4 (only (state_at of.Inv 6)) (given Assigned is_one) ∷ []
 by_a_loop = refl
 
 -- what a loop gives behind it, and a note leaves out
 of_a_loop : left_out program [] (true ∷ true ∷ []) (passed 6 (s.loop (var 1) (stated []) s.done) ∷ noted 7 [] ∷ [])
-    ≡ left_out_at 6 (state_at of.Note 7) (given LoopLeft (neg (var 1))) ∷ []
+    ≡ left_out_at 6 (only (state_at of.Note 7)) (given LoopLeft (neg (var 1))) ∷ []
 of_a_loop = refl
 
 -- None ---------------------------------------------------------------------------------------------------------
@@ -87,7 +101,7 @@ known_in_parts : left_out program (var 1 ∷ small ∷ []) (true ∷ true ∷ []
 known_in_parts = refl
 
 known_in_part : left_out program (small ∷ []) (true ∷ true ∷ []) (noted 5 (bin Both small (var 1) ∷ []) ∷ noted 7 (small ∷ []) ∷ [])
-    ≡ left_out_at 5 (state_at of.Note 7) (given Noted (bin Both small (var 1))) ∷ []
+    ≡ left_out_at 5 (only (state_at of.Note 7)) (given Noted (bin Both small (var 1))) ∷ []
 known_in_part = refl
 
 not_stable : left_out program [] (false ∷ true ∷ []) (taken ∷ noted 7 [] ∷ []) ≡ []
@@ -113,8 +127,8 @@ without_variables = refl
 
 -- from the point back; those of one step in their order; each once
 in_order : left_out program [] (true ∷ true ∷ []) (noted 2 (var 1 ∷ []) ∷ taken ∷ noted 5 (var 1 ∷ neg (var 1) ∷ []) ∷ choice ∷ [])
-    ≡ left_out_at 5 (state_at of.Join 8) (given Noted (var 1)) ∷ left_out_at 5 (state_at of.Join 8) (given Noted (neg (var 1)))
-    ∷ left_out_at 3 (state_at of.Note 5) (given (Invariant 0) small) ∷ []
+    ≡ left_out_at 5 (only (state_at of.Join 8)) (given Noted (var 1)) ∷ left_out_at 5 (only (state_at of.Join 8)) (given Noted (neg (var 1)))
+    ∷ left_out_at 3 (up_to (state_at of.Join 8) (state_at of.Note 5)) (given (Invariant 0) small) ∷ []
 in_order = refl
 
 abbrev many : List Term
@@ -158,7 +172,7 @@ states_list_it = refl
 first_is_the_note : first_state (one ∷ noted 7 (small ∷ []) ∷ choice ∷ []) ≡ Some (state_at of.Note 7)
 first_is_the_note = refl
 
-note_lists_it : first_listed (one ∷ noted 7 (small ∷ []) ∷ choice ∷ []) ≡ small ∷ []
+note_lists_it : listed_by (one ∷ noted 7 (small ∷ []) ∷ choice ∷ []) ≡ small ∷ []
 note_lists_it = refl
 
 -- A line -------------------------------------------------------------------------------------------------------
@@ -167,11 +181,16 @@ note_lists_it = refl
 abbrev text : List ℕ
 text = 10 ∷ 120 ∷ 10 ∷ 10 ∷ 120 ∷ 120 ∷ 120 ∷ 120 ∷ []
 
-said : left_out_line program (codes "x" ∷ codes "y" ∷ []) text false (left_out_at 3 (state_at of.Note 7) (given (Invariant 0) (var 1)))
+said : left_out_line program (codes "x" ∷ codes "y" ∷ []) text false (left_out_at 3 (only (state_at of.Note 7)) (given (Invariant 0) (var 1)))
     ≡ codes "  left out:     y   (invariant of door, line 3), by the note, line 4\n"
 said = simp (decimal_digit 3 (lit< tt), decimal_digit 4 (lit< tt))
 
 -- where it alone would help
-said_to_help : left_out_line program (codes "x" ∷ codes "y" ∷ []) text true (left_out_at 3 (state_at of.Note 7) (given (Invariant 0) (var 1)))
+said_to_help : left_out_line program (codes "x" ∷ codes "y" ∷ []) text true (left_out_at 3 (only (state_at of.Note 7)) (given (Invariant 0) (var 1)))
     ≡ codes "  would help:   y   (invariant of door, line 3), left out by the note, line 4\n"
 said_to_help = simp (decimal_digit 3 (lit< tt), decimal_digit 4 (lit< tt))
+
+-- where states come behind the first
+said_up_to : left_out_line program (codes "x" ∷ codes "y" ∷ []) text true (left_out_at 1 (up_to (state_at of.Join 7) (state_at of.Note 3)) (given (Invariant 0) (var 1)))
+    ≡ codes "  would help:   y   (invariant of door, line 2), left out by the note, line 3; each state since has to list it too, up to the join of the `if`, line 4\n"
+said_up_to = simp (decimal_digit 2 (lit< tt), decimal_digit 3 (lit< tt), decimal_digit 4 (lit< tt))

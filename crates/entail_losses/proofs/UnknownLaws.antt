@@ -8,15 +8,18 @@ use Rattle.cov_expr.specs.Term.{Term, const, var, neg, bin}
 use Rattle.cov_expr.specs.Trees.{has_term, mentions, occurrences, same}
 use Rattle.cov_ast.specs.Declarations.{lists, lock_at}
 use Rattle.cov_ast.specs.Plain.{Plain}
-use Rattle.cov_ast.specs.Syntax.{Lock, State, skip, assign, lock, unlock, branch, loop, note, output}
+use Rattle.cov_ast.specs.Syntax.{Lock, State, Stm, skip, assign, lock, unlock, branch, loop, note, output}
 use Rattle.cov_ast.specs.Tables.{first_outside, has}
 use Rattle.entail_origins.specs.Points.{after_step, after_steps, point_after_steps}
 use Rattle.entail_origins.specs.declared.hypothesis_origin.HypothesisSource.{HypothesisSource}
+use Rattle.entail_losses.specs.About.{is_statement_about, is_mentioned}
+use Rattle.entail_losses.specs.LeftOut.{state_at}
 use Rattle.entail_losses.specs.Unknowns as u
-use Rattle.entail_losses.specs.Unknowns.{Fact, Reason, unmentioned, own, no_equation, no_guard, unlisted, taken, known, forgotten, fact_at, equation, first_about, listed_or, is_mentioned, reason}
+use Rattle.entail_losses.specs.Unknowns.{Fact, Reason, unmentioned, own, no_equation, no_guard, unlisted, taken, known, forgotten, fact_at, equation, first_about, listed_or, reason}
 use Rattle.entail_losses.specs.WouldBeKnown.{AreAmong}
 use Rattle.entail_losses.specs.declared.left_out_states.StateAt.{StateAt}
 use Rattle.entail_losses.specs.declared.left_out_states.StateKind.{StateKind}
+use Rattle.entail_losses.specs.declared.left_out_states.StateKind.TheVariants.{Join, Inv, Note}
 use Rattle.entail_losses.proofs.KnownLaws.{held_step}
 use Rattle.entail_losses.proofs.StableLaws.{in_table}
 use Rattle.entail_losses.proofs.StepLaws.{each_more, in_distinct, in_filter, is_with, is_with_if, stays_with, stays_with_if}
@@ -126,15 +129,31 @@ module _ (x : ℕ) where
           (or_left (same g e) (has_term es e) (ap (same g) (sym is) ∙ same_refl g), ap (λ z. mentions z x) (sym is) ∙ m)
       by_case rest false m k = let there = rest k in (or_right (same g e) (has_term es e) there.0, there.1)
 
-  listed : (o : Option Term) (s : StateAt) (source : HypothesisSource) (es : List Term) → ((e : Term) → o ≡ Some e → (has_term es e ≡ true) × (mentions e x ≡ true))
-      → IsKnown es (listed_or o s source)
-  listed None s source es h = tt
-  listed (Some e) s source es h = h e refl
+  listed : (o : Option Term) (source : HypothesisSource) (at : ℕ) (otherwise : Reason) (es : List Term)
+      → ((e : Term) → o ≡ Some e → (has_term es e ≡ true) × (mentions e x ≡ true)) → IsKnown es otherwise → IsKnown es (listed_or o source at otherwise)
+  listed None source at otherwise es h k = k
+  listed (Some e) source at otherwise es h k = h e refl
 
   -- of a state
-  stated : (kind : StateKind) (source : HypothesisSource) (at : ℕ) (j : State) → IsKnown (distinct_terms j.preds) (u.after_state x kind source at j)
-  stated kind source at j =
-      listed (first_about x j.preds) _ source (distinct_terms j.preds) (λ e h. let there = first_is j.preds e h in (in_distinct j.preds e there.0, there.1))
+  stated : (source : HypothesisSource) (at : ℕ) (j : State) (otherwise : Reason) → IsKnown (distinct_terms j.preds) otherwise
+      → IsKnown (distinct_terms j.preds) (u.after_state x source at j otherwise)
+  stated source at j otherwise k =
+      listed (first_about x j.preds) source at otherwise (distinct_terms j.preds)
+      (λ e h. let there = first_is j.preds e h in (in_distinct j.preds e there.0, there.1)) k
+
+  -- behind one that lists nothing of it, nothing is taken as known
+  behind : (es : List Term) (kind : StateKind) (at : ℕ) (r : Reason) → IsKnown es (u.behind_state kind at r)
+  behind es kind at unmentioned = tt
+  behind es kind at (own at') = tt
+  behind es kind at (no_equation at' y) = tt
+  behind es kind at (no_guard at' y) = tt
+  behind es kind at (unlisted s) = tt
+  behind es kind at (taken at' l) = tt
+  behind es kind at (known f) = tt
+  behind es kind at (forgotten f loss) = tt
+
+  past_blocks : (p : Plain) (es : List Term) (kind : StateKind) (at : ℕ) (s : Stm) (r : Reason) → IsKnown es (u.behind_blocks x p kind at s r)
+  past_blocks p es kind at s r = either es (is_statement_about p x s) (unlisted (state_at kind at)) (u.behind_state kind at r) (λ m. tt) (λ m. behind es kind at r)
 
   -- of a lock that is taken
   invariant : (o : Option Term) (at l : ℕ) (es : List Term) (otherwise : Reason) → IsKnown es otherwise
@@ -221,13 +240,17 @@ module _ (x : ℕ) where
     one_step (passed at (assign y e q retypes)) a r k = assignment p t a.held at y e a.preds r k
     one_step (passed at (lock l)) a r k = locked (lock_at p l) at l a.preds r k
     one_step (passed at (unlock l)) a r k = unlocked p t (after_step p t (passed at (unlock l)) a).held at l a.preds r k
-    one_step (passed at (branch e yes_block no_block join)) a r k = stated _ _ at join
-    one_step (passed at (loop e inv b)) a r k = guarded p t a.held at _ (neg e) (distinct_terms inv.preds) _ (stated _ _ at inv)
-    one_step (passed at (note j)) a r k = stated _ _ at j
+    one_step (passed at (branch e yes_block no_block join)) a r k =
+        stated _ at join (u.behind_blocks x p Join at (branch e yes_block no_block join) r)
+        (past_blocks p (distinct_terms join.preds) Join at (branch e yes_block no_block join) r)
+    one_step (passed at (loop e inv b)) a r k =
+        guarded p t a.held at _ (neg e) (distinct_terms inv.preds) _
+        (stated _ at inv (u.behind_blocks x p Inv at (loop e inv b) r) (past_blocks p (distinct_terms inv.preds) Inv at (loop e inv b) r))
+    one_step (passed at (note j)) a r k = stated _ at j (u.behind_state Note at r) (behind (distinct_terms j.preds) Note at r)
     one_step (passed at (output e)) a r k = k
     one_step (yes at e) a r k = guarded p t a.held at _ e a.preds r k
     one_step (no at e) a r k = guarded p t a.held at _ (neg e) a.preds r k
-    one_step (head at inv) a r k = stated _ _ at inv
+    one_step (head at inv) a r k = stated _ at inv (u.behind_state Inv at r) (behind (distinct_terms inv.preds) Inv at r)
 
     all_steps : (ss : List Step) (a : Point) (r : Reason) → IsKnown a.preds r → IsKnown (after_steps p t ss a).preds (u.after_steps p t x a.held ss r)
     all_steps [] a r k = k

@@ -2,7 +2,7 @@
 --
 -- Steps still give a predicate at their end where one of them gives it, none behind that has a state, and none behind that touches a variable of it, as what
 -- comes behind the branch doesn't either. So it is known at both ends, and behind the branch, did the join list it, and all the way to the point.
-use Rattle.std.specs.Prelude.{ℕ, ◌&&◌, nat_lt, List, [], ◌∷◌, ◌++◌, length, map, Bool, true, not, is_some, if◌then◌else◌}
+use Rattle.std.specs.Prelude.{ℕ, ◌&&◌, nat_lt, List, [], ◌∷◌, ◌++◌, length, map, Bool, true, not, is_some, if◌then◌else◌, Option}
 use Rattle.cov_expr.specs.Term.{Term}
 use Rattle.cov_expr.specs.Trees.{has_term, is_closed}
 use Rattle.cov_expr.specs.View.{term}
@@ -10,12 +10,13 @@ use Rattle.cov_ast.specs.Plain.{Plain}
 use Rattle.cov_ast.specs.Syntax.{Stm, skip, assign, lock, unlock, branch, loop, note, output}
 use Rattle.cov_ast.specs.Tables.{has}
 use Rattle.entail_losses.specs.Forgotten.{untouched_along}
-use Rattle.entail_losses.specs.LeftOut.{LeftOut, gives_nothing, is_known, state_at}
+use Rattle.entail_losses.specs.LeftOut.{LeftOut, gives_nothing, is_known, last_state, state_at, states_of_steps}
 use Rattle.entail_losses.specs.WouldBeKnown.{first_state}
 use Rattle.entail_losses.specs.declared.joined_given.StillGiven as declared
 use Rattle.entail_losses.specs.declared.joined_given.TheConstants.{MOST_GIVEN}
 use Rattle.entail_losses.specs.declared.joined_found.TheConstants.{MOST_LEFT_OUT}
 use Rattle.entail_losses.specs.declared.left_out_states.StateKind.TheVariants.{Join}
+use Rattle.entail_losses.specs.declared.left_out_states.States.{States}
 use Rattle.entail_origins.specs.Origins.{Given, at_place, given_by}
 use Rattle.entail_origins.specs.declared.hypothesis_origin.Origin.{Origin}
 use Rattle.point_law.specs.Terms.{each_variable}
@@ -58,9 +59,13 @@ module _ (p : Plain) where
 
 -- What a join leaves out ---------------------------------------------------------------------------------------
 
--- a predicate that the join of the branch at a place leaves out
-abbrev pub unjoined : (at : ℕ) → StillGiven → LeftOut
-unjoined at g = record { term = g.term; origin = g.origin; state = state_at Join at }
+-- the join of the branch at a place, with the last state behind it, if there is one
+abbrev pub from_join : (at : ℕ) → (behind : Option States) → States
+from_join at behind = record { first = state_at Join at; last = last_state behind }
+
+-- a predicate that such a join leaves out
+abbrev pub unjoined : States → StillGiven → LeftOut
+unjoined states g = record { term = g.term; origin = g.origin; state = states.first; last = states.last }
 
 -- of a point with these hypotheses
 module _ (hypotheses : List Term) where
@@ -71,37 +76,38 @@ module _ (hypotheses : List Term) where
       nat_lt (length found) MOST_LEFT_OUT && not (is_closed e) && has_term second e && not (has_term listed e) && not (is_known hypotheses e)
       && not (has_term (map (λ o. o.term) found) e)
 
-  -- what was found, and a predicate, if the join of the branch at a place left it out
-  abbrev pub with_one_unjoined : (second listed : List Term) → (at : ℕ) → StillGiven → (found : List LeftOut) → List LeftOut
-  with_one_unjoined second listed at g found = if is_unjoined second listed found g.term then found ++ unjoined at g ∷ [] else found
+  -- what was found, and a predicate, if the join, which is the first of these states, left it out
+  abbrev pub with_one_unjoined : (second listed : List Term) → States → StillGiven → (found : List LeftOut) → List LeftOut
+  with_one_unjoined second listed states g found = if is_unjoined second listed found g.term then found ++ unjoined states g ∷ [] else found
 
-  abbrev pub with_unjoined : (second listed : List Term) → (at : ℕ) → List StillGiven → (found : List LeftOut) → List LeftOut
-  with_unjoined second listed at [] found = found
-  with_unjoined second listed at (g ∷ gs) found = with_unjoined second listed at gs (with_one_unjoined second listed at g found)
+  abbrev pub with_unjoined : (second listed : List Term) → States → List StillGiven → (found : List LeftOut) → List LeftOut
+  with_unjoined second listed states [] found = found
+  with_unjoined second listed states (g ∷ gs) found = with_unjoined second listed states gs (with_one_unjoined second listed states g found)
 
   module _ (p : Plain) where
-    -- the same of a statement that is passed, behind which these variables are kept
-    abbrev pub with_branch : (kept : List Bool) → (at : ℕ) → Stm → (found : List LeftOut) → List LeftOut
-    with_branch kept at (branch e a b join) found =
-        with_unjoined (still_terms p kept (to_second_end at (branch e a b join))) join.preds at (still_given p kept (to_first_end at (branch e a b join))) found
-    with_branch kept at skip found = found
-    with_branch kept at (assign x e q retypes) found = found
-    with_branch kept at (lock l) found = found
-    with_branch kept at (unlock l) found = found
-    with_branch kept at (loop e inv b) found = found
-    with_branch kept at (note j) found = found
-    with_branch kept at (output e) found = found
+    -- the same of a statement that is passed, behind which these variables are kept, and these states come
+    abbrev pub with_branch : (kept : List Bool) → (behind : Option States) → (at : ℕ) → Stm → (found : List LeftOut) → List LeftOut
+    with_branch kept behind at (branch e a b join) found =
+        with_unjoined (still_terms p kept (to_second_end at (branch e a b join))) join.preds (from_join at behind)
+        (still_given p kept (to_first_end at (branch e a b join))) found
+    with_branch kept behind at skip found = found
+    with_branch kept behind at (assign x e q retypes) found = found
+    with_branch kept behind at (lock l) found = found
+    with_branch kept behind at (unlock l) found = found
+    with_branch kept behind at (loop e inv b) found = found
+    with_branch kept behind at (note j) found = found
+    with_branch kept behind at (output e) found = found
 
-    abbrev pub with_joined_step : (kept : List Bool) → Step → (found : List LeftOut) → List LeftOut
-    with_joined_step kept (passed at s) found = with_branch kept at s found
-    with_joined_step kept (yes at e) found = found
-    with_joined_step kept (no at e) found = found
-    with_joined_step kept (head at inv) found = found
+    abbrev pub with_joined_step : (kept : List Bool) → (behind : Option States) → Step → (found : List LeftOut) → List LeftOut
+    with_joined_step kept behind (passed at s) found = with_branch kept behind at s found
+    with_joined_step kept behind (yes at e) found = found
+    with_joined_step kept behind (no at e) found = found
+    with_joined_step kept behind (head at inv) found = found
 
     -- what was found otherwise, and what joins left out on the way to a point, where these variables are stable, found from the point back
     abbrev pub with_joined : (found : List LeftOut) → (stable : List Bool) → List Step → List LeftOut
     with_joined found stable [] = found
-    with_joined found stable (s ∷ ss) = with_joined_step (untouched_along p true stable ss) s (with_joined found stable ss)
+    with_joined found stable (s ∷ ss) = with_joined_step (untouched_along p true stable ss) (states_of_steps ss) s (with_joined found stable ss)
 
 -- What the code has --------------------------------------------------------------------------------------------
 

@@ -24,6 +24,7 @@ use Rattle.entail_losses.specs.declared.left_out_found.TheConstants.{MOST_FOUND}
 use Rattle.entail_losses.specs.declared.left_out_states.StateAt.{StateAt}
 use Rattle.entail_losses.specs.declared.left_out_states.StateKind.{StateKind}
 use Rattle.entail_losses.specs.declared.left_out_states.StateKind.TheVariants.{Join, Inv, Note}
+use Rattle.entail_losses.specs.declared.left_out_states.States.{States}
 
 -- What a step touches ------------------------------------------------------------------------------------------
 
@@ -89,29 +90,49 @@ state_of_step (yes at e) = None
 state_of_step (no at e) = None
 state_of_step (head at inv) = Some (state_at Inv at)
 
+-- the last of some states, if there are some
+abbrev pub last_state : Option States → Option StateAt
+last_state None = None
+last_state (Some states) = option_or states.last (Some states.first)
+
+-- states, and one more in front, if there is one
+abbrev pub states_from : Option StateAt → Option States → Option States
+states_from None behind = behind
+states_from (Some state) behind = Some (record { first = state; last = last_state behind })
+
+-- the states of steps, if some have one: the first, and the last, where there are more
+abbrev pub states_of_steps : List Step → Option States
+states_of_steps [] = None
+states_of_steps (s ∷ ss) = states_from (state_of_step s) (states_of_steps ss)
+
 -- What is left out ---------------------------------------------------------------------------------------------
 
--- a predicate that was left out, with what gives it, and the first state behind that, which doesn't list it
+-- a predicate that was left out, with what gives it, and the first state behind that, which doesn't list it; where further states come behind that, with the last
 pub record LeftOut : Type 0 where
   pub term : Term
   pub origin : Origin
   pub state : StateAt
+  pub last : Option StateAt
 
-abbrev pub left_out_at : (at : ℕ) → StateAt → Given → LeftOut
-left_out_at at state g = record { term = g.term; origin = at_place at g.source; state = state }
+abbrev pub left_out_at : (at : ℕ) → States → Given → LeftOut
+left_out_at at states g = record { term = g.term; origin = at_place at g.source; state = states.first; last = states.last }
+
+-- the states that are told of one
+abbrev pub states_of : LeftOut → States
+states_of o = record { first = o.state; last = o.last }
 
 -- What is known of steps to a point.
 pub record Search : Type 0 where
   -- the variables that are stable at the point and that none of the steps touches
   pub kept : List Bool
-  -- the first state
-  pub state : Option StateAt
+  -- their states
+  pub states : Option States
   -- what was left out, found from the point back
   pub found : List LeftOut
 
 -- at the point itself, where these variables are stable
 abbrev pub search_at_point : (stable : List Bool) → Search
-search_at_point stable = record { kept = stable; state = None; found = [] }
+search_at_point stable = record { kept = stable; states = None; found = [] }
 
 -- whether a variable is given a value over itself
 abbrev pub is_own_value : Term → (value : Term) → Bool
@@ -143,26 +164,26 @@ module _ (hypotheses : List Term) where
       nat_lt (length found) MOST_FOUND && not (is_closed e) && each_variable (has kept) e && not (is_known e) && not (has_term (map (λ o. o.term) found) e)
 
   -- what was found, and a predicate that the step at a place gives, if it was left out
-  abbrev pub with_given : (kept : List Bool) → (at : ℕ) → StateAt → Given → (found : List LeftOut) → List LeftOut
-  with_given kept at state g found = if not (gives_nothing g.source g.term) && is_left_out kept found g.term then found ++ left_out_at at state g ∷ [] else found
+  abbrev pub with_given : (kept : List Bool) → (at : ℕ) → States → Given → (found : List LeftOut) → List LeftOut
+  with_given kept at states g found = if not (gives_nothing g.source g.term) && is_left_out kept found g.term then found ++ left_out_at at states g ∷ [] else found
 
-  abbrev pub with_each : (kept : List Bool) → (at : ℕ) → StateAt → List Given → (found : List LeftOut) → List LeftOut
-  with_each kept at state [] found = found
-  with_each kept at state (g ∷ gs) found = with_each kept at state gs (with_given kept at state g found)
+  abbrev pub with_each : (kept : List Bool) → (at : ℕ) → States → List Given → (found : List LeftOut) → List LeftOut
+  with_each kept at states [] found = found
+  with_each kept at states (g ∷ gs) found = with_each kept at states gs (with_given kept at states g found)
 
 -- of a point of a program with these hypotheses
 module _ (p : Plain) (hypotheses : List Term) where
   -- what was found, and what a step gives that a state behind it left out; where no state comes behind it, nothing was
-  abbrev pub with_step : (kept : List Bool) → Step → Option StateAt → (found : List LeftOut) → List LeftOut
+  abbrev pub with_step : (kept : List Bool) → Step → Option States → (found : List LeftOut) → List LeftOut
   with_step kept s None found = found
-  with_step kept s (Some state) found = with_each hypotheses kept (place_of s) state (given_by p s) found
+  with_step kept s (Some states) found = with_each hypotheses kept (place_of s) states (given_by p s) found
 
   -- with one step more in front
   abbrev pub search_with_step : Step → Search → Search
   search_with_step s b = record {
     kept = untouched_by p true s b.kept;
-    state = option_or (state_of_step s) b.state;
-    found = with_step b.kept s b.state b.found;
+    states = states_from (state_of_step s) b.states;
+    found = with_step b.kept s b.states b.found;
   }
 
   abbrev pub search_along : (stable : List Bool) → List Step → Search
@@ -176,4 +197,4 @@ module _ (p : Plain) (hypotheses : List Term) where
 -- What the code has --------------------------------------------------------------------------------------------
 
 abbrev pub seen : declared.LeftOut → LeftOut
-seen o = record { term = term o.term; origin = o.origin; state = o.state }
+seen o = record { term = term o.term; origin = o.origin; state = o.state; last = o.last }

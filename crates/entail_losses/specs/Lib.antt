@@ -7,6 +7,7 @@ pub mod WouldBeKept
 pub mod Joined
 pub mod WouldBeJoined
 pub mod StateWords
+pub mod About
 pub mod Unknowns
 pub mod UnknownLines
 pub mod Losses

@@ -10,6 +10,10 @@ kind_text Join = codes "join of the `if`"
 kind_text Inv = codes "inv of the `while`"
 kind_text Note = codes "note"
 
--- the line of a state, and the end of a line of text
+-- the line of a state
+abbrev pub line_text : (bytes : List ℕ) → (at : ℕ) → List ℕ
+line_text bytes at = codes ", line " ++ decimal (line bytes at)
+
+-- the same, and the end of a line of text
 abbrev pub line_part : (bytes : List ℕ) → (at : ℕ) → List ℕ
-line_part bytes at = codes ", line " ++ decimal (line bytes at) ++ codes "\n"
+line_part bytes at = line_text bytes at ++ codes "\n"

@@ -2,9 +2,9 @@
 --
 -- Steps give predicates by the rules for statements. An equation and a guard are known only where each of their variables is stable there; a state, which is
 -- that of a branch, of a loop or of a note, keeps what it lists and nothing else; a store forgets each predicate with its variable, and a lock that is given
--- back each with a variable that isn't stable behind that. Of several predicates that mention the variable the last that is given counts.
+-- back each with a variable that isn't stable behind that. Of several predicates that mention the variable the last that is given counts. A state that lists none tells
+-- something only where one is known in front of it, or where its blocks say something of the variable: else what was told in front of it is told behind it.
 use Rattle.std.specs.Prelude.{ℕ, ◌==◌, ◌&&◌, nat_lt, List, [], ◌∷◌, ◌++◌, length, Bool, false, not, if◌then◌else◌, Option, Some, None}
-use Rattle.std.specs.List.{list_any}
 use Rattle.cov_expr.specs.declared.expr.Op.TheVariants.{Eq}
 use Rattle.cov_expr.specs.Term.{Term, var, neg, bin}
 use Rattle.cov_expr.specs.Trees.{mentions, occurrences, vars}
@@ -18,6 +18,7 @@ use Rattle.entail_origins.specs.Origins.{at_place}
 use Rattle.entail_origins.specs.declared.hypothesis_origin.Origin.{Origin}
 use Rattle.entail_origins.specs.declared.hypothesis_origin.HypothesisSource.{HypothesisSource}
 use Rattle.entail_origins.specs.declared.hypothesis_origin.HypothesisSource.TheVariants as source
+use Rattle.entail_losses.specs.About.{is_statement_about, is_mentioned}
 use Rattle.entail_losses.specs.LeftOut.{state_at}
 use Rattle.entail_losses.specs.declared.left_out_states.StateAt.{StateAt}
 use Rattle.entail_losses.specs.declared.left_out_states.StateKind.{StateKind}
@@ -71,6 +72,11 @@ abbrev pub unless_known : (so_far other : Reason) → Reason
 unless_known (known f) other = known f
 unless_known so_far other = other
 
+-- behind a state that lists nothing of the variable: it keeps no predicate that was known
+abbrev pub behind_state : StateKind → (at : ℕ) → (so_far : Reason) → Reason
+behind_state kind at (known f) = unlisted (state_at kind at)
+behind_state kind at so_far = so_far
+
 -- What a step tells --------------------------------------------------------------------------------------------
 
 -- a predicate that is known where each of its variables is stable, with what is told where one isn't
@@ -93,15 +99,19 @@ abbrev pub first_about : (x : ℕ) → List Term → Option Term
 first_about x [] = None
 first_about x (e ∷ es) = if mentions e x then Some e else first_about x es
 
-abbrev pub listed_or : Option Term → StateAt → HypothesisSource → Reason
-listed_or None s source = unlisted s
-listed_or (Some e) s source = known (fact_at s.at source e)
+abbrev pub listed_or : Option Term → HypothesisSource → (at : ℕ) → (otherwise : Reason) → Reason
+listed_or None source at otherwise = otherwise
+listed_or (Some e) source at otherwise = known (fact_at at source e)
 
 -- of a variable
 module _ (x : ℕ) where
-  -- a state of this kind
-  abbrev pub after_state : StateKind → HypothesisSource → (at : ℕ) → State → Reason
-  after_state kind source at j = listed_or (first_about x j.preds) (state_at kind at) source
+  -- a state, with what is told where it lists nothing of it
+  abbrev pub after_state : HypothesisSource → (at : ℕ) → State → (otherwise : Reason) → Reason
+  after_state source at j otherwise = listed_or (first_about x j.preds) source at otherwise
+
+  -- behind the blocks of a statement whose state lists nothing of it
+  abbrev pub behind_blocks : Plain → StateKind → (at : ℕ) → Stm → (so_far : Reason) → Reason
+  behind_blocks p kind at s so_far = if is_statement_about p x s then unlisted (state_at kind at) else behind_state kind at so_far
 
   -- whether a guard that mentions it was looked at where it wasn't stable
   abbrev pub is_tested_before : (so_far : Reason) → Bool
@@ -146,8 +156,8 @@ module _ (x : ℕ) where
         if mentions e x then by_stability (first_outside stable (occurrences e)) (fact_at at source e) (λ y. unless_known so_far (no_guard at (unstable_first y))) else so_far
 
     -- a loop that is passed: what it states, and that its guard doesn't hold
-    abbrev pub after_loop : (at : ℕ) → (guard : Term) → State → Reason
-    after_loop at e inv = after_guard at source.LoopLeft (neg e) (after_state Inv source.LoopState at inv)
+    abbrev pub after_loop : (at : ℕ) → (guard : Term) → State → (otherwise : Reason) → Reason
+    after_loop at e inv otherwise = after_guard at source.LoopLeft (neg e) (after_state source.LoopState at inv otherwise)
 
     module _ (p : Plain) where
       abbrev pub after_statement : (at : ℕ) → Stm → (so_far : Reason) → Reason
@@ -155,16 +165,16 @@ module _ (x : ℕ) where
       after_statement at (assign y e q retypes) so_far = after_assignment at y e so_far
       after_statement at (lock l) so_far = after_lock (lock_at p l) at l so_far
       after_statement at (unlock l) so_far = after_unlock stable at l so_far
-      after_statement at (branch e a b join) so_far = after_state Join source.Join at join
-      after_statement at (loop e inv b) so_far = after_loop at e inv
-      after_statement at (note j) so_far = after_state Note source.Noted at j
+      after_statement at (branch e a b join) so_far = after_state source.Join at join (behind_blocks p Join at (branch e a b join) so_far)
+      after_statement at (loop e inv b) so_far = after_loop at e inv (behind_blocks p Inv at (loop e inv b) so_far)
+      after_statement at (note j) so_far = after_state source.Noted at j (behind_state Note at so_far)
       after_statement at (output e) so_far = so_far
 
       abbrev pub after_step : Step → (so_far : Reason) → Reason
       after_step (passed at s) so_far = after_statement at s so_far
       after_step (yes at e) so_far = after_guard at source.GuardHolds e so_far
       after_step (no at e) so_far = after_guard at source.GuardFails (neg e) so_far
-      after_step (head at inv) so_far = after_state Inv source.LoopState at inv
+      after_step (head at inv) so_far = after_state source.LoopState at inv (behind_state Inv at so_far)
 
 -- of a variable, in a thread
 module _ (p : Plain) (t : ℕ) (x : ℕ) where
@@ -181,13 +191,9 @@ module _ (p : Plain) (t : ℕ) (x : ℕ) where
 
 -- of a point with these hypotheses
 module _ (hyps : List Term) where
-  -- whether a hypothesis mentions a variable
-  abbrev pub is_mentioned : (x : ℕ) → Bool
-  is_mentioned x = list_any (λ h. mentions h x) hyps
-
-  -- variables, and one more, if none does; of more than a few the others aren't told of
+  -- variables, and one more, if no hypothesis mentions it; of more than a few the others aren't told of
   abbrev pub with_unknown : (found : List ℕ) → (x : ℕ) → List ℕ
-  with_unknown found x = if nat_lt (length found) MOST_TOLD && not (is_mentioned x) then found ++ x ∷ [] else found
+  with_unknown found x = if nat_lt (length found) MOST_TOLD && not (is_mentioned hyps x) then found ++ x ∷ [] else found
 
   abbrev pub with_unknowns : (found : List ℕ) → (xs : List ℕ) → List ℕ
   with_unknowns found [] = found

@@ -12,7 +12,7 @@ use Rattle.cov_ast.specs.Syntax.{State, Stm, skip, assign, lock, unlock, branch,
 use Rattle.entail_origins.specs.Origins.{given, given_by}
 use Rattle.entail_origins.specs.Points.{point_after_steps}
 use Rattle.statement_paths.specs.Paths.{Step, passed, yes, no, head, place_of}
-use Rattle.entail_losses.specs.LeftOut.{LeftOut, state_of_step}
+use Rattle.entail_losses.specs.LeftOut.{LeftOut, state_of_step, states_of, states_of_steps}
 use Rattle.entail_losses.specs.declared.left_out_states.StateAt.{StateAt}
 
 -- States that list a predicate more ------------------------------------------------------------------------------
@@ -41,8 +41,9 @@ step_with e (head at inv) = head at (state_with e inv)
 abbrev pub listing : Term → List Step → List Step
 listing e steps = map (step_with e) steps
 
--- The first state of steps ---------------------------------------------------------------------------------------
+-- The states of steps --------------------------------------------------------------------------------------------
 
+-- the first
 abbrev pub first_state : List Step → Option StateAt
 first_state [] = None
 first_state (s ∷ ss) = option_or (state_of_step s) (first_state ss)
@@ -64,15 +65,10 @@ predicates_of_step (yes at g) = []
 predicates_of_step (no at g) = []
 predicates_of_step (head at inv) = inv.preds
 
--- what a first step lists where it has a state, and else what the others list
-abbrev pub own_or : Option StateAt → (own others : List Term) → List Term
-own_or None own others = others
-own_or (Some state) own others = own
-
--- the predicates that the first state lists
-abbrev pub first_listed : List Step → List Term
-first_listed [] = []
-first_listed (s ∷ ss) = own_or (state_of_step s) (predicates_of_step s) (first_listed ss)
+-- the predicates that the states of steps list
+abbrev pub listed_by : List Step → List Term
+listed_by [] = []
+listed_by (s ∷ ss) = predicates_of_step s ++ listed_by ss
 
 -- What would be known --------------------------------------------------------------------------------------------
 
@@ -86,8 +82,8 @@ abbrev pub AreAmong : (es fs : List Term) → Type 0
 AreAmong es fs = (e : Term) → IsTrue (has_term es e) → IsTrue (has_term fs e)
 
 -- Of a point with these hypotheses: what was left out is none of them. One of the steps to the point is at the place of the origin and gives it by
--- its source. The first state behind that step is the one that is named, and where all that is known at the point is among the hypotheses, it
--- doesn't list the predicate. It is known behind that step, and would be all the way to the point, did each state behind it list it.
+-- its source. The first state behind that step is the one that is named, and where there are more, the last is. Where all that is known at the point is among the
+-- hypotheses, no state behind that step lists the predicate. It is known behind that step, and would be all the way to the point, did each state behind it list it.
 pub record WouldBeKnown (p : Plain) (t : ℕ) (steps : List Step) (hypotheses : List Term) (o : LeftOut) : Type 0 where
   pub unknown : has_term hypotheses o.term ≡ false
   pub front : List Step
@@ -97,5 +93,6 @@ pub record WouldBeKnown (p : Plain) (t : ℕ) (steps : List Step) (hypotheses : 
   pub placed : place_of step ≡ o.origin.at
   pub gives : Contains (given_by p step) (given o.origin.source o.term)
   pub first : first_state back ≡ Some o.state
-  pub unlisted : AreAmong (point_after_steps p t steps).preds hypotheses → has_term (first_listed back) o.term ≡ false
+  pub states : states_of_steps back ≡ Some (states_of o)
+  pub unlisted : AreAmong (point_after_steps p t steps).preds hypotheses → has_term (listed_by back) o.term ≡ false
   pub stays : StaysKnown p t (front ++ step ∷ []) back o.term

@@ -10,7 +10,7 @@ ghost use Rattle.statement_paths.specs.Paths as paths;
 
 use crate::joined_given::{StillGiven, is_given_too, still_given};
 use crate::left_out_found::{LeftOut, is_found, is_known};
-use crate::left_out_states::{StateAt, StateKind};
+use crate::left_out_states::{StateAt, StateKind, States, last_state, states_from};
 use crate::left_out_touched::keep_untouched;
 use cov_ast::{NumberSet, Program, Stmt, StmtKind};
 use cov_expr::{Expr, List, NoMemory, closed, copy, has_same};
@@ -33,27 +33,30 @@ pub fn add_joined(
     ensures { OnOk result (map left.seen found.new ≡ spec.with_joined (map term hypotheses.now) (plain (view.program p.now)) (map left.seen found.old) stable.now (map paths.step steps.now)) }
 {
     let mut kept = stable.copy(alloc)?;
+    let mut states = None;
     for i in (0..steps.len()).rev() {
         let step = &steps[i];
-        add_of_step(alloc, p, hypotheses, &kept, step, found)?;
+        add_of_step(alloc, p, hypotheses, &kept, states, step, found)?;
         keep_untouched(p, true, step, &mut kept);
+        states = states_from(step, states);
     }
     Ok(())
 }
 
-/// Adds what the join of a step left out, if it passes a branch.
+/// Adds what the join of a step left out, if it passes a branch. `behind` are the states of the steps behind it.
 fn add_of_step<'p>(
     alloc: Global,
     p: &'p Program,
     hypotheses: &[Expr],
     kept: &NumberSet,
+    behind: Option<States>,
     step: &Step<'p>,
     found: &mut List<LeftOut>,
 ) -> Result<(), NoMemory>
-    ensures { OnOk result (map left.seen found.new ≡ spec.with_joined_step (map term hypotheses.now) (plain (view.program p.now)) kept.now (paths.step step.now) (map left.seen found.old)) }
+    ensures { OnOk result (map left.seen found.new ≡ spec.with_joined_step (map term hypotheses.now) (plain (view.program p.now)) kept.now behind (paths.step step.now) (map left.seen found.old)) }
 {
     match step {
-        Step::Passed(stmt) => add_of_statement(alloc, p, hypotheses, kept, stmt, found),
+        Step::Passed(stmt) => add_of_statement(alloc, p, hypotheses, kept, behind, stmt, found),
         Step::Yes(_, _) | Step::No(_, _) | Step::Head(_, _) => Ok(()),
     }
 }
@@ -64,10 +67,11 @@ fn add_of_statement<'p>(
     p: &'p Program,
     hypotheses: &[Expr],
     kept: &NumberSet,
+    behind: Option<States>,
     stmt: &'p Stmt,
     found: &mut List<LeftOut>,
 ) -> Result<(), NoMemory>
-    ensures { OnOk result (map left.seen found.new ≡ spec.with_branch (map term hypotheses.now) (plain (view.program p.now)) kept.now stmt.now.at (view.kind stmt.now.kind) (map left.seen found.old)) }
+    ensures { OnOk result (map left.seen found.new ≡ spec.with_branch (map term hypotheses.now) (plain (view.program p.now)) kept.now behind stmt.now.at (view.kind stmt.now.kind) (map left.seen found.old)) }
 {
     match &stmt.kind {
         StmtKind::If(_, _, _, join) => {
@@ -80,7 +84,7 @@ fn add_of_statement<'p>(
             let branch = Branch {
                 second: seconds.as_slice(),
                 listed: join.preds.as_slice(),
-                at: stmt.at,
+                states: from_join(stmt.at, behind),
             };
             add_unjoined(alloc, hypotheses, branch, firsts.as_slice(), found)
         }
@@ -94,12 +98,24 @@ fn add_of_statement<'p>(
     }
 }
 
-/// A branch: what its second block still gives, what its join lists, and its place.
+/// A branch: what its second block still gives, what its join lists, and that join as the first of the states from there on.
 #[derive(Clone, Copy)]
 struct Branch<'a> {
     second: &'a [StillGiven],
     listed: &'a [Expr],
-    at: u32,
+    states: States,
+}
+
+/// The join of the branch at a place, with the last state behind it, if there is one.
+fn from_join(at: u32, behind: Option<States>) -> States
+    ensures { result ≡ spec.from_join at behind }
+{
+    let first = StateAt {
+        kind: StateKind::Join,
+        at,
+    };
+    let last = last_state(behind);
+    States { first, last }
 }
 
 /// Adds those of some predicates, which the first block of a branch still gives, that its join left out.
@@ -110,7 +126,7 @@ fn add_unjoined(
     first: &[StillGiven],
     found: &mut List<LeftOut>,
 ) -> Result<(), NoMemory>
-    ensures { OnOk result (map left.seen found.new ≡ spec.with_unjoined (map term hypotheses.now) (map (λ g. g.term) (map spec.seen branch.entry.second.now)) (map term branch.entry.listed.now) branch.entry.at (map spec.seen first.now) (map left.seen found.old)) }
+    ensures { OnOk result (map left.seen found.new ≡ spec.with_unjoined (map term hypotheses.now) (map (λ g. g.term) (map spec.seen branch.entry.second.now)) (map term branch.entry.listed.now) branch.entry.states (map spec.seen first.now) (map left.seen found.old)) }
 {
     for one in first {
         add_if_unjoined(alloc, hypotheses, branch, one, found)?;
@@ -126,18 +142,15 @@ fn add_if_unjoined(
     one: &StillGiven,
     found: &mut List<LeftOut>,
 ) -> Result<(), NoMemory>
-    ensures { OnOk result (map left.seen found.new ≡ spec.with_one_unjoined (map term hypotheses.now) (map (λ g. g.term) (map spec.seen branch.entry.second.now)) (map term branch.entry.listed.now) branch.entry.at (spec.seen one.now) (map left.seen found.old)) }
+    ensures { OnOk result (map left.seen found.new ≡ spec.with_one_unjoined (map term hypotheses.now) (map (λ g. g.term) (map spec.seen branch.entry.second.now)) (map term branch.entry.listed.now) branch.entry.states (spec.seen one.now) (map left.seen found.old)) }
 {
     if is_unjoined(hypotheses, branch, found.as_slice(), &one.term) {
         let term = copy(alloc, &one.term)?;
-        let state = StateAt {
-            kind: StateKind::Join,
-            at: branch.at,
-        };
         found.push(LeftOut {
             term,
             origin: one.origin,
-            state,
+            state: branch.states.first,
+            last: branch.states.last,
         })?;
     }
     Ok(())

@@ -11,7 +11,7 @@ ghost use Rattle.statement_paths.specs.Paths as paths;
 ghost use Rattle.point_law.specs.Terms.{each_variable};
 ghost use Rattle.entail_losses.specs.LeftOut as spec;
 
-use crate::left_out_states::StateAt;
+use crate::left_out_states::{StateAt, States};
 use cov_ast::{NumberSet, Program};
 use cov_expr::{Expr, List, NoMemory, Op, closed, has_same, mentions, same};
 use entail_origins::{Given, HypothesisSource, Origin, add_given};
@@ -21,52 +21,52 @@ use std::alloc::Global;
 /// How many predicates are shown at most, and how many parts of those that stores forgot.
 pub const MOST_FOUND: usize = 8;
 
-/// A predicate that was left out, with what gives it, and the first state behind that, which doesn't list it.
+/// A predicate that was left out, with what gives it, and the first state behind that, which doesn't list it; where further states come behind that, with the last.
 #[derive(Drop)]
 pub struct LeftOut {
     pub term: Expr,
     pub origin: Origin,
     pub state: StateAt,
+    pub last: Option<StateAt>,
 }
 
-/// Adds what a step gives that the first state behind it left out, if there is such a state. `kept` are the variables that the steps behind
-/// it keep.
+/// Adds what a step gives that the states behind it left out, if there are some. `kept` are the variables that the steps behind it keep.
 pub fn add_of_step<'p>(
     alloc: Global,
     p: &'p Program,
     hypotheses: &[Expr],
     kept: &NumberSet,
     step: &Step<'p>,
-    state: Option<StateAt>,
+    states: Option<States>,
     found: &mut List<LeftOut>,
 ) -> Result<(), NoMemory>
-    ensures { OnOk result (map spec.seen found.new ≡ spec.with_step (plain (view.program p.now)) (map term hypotheses.now) kept.now (paths.step step.now) state (map spec.seen found.old)) }
+    ensures { OnOk result (map spec.seen found.new ≡ spec.with_step (plain (view.program p.now)) (map term hypotheses.now) kept.now (paths.step step.now) states (map spec.seen found.old)) }
 {
-    match state {
-        Some(state) => {
+    match states {
+        Some(states) => {
             let mut all = List::new(alloc);
             add_given(p, step, &mut all)?;
             let at = step.place();
-            add_each(alloc, hypotheses, kept, at, state, all.as_slice(), found)
+            add_each(alloc, hypotheses, kept, at, states, all.as_slice(), found)
         }
         None => Ok(()),
     }
 }
 
-/// Adds those of some predicates that a state left out.
+/// Adds those of some predicates that the first of some states left out.
 fn add_each(
     alloc: Global,
     hypotheses: &[Expr],
     kept: &NumberSet,
     at: u32,
-    state: StateAt,
+    states: States,
     all: &[Given<'_>],
     found: &mut List<LeftOut>,
 ) -> Result<(), NoMemory>
-    ensures { OnOk result (map spec.seen found.new ≡ spec.with_each (map term hypotheses.now) kept.now at state (map given all.now) (map spec.seen found.old)) }
+    ensures { OnOk result (map spec.seen found.new ≡ spec.with_each (map term hypotheses.now) kept.now at states (map given all.now) (map spec.seen found.old)) }
 {
     for one in all {
-        add_if_left_out(alloc, hypotheses, kept, at, state, one, found)?;
+        add_if_left_out(alloc, hypotheses, kept, at, states, one, found)?;
     }
     Ok(())
 }
@@ -77,11 +77,11 @@ fn add_if_left_out(
     hypotheses: &[Expr],
     kept: &NumberSet,
     at: u32,
-    state: StateAt,
+    states: States,
     one: &Given<'_>,
     found: &mut List<LeftOut>,
 ) -> Result<(), NoMemory>
-    ensures { OnOk result (map spec.seen found.new ≡ spec.with_given (map term hypotheses.now) kept.now at state (given one.now) (map spec.seen found.old)) }
+    ensures { OnOk result (map spec.seen found.new ≡ spec.with_given (map term hypotheses.now) kept.now at states (given one.now) (map spec.seen found.old)) }
 {
     let term = one.term.made(alloc)?;
     let source = one.source;
@@ -90,7 +90,8 @@ fn add_if_left_out(
         found.push(LeftOut {
             term,
             origin,
-            state,
+            state: states.first,
+            last: states.last,
         })?;
     }
     Ok(())

@@ -1,6 +1,6 @@
 //! The lines of what was left out.
 
-ghost use Rattle.std.specs.Prelude.{◌≡◌, ◌++◌, OnOk, map};
+ghost use Rattle.std.specs.Prelude.{◌≡◌, ◌++◌, OnOk, Some, map};
 ghost use Rattle.cov_expr.specs.View.{term};
 ghost use Rattle.cov_ast.specs.Plain.{plain};
 ghost use Rattle.cov_ast.specs.View as view;
@@ -9,7 +9,7 @@ ghost use Rattle.entail_losses.specs.LeftOutLines as spec;
 
 use crate::left_out_found::LeftOut;
 use crate::left_out_states::{StateAt, StateKind};
-use crate::state_words::{add_kind, add_line_part};
+use crate::state_words::{add_kind, add_line, add_line_part};
 use cov_ast::{NameTable, Program};
 use cov_expr::{Blob, Expr, NoMemory};
 use cov_print::add_expr;
@@ -44,7 +44,7 @@ pub fn add_left_out_line(
 {
     add_predicate_part(names, helps, &one.term, text)?;
     add_origin_part(p, bytes, one.origin, text)?;
-    add_state_part(bytes, helps, one.state, text)
+    add_states_part(bytes, helps, one, text)
 }
 
 /// Adds a predicate.
@@ -85,7 +85,20 @@ pub fn add_origin_part(
     text.extend_from_slice(b")")
 }
 
-/// Adds which state left a predicate out, and ends the line.
+/// Adds which states left a predicate out, and ends the line.
+fn add_states_part(
+    bytes: &[u8],
+    helps: bool,
+    one: &LeftOut,
+    text: &mut Blob,
+) -> Result<(), NoMemory>
+    ensures { OnOk result (text.new ≡ text.old ++ spec.states_part bytes.now helps (seen one.now)) }
+{
+    add_state_part(bytes, helps, one.state, text)?;
+    add_further_part(bytes, one.last, text)
+}
+
+/// Adds which state left a predicate out.
 fn add_state_part(
     bytes: &[u8],
     helps: bool,
@@ -96,7 +109,26 @@ fn add_state_part(
 {
     text.extend_from_slice(state_label(helps, state.kind).as_bytes())?;
     add_kind(state.kind, text)?;
-    add_line_part(bytes, state.at, text)
+    add_line(bytes, state.at, text)
+}
+
+/// Adds that the states behind that one have to list a predicate too, if there are some, and ends the line.
+fn add_further_part(bytes: &[u8], last: Option<StateAt>, text: &mut Blob) -> Result<(), NoMemory>
+    ensures { OnOk result (text.new ≡ text.old ++ spec.further_part bytes.now last) }
+{
+    match last {
+        Some(last) => add_last_state(bytes, last, text),
+        None => text.extend_from_slice(b"\n"),
+    }
+}
+
+/// Adds that further states have to list a predicate too, of which this one is the last.
+fn add_last_state(bytes: &[u8], last: StateAt, text: &mut Blob) -> Result<(), NoMemory>
+    ensures { OnOk result (text.new ≡ text.old ++ spec.further_part bytes.now (Some last)) }
+{
+    text.extend_from_slice(b"; each state since has to list it too, up to the ")?;
+    add_kind(last.kind, text)?;
+    add_line_part(bytes, last.at, text)
 }
 
 /// What stands in front of a state.

@@ -8,7 +8,7 @@ ghost use Rattle.statement_paths.specs.Paths as paths;
 ghost use Rattle.entail_losses.specs.LeftOut as spec;
 
 use crate::left_out_found::{LeftOut, add_of_step};
-use crate::left_out_states::first_state;
+use crate::left_out_states::states_from;
 use crate::left_out_touched::keep_untouched;
 use cov_ast::{NumberSet, Program};
 use cov_expr::{Expr, List, NoMemory};
@@ -26,12 +26,12 @@ pub fn left_out(
     ensures { IfOk result (λ made. map spec.seen made ≡ spec.left_out (plain (view.program p.now)) (map term hypotheses.now) stable.now (map paths.step steps.now)) }
 {
     let mut kept = stable.copy(alloc)?;
-    let mut state = None;
+    let mut states = None;
     let mut found = List::new(alloc);
     for i in (0..steps.len()).rev() {
-        add_of_step(alloc, p, hypotheses, &kept, &steps[i], state, &mut found)?;
+        add_of_step(alloc, p, hypotheses, &kept, &steps[i], states, &mut found)?;
         keep_untouched(p, true, &steps[i], &mut kept);
-        state = first_state(&steps[i], state);
+        states = states_from(&steps[i], states);
     }
     Ok(found)
 }

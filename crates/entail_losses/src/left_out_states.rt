@@ -27,6 +27,39 @@ pub struct StateAt {
     pub at: u32,
 }
 
+/// The states of steps, where some have one: the first, and the last, where there are more.
+#[derive(Clone, Copy)]
+pub struct States {
+    pub first: StateAt,
+    pub last: Option<StateAt>,
+}
+
+/// The states of steps, with a step more in front.
+pub fn states_from(step: &Step<'_>, behind: Option<States>) -> Option<States>
+    ensures { result ≡ spec.states_from (spec.state_of_step (paths.step step.now)) behind }
+{
+    match state_of_step(step) {
+        Some(first) => {
+            let last = last_state(behind);
+            Some(States { first, last })
+        }
+        None => behind,
+    }
+}
+
+/// The last of some states, if there are some.
+pub fn last_state(states: Option<States>) -> Option<StateAt>
+    ensures { result ≡ spec.last_state states }
+{
+    match states {
+        Some(states) => match states.last {
+            Some(last) => Some(last),
+            None => Some(states.first),
+        },
+        None => None,
+    }
+}
+
 /// The state of a step, and where it has none, that of the steps behind it.
 pub fn first_state(step: &Step<'_>, behind: Option<StateAt>) -> Option<StateAt>
     ensures { result ≡ option_or (spec.state_of_step (paths.step step.now)) behind }

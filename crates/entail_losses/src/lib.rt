@@ -1,7 +1,7 @@
 //! What would be known at the point of which an entailment asks, had nothing on the way to it lost it, and which of that would help.
 //!
 //! - [`add_losses`]: a line for each predicate that would be known at a point, had a `join`, an `inv` or a `note` on the way to it listed
-//!   it, with what gives it and which state left it out: in front of that state, or, of a `join`, in both blocks; and for each part of a predicate that a store forgot, and that
+//!   it, with what gives it and which states left it out: in front of these, or, of a `join`, in both blocks; and for each part of a predicate that a store forgot, and that
 //!   a note in front of the store would have kept. Where one alone would help (`entail_text`), only such are told; and none where all together wouldn't. Then
 //!   a line for each of the first variables of the goal that no hypothesis mentions: why nothing is known of it.
 //!
@@ -13,7 +13,7 @@
 //! | `left_out_search`, `left_out_found`, `left_out_states`, `left_out_touched` | `LeftOut` | what was left out, by one walk from the point back to the start |
 //! | `forgotten_search`, `forgotten_found` | `Forgotten` | what stores forgot, by another such walk |
 //! | `joined_found`, `joined_given` | `Joined` | what joins left out of what both blocks of a branch give |
-//! | `unknown_variables`, `unknown_reasons` | `Unknowns` | the variables of a goal of which nothing is known, and why |
+//! | `unknown_variables`, `unknown_reasons`, `unknown_about` | `Unknowns`, `About` | the variables of a goal of which nothing is known, and why |
 //! | `losses` | `Losses` | which of all these are told |
 //! | `left_out_lines`, `forgotten_lines`, `unknown_lines`, `state_words` | `LeftOutLines`, `ForgottenLines`, `UnknownLines`, `StateWords` | the lines of all |
 //! | `left_out_laws` | `WouldBeKnown`, `WouldBeJoined`, `WouldBeKept` | that each of them would be known |
@@ -32,6 +32,7 @@ mod left_out_states;
 mod left_out_touched;
 mod losses;
 mod state_words;
+mod unknown_about;
 mod unknown_lines;
 mod unknown_reasons;
 mod unknown_variables;

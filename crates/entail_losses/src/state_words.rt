@@ -25,11 +25,18 @@ fn kind_text(kind: StateKind) -> &'static str
     }
 }
 
+/// Adds the line of a state.
+pub fn add_line(bytes: &[u8], at: u32, text: &mut Blob) -> Result<(), NoMemory>
+    ensures { OnOk result (text.new ≡ text.old ++ spec.line_text bytes.now at) }
+{
+    text.extend_from_slice(b", line ")?;
+    add_number(position(bytes, at as usize).line, text)
+}
+
 /// Adds the line of a state, and ends the line of text.
 pub fn add_line_part(bytes: &[u8], at: u32, text: &mut Blob) -> Result<(), NoMemory>
     ensures { OnOk result (text.new ≡ text.old ++ spec.line_part bytes.now at) }
 {
-    text.extend_from_slice(b", line ")?;
-    add_number(position(bytes, at as usize).line, text)?;
+    add_line(bytes, at, text)?;
     text.extend_from_slice(b"\n")
 }

@@ -16,6 +16,7 @@ ghost use Rattle.statement_paths.specs.Paths as paths;
 
 use crate::left_out_found::is_over;
 use crate::left_out_states::{StateAt, StateKind};
+use crate::unknown_about::is_statement_about;
 use cov_ast::{NumberSet, Program, State, StmtKind, first_outside};
 use cov_expr::{Expr, NoMemory, mentions};
 use entail_origins::{GivenTerm, HypothesisSource, Origin};
@@ -60,7 +61,8 @@ pub enum Reason<'p> {
     Forgotten(Fact<'p>, Loss),
 }
 
-/// Why nothing is known of a variable behind steps from the start of a thread. Each step is looked at once, and for each the variables of the program.
+/// Why nothing is known of a variable behind steps from the start of a thread. Each step is looked at once, each statement in the blocks of one that is passed too, and for each step the
+/// variables of the program.
 pub fn reason_of<'p>(
     alloc: Global,
     p: &'p Program,
@@ -132,7 +134,8 @@ fn after_step<'p>(
             so_far,
         ),
         Step::Head(at, inv) => {
-            after_state(x, StateKind::Inv, HypothesisSource::LoopState, *at, inv)
+            let otherwise = behind_state(StateKind::Inv, *at, so_far);
+            after_state(x, HypothesisSource::LoopState, *at, inv, otherwise)
         }
     }
 }
@@ -154,10 +157,17 @@ fn after_statement<'p>(
         StmtKind::Lock(l) => after_lock(p, x, at, *l, so_far),
         StmtKind::Unlock(l) => after_unlock(stable, at, *l, so_far),
         StmtKind::If(_, _, _, join) => {
-            after_state(x, StateKind::Join, HypothesisSource::Join, at, join)
+            let otherwise = behind_blocks(p, x, StateKind::Join, at, kind, so_far);
+            after_state(x, HypothesisSource::Join, at, join, otherwise)
         }
-        StmtKind::While(guard, inv, _) => after_loop(x, stable, at, guard, inv),
-        StmtKind::Note(note) => after_state(x, StateKind::Note, HypothesisSource::Noted, at, note),
+        StmtKind::While(guard, inv, _) => {
+            let otherwise = behind_blocks(p, x, StateKind::Inv, at, kind, so_far);
+            after_loop(x, stable, at, guard, inv, otherwise)
+        }
+        StmtKind::Note(note) => {
+            let otherwise = behind_state(StateKind::Note, at, so_far);
+            after_state(x, HypothesisSource::Noted, at, note, otherwise)
+        }
     }
 }
 
@@ -353,10 +363,11 @@ fn after_loop<'p>(
     at: u32,
     guard: &'p Expr,
     inv: &'p State,
+    otherwise: Reason<'p>,
 ) -> Reason<'p>
-    ensures { spec.seen result ≡ spec.after_loop x stable.now at (term guard.now) (view.state inv.now) }
+    ensures { spec.seen result ≡ spec.after_loop x stable.now at (term guard.now) (view.state inv.now) (spec.seen otherwise.entry) }
 {
-    let stated = after_state(x, StateKind::Inv, HypothesisSource::LoopState, at, inv);
+    let stated = after_state(x, HypothesisSource::LoopState, at, inv, otherwise);
     after_guard(
         x,
         stable,
@@ -368,19 +379,53 @@ fn after_loop<'p>(
     )
 }
 
-/// What a state tells, which begins anew.
+/// What a state tells, with what is told where it lists nothing of a variable.
 fn after_state<'p>(
     x: u32,
-    kind: StateKind,
     source: HypothesisSource,
     at: u32,
     state: &'p State,
+    otherwise: Reason<'p>,
 ) -> Reason<'p>
-    ensures { spec.seen result ≡ spec.after_state x kind source at (view.state state.now) }
+    ensures { spec.seen result ≡ spec.after_state x source at (view.state state.now) (spec.seen otherwise.entry) }
 {
     match first_about(x, state.preds.as_slice()) {
         Some(e) => known(at, source, GivenTerm::Written(e)),
-        None => Reason::Unlisted(StateAt { kind, at }),
+        None => otherwise,
+    }
+}
+
+/// What is told behind the blocks of a statement whose state lists nothing of a variable.
+fn behind_blocks<'p>(
+    p: &Program,
+    x: u32,
+    kind: StateKind,
+    at: u32,
+    stmt: &StmtKind,
+    so_far: Reason<'p>,
+) -> Reason<'p>
+    ensures { spec.seen result ≡ spec.behind_blocks x (plain (view.program p.now)) kind at (view.kind stmt.now) (spec.seen so_far.entry) }
+{
+    if is_statement_about(p, x, stmt) {
+        Reason::Unlisted(StateAt { kind, at })
+    } else {
+        behind_state(kind, at, so_far)
+    }
+}
+
+/// What is told behind a state that lists nothing of a variable: it keeps no predicate that was known.
+fn behind_state(kind: StateKind, at: u32, so_far: Reason<'_>) -> Reason<'_>
+    ensures { spec.seen result ≡ spec.behind_state kind at (spec.seen so_far.entry) }
+{
+    match so_far {
+        Reason::Known(_) => Reason::Unlisted(StateAt { kind, at }),
+        Reason::Unmentioned
+        | Reason::Own(_)
+        | Reason::NoEquation(_, _)
+        | Reason::NoGuard(_, _)
+        | Reason::Unlisted(_)
+        | Reason::Taken(_, _)
+        | Reason::Forgotten(_, _) => so_far,
     }
 }
 

@@ -2,6 +2,7 @@
 
 ghost use Rattle.std.specs.Prelude.{◌≡◌, IfOk, OnOk, map};
 ghost use Rattle.cov_expr.specs.View.{term};
+ghost use Rattle.entail_losses.specs.About as about;
 ghost use Rattle.entail_losses.specs.Unknowns as spec;
 
 use cov_expr::{Expr, List, NoMemory, mentions, vars};
@@ -41,12 +42,12 @@ fn add_if_unknown(hyps: &[Expr], x: u32, found: &mut List<u32>) -> Result<(), No
     }
 }
 
-/// Whether one of some hypotheses mentions a variable.
-fn is_mentioned(hyps: &[Expr], x: u32) -> bool
-    ensures { result ≡ spec.is_mentioned (map term hyps.now) x }
+/// Whether one of some predicates mentions a variable.
+pub fn is_mentioned(preds: &[Expr], x: u32) -> bool
+    ensures { result ≡ about.is_mentioned (map term preds.now) x }
 {
-    for h in hyps {
-        if mentions(h, x) {
+    for e in preds {
+        if mentions(e, x) {
             return true;
         }
     }

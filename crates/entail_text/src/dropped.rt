@@ -1,17 +1,16 @@
 //! Hypotheses that a state drops.
 
-ghost use Rattle.std.specs.Prelude.{◌≡◌, ◌||◌, ◌∷◌, ◌++◌, codes, decimal, map, IfOk, OnOk};
-ghost use Rattle.cov_expr.specs.Trees.{has_term, is_closed};
+ghost use Rattle.std.specs.Prelude.{◌≡◌, ◌∷◌, ◌++◌, codes, decimal, map, IfOk, OnOk};
 ghost use Rattle.cov_expr.specs.View.{term};
 ghost use Rattle.entail_text.specs.Dropped as spec;
 
-use cov_expr::{Blob, Expr, List, NoMemory, closed, has_same};
+use cov_expr::{Blob, Expr, List, NoMemory, Op, closed, has_conjunct};
 use std::alloc::Global;
 use text_parts::add_number;
 
 /// Adds a line of the hypotheses, by number, that a state with these predicates doesn't list, so that they aren't known behind it. `word` is
-/// that for the state: `join`, `inv` or `note`. Nothing is added where it lists each that has a variable. It takes time in proportion to the
-/// hypotheses times the predicates.
+/// that for the state: `join`, `inv` or `note`. A hypothesis is taken as listed where each part of it that `&&` joins is such a part of a predicate, or has no variable.
+/// Nothing is added where each is. It takes time in proportion to what the hypotheses spell times what the predicates do.
 pub fn add_dropped(
     alloc: Global,
     word: &[u8],
@@ -38,11 +37,28 @@ fn unlisted(alloc: Global, listed: &[Expr], hyps: &[Expr]) -> Result<List<usize>
     Ok(made)
 }
 
-/// Whether nothing is said of a hypothesis: it has no variable, or it is listed.
+/// Whether nothing is said of a hypothesis: each part of it that `&&` joins has no variable, or is listed.
 fn is_passed_over(listed: &[Expr], h: &Expr) -> bool
-    ensures { result ≡ (is_closed (term h.now) || has_term (map term listed.now) (term h.now)) }
+    ensures { result ≡ spec.is_passed_over (map term listed.now) (term h.now) }
 {
-    closed(h) || has_same(listed, h)
+    match h {
+        Expr::Bin(Op::Both, a, b) => is_passed_over(listed, a) && is_passed_over(listed, b),
+        Expr::Const(_) | Expr::Var(_) | Expr::Not(_) | Expr::Bin(..) => {
+            closed(h) || is_part_listed(listed, h)
+        }
+    }
+}
+
+/// Whether an expression is one of the parts that `&&` joins in a predicate that is listed.
+fn is_part_listed(listed: &[Expr], e: &Expr) -> bool
+    ensures { result ≡ spec.is_part_listed (map term listed.now) (term e.now) }
+{
+    for one in listed {
+        if has_conjunct(one, e) {
+            return true;
+        }
+    }
+    false
 }
 
 /// Adds the line of some numbers, if there are some.

@@ -10,5 +10,5 @@ invariant-loop-one l =
     let hyps = map term l.hypotheses in
     let second = map (λ g. g.term) (map joined.seen l.branch.second.now) in
     let listed = map term l.branch.listed.now in
-    joined.with_unjoined hyps second listed l.branch.at (map joined.seen (drop l.one-index l.first)) (map left.seen l.found)
-    ≡ joined.with_unjoined hyps second listed l.branch.at (map joined.seen l.first) (map left.seen l.fn.found)
+    joined.with_unjoined hyps second listed l.branch.states (map joined.seen (drop l.one-index l.first)) (map left.seen l.found)
+    ≡ joined.with_unjoined hyps second listed l.branch.states (map joined.seen l.first) (map left.seen l.fn.found)

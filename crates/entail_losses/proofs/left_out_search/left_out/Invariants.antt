@@ -9,5 +9,5 @@ use Rattle.entail_losses.proofs.left_out_search.left_out.Given as goal
 -- what is known of the steps from this one on
 abbrev pub invariant-loop-i : goal.invariant-loop-i
 invariant-loop-i l =
-    ◌≡◌ {A = Search} (record { kept = l.kept; state = l.state; found = map seen l.found })
+    ◌≡◌ {A = Search} (record { kept = l.kept; states = l.states; found = map seen l.found })
     (search_along (plain (view.program l.p)) (map term l.hypotheses) l.fn.stable (map step (drop l.i l.steps)))
