@@ -32,6 +32,8 @@ fn sign_hint(first: u8, others: &[u8]) -> &'static str
 {
     if first == b':' && !is_assigned(others) {
         "; in a `join`, an `inv` and a `note` types stand behind `;`"
+    } else if first == b'-' {
+        "; no number is negative: `-1` is written `0 - 1`, which is 4294967295"
     } else {
         ""
     }
@@ -54,7 +56,7 @@ fn add_word_sentence(word: &[u8], text: &mut Blob) -> Result<(), NoMemory>
     text.extend_from_slice(word_front(word).as_bytes())?;
     text.extend_from_slice(word)?;
     text.extend_from_slice(word_end(word).as_bytes())?;
-    text.extend_from_slice(version_hint(word).as_bytes())
+    text.extend_from_slice(word_hint(word).as_bytes())
 }
 
 /// What stands in front of a word in its sentence.
@@ -79,15 +81,35 @@ fn word_end(word: &[u8]) -> &'static str
     }
 }
 
-/// What a text with this word needs, which is of version 2 alone.
-fn version_hint(word: &[u8]) -> &'static str
-    ensures { result.now ≡ spec.version_hint word.now }
+/// What the grammar asks for where a word stands and is mostly overlooked; nothing where nothing is known of it.
+fn word_hint(word: &[u8]) -> &'static str
+    ensures { result.now ≡ spec.word_hint word.now }
 {
     if word == b"output".as_slice() {
         "; a text with outputs begins with `version 2;`"
+    } else if is_mode(word) {
+        "; a lock has `nowrite`, then `hide`, then `inv`, and a thread `assume nowrite`, `assume hide`, `guarantee nowrite`, `guarantee hide`"
+    } else if begins_declaration(word) {
+        "; variables are declared first, then locks, then threads"
+    } else if word == b"if".as_slice() {
+        "; behind `else` stands a block: `else { if a { } else { } }`"
     } else {
         ""
     }
+}
+
+/// Whether a word is that of a list of variables that only some write or read.
+fn is_mode(word: &[u8]) -> bool
+    ensures { result ≡ spec.is_mode word.now }
+{
+    word == b"nowrite".as_slice() || word == b"hide".as_slice()
+}
+
+/// Whether a declaration begins with a word that stands in front of threads.
+fn begins_declaration(word: &[u8]) -> bool
+    ensures { result ≡ spec.begins_declaration word.now }
+{
+    word == b"lock".as_slice() || word == b"var".as_slice()
 }
 
 /// The longest run of letters, digits and underscores that a text begins with.
