@@ -95,7 +95,7 @@ not_stable : forgotten_parts [] [] program (true ∷ false ∷ true ∷ []) (tak
 not_stable = refl
 
 -- nor what is told to be left out
-told_already : forgotten_parts [] (left_out_at 5 (state_at of.Note 7) (given Noted (at_most 1 3)) ∷ []) program (true ∷ true ∷ true ∷ []) (taken ∷ stored 0 ∷ []) ≡ []
+told_already : forgotten_parts [] (left_out_at 5 (record { first = state_at of.Note 7; last = None }) (given Noted (at_most 1 3)) ∷ []) program (true ∷ true ∷ true ∷ []) (taken ∷ stored 0 ∷ []) ≡ []
 told_already = refl
 
 -- Several --------------------------------------------------------------------------------------------------------
