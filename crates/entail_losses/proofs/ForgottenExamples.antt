@@ -10,7 +10,7 @@ use Rattle.entail_losses.specs.Forgotten.{ForgottenPart, forgotten_at, forgotten
 use Rattle.entail_losses.specs.ForgottenLines.{forgotten_line}
 use Rattle.entail_losses.specs.LeftOut.{left_out_at, state_at}
 use Rattle.entail_origins.specs.Origins.{at_place, given}
-use Rattle.entail_origins.specs.Points.{point_after_steps}
+use Rattle.typing_points.specs.Points.{point_after_steps}
 use Rattle.entail_origins.specs.declared.hypothesis_origin.HypothesisSource.TheVariants.{GuardHolds, Invariant, Noted}
 use Rattle.entail_losses.specs.declared.left_out_states.StateAt.{StateAt}
 use Rattle.entail_losses.specs.declared.left_out_states.StateKind.TheVariants as of

@@ -26,8 +26,8 @@ use Rattle.entail_losses.proofs.KnownLaws.{IsKept, held_joined, held_listing, he
 use Rattle.entail_losses.proofs.StableLaws.{past_step, stable_along}
 use Rattle.entail_losses.proofs.StepLaws.{Knows, at_end, each_more, gives, in_distinct, keeps}
 use Rattle.entail_origins.specs.Origins.{Given, given_by}
-use Rattle.entail_origins.specs.Points.{after_step, after_steps, point_after_steps}
-use Rattle.entail_origins.proofs.PointLaws.{appended}
+use Rattle.typing_points.specs.Points.{after_step, after_steps, point_after_steps}
+use Rattle.typing_points.proofs.PointLaws.{appended}
 use Rattle.mode_state.specs.Sets.{is_stable}
 use Rattle.point_law.specs.After.{start}
 use Rattle.point_law.specs.Point.{Point, is_over_stable}

@@ -12,13 +12,13 @@ use Rattle.cov_ast.specs.Tables.{has}
 use Rattle.entail_losses.proofs.ForgottenLaws.{part_is_given}
 use Rattle.entail_losses.proofs.FoundLaws.{not_among}
 use Rattle.entail_losses.proofs.KnownLaws.{IsKept, held_joined, held_step, held_steps, stays}
-use Rattle.entail_origins.proofs.PointLaws.{appended}
+use Rattle.typing_points.proofs.PointLaws.{appended}
 use Rattle.entail_losses.proofs.StableLaws.{stable_along}
 use Rattle.entail_losses.proofs.StepLaws.{Knows, each_more, gives, in_distinct}
 use Rattle.entail_losses.specs.Forgotten.{ForgottenPart, forgotten_parts, untouched_along}
 use Rattle.entail_losses.specs.LeftOut.{LeftOut, gives_nothing, is_own, search_along, untouched_by}
 use Rattle.entail_origins.specs.Origins.{given, given_by}
-use Rattle.entail_origins.specs.Points.{after_step, after_steps, point_after_steps}
+use Rattle.typing_points.specs.Points.{after_step, after_steps, point_after_steps}
 use Rattle.entail_losses.specs.WouldBeKept.{WouldBeKept}
 use Rattle.entail_losses.specs.WouldBeKnown.{listing}
 use Rattle.entail_origins.specs.declared.hypothesis_origin.HypothesisSource.{HypothesisSource}

@@ -14,8 +14,8 @@ use Rattle.cov_ast.specs.LocksAlong.{no_locks}
 use Rattle.statement_paths.specs.LocksHeld.{held_after, held_along}
 use Rattle.statement_paths.specs.VariableSets.{stable, stable_after_steps}
 use Rattle.entail_origins.specs.Origins.{Given, given, each, given_by}
-use Rattle.entail_origins.proofs.PointLaws.{appended}
-use Rattle.entail_origins.specs.Points.{after_step, after_steps, point_after_steps}
+use Rattle.typing_points.proofs.PointLaws.{appended}
+use Rattle.typing_points.specs.Points.{after_step, after_steps, point_after_steps}
 use Rattle.entail_origins.specs.declared.hypothesis_origin.HypothesisSource.{HypothesisSource}
 use Rattle.entail_origins.specs.declared.hypothesis_origin.HypothesisSource.TheVariants as by
 use Rattle.mode_state.specs.Sets.{is_stable}

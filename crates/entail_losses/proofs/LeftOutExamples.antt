@@ -7,7 +7,7 @@ use Rattle.cov_expr.specs.Trees.{has_term}
 use Rattle.cov_ast.specs.Plain.{Plain}
 use Rattle.cov_ast.specs.Syntax as s
 use Rattle.entail_origins.specs.Origins.{given}
-use Rattle.entail_origins.specs.Points.{point_after_steps}
+use Rattle.typing_points.specs.Points.{point_after_steps}
 use Rattle.entail_origins.specs.declared.hypothesis_origin.HypothesisSource.TheVariants.{Assigned, Invariant, LoopLeft, Noted, GuardFails}
 use Rattle.statement_paths.specs.Paths.{Step, passed, no, head}
 use Rattle.entail_losses.specs.LeftOut.{LeftOut, left_out, left_out_at, state_at}

@@ -17,7 +17,7 @@ use Rattle.point_law.specs.After.{with_term_if, keeps_value}
 use Rattle.point_law.specs.Point.{Point, is_over_stable}
 use Rattle.point_law.specs.Terms.{each_variable, with_term, with_terms, with_option, distinct_terms}
 use Rattle.entail_origins.specs.Origins.{Given, given, each, by_invariant, given_by}
-use Rattle.entail_origins.specs.Points.{after_step}
+use Rattle.typing_points.specs.Points.{after_step}
 use Rattle.entail_origins.specs.declared.hypothesis_origin.HypothesisSource.{HypothesisSource}
 use Rattle.entail_origins.specs.declared.hypothesis_origin.HypothesisSource.TheVariants as by
 use Rattle.entail_losses.specs.LeftOut.{gives_nothing, untouched_by}

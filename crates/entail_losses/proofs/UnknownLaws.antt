@@ -10,7 +10,7 @@ use Rattle.cov_ast.specs.Declarations.{lists, lock_at}
 use Rattle.cov_ast.specs.Plain.{Plain}
 use Rattle.cov_ast.specs.Syntax.{Lock, State, Stm, skip, assign, lock, unlock, branch, loop, note, output}
 use Rattle.cov_ast.specs.Tables.{first_outside, has}
-use Rattle.entail_origins.specs.Points.{after_step, after_steps, point_after_steps}
+use Rattle.typing_points.specs.Points.{after_step, after_steps, point_after_steps}
 use Rattle.entail_origins.specs.declared.hypothesis_origin.HypothesisSource.{HypothesisSource}
 use Rattle.entail_losses.specs.About.{is_statement_about, is_mentioned}
 use Rattle.entail_losses.specs.LeftOut.{state_at}

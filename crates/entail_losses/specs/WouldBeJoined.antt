@@ -9,7 +9,7 @@ use Rattle.cov_ast.specs.Syntax.{Block, State, branch}
 use Rattle.entail_losses.specs.LeftOut.{LeftOut, last_state, state_at, states_of_steps}
 use Rattle.entail_losses.specs.WouldBeKnown.{StaysKnown, step_with}
 use Rattle.entail_losses.specs.declared.left_out_states.StateKind.TheVariants.{Join}
-use Rattle.entail_origins.specs.Points.{point_after_steps}
+use Rattle.typing_points.specs.Points.{point_after_steps}
 use Rattle.statement_paths.specs.LocksHeld.{held_along, held_at_end}
 use Rattle.statement_paths.specs.Paths.{Step, passed, to_first_end, to_second_end}
 

@@ -7,7 +7,7 @@ use Rattle.cov_ast.specs.Plain.{Plain}
 use Rattle.cov_ast.specs.Syntax.{State, note}
 use Rattle.entail_losses.specs.Forgotten.{ForgottenPart}
 use Rattle.entail_origins.specs.Origins.{given, given_by}
-use Rattle.entail_origins.specs.Points.{point_after_steps}
+use Rattle.typing_points.specs.Points.{point_after_steps}
 use Rattle.entail_losses.specs.WouldBeKnown.{StaysKnown, first_state}
 use Rattle.statement_paths.specs.Paths.{Step, passed, place_of}
 

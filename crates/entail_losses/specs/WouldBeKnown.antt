@@ -10,7 +10,7 @@ use Rattle.cov_expr.specs.Trees.{has_term}
 use Rattle.cov_ast.specs.Plain.{Plain}
 use Rattle.cov_ast.specs.Syntax.{State, Stm, skip, assign, lock, unlock, branch, loop, note, output}
 use Rattle.entail_origins.specs.Origins.{given, given_by}
-use Rattle.entail_origins.specs.Points.{point_after_steps}
+use Rattle.typing_points.specs.Points.{point_after_steps}
 use Rattle.statement_paths.specs.Paths.{Step, passed, yes, no, head, place_of}
 use Rattle.entail_losses.specs.LeftOut.{LeftOut, state_of_step, states_of, states_of_steps}
 use Rattle.entail_losses.specs.declared.left_out_states.StateAt.{StateAt}

@@ -18,7 +18,7 @@ ghost use Rattle.entail_losses.specs.declared.joined_found.TheConstants.{MOST_LE
 ghost use Rattle.entail_losses.specs.declared.joined_given.TheConstants.{MOST_GIVEN};
 ghost use Rattle.entail_losses.specs.declared.left_out_found.TheConstants.{MOST_FOUND};
 ghost use Rattle.entail_losses.specs.declared.unknown_variables.TheConstants.{MOST_TOLD};
-ghost use Rattle.entail_origins.specs.Points.{point_after_steps};
+ghost use Rattle.typing_points.specs.Points.{point_after_steps};
 
 /// A law: each predicate that was left out on the way to a point is no hypothesis there, and would be known, did the states behind what
 /// gives it list it.

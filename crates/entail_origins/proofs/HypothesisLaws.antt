@@ -15,7 +15,7 @@ use Rattle.point_law.specs.After.{start, with_term_if, keeps_value}
 use Rattle.point_law.specs.Point.{Point, is_over_stable}
 use Rattle.point_law.specs.Terms.{with_term, with_terms, with_option, distinct_terms}
 use Rattle.entail_origins.specs.Origins.{Given, given, each, by_invariant, given_by, first_given, at_place, origin_at, origin}
-use Rattle.entail_origins.specs.Points.{after_step, after_steps, point_after_steps}
+use Rattle.typing_points.specs.Points.{after_step, after_steps, point_after_steps}
 use Rattle.entail_origins.specs.declared.hypothesis_origin.Origin.{Origin}
 use Rattle.entail_origins.specs.declared.hypothesis_origin.HypothesisSource.{HypothesisSource}
 use Rattle.entail_origins.specs.declared.hypothesis_origin.HypothesisSource.TheVariants as by

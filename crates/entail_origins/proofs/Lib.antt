@@ -1,7 +1,6 @@
 pub mod HypothesisExamples
 pub mod HypothesisLaws
 pub mod LastOrigin
-pub mod PointLaws
 pub mod Ranges
 pub mod SameQuestions
 pub mod InRange
@@ -11,3 +10,4 @@ pub mod EachAsked
 mod TypeExamples
 pub mod GoalLaws
 pub mod TypeOriginLaws
+mod Watched

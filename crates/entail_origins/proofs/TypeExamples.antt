@@ -1,5 +1,5 @@
 -- A small program, and what is said of types in it, by computation.
-use Rattle.std.proofs.Common.{◌≡◌, ℕ, List, [], ◌∷◌, ◌++◌, length, Option, Some, None, refl, codes, lit<}
+use Rattle.std.proofs.Common.{◌≡◌, ℕ, List, [], ◌∷◌, ◌++◌, length, true, false, Option, Some, None, refl, codes, lit<}
 use Rattle.std.proofs.lemmas.Fmt.{decimal_digit}
 use Rattle.cov_expr.specs.Term.{Term, const, var, bin}
 use Rattle.cov_expr.specs.declared.expr.Op.TheVariants.{Eq, Add, Both}
@@ -16,11 +16,12 @@ use Rattle.entail_origins.specs.GoalTypes.{goal_of, goals_of}
 use Rattle.entail_origins.specs.FollowedTypes.{at_point, followed}
 use Rattle.entail_origins.specs.TypeLines.{lines_of, type_lines}
 use Rattle.entail_origins.specs.declared.followed_types.VariableAt.{VariableAt}
-use Rattle.entail_origins.specs.TypeOrigins.{history, locks_over, change_at}
+use Rattle.entail_origins.specs.TypeChanges.{change_after_steps, change_along, change_at}
+use Rattle.entail_origins.specs.TypeOrigins.{locks_over, origin_along, set_at}
 use Rattle.entail_origins.specs.declared.type_origin.By.TheVariants as by
 use Rattle.entail_origins.specs.declared.type_origin.TypeChange.TheVariants as change
-use Rattle.entail_origins.specs.declared.type_origin.History.{History}
 use Rattle.entail_origins.specs.declared.type_origin.Later.{Later}
+use Rattle.entail_origins.specs.declared.type_origin.TypeOrigin.{TypeOrigin}
 use Rattle.entail_origins.specs.declared.type_origin.TypeSource.{TypeSource}
 use Rattle.entail_origins.specs.declared.type_origin.TypeSource.TheVariants as source
 
@@ -61,59 +62,78 @@ joined types = passed 4 (s.branch (var 1) s.done s.done (stated types))
 abbrev noted : Step
 noted = passed 4 (s.note (stated ((2, const 0) ∷ [])))
 
-abbrev story : (z : ℕ) → List Step → History
-story z steps = history (controls_of program) (locks_over program z) z steps
+abbrev origin : (z : ℕ) → List Step → Option TypeOrigin
+origin z steps = origin_along (controls_of program) (locks_over program z) z steps
 
-abbrev from : (index at : ℕ) → TypeSource → Option Later → History
-from index at source later = record { origin = Some (record { source = source; at = at; index = index }); later = later }
+abbrev later : (z : ℕ) → List Step → Option Later
+later z steps = change_along program 0 (controls_of program) (locks_over program z) z steps
 
 -- One step -----------------------------------------------------------------------------------------------------
 
-the_start : story 2 [] ≡ record { origin = None; later = None }
+the_start : origin 2 [] ≡ None
 the_start = refl
 
-an_assignment : story 2 (stored ∷ []) ≡ from 0 2 source.Stored None
+an_assignment : origin 2 (stored ∷ []) ≡ Some (set_at 0 2 source.Stored)
 an_assignment = refl
 
-a_lock : story 1 (taken ∷ []) ≡ from 0 1 (source.Taken 0) None
+a_lock : origin 1 (taken ∷ []) ≡ Some (set_at 0 1 (source.Taken 0))
 a_lock = refl
 
 -- `o` isn't under the lock
-another_lock : story 2 (taken ∷ []) ≡ record { origin = None; later = None }
+another_lock : origin 2 (taken ∷ []) ≡ None
 another_lock = refl
 
-a_retype : story 1 (raised ∷ []) ≡ from 0 3 (source.Listed by.Retype) None
+a_retype : origin 1 (raised ∷ []) ≡ Some (set_at 0 3 (source.Listed by.Retype))
 a_retype = refl
 
-a_control : story 2 (raised ∷ []) ≡ record { origin = None; later = Some (change_at 3 (change.ControlStored 0)) }
+-- a control has no type itself
+a_control : origin 2 (raised ∷ []) ≡ None
 a_control = refl
 
-a_join : story 1 (joined ((1, const 1) ∷ []) ∷ []) ≡ from 0 4 (source.Listed by.Join) None
+a_join : origin 1 (joined ((1, const 1) ∷ []) ∷ []) ≡ Some (set_at 0 4 (source.Listed by.Join))
 a_join = refl
 
 -- a join sets what it doesn't list, and a note leaves it
-a_join_of_others : story 1 (joined [] ∷ []) ≡ from 0 4 (source.Unlisted by.Join) None
+a_join_of_others : origin 1 (joined [] ∷ []) ≡ Some (set_at 0 4 (source.Unlisted by.Join))
 a_join_of_others = refl
 
-a_note : story 2 (noted ∷ []) ≡ from 0 4 (source.Listed by.Noted) None
+a_note : origin 2 (noted ∷ []) ≡ Some (set_at 0 4 (source.Listed by.Noted))
 a_note = refl
 
-a_note_of_others : story 1 (taken ∷ noted ∷ []) ≡ from 0 1 (source.Taken 0) None
+a_note_of_others : origin 1 (taken ∷ noted ∷ []) ≡ Some (set_at 0 1 (source.Taken 0))
 a_note_of_others = refl
 
-a_head : story 2 (head 6 (stated []) ∷ yes 6 (var 1) ∷ []) ≡ from 0 6 (source.Unlisted by.LoopState) None
+a_head : origin 2 (head 6 (stated []) ∷ yes 6 (var 1) ∷ []) ≡ Some (set_at 0 6 (source.Unlisted by.LoopState))
 a_head = refl
 
 -- Several steps ------------------------------------------------------------------------------------------------
 
-the_last_counts : story 2 (noted ∷ stored ∷ []) ≡ from 1 2 source.Stored None
+the_last_counts : origin 2 (noted ∷ stored ∷ []) ≡ Some (set_at 1 2 source.Stored)
 the_last_counts = refl
 
-what_came_later_is_none : story 2 (raised ∷ noted ∷ []) ≡ from 1 4 (source.Listed by.Noted) None
-what_came_later_is_none = refl
+-- Changes ------------------------------------------------------------------------------------------------------
 
-the_last_change : story 2 (stored ∷ raised ∷ returned ∷ []) ≡ from 0 2 source.Stored (Some (change_at 5 (change.Returned 0)))
-the_last_change = refl
+-- the type of `o` mentions `m` from the assignment on
+a_store_to_a_control : later 2 (stored ∷ raised ∷ []) ≡ Some (change_at 2 3 (change.ControlStored 0) true)
+a_store_to_a_control = refl
+
+-- and then no more
+no_second_change : later 2 (stored ∷ raised ∷ returned ∷ raised ∷ []) ≡ Some (change_at 2 3 (change.ControlStored 0) true)
+no_second_change = refl
+
+a_type_that_mentions_nothing : later 2 (raised ∷ returned ∷ []) ≡ None
+a_type_that_mentions_nothing = refl
+
+a_lock_that_is_given_back : later 2 (taken ∷ stored ∷ returned ∷ []) ≡ Some (change_at 3 5 (change.Returned 0) true)
+a_lock_that_is_given_back = refl
+
+what_sets_the_type_begins_anew : later 2 (stored ∷ raised ∷ noted ∷ []) ≡ None
+what_sets_the_type_begins_anew = refl
+
+-- behind a point that isn't built a type may have changed
+a_point_that_is_not_built : change_after_steps program 0 (controls_of program) (locks_over program 2) 2 1 None (raised ∷ []) None
+    ≡ Some (change_at 2 3 (change.ControlStored 0) false)
+a_point_that_is_not_built = refl
 
 -- Variables ----------------------------------------------------------------------------------------------------
 
@@ -205,7 +225,7 @@ abbrev text : List ℕ
 text = 10 ∷ 120 ∷ 10 ∷ 10 ∷ 120 ∷ 120 ∷ 120 ∷ 120 ∷ []
 
 a_control_and_an_assignment : type_lines program 0 text (taken ∷ stored ∷ raised ∷ []) q.Printed (s.output (bin Add (var 0) (var 2)))
-    ≡ codes "  type of m:  1, as that of every control\n  type of o:  from the assignment, line 2, of `o + buf`; then m is stored to, line 3, which turns a type that mentions it into its class `0` (high)\n"
+    ≡ codes "  type of m:  1, as that of every control\n  type of o:  from the assignment, line 2, of `o + buf`; then m is stored to, line 3, which it mentions, so that it becomes its class `0` (high)\n"
     ++ codes "  type of o at line 2:  its class `0` (high), from the start of the thread\n  type of buf at line 2:  its class `m == 0`, from the lock l, line 2\n"
 a_control_and_an_assignment = simp (decimal_digit 0 (lit< tt), decimal_digit 2 (lit< tt), decimal_digit 3 (lit< tt))
 
@@ -225,8 +245,19 @@ hidden : type_lines program 0 text (taken ∷ joined [] ∷ []) (q.Freed 1) (s.u
 hidden = simp (decimal_digit 4 (lit< tt))
 
 not_hidden : type_lines program 0 text (joined [] ∷ returned ∷ []) (q.Retyped 2) s.skip
-    ≡ codes "  type of o:  its class `0` (high), since the join of the `if`, line 4, doesn't list it; then l is given back, line 4, which turns a type that mentions what it protects into its class `0` (high)\n"
+    ≡ codes "  type of o:  its class `0` (high), since the join of the `if`, line 4, doesn't list it\n"
 not_hidden = simp (decimal_digit 0 (lit< tt), decimal_digit 4 (lit< tt))
+
+-- under its lock a type that is forgotten says nothing
+forgotten_where_hidden : type_lines program 0 text (taken ∷ passed 3 (s.assign 0 (const 1) None []) ∷ []) (q.Controlled 1) s.skip
+    ≡ codes "  type of buf:  its class `m == 0`, from the lock l, line 2; then m is stored to, line 3, which it mentions, so that it becomes 0\n"
+forgotten_where_hidden = simp (decimal_digit 0 (lit< tt), decimal_digit 2 (lit< tt), decimal_digit 3 (lit< tt))
+
+-- others may read `o`
+forgotten_by_return : type_lines program 0 text (taken ∷ stored ∷ returned ∷ []) q.Printed (s.output (var 2))
+    ≡ codes "  type of o:  from the assignment, line 2, of `o + buf`; then l is given back, line 4, and it mentions what that protects, so that it becomes its class `0` (high)\n"
+    ++ codes "  type of o at line 2:  its class `0` (high), from the start of the thread\n  type of buf at line 2:  its class `m == 0`, from the lock l, line 2\n"
+forgotten_by_return = simp (decimal_digit 0 (lit< tt), decimal_digit 2 (lit< tt), decimal_digit 4 (lit< tt))
 
 by_its_lock : type_lines program 0 text (taken ∷ []) (q.Controlled 1) s.skip ≡ codes "  type of buf:  its class `m == 0`, from the lock l, line 2\n"
 by_its_lock = simp (decimal_digit 0 (lit< tt), decimal_digit 2 (lit< tt))

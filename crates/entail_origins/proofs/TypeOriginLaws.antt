@@ -1,35 +1,39 @@
--- The type of a variable changes only in the steps that its history names.
+-- The type of a variable is set by the step that its origin names, and changed by the one that its last change does.
 use Rattle.std.proofs.Common.{◌≡◌, ◌≤◌, ◌<◌, ℕ, zero, suc, ◌+◌, ◌==◌, List, [], ◌∷◌, ◌++◌, Bool, true, false, Option, Some, None, is_some, refl, sym, ◌∙◌, ap, subst, arith, append_assoc, length, get_or, if◌then◌else◌, option_map, unwrap_or, ◌⊎◌, inl, inr}
-use Rattle.std.specs.Prelude.{◌||◌, ◌&&◌, not}
+use Rattle.std.specs.Prelude.{◌||◌, ◌&&◌, not, option_and_then, set}
 use Rattle.std.specs.Option.{option_or}
 use Rattle.std.proofs.lemmas.Bool.{cases_Bool, cases_lt}
 use Rattle.std.proofs.lemmas.List.{append-nil, get_or_past, length-append}
 use Rattle.std.proofs.lemmas.List.Elements.{All-nil, All-push}
 use Rattle.std.proofs.lemmas.List.FromFn.{get_or-map-range_with_len, length-map-range_with_len}
 use Rattle.std.proofs.Math.ListN.{get_or-map}
+use Rattle.cov_expr.proofs.Trees.{same_is, same_refl}
 use Rattle.cov_expr.specs.Term.{Term}
+use Rattle.cov_expr.specs.Trees.{mentions}
 use Rattle.cov_ast.proofs.TableLaws.{table_at, table_length}
 use Rattle.cov_ast.specs.Declarations.{class_of, is_control, lists, no_lock, under}
 use Rattle.cov_ast.specs.Plain.{Plain}
 use Rattle.cov_ast.specs.Syntax.{State, skip, assign, lock, unlock, branch, loop, note, output}
 use Rattle.cov_ast.specs.Tables.{has}
 use Rattle.point_law.specs.Point.{controls_of}
-use Rattle.entail_origins.proofs.PointLaws.{appended}
-use Rattle.entail_origins.specs.Points as points
-use Rattle.entail_origins.specs.Points.{point_after_steps}
 use Rattle.statement_paths.specs.Paths.{Step, passed, yes, no, head, place_of}
 use Rattle.typing_law.specs.Blocks.{after_block, value_type}
-use Rattle.point_law.specs.After.{start, start_type, with_guard, updated, updated_from, retyped, listed_or, locked_type, assigned_type, forgotten_type}
-use Rattle.point_law.specs.Point.{Point, default_type, given_type, is_tracked}
+use Rattle.typing_points.proofs.OfTheRules.{Is, step_is, then_is}
+use Rattle.typing_points.proofs.PointLaws.{appended}
+use Rattle.typing_points.specs.Points as points
+use Rattle.typing_points.specs.Points.{point_after_steps}
+use Rattle.typing_points.specs.PointsBehind.{behind_step}
+use Rattle.point_law.specs.After.{start, start_type, with_guard, updated, updated_from, retyped, listed_or, locked_type, assigned_type, forgotten_type, kept_type, unlocked_type}
+use Rattle.point_law.specs.Point.{Point, default_type, given_type, is_over_stable, is_tracked}
 use Rattle.point_law.specs.Terms.{listed}
-use Rattle.entail_origins.specs.TypeOrigins.{history_after_step, history_after_steps, changed_by, is_listed, locks_over, no_history, set_by, set_by_assignment, set_by_state, set_by_types, change_at, changed_at, where_true, with_step}
-use Rattle.entail_origins.specs.TypesFromOrigins.{IsFrom, IsTold, TellsOfType, type_by_source, type_by_source_in, type_after_steps}
+use Rattle.entail_origins.specs.TypeChanges.{change_after_step, change_after_steps, change_at, changed_by, is_same_type, seen, type_there, unless_set, where_other, with_change}
+use Rattle.entail_origins.specs.TypeOrigins.{is_listed, locks_over, origin_after_step, origin_after_steps, set_by, set_by_assignment, set_by_state, set_by_types, where_true, with_source}
+use Rattle.entail_origins.specs.TypesFromOrigins.{Changed, IsFrom, IsTold, TellsOfType, type_by_source, type_by_source_in, type_after_steps}
 use Rattle.entail_origins.specs.declared.type_origin.By.{By}
 use Rattle.entail_origins.specs.declared.type_origin.By.TheVariants as by
+use Rattle.entail_origins.specs.declared.type_origin.Later.{Later}
 use Rattle.entail_origins.specs.declared.type_origin.TypeChange.{TypeChange}
 use Rattle.entail_origins.specs.declared.type_origin.TypeChange.TheVariants as change
-use Rattle.entail_origins.specs.declared.type_origin.History.{History}
-use Rattle.entail_origins.specs.declared.type_origin.Later.{Later}
 use Rattle.entail_origins.specs.declared.type_origin.TypeOrigin.{TypeOrigin}
 use Rattle.entail_origins.specs.declared.type_origin.TypeSource.{TypeSource}
 use Rattle.entail_origins.specs.declared.type_origin.TypeSource.TheVariants as source
@@ -123,6 +127,56 @@ retyped_listed : (f : ℕ → Term → Term) (types : List (ℕ × Term)) (other
 retyped_listed f types other qs z there h some =
     let found = is_there types z there in
     retyped_to f qs z found.0 (λ g. h g ∙ ap (λ o. unwrap_or o (other g)) found.1) some ∙ sym found.1
+
+-- Types at two points ------------------------------------------------------------------------------------------
+
+same_type_is : (q r : Option Term) → is_same_type q r ≡ true → r ≡ q
+same_type_is None None h = refl
+same_type_is None (Some r) h = let c : ◌≡◌ {A = Bool} false true = h in cc
+same_type_is (Some q) None h = let c : ◌≡◌ {A = Bool} false true = h in cc
+same_type_is (Some q) (Some r) h = ap Some (sym (same_is q r h))
+
+same_type_refl : (q : Option Term) → is_same_type q q ≡ true
+same_type_refl None = refl
+same_type_refl (Some q) = same_refl q
+
+-- where no change is seen the types are one
+not_other : (q r : Option Term) → where_other q r ≡ None → r ≡ q
+not_other q r h = each (is_same_type q r) refl h
+  where
+    each : (b : Bool) → is_same_type q r ≡ b → (if b then None else Some true) ≡ None → r ≡ q
+    each true e k = same_type_is q r e
+    each false e k = let c : ◌≡◌ {A = Option Bool} (Some true) None = k in cc
+
+-- and where one is they aren't
+is_other : (q r : Option Term) → where_other q r ≡ Some true → ¬ (r ≡ q)
+is_other q r h e =
+    let none : where_other q r ≡ None = ap (λ s. where_other q s) e ∙ ap (λ b. if b then None else Some true) (same_type_refl q) in
+    let c : ◌≡◌ {A = Option Bool} None (Some true) = sym none ∙ h in cc
+
+not_changed : (z : ℕ) (a b : Option Point) (front behind : Point) → Is front a → Is behind b → seen (type_there z a) (type_there z b) ≡ None
+    → given_type behind z ≡ given_type front z
+not_changed z None b front behind h k none = let c : ◌≡◌ {A = Option Bool} (Some false) None = none in cc
+not_changed z (Some x) None front behind h k none = let c : ◌≡◌ {A = Option Bool} (Some false) None = none in cc
+not_changed z (Some x) (Some y) front behind h k none =
+    ap (λ c. given_type c z) (sym k) ∙ not_other (given_type x z) (given_type y z) none ∙ ap (λ c. given_type c z) h
+
+is_changed : (z : ℕ) (a b : Option Point) (front behind : Point) → Is front a → Is behind b → seen (type_there z a) (type_there z b) ≡ Some true
+    → ¬ (given_type behind z ≡ given_type front z)
+is_changed z None b front behind h k some e = let c : ◌≡◌ {A = Option Bool} (Some false) (Some true) = some in cc
+is_changed z (Some x) None front behind h k some e = let c : ◌≡◌ {A = Option Bool} (Some false) (Some true) = some in cc
+is_changed z (Some x) (Some y) front behind h k some e =
+    is_other (given_type x z) (given_type y z) some (ap (λ c. given_type c z) k ∙ e ∙ ap (λ c. given_type c z) (sym h))
+
+-- a type that is forgotten under a condition, and is another then
+forgot : (b : Bool) (g d : Term) (front behind : Option Term) → front ≡ Some g → behind ≡ Some (if b then d else g) → ¬ (behind ≡ front) → behind ≡ Some d
+forgot true g d front behind was is other = is
+forgot false g d front behind was is other = absurd (other (is ∙ sym was))
+
+-- the same of one that is kept under a condition
+not_kept : (b : Bool) (g d : Term) (front behind : Option Term) → front ≡ Some g → behind ≡ Some (if b then g else d) → ¬ (behind ≡ front) → behind ≡ Some d
+not_kept true g d front behind was is other = absurd (other (is ∙ sym was))
+not_kept false g d front behind was is other = is
 
 module _ (p : Plain) (t z : ℕ) (declared : (x : ℕ) → length p.vars ≤ x → is_control p x ≡ false) (no_control : is_control p z ≡ false) where
   abbrev cs : List Bool
@@ -245,6 +299,73 @@ module _ (p : Plain) (t z : ℕ) (declared : (x : ℕ) → length p.vars ≤ x �
       subst (Gives (head at inv) a) (ap (λ o. unwrap_or o (set_by_state z by.LoopState inv)) h)
       (by_state by.LoopState inv a.held None a.types (is_listed inv.types z) refl some)
 
+  -- What forgets a type -----------------------------------------------------------------------------------------
+
+  abbrev Becomes : Step → Point → Type 0
+  Becomes s a = given_type (points.after_step p t s a) z ≡ Some (default_type p t (points.after_step p t s a).held z)
+
+  abbrev Differs : Step → Point → Type 0
+  Differs s a = ¬ (given_type (points.after_step p t s a) z ≡ given_type a z)
+
+  by_store : (at x : ℕ) (e : Term) (q : Option Term) (retypes : List (ℕ × Term)) (a : Point) → has cs x ≡ true
+      → set_by_assignment cs z x retypes ≡ None → is_some (given_type (points.after_step p t (passed at (assign x e q retypes)) a) z) ≡ true
+      → Differs (passed at (assign x e q retypes)) a → Becomes (passed at (assign x e q retypes)) a
+  by_store at x e q retypes a control sets some other = by_front (get_or a.types z None) refl
+    where
+      others : is_listed retypes z ≡ false
+      others =
+          fails (is_listed retypes z) (source.Listed by.Retype)
+          (sym (ap (λ b. if b then set_by_types z by.Retype retypes else where_true (x == z) source.Stored) control) ∙ sets)
+
+      forgets : (g : Term) → assigned_type p t a.held x (value_type p t a q e) retypes z g ≡ forgotten_type p t a.held x z g
+      forgets g =
+          ap (λ b. if b then listed_or retypes z (forgotten_type p t a.held x z g) else (if x == z then value_type p t a q e else g)) (is_one x control)
+          ∙ kept_listed retypes z (forgotten_type p t a.held x z g) others
+
+      changed : get_or (retyped (assigned_type p t a.held x (value_type p t a q e) retypes) a.types) z None
+          ≡ option_map (assigned_type p t a.held x (value_type p t a q e) retypes z) (get_or a.types z None)
+      changed = updated_where (λ y r. option_map (assigned_type p t a.held x (value_type p t a q e) retypes y) r) a.types z some
+
+      by_front : (o : Option Term) → get_or a.types z None ≡ o → Becomes (passed at (assign x e q retypes)) a
+      by_front None was = no_type (sym (ap is_some (changed ∙ ap (λ o. option_map (assigned_type p t a.held x (value_type p t a q e) retypes z) o) was)) ∙ some)
+      by_front (Some g) was =
+          forgot (mentions g x) g (default_type p t a.held z) (get_or a.types z None)
+          (get_or (retyped (assigned_type p t a.held x (value_type p t a q e) retypes) a.types) z None) was
+          (changed ∙ ap (λ o. option_map (assigned_type p t a.held x (value_type p t a q e) retypes z) o) was ∙ ap Some (forgets g)) other
+
+  by_return : (at l : ℕ) (a : Point) → is_some (given_type (points.after_step p t (passed at (unlock l)) a) z) ≡ true
+      → Differs (passed at (unlock l)) a → Becomes (passed at (unlock l)) a
+  by_return at l a some other = by_tracked (is_tracked p t held z) (updated_where (unlocked_type p t held) a.types z some)
+    where
+      held : List Bool
+      held = set a.held l false
+
+      behind : Option Term
+      behind = get_or (updated (unlocked_type p t held) a.types) z None
+
+      by_front : (o : Option Term) → get_or a.types z None ≡ o → behind ≡ option_map (kept_type p t held z) o → behind ≡ Some (default_type p t held z)
+      by_front None was is = no_type (sym (ap is_some is) ∙ some)
+      by_front (Some g) was is = not_kept (is_over_stable p t held g) g (default_type p t held z) (get_or a.types z None) behind was is other
+
+      by_tracked : (b : Bool) → behind ≡ (if b then option_map (kept_type p t held z) (get_or a.types z None) else None) → behind ≡ Some (default_type p t held z)
+      by_tracked true is = by_front (get_or a.types z None) refl is
+      by_tracked false is = no_type (sym (ap is_some is) ∙ some)
+
+  -- what may forget a type, and by which it is another, did forget it
+  becomes : (s : Step) (a : Point) (y : TypeChange) → set_by cs ls z s ≡ None → changed_by cs s ≡ Some y → is_some (given_type (points.after_step p t s a) z) ≡ true
+      → Differs s a → Becomes s a
+  becomes (passed at skip) a y h k some other = let c : ◌≡◌ {A = Option TypeChange} None (Some y) = k in cc
+  becomes (passed at (assign x e q retypes)) a y h k some other = by_store at x e q retypes a (holds (has cs x) (change.ControlStored x) y k).0 h some other
+  becomes (passed at (lock l)) a y h k some other = let c : ◌≡◌ {A = Option TypeChange} None (Some y) = k in cc
+  becomes (passed at (unlock l)) a y h k some other = by_return at l a some other
+  becomes (passed at (branch e yes_block no_block join)) a y h k some other = let c : ◌≡◌ {A = Option TypeChange} None (Some y) = k in cc
+  becomes (passed at (loop e inv b)) a y h k some other = let c : ◌≡◌ {A = Option TypeChange} None (Some y) = k in cc
+  becomes (passed at (note j)) a y h k some other = let c : ◌≡◌ {A = Option TypeChange} None (Some y) = k in cc
+  becomes (passed at (output e)) a y h k some other = let c : ◌≡◌ {A = Option TypeChange} None (Some y) = k in cc
+  becomes (yes at e) a y h k some other = let c : ◌≡◌ {A = Option TypeChange} None (Some y) = k in cc
+  becomes (no at e) a y h k some other = let c : ◌≡◌ {A = Option TypeChange} None (Some y) = k in cc
+  becomes (head at inv) a y h k some other = let c : ◌≡◌ {A = Option TypeChange} None (Some y) = k in cc
+
   -- a type at the start is the class
   at_start : is_some (type_after_steps p t z []) ≡ true → type_after_steps p t z [] ≡ Some (class_of p z)
   at_start some = by_case (cases_lt z (length p.vars))
@@ -280,38 +401,107 @@ module _ (p : Plain) (t z : ℕ) (declared : (x : ℕ) → length p.vars ≤ x �
     says = same ∙ from.says;
   }
 
-  one_step : (done : List Step) (s : Step) (h : History) → IsTold p t z done h → IsTold p t z (done ++ s ∷ []) (history_after_step cs ls z (length done) s h)
-  one_step done s h told = by_source (set_by cs ls z s) refl
-    where
-      same : set_by cs ls z s ≡ None → changed_by cs s ≡ None → type_after_steps p t z (done ++ s ∷ []) ≡ type_after_steps p t z done
-      same e k = ap (λ a. given_type a z) (appended p t done (s ∷ []) (start p t)) ∙ unset s (point_after_steps p t done) e k
-
-      by_change : set_by cs ls z s ≡ None → (y : Option TypeChange) → changed_by cs s ≡ y → IsTold p t z (done ++ s ∷ []) (changed_at (place_of s) y h)
-      by_change e None k = λ later some. longer done s h.origin (told later (sym (ap is_some (same e k)) ∙ some)) e (same e k)
-      by_change e (Some y) k = λ later some. let c : ◌≡◌ {A = Option Later} (Some (change_at (place_of s) y)) None = later in cc
-
-      by_source : (x : Option TypeSource) → set_by cs ls z s ≡ x → IsTold p t z (done ++ s ∷ []) (with_step (length done) (place_of s) x (changed_by cs s) h)
-      by_source None e = by_change e (changed_by cs s) refl
-      by_source (Some x) e = λ later some. record {
-        front = done;
-        step = s;
-        back = [];
-        parts = refl;
-        counted = refl;
-        placed = refl;
-        last = All-nil (λ r. set_by cs ls z r ≡ None);
-        sets = e;
-        says =
-            let last = ap (λ a. given_type a z) (appended p t done (s ∷ []) (start p t)) in
-            last ∙ gives s (point_after_steps p t done) x e (sym (ap is_some last) ∙ some);
+  told_longer : (done : List Step) (s : Step) (o : Option TypeOrigin) (l : Option Later) → set_by cs ls z s ≡ None
+      → type_after_steps p t z (done ++ s ∷ []) ≡ type_after_steps p t z done → IsTold p t z done o l → IsTold p t z (done ++ s ∷ []) o l
+  told_longer done s o None sets same told = λ some. longer done s o (told (sym (ap is_some same) ∙ some)) sets same
+  told_longer done s o (Some c) sets same told = λ known some.
+      let k = told known (sym (ap is_some same) ∙ some) in
+      record {
+        front = k.front;
+        step = k.step;
+        back = k.back ++ s ∷ [];
+        parts = ap (λ ss. ss ++ s ∷ []) k.parts ∙ append_assoc k.front (k.step ∷ k.back) (s ∷ []);
+        counted = k.counted;
+        placed = k.placed;
+        by = k.by;
+        last = All-push (λ r. set_by cs ls z r ≡ None) (k.step ∷ k.back) s k.last sets;
+        differs = k.differs;
+        becomes = same ∙ k.becomes;
       }
 
-  along : (index : ℕ) (done rest : List Step) (h : History) → length done ≡ index → IsTold p t z done h → IsTold p t z (done ++ rest) (history_after_steps cs ls z index rest h)
-  along index done [] h counted told = subst (λ ss. IsTold p t z ss h) (sym (append-nil done)) told
-  along index done (s ∷ rest) h counted told =
-      subst (λ ss. IsTold p t z ss (history_after_steps cs ls z (index + 1) rest (history_after_step cs ls z index s h))) (append_assoc done (s ∷ []) rest)
-      (along (index + 1) (done ++ s ∷ []) rest (history_after_step cs ls z index s h) (length-append done (s ∷ []) ∙ ap (λ n. n + 1) counted)
-      (subst (λ n. IsTold p t z (done ++ s ∷ []) (history_after_step cs ls z n s h)) counted (one_step done s h told)))
+  abbrev IsAt : List Step → Option Point → Type 0
+  IsAt done a = Is (point_after_steps p t done) a
+
+  abbrev behind : Step → Option Point → Option Point
+  behind s a = option_and_then (behind_step p t s) a
+
+  module _ (done : List Step) (s : Step) where
+    last : point_after_steps p t (done ++ s ∷ []) ≡ points.after_step p t s (point_after_steps p t done)
+    last = appended p t done (s ∷ []) (start p t)
+
+    passed_to : (a : Option Point) → IsAt done a → Is (points.after_step p t s (point_after_steps p t done)) (behind s a)
+    passed_to a h = then_is p t a (point_after_steps p t done) (behind_step p t s) (points.after_step p t s) h (step_is p t s)
+
+    further_at : (a : Option Point) → IsAt done a → IsAt (done ++ s ∷ []) (behind s a)
+    further_at a h = subst (λ x. Is x (behind s a)) (sym last) (passed_to a h)
+
+    new_type : type_after_steps p t z (done ++ s ∷ []) ≡ given_type (points.after_step p t s (point_after_steps p t done)) z
+    new_type = ap (λ a. given_type a z) last
+
+    new_change : (y : TypeChange) → set_by cs ls z s ≡ None → changed_by cs s ≡ Some y → Differs s (point_after_steps p t done)
+        → is_some (type_after_steps p t z (done ++ s ∷ [])) ≡ true → Changed p t z (done ++ s ∷ []) (change_at (length done + 1) (place_of s) y true)
+    new_change y sets is other some = record {
+      front = done;
+      step = s;
+      back = [];
+      parts = refl;
+      counted = refl;
+      placed = refl;
+      by = is;
+      last = All-push (λ r. set_by cs ls z r ≡ None) [] s (All-nil (λ r. set_by cs ls z r ≡ None)) sets;
+      differs = λ e. other (sym new_type ∙ e);
+      becomes =
+          new_type ∙ becomes s (point_after_steps p t done) y sets is (sym (ap is_some new_type) ∙ some) other
+          ∙ ap (λ a. Some (default_type p t a.held z)) (sym last);
+    }
+
+    new_origin : (x : TypeSource) → set_by cs ls z s ≡ Some x → IsTold p t z (done ++ s ∷ []) (with_source (length done) (place_of s) (Some x) None) None
+    new_origin x e = λ some. record {
+      front = done;
+      step = s;
+      back = [];
+      parts = refl;
+      counted = refl;
+      placed = refl;
+      last = All-nil (λ r. set_by cs ls z r ≡ None);
+      sets = e;
+      says = new_type ∙ gives s (point_after_steps p t done) x e (sym (ap is_some new_type) ∙ some);
+    }
+
+    one_step : (a : Option Point) (o : Option TypeOrigin) (l : Option Later) → IsAt done a → IsTold p t z done o l
+        → IsTold p t z (done ++ s ∷ []) (origin_after_step cs ls z (length done) s o) (change_after_step p t cs ls z (length done + 1) s a (behind s a) l)
+    one_step a o l at told = by_source (set_by cs ls z s) refl
+      where
+        by_seen : set_by cs ls z s ≡ None → (y : TypeChange) → changed_by cs s ≡ Some y → (k : Option Bool) → seen (type_there z a) (type_there z (behind s a)) ≡ k
+            → IsTold p t z (done ++ s ∷ []) o (with_change (length done + 1) (place_of s) (Some y) k l)
+        by_seen e y is None k =
+            told_longer done s o l e
+            (new_type ∙ not_changed z a (behind s a) (point_after_steps p t done) (points.after_step p t s (point_after_steps p t done)) at (passed_to a at) k) told
+        by_seen e y is (Some true) k = λ known some.
+            new_change y e is
+            (is_changed z a (behind s a) (point_after_steps p t done) (points.after_step p t s (point_after_steps p t done)) at (passed_to a at) k) some
+        by_seen e y is (Some false) k = λ known some. let c : ◌≡◌ {A = Bool} false true = known in cc
+
+        by_change : set_by cs ls z s ≡ None → (y : Option TypeChange) → changed_by cs s ≡ y
+            → IsTold p t z (done ++ s ∷ []) o (with_change (length done + 1) (place_of s) y (seen (type_there z a) (type_there z (behind s a))) l)
+        by_change e None is = told_longer done s o l e (new_type ∙ unset s (point_after_steps p t done) e is) told
+        by_change e (Some y) is = by_seen e y is (seen (type_there z a) (type_there z (behind s a))) refl
+
+        by_source : (x : Option TypeSource) → set_by cs ls z s ≡ x
+            → IsTold p t z (done ++ s ∷ []) (with_source (length done) (place_of s) x o)
+            (unless_set x (with_change (length done + 1) (place_of s) (changed_by cs s) (seen (type_there z a) (type_there z (behind s a))) l))
+        by_source None e = by_change e (changed_by cs s) refl
+        by_source (Some x) e = new_origin x e
+
+  along : (index : ℕ) (done rest : List Step) (a : Option Point) (o : Option TypeOrigin) (l : Option Later) → length done ≡ index → IsAt done a
+      → IsTold p t z done o l → IsTold p t z (done ++ rest) (origin_after_steps cs ls z index rest o) (change_after_steps p t cs ls z index a rest l)
+  along index done [] a o l counted at told = subst (λ ss. IsTold p t z ss o l) (sym (append-nil done)) told
+  along index done (s ∷ rest) a o l counted at told =
+      let o2 = origin_after_step cs ls z index s o in
+      let l2 = change_after_step p t cs ls z (index + 1) s a (behind s a) l in
+      subst (λ ss. IsTold p t z ss (origin_after_steps cs ls z (index + 1) rest o2) (change_after_steps p t cs ls z (index + 1) (behind s a) rest l2)) (append_assoc done (s ∷ []) rest)
+      (along (index + 1) (done ++ s ∷ []) rest (behind s a) o2 l2 (length-append done (s ∷ []) ∙ ap (λ n. n + 1) counted) (further_at done s a at)
+      (subst (λ n. IsTold p t z (done ++ s ∷ []) (origin_after_step cs ls z n s o) (change_after_step p t cs ls z (n + 1) s a (behind s a) l)) counted (one_step done s a o l at told)))
 
   pub tells : (ss : List Step) → TellsOfType p t z ss
-  tells ss = along 0 [] ss no_history refl (λ later some. at_start some)
+  tells ss = along 0 [] ss (Some (start p t)) None None refl refl (λ some. at_start some)

@@ -11,7 +11,7 @@ use Rattle.cov_ast.specs.Tables.{has}
 use Rattle.statement_paths.specs.Paths.{Step, passed, yes, no, head}
 use Rattle.entail_origins.specs.AskedVariables.{untyped_value, vars_of}
 use Rattle.entail_origins.specs.KnownTypes.{known_after_steps}
-use Rattle.entail_origins.specs.TypeOrigins.{history, locks_over}
+use Rattle.entail_origins.specs.TypeOrigins.{locks_over, origin_along}
 use Rattle.entail_origins.specs.declared.followed_types.VariableAt.{VariableAt}
 use Rattle.entail_origins.specs.declared.known_types.Known.{Known}
 use Rattle.entail_origins.specs.declared.type_origin.TypeOrigin.{TypeOrigin}
@@ -56,7 +56,7 @@ followed_value (source.Unlisted by) s = None
 -- where the type of a variable behind steps comes from, if it is tracked there
 abbrev pub origin_of : Plain → List Step → Known → (z : ℕ) → Option TypeOrigin
 origin_of p steps known z =
-    if has known.controls z then None else (if has known.stable z then (history known.controls (locks_over p z) z steps).origin else None)
+    if has known.controls z then None else (if has known.stable z then origin_along known.controls (locks_over p z) z steps else None)
 
 -- with the variables behind an origin
 abbrev pub with_origin : (most : ℕ) → (controls : List Bool) → List Step → List VariableAt → Option TypeOrigin → List VariableAt

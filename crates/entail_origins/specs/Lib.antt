@@ -1,11 +1,11 @@
 pub mod GivenViews
 pub mod Origins
-pub mod Points
 pub mod Remarks
 pub mod Questions
 pub mod QuestionLines
 pub mod OwnEntailments
 pub mod TypeOrigins
+pub mod TypeChanges
 pub mod AskedVariables
 pub mod GoalTypes
 pub mod KnownTypes

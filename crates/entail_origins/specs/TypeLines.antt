@@ -1,6 +1,6 @@
 -- A line for each variable whose type makes up a goal: where its type comes from; and behind these, where it comes from an assignment, lines
 -- for the variables of its value. Classes, values and written types are spelled canonically.
-use Rattle.std.specs.Prelude.{ℕ, ◌+◌, ◌-◌, ◌==◌, length, map, take, List, [], ◌∷◌, ◌++◌, ◌&&◌, Bool, true, false, codes, decimal, if◌then◌else◌, Option, Some, None}
+use Rattle.std.specs.Prelude.{ℕ, ◌+◌, ◌-◌, ◌==◌, length, map, take, List, [], ◌∷◌, ◌++◌, Bool, true, false, codes, decimal, if◌then◌else◌, Option, Some, None}
 use Rattle.std.specs.List.{slice_get}
 use Rattle.cov_expr.specs.Term.{Term, const}
 use Rattle.cov_ast.specs.Declarations.{class_of, lock_at, name_of}
@@ -11,18 +11,19 @@ use Rattle.cov_print.specs.Spelling.{Names, whole}
 use Rattle.entail_origins.specs.declared.kinds.Question.{Question}
 use Rattle.text_parts.specs.VariableNames.{variable_names}
 use Rattle.statement_paths.specs.Paths.{Step, passed, yes, no, head, place_of}
+use Rattle.statement_paths.specs.VariableSets.{hidden_after_steps}
 use Rattle.text_parts.specs.Lines.{line}
 use Rattle.entail_origins.specs.AskedVariables.{variables_of}
 use Rattle.entail_origins.specs.FollowedTypes.{at_point, followed}
 use Rattle.entail_origins.specs.KnownTypes.{known_after_steps}
-use Rattle.entail_origins.specs.TypeOrigins.{history, locks_over}
+use Rattle.entail_origins.specs.TypeChanges.{change_along}
+use Rattle.entail_origins.specs.TypeOrigins.{locks_over, origin_along}
 use Rattle.entail_origins.specs.declared.followed_types.VariableAt.{VariableAt}
 use Rattle.entail_origins.specs.declared.known_types.Known.{Known}
 use Rattle.entail_origins.specs.declared.type_origin.By.{By}
 use Rattle.entail_origins.specs.declared.type_origin.By.TheVariants as by
 use Rattle.entail_origins.specs.declared.type_origin.TypeChange.{TypeChange}
 use Rattle.entail_origins.specs.declared.type_origin.TypeChange.TheVariants as change
-use Rattle.entail_origins.specs.declared.type_origin.History.{History}
 use Rattle.entail_origins.specs.declared.type_origin.Later.{Later}
 use Rattle.entail_origins.specs.declared.type_origin.TypeOrigin.{TypeOrigin}
 use Rattle.entail_origins.specs.declared.type_origin.TypeSource.{TypeSource}
@@ -139,37 +140,28 @@ change_word (change.Returned l) = codes " is given back"
 abbrev pub change_text : Plain → TypeChange → List ℕ
 change_text p c = codes "; then " ++ change_subject p c ++ change_word c
 
--- what stands behind the line of it
-abbrev pub change_end : TypeChange → List ℕ
-change_end (change.ControlStored x) = codes ", which turns a type that mentions it into "
-change_end (change.Returned l) = codes ", which turns a type that mentions what it protects into "
+-- what stands behind the line of a change that is known, or of one that may have been
+abbrev pub change_end : (is_known : Bool) → TypeChange → List ℕ
+change_end true (change.ControlStored x) = codes ", which it mentions, so that it becomes "
+change_end false (change.ControlStored x) = codes ", which it may mention, so that it may become "
+change_end true (change.Returned l) = codes ", and it mentions what that protects, so that it becomes "
+change_end false (change.Returned l) = codes ", and it may mention what that protects, so that it may become "
 
-abbrev pub forgotten_text : Plain → Names → (bytes : List ℕ) → (hidden : Bool) → (z : ℕ) → Later → List ℕ
-forgotten_text p names bytes hidden z c = change_text p c.change ++ place_text bytes c.at ++ change_end c.change ++ default_text p names hidden z
+-- what is known of a variable without more behind steps
+abbrev pub default_behind : Plain → (t : ℕ) → Names → List Step → (z : ℕ) → List ℕ
+default_behind p t names steps z = default_text p names (has (hidden_after_steps p t steps) z) z
 
--- what may have forgotten a type since, if something may
-abbrev pub later_text : Plain → Names → (bytes : List ℕ) → (hidden : Bool) → (z : ℕ) → Option Later → List ℕ
-later_text p names bytes hidden z None = []
-later_text p names bytes hidden z (Some c) = forgotten_text p names bytes hidden z c
+-- a change, and what the type becomes by it, behind the last of the steps that it counts
+abbrev pub changed_text : Plain → (t : ℕ) → Names → (bytes : List ℕ) → List Step → (z : ℕ) → Later → List ℕ
+changed_text p t names bytes steps z c =
+    change_text p c.change ++ place_text bytes c.at ++ change_end c.is_known c.change ++ default_behind p t names (take c.steps steps) z
+
+-- the last change of a type since it was set, if there is one
+abbrev pub later_text : Plain → (t : ℕ) → Names → (bytes : List ℕ) → List Step → (z : ℕ) → Option Later → List ℕ
+later_text p t names bytes steps z None = []
+later_text p t names bytes steps z (Some c) = changed_text p t names bytes steps z c
 
 -- Lines --------------------------------------------------------------------------------------------------------
-
--- whether a state that doesn't list the variable sets a type
-abbrev pub is_unlisted : TypeSource → Bool
-is_unlisted source.Stored = false
-is_unlisted (source.Taken l) = false
-is_unlisted (source.Listed by) = false
-is_unlisted (source.Unlisted by) = true
-
--- whether a type is 0 from its origin on, so that no change turns it into another: of a variable that no other thread may read, by a state that doesn't list it
-abbrev pub is_zero_since : (hidden : Bool) → Option TypeOrigin → Bool
-is_zero_since hidden None = false
-is_zero_since hidden (Some o) = hidden && is_unlisted o.source
-
--- where a type comes from, and unless it is 0 since, what may have forgotten it
-abbrev pub history_text : Plain → Names → (bytes : List ℕ) → List Step → (hidden : Bool) → (z : ℕ) → History → List ℕ
-history_text p names bytes steps hidden z h =
-    origin_text p names bytes steps hidden z h.origin ++ (if is_zero_since hidden h.origin then [] else later_text p names bytes hidden z h.later)
 
 -- where a type is looked at: in front of a step, which is in the line of an assignment, or at the point of which is asked
 abbrev pub point_text : (bytes : List ℕ) → Option Step → List ℕ
@@ -188,20 +180,22 @@ label p bytes steps v = codes "  type of " ++ name_of p v.var ++ point_behind by
 abbrev pub shared_text : Plain → Names → (z : ℕ) → List ℕ
 shared_text p names z = class_text p names z ++ codes ", since it isn't stable here: the thread doesn't assume that no other writes it, and holds no lock that it is under"
 
-module _ (p : Plain) (names : Names) (bytes : List ℕ) (steps : List Step) (known : Known) where
-  -- of a variable that is tracked
-  abbrev pub tracked_text : (z : ℕ) → List ℕ
-  tracked_text z = history_text p names bytes steps (has known.hidden z) z (history known.controls (locks_over p z) z steps)
+module _ (p : Plain) (t : ℕ) (names : Names) (bytes : List ℕ) (steps : List Step) (known : Known) (z : ℕ) where
+  -- where a type comes from, and what changed it since, of a variable that is under these locks
+  abbrev pub history_text : (locks : List Bool) → List ℕ
+  history_text locks =
+      origin_text p names bytes steps (has known.hidden z) z (origin_along known.controls locks z steps)
+      ++ later_text p t names bytes steps z (change_along p t known.controls locks z steps)
 
   -- where the type of a variable behind steps comes from
-  abbrev pub type_text : (z : ℕ) → List ℕ
-  type_text z =
+  abbrev pub type_text : List ℕ
+  type_text =
       if has known.controls z then codes "1, as that of every control" else
-      (if has known.stable z then tracked_text z else shared_text p names z)
+      (if has known.stable z then history_text (locks_over p z) else shared_text p names z)
 
 -- the text on a variable behind steps
 abbrev pub behind_text : Plain → (t : ℕ) → Names → (bytes : List ℕ) → List Step → (z : ℕ) → List ℕ
-behind_text p t names bytes steps z = type_text p names bytes steps (known_after_steps p t steps) z
+behind_text p t names bytes steps z = type_text p t names bytes steps (known_after_steps p t steps) z
 
 module _ (p : Plain) (t : ℕ) (names : Names) (bytes : List ℕ) (steps : List Step) where
   abbrev pub type_line : VariableAt → List ℕ

@@ -1,8 +1,7 @@
--- Where the type of a variable behind steps comes from: the last step that sets it, and the last one after that which may forget it.
+-- Where the type of a variable behind steps comes from: the last step that sets it.
 --
 -- By the rules of types: a join and what a loop states set every type, listed or not; a note and the new types of an assignment to a
--- control set those that they list. A type is forgotten where it mentions a control that is stored to, or what a lock that is given
--- back protects.
+-- control set those that they list.
 use Rattle.std.specs.Prelude.{ℕ, ◌+◌, ◌==◌, List, [], ◌∷◌, Bool, map, if◌then◌else◌, Option, Some, None}
 use Rattle.std.specs.List.{list_any}
 use Rattle.cov_expr.specs.Term.{Term}
@@ -13,10 +12,7 @@ use Rattle.cov_ast.specs.Tables.{has}
 use Rattle.statement_paths.specs.Paths.{Step, passed, yes, no, head, place_of}
 use Rattle.entail_origins.specs.declared.type_origin.By.{By}
 use Rattle.entail_origins.specs.declared.type_origin.By.TheVariants as by
-use Rattle.entail_origins.specs.declared.type_origin.TypeChange.{TypeChange}
-use Rattle.entail_origins.specs.declared.type_origin.TypeChange.TheVariants as change
-use Rattle.entail_origins.specs.declared.type_origin.History.{History}
-use Rattle.entail_origins.specs.declared.type_origin.Later.{Later}
+use Rattle.entail_origins.specs.declared.type_origin.TypeOrigin.{TypeOrigin}
 use Rattle.entail_origins.specs.declared.type_origin.TypeSource.{TypeSource}
 use Rattle.entail_origins.specs.declared.type_origin.TypeSource.TheVariants as source
 
@@ -28,31 +24,11 @@ is_listed types z = list_any (λ r. r.0 == z) types
 abbrev pub locks_over : Plain → (z : ℕ) → List Bool
 locks_over p z = map (λ l. lists l z) p.locks
 
--- What a step does to the type of a variable --------------------------------------------------------------------
+-- What a step gives to the type of a variable -------------------------------------------------------------------
 
 -- something, where a condition holds
 abbrev pub where_true : {A : Type 0} → Bool → A → Option A
 where_true holds x = if holds then Some x else None
-
--- with the set of the controls
-module _ (controls : List Bool) where
-  -- what may forget it behind a statement
-  abbrev pub changed_past : Stm → Option TypeChange
-  changed_past skip = None
-  changed_past (assign x e q retypes) = where_true (has controls x) (change.ControlStored x)
-  changed_past (lock l) = None
-  changed_past (unlock l) = Some (change.Returned l)
-  changed_past (branch e a b join) = None
-  changed_past (loop e inv b) = None
-  changed_past (note j) = None
-  changed_past (output e) = None
-
-  -- what may forget it in a step
-  abbrev pub changed_by : Step → Option TypeChange
-  changed_by (passed at s) = changed_past s
-  changed_by (yes at e) = None
-  changed_by (no at e) = None
-  changed_by (head at inv) = None
 
 -- of a state that sets every type
 abbrev pub set_by_state : (z : ℕ) → By → State → TypeSource
@@ -86,38 +62,25 @@ module _ (controls locks : List Bool) (z : ℕ) where
   set_by (no at e) = None
   set_by (head at inv) = Some (set_by_state z by.LoopState inv)
 
--- The history of a type ----------------------------------------------------------------------------------------
+-- The origin of a type ------------------------------------------------------------------------------------------
 
--- a type that was set by the step with this index, and not changed since
-abbrev pub set_at : (index at : ℕ) → TypeSource → History
-set_at index at source = record { origin = Some (record { source = source; at = at; index = index }); later = None }
+-- a type that was set by the step with this index, which is how many stand in front of it
+abbrev pub set_at : (index at : ℕ) → TypeSource → TypeOrigin
+set_at index at source = record { source = source; at = at; index = index }
 
-abbrev pub change_at : (at : ℕ) → TypeChange → Later
-change_at at change = record { change = change; at = at }
+-- what sets the type is the origin from then on
+abbrev pub with_source : (index at : ℕ) → Option TypeSource → Option TypeOrigin → Option TypeOrigin
+with_source index at (Some source) o = Some (set_at index at source)
+with_source index at None o = o
 
--- the same type, which may be forgotten here
-abbrev pub changed_at : (at : ℕ) → Option TypeChange → History → History
-changed_at at None h = h
-changed_at at (Some change) h = record h { later = Some (change_at at change) }
-
--- what sets the type begins a new history
-abbrev pub with_step : (index at : ℕ) → Option TypeSource → Option TypeChange → History → History
-with_step index at (Some source) change h = set_at index at source
-with_step index at None change h = changed_at at change h
-
--- from the start of the thread
-abbrev pub no_history : History
-no_history = record { origin = None; later = None }
-
--- The index of a step is how many stand in front of it.
 module _ (controls locks : List Bool) (z : ℕ) where
-  abbrev pub history_after_step : (index : ℕ) → Step → History → History
-  history_after_step index s h = with_step index (place_of s) (set_by controls locks z s) (changed_by controls s) h
+  abbrev pub origin_after_step : (index : ℕ) → Step → Option TypeOrigin → Option TypeOrigin
+  origin_after_step index s o = with_source index (place_of s) (set_by controls locks z s) o
 
-  abbrev pub history_after_steps : (index : ℕ) → List Step → History → History
-  history_after_steps index [] h = h
-  history_after_steps index (s ∷ ss) h = history_after_steps (index + 1) ss (history_after_step index s h)
+  abbrev pub origin_after_steps : (index : ℕ) → List Step → Option TypeOrigin → Option TypeOrigin
+  origin_after_steps index [] o = o
+  origin_after_steps index (s ∷ ss) o = origin_after_steps (index + 1) ss (origin_after_step index s o)
 
-  -- the history of the type of the variable behind steps from the start of the thread
-  abbrev pub history : List Step → History
-  history ss = history_after_steps 0 ss no_history
+  -- the origin of the type of the variable behind steps from the start of the thread; none where no step sets it
+  abbrev pub origin_along : List Step → Option TypeOrigin
+  origin_along ss = origin_after_steps 0 ss None

@@ -1,18 +1,19 @@
--- What the history of a type says of the type at the point behind steps, by the rules of types.
+-- What the origin and the last change of a type say of the type at the point behind steps, by the rules of types.
 use Rattle.std.specs.List.{All}
-use Rattle.std.specs.Prelude.{◌≡◌, ℕ, length, List, [], ◌∷◌, ◌++◌, Bool, true, Option, Some, None, is_some}
+use Rattle.std.specs.Prelude.{◌≡◌, ℕ, ◌+◌, length, List, [], ◌∷◌, ◌++◌, Bool, true, Option, Some, None, is_some}
 use Rattle.cov_expr.specs.Term.{Term}
 use Rattle.cov_ast.specs.Declarations.{class_of}
 use Rattle.cov_ast.specs.Plain.{Plain}
 use Rattle.cov_ast.specs.Syntax.{Stm, skip, assign, lock, unlock, branch, loop, note, output}
 use Rattle.point_law.specs.Point.{controls_of}
-use Rattle.entail_origins.specs.Points.{after_step, point_after_steps}
+use Rattle.typing_points.specs.Points.{after_step, point_after_steps}
 use Rattle.statement_paths.specs.Paths.{Step, passed, yes, no, head, place_of}
 use Rattle.typing_law.specs.Blocks.{value_type}
 use Rattle.point_law.specs.Point.{Point, default_type, given_type}
 use Rattle.point_law.specs.Terms.{listed}
-use Rattle.entail_origins.specs.TypeOrigins.{history, locks_over, set_by}
-use Rattle.entail_origins.specs.declared.type_origin.History.{History}
+use Rattle.entail_origins.specs.TypeChanges.{change_along, changed_by}
+use Rattle.entail_origins.specs.TypeOrigins.{locks_over, origin_along, set_by}
+use Rattle.entail_origins.specs.declared.type_origin.Later.{Later}
 use Rattle.entail_origins.specs.declared.type_origin.TypeOrigin.{TypeOrigin}
 use Rattle.entail_origins.specs.declared.type_origin.TypeSource.{TypeSource}
 use Rattle.entail_origins.specs.declared.type_origin.TypeSource.TheVariants as source
@@ -59,7 +60,7 @@ type_by_source p t z stored types held (source.Unlisted by) = Some (default_type
 abbrev pub type_by_source_in : Plain → (t z : ℕ) → Step → Point → TypeSource → Option Term
 type_by_source_in p t z s a source = type_by_source p t z (stored_in p t s a) (types_in s) (after_step p t s a).held source
 
--- What a history says --------------------------------------------------------------------------------------------
+-- What an origin says --------------------------------------------------------------------------------------------
 
 -- the type of a variable at the point of a thread behind steps, if it is tracked there
 abbrev pub type_after_steps : Plain → (t z : ℕ) → List Step → Option Term
@@ -83,10 +84,28 @@ abbrev pub IsFrom : Plain → (t z : ℕ) → List Step → Option TypeOrigin �
 IsFrom p t z steps None = type_after_steps p t z steps ≡ Some (class_of p z)
 IsFrom p t z steps (Some o) = ComesFrom p t z steps o
 
--- where nothing may have forgotten the type since, and the variable is tracked
-abbrev pub IsTold : Plain → (t z : ℕ) → List Step → History → Type 0
-IsTold p t z steps h = h.later ≡ None → is_some (type_after_steps p t z steps) ≡ true → IsFrom p t z steps h.origin
+-- What a change says ---------------------------------------------------------------------------------------------
 
--- the history of the type of a variable tells of it behind these steps
+-- The last of the steps that a change counts is at its place and does what the change says, and by it the type becomes another, which is
+-- what is known of the variable without more. Behind it no step sets the type, and none changes it.
+pub record Changed (p : Plain) (t z : ℕ) (steps : List Step) (c : Later) : Type 0 where
+  pub front : List Step
+  pub step : Step
+  pub back : List Step
+  pub parts : steps ≡ front ++ step ∷ back
+  pub counted : length front + 1 ≡ c.steps
+  pub placed : place_of step ≡ c.at
+  pub by : changed_by (controls_of p) step ≡ Some c.change
+  pub last : All (λ s. set_by (controls_of p) (locks_over p z) z s ≡ None) (step ∷ back)
+  pub differs : ¬ (type_after_steps p t z (front ++ step ∷ []) ≡ type_after_steps p t z front)
+  pub becomes : type_after_steps p t z steps ≡ Some (default_type p t (point_after_steps p t (front ++ step ∷ [])).held z)
+
+-- Where no change is told, and the variable is tracked, the type is from its origin. One that is known did change it.
+abbrev pub IsTold : Plain → (t z : ℕ) → List Step → Option TypeOrigin → Option Later → Type 0
+IsTold p t z steps o None = is_some (type_after_steps p t z steps) ≡ true → IsFrom p t z steps o
+IsTold p t z steps o (Some c) = c.is_known ≡ true → is_some (type_after_steps p t z steps) ≡ true → Changed p t z steps c
+
+-- the origin and the last change of the type of a variable tell of it behind these steps
 abbrev pub TellsOfType : Plain → (t z : ℕ) → List Step → Type 0
-TellsOfType p t z steps = IsTold p t z steps (history (controls_of p) (locks_over p z) z steps)
+TellsOfType p t z steps =
+    IsTold p t z steps (origin_along (controls_of p) (locks_over p z) z steps) (change_along p t (controls_of p) (locks_over p z) z steps)

@@ -11,7 +11,7 @@ ghost use Rattle.entail_origins.specs.FollowedTypes as spec;
 use crate::goal_variables::untyped_value;
 use crate::known_types::{Known, known_after_steps};
 use crate::type_origin::{TypeOrigin, TypeSource};
-use crate::type_steps::{history_of, locks_over};
+use crate::type_steps::{locks_over, origin_along};
 use cov_ast::Program;
 use cov_expr::{Expr, List, NoMemory, vars};
 use mode_state::Mask;
@@ -129,7 +129,7 @@ fn origin_of(
         Ok(None)
     } else if known.stable.has(z) {
         let locks = locks_over(alloc, p, z)?;
-        Ok(history_of(&known.controls, &locks, z, steps).origin)
+        Ok(origin_along(&known.controls, &locks, z, steps))
     } else {
         Ok(None)
     }

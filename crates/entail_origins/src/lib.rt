@@ -7,7 +7,7 @@
 //!   on each hypothesis, with the line of its origin, the last step that gives it ([`Origin`], [`origin_of`], [`origin_at`]). [`add_origin`] and
 //!   [`add_any_origin`]: the words on one.
 //! - [`add_type_lines`]: a line for each variable whose type makes up the goal: the last step on the way that sets it, and the last after it
-//!   that may forget it; and where that step is an assignment, such lines for the variables of its value in front of it, and so on.
+//!   that changed it; and where the first is an assignment, such lines for the variables of its value in front of it, and so on.
 //!
 //! Laws have no body. Of questions: [`each_entailment_has_a_question`] and [`what_is_listed_is_asked`], that they go by the rules of types.
 //! Of hypotheses: [`predicates_have_origins`], that each predicate of a point is given by a step to it. Of types:
@@ -20,13 +20,14 @@
 //! | `kinds`, `numbered_question` | `Questions` | the kinds of questions; what is asked by a place and a number |
 //! | `question_lines`, `question_laws` | `QuestionLines`, `OwnEntailments` | the sentences; the entailments of a statement by the rules of types |
 //! | `given`, `hypothesis_origin` | `Origins`, `GivenViews` | what a step may give, and which step is the origin |
-//! | `remark`, `hypothesis_laws` | `Remarks`, `Points` | the words on an origin; the point behind steps, whose predicates have origins |
-//! | `type_origin`, `type_steps` | `TypeOrigins` | what a step does to the type of a variable, and which steps count |
+//! | `remark`, `hypothesis_laws` | `Remarks` | the words on an origin; that each predicate of a point has one |
+//! | `type_origin`, `type_steps` | `TypeOrigins` | what in a step sets the type of a variable, and the last that does |
+//! | `type_changes` | `TypeChanges` | what may forget it, and the last step behind the origin that did |
 //! | `goal_variables` | `AskedVariables` | whose types make up a goal |
 //! | `known_types` | `KnownTypes` | what is known of the variables at a point |
 //! | `followed_types` | `FollowedTypes` | of which variables is told behind those of a goal |
 //! | `type_lines`, `type_classes`, `type_words` | `TypeLines` | the lines, by what is known of the variables at the point |
-//! | `type_laws` | `TypesFromOrigins`, `GoalTypes` | what a history says of the type at a point; the goal of a question, by the types there |
+//! | `type_laws` | `TypesFromOrigins`, `GoalTypes` | what an origin and a change say of the type at a point; the goal of a question, by the types there |
 #![tactic(auto)]
 
 mod assignments;
@@ -43,6 +44,7 @@ mod question_lines;
 mod question_statements;
 mod question_states;
 mod remark;
+mod type_changes;
 mod type_classes;
 mod type_laws;
 mod type_lines;

@@ -1,4 +1,4 @@
-//! Laws of histories of types, and of goals.
+//! Laws of origins and changes of types, and of goals.
 
 ghost use Rattle.std.specs.Prelude.{◌≡◌, ◌≤◌, ℕ, List, false, length};
 ghost use Rattle.cov_ast.specs.Declarations.{is_control};
@@ -12,8 +12,9 @@ ghost use Rattle.entail_origins.specs.AskedVariables.{variables_of};
 ghost use Rattle.entail_origins.specs.GoalTypes.{AgreeOnTypes, goal_of, goals, goals_of};
 ghost use Rattle.entail_origins.specs.TypesFromOrigins.{TellsOfType};
 
-/// A law, for programs whose classes mention declared variables alone: where nothing may have forgotten the type of a tracked variable
-/// since it was set, that type at the point of a thread behind steps is what the source of its origin says, or without one its class.
+/// A law, for programs whose classes mention declared variables alone: where no change of the type of a tracked variable is told since it
+/// was set, that type at the point of a thread behind steps is what the source of its origin says, or without one its class. A change that is
+/// told as known is one: the type is another behind its step, and is still what it became there, since no later step sets or changes it.
 pub fn types_are_from_their_origins()
     ensures { (p : Plain) → (t z : ℕ) → (steps : List Step) → ((x : ℕ) → length p.vars ≤ x → is_control p x ≡ false) → is_control p z ≡ false → TellsOfType p t z steps }
 {}

@@ -1,27 +1,30 @@
 //! The lines on the variables whose types make up a goal.
 
-ghost use Rattle.std.specs.Prelude.{◌≡◌, ◌<◌, ◌++◌, OnOk, length, map, option_map};
+ghost use Rattle.std.specs.Prelude.{◌≡◌, ◌<◌, ◌++◌, All, OnOk, length, map, option_map};
 ghost use Rattle.cov_ast.specs.Plain.{plain};
-ghost use Rattle.cov_ast.specs.Tables.{has};
 ghost use Rattle.cov_ast.specs.View as view;
 ghost use Rattle.cov_ast.specs.WellFormed.{IsWellFormed};
 ghost use Rattle.statement_paths.specs.Paths as paths;
+ghost use Rattle.typing_points.specs.PointsBehind.{IsStepInRange};
+ghost use Rattle.typing_points.specs.Traces.{AreInRange, IsTrace, plain_of};
 ghost use Rattle.entail_origins.specs.TypeLines as spec;
-ghost use Rattle.entail_origins.specs.TypeOrigins.{history, locks_over};
+ghost use Rattle.entail_origins.specs.TypeOrigins.{locks_over};
 
 use crate::followed_types::{VariableAt, at_point, first_steps, follow};
 use crate::goal_variables::variables_of;
 use crate::kinds::Question;
 use crate::known_types::{Known, known_after_steps};
+use crate::type_changes::change_along;
 use crate::type_classes::{add_class, add_default, add_shared, add_start};
-use crate::type_origin::{By, History, Later, TypeChange, TypeOrigin, TypeSource};
-use crate::type_steps::{history_of, locks_over};
+use crate::type_origin::{By, Later, TypeChange, TypeOrigin, TypeSource};
+use crate::type_steps::{locks_over, origin_along};
 use crate::type_words::{add_stored, change_end, change_word, list_word, listed_text};
-use cov_ast::{NameTable, Program, StmtKind};
+use cov_ast::{NameTable, NumberSet, Program, StmtKind};
 use cov_expr::{Blob, NoMemory};
-use statement_paths::Step;
+use statement_paths::{Step, hidden_after_steps};
 use std::alloc::Global;
 use text_parts::{add_lock_name, add_number, add_variable_name, position, variable_names};
+use typing_points::Trace;
 
 /// How many variables are told of behind those of the goal.
 const MOST_BEHIND: usize = 8;
@@ -30,8 +33,8 @@ const MOST_BEHIND: usize = 8;
 /// eight more for the variables behind these types. `steps` are those from the start of the thread to the point of which is asked, and
 /// `bytes` are the text of the program.
 ///
-/// For each such variable it takes time in proportion to the text, to what the steps list, to the lists of the locks, to the class of the
-/// variable and to the variables of the program; once, to the names, and for each variable of the program to the classes.
+/// For each such variable it takes the time of a check of the statements in front, and time in proportion to the text, to what the steps list, to the lists of the locks,
+/// to the class of the variable and to the variables of the program; once, to the names, and for each variable of the program to the classes.
 pub fn add_type_lines(
     alloc: Global,
     p: &Program,
@@ -44,48 +47,42 @@ pub fn add_type_lines(
 ) -> Result<(), NoMemory>
     requires formed { IsWellFormed (view.program p.now) }
     requires thread { t < length p.now.threads }
+    requires range { All (IsStepInRange (length p.now.vars) (length p.now.locks)) (map paths.step steps.now) }
     ensures { OnOk result (text.new ≡ text.old ++ spec.type_lines (plain (view.program p.now)) t bytes.now (map paths.step steps.now) question (view.kind kind.now)) }
 {
     let variables = variables_of(alloc, question, kind)?;
     let names = variable_names(alloc, p)?;
-    add_lines_behind(
+    let trace = Trace {
         alloc,
-        p,
-        t,
-        &names,
-        bytes,
-        steps,
-        variables.as_slice(),
-        text,
-    )
+        program: p,
+        thread: t,
+    };
+    add_lines_behind(&trace, &names, bytes, steps, variables.as_slice(), text)
 }
 
 /// Adds the lines of some variables, and of those behind their types.
 fn add_lines_behind(
-    alloc: Global,
-    p: &Program,
-    t: u32,
+    trace: &Trace<'_>,
     names: &NameTable,
     bytes: &[u8],
     steps: &[Step<'_>],
     variables: &[u32],
     text: &mut Blob,
 ) -> Result<(), NoMemory>
-    requires formed { IsWellFormed (view.program p.now) }
-    requires thread { t < length p.now.threads }
-    ensures { OnOk result (text.new ≡ text.old ++ spec.lines_behind (plain (view.program p.now)) t names.now bytes.now (map paths.step steps.now) variables.now) }
+    requires trace { IsTrace trace.now }
+    requires range { AreInRange trace.now (map paths.step steps.now) }
+    ensures { OnOk result (text.new ≡ text.old ++ spec.lines_behind (plain_of trace.now) trace.now.thread names.now bytes.now (map paths.step steps.now) variables.now) }
 {
+    let (alloc, p, t) = (trace.alloc, trace.program, trace.thread);
     let most = variables.len() + MOST_BEHIND;
     let mut all = at_point(alloc, steps.len(), variables)?;
     follow(alloc, p, t, most, steps, &mut all)?;
-    add_lines(alloc, p, t, names, bytes, steps, most, all.as_slice(), text)
+    add_lines(trace, names, bytes, steps, most, all.as_slice(), text)
 }
 
 /// Adds the line of each of some variables, at most so many.
 fn add_lines(
-    alloc: Global,
-    p: &Program,
-    t: u32,
+    trace: &Trace<'_>,
     names: &NameTable,
     bytes: &[u8],
     steps: &[Step<'_>],
@@ -93,9 +90,9 @@ fn add_lines(
     variables: &[VariableAt],
     text: &mut Blob,
 ) -> Result<(), NoMemory>
-    requires formed { IsWellFormed (view.program p.now) }
-    requires thread { t < length p.now.threads }
-    ensures { OnOk result (text.new ≡ text.old ++ spec.lines_of (plain (view.program p.now)) t names.now bytes.now (map paths.step steps.now) most variables.now) }
+    requires trace { IsTrace trace.now }
+    requires range { AreInRange trace.now (map paths.step steps.now) }
+    ensures { OnOk result (text.new ≡ text.old ++ spec.lines_of (plain_of trace.now) trace.now.thread names.now bytes.now (map paths.step steps.now) most variables.now) }
 {
     let mut left = most;
     for v in variables {
@@ -103,37 +100,27 @@ fn add_lines(
             return text.extend_from_slice(b"  more types behind these are left out\n");
         }
         left -= 1;
-        add_line(alloc, p, t, names, bytes, steps, v, text)?;
+        add_line(trace, names, bytes, steps, v, text)?;
     }
     Ok(())
 }
 
 /// Adds the line of a variable.
 fn add_line(
-    alloc: Global,
-    p: &Program,
-    t: u32,
+    trace: &Trace<'_>,
     names: &NameTable,
     bytes: &[u8],
     steps: &[Step<'_>],
     v: &VariableAt,
     text: &mut Blob,
 ) -> Result<(), NoMemory>
-    requires formed { IsWellFormed (view.program p.now) }
-    requires thread { t < length p.now.threads }
-    ensures { OnOk result (text.new ≡ text.old ++ spec.type_line (plain (view.program p.now)) t names.now bytes.now (map paths.step steps.now) v.now) }
+    requires trace { IsTrace trace.now }
+    requires range { AreInRange trace.now (map paths.step steps.now) }
+    ensures { OnOk result (text.new ≡ text.old ++ spec.type_line (plain_of trace.now) trace.now.thread names.now bytes.now (map paths.step steps.now) v.now) }
 {
-    add_label(p, bytes, steps, v, text)?;
-    add_type_behind(
-        alloc,
-        p,
-        t,
-        names,
-        bytes,
-        first_steps(steps, v.steps),
-        v.var,
-        text,
-    )?;
+    let front = first_steps(steps, v.steps);
+    add_label(trace.program, bytes, steps, v, text)?;
+    add_type_behind(trace, names, bytes, front, v.var, text)?;
     text.extend_from_slice(b"\n")
 }
 
@@ -180,27 +167,24 @@ fn add_point(bytes: &[u8], step: Option<&Step<'_>>, text: &mut Blob) -> Result<(
 
 /// Adds where the type of a variable behind steps comes from.
 fn add_type_behind(
-    alloc: Global,
-    p: &Program,
-    t: u32,
+    trace: &Trace<'_>,
     names: &NameTable,
     bytes: &[u8],
     steps: &[Step<'_>],
     z: u32,
     text: &mut Blob,
 ) -> Result<(), NoMemory>
-    requires formed { IsWellFormed (view.program p.now) }
-    requires thread { t < length p.now.threads }
-    ensures { OnOk result (text.new ≡ text.old ++ spec.behind_text (plain (view.program p.now)) t names.now bytes.now (map paths.step steps.now) z) }
+    requires trace { IsTrace trace.now }
+    requires range { AreInRange trace.now (map paths.step steps.now) }
+    ensures { OnOk result (text.new ≡ text.old ++ spec.behind_text (plain_of trace.now) trace.now.thread names.now bytes.now (map paths.step steps.now) z) }
 {
-    let known = known_after_steps(alloc, p, t, steps)?;
-    add_type(alloc, p, names, bytes, steps, &known, z, text)
+    let known = known_after_steps(trace.alloc, trace.program, trace.thread, steps)?;
+    add_type(trace, names, bytes, steps, &known, z, text)
 }
 
 /// Adds where the type of a variable comes from.
 fn add_type(
-    alloc: Global,
-    p: &Program,
+    trace: &Trace<'_>,
     names: &NameTable,
     bytes: &[u8],
     steps: &[Step<'_>],
@@ -208,21 +192,22 @@ fn add_type(
     z: u32,
     text: &mut Blob,
 ) -> Result<(), NoMemory>
-    ensures { OnOk result (text.new ≡ text.old ++ spec.type_text (plain (view.program p.now)) names.now bytes.now (map paths.step steps.now) known.now z) }
+    requires trace { IsTrace trace.now }
+    requires range { AreInRange trace.now (map paths.step steps.now) }
+    ensures { OnOk result (text.new ≡ text.old ++ spec.type_text (plain_of trace.now) trace.now.thread names.now bytes.now (map paths.step steps.now) known.now z) }
 {
     if known.controls.has(z) {
         text.extend_from_slice(b"1, as that of every control")
     } else if known.stable.has(z) {
-        add_tracked(alloc, p, names, bytes, steps, known, z, text)
+        add_tracked(trace, names, bytes, steps, known, z, text)
     } else {
-        add_shared(p, names, z, text)
+        add_shared(trace.program, names, z, text)
     }
 }
 
 /// Adds where the type of a variable comes from that is tracked.
 fn add_tracked(
-    alloc: Global,
-    p: &Program,
+    trace: &Trace<'_>,
     names: &NameTable,
     bytes: &[u8],
     steps: &[Step<'_>],
@@ -230,61 +215,34 @@ fn add_tracked(
     z: u32,
     text: &mut Blob,
 ) -> Result<(), NoMemory>
-    ensures { OnOk result (text.new ≡ text.old ++ spec.tracked_text (plain (view.program p.now)) names.now bytes.now (map paths.step steps.now) known.now z) }
+    requires trace { IsTrace trace.now }
+    requires range { AreInRange trace.now (map paths.step steps.now) }
+    ensures { OnOk result (text.new ≡ text.old ++ spec.history_text (plain_of trace.now) trace.now.thread names.now bytes.now (map paths.step steps.now) known.now z (locks_over (plain_of trace.now) z)) }
 {
-    let locks = locks_over(alloc, p, z)?;
-    let history = history_of(&known.controls, &locks, z, steps);
-    add_history(
-        p,
-        names,
-        bytes,
-        steps,
-        known.hidden.has(z),
-        z,
-        &history,
-        text,
-    )
+    let locks = locks_over(trace.alloc, trace.program, z)?;
+    add_history(trace, names, bytes, steps, known, z, &locks, text)
 }
 
-/// Adds the history of the type of a variable.
+/// Adds where the type of a variable comes from that is under some locks, and what changed it since.
 fn add_history(
-    p: &Program,
+    trace: &Trace<'_>,
     names: &NameTable,
     bytes: &[u8],
     steps: &[Step<'_>],
-    hidden: bool,
+    known: &Known,
     z: u32,
-    history: &History,
+    locks: &NumberSet,
     text: &mut Blob,
 ) -> Result<(), NoMemory>
-    ensures { OnOk result (text.new ≡ text.old ++ spec.history_text (plain (view.program p.now)) names.now bytes.now (map paths.step steps.now) hidden z history.now) }
+    requires trace { IsTrace trace.now }
+    requires range { AreInRange trace.now (map paths.step steps.now) }
+    ensures { OnOk result (text.new ≡ text.old ++ spec.history_text (plain_of trace.now) trace.now.thread names.now bytes.now (map paths.step steps.now) known.now z locks.now) }
 {
-    add_any_origin(p, names, bytes, steps, hidden, z, history.origin, text)?;
-    if is_zero_since(hidden, history.origin) {
-        Ok(())
-    } else {
-        add_any_later(p, names, bytes, hidden, z, history.later, text)
-    }
-}
-
-/// Whether a type is 0 from its origin on: of a variable that no other thread may read, by a state that doesn't list it.
-fn is_zero_since(hidden: bool, origin: Option<TypeOrigin>) -> bool
-    ensures { result ≡ spec.is_zero_since hidden origin }
-{
-    match origin {
-        Some(origin) => hidden && is_unlisted(origin.source),
-        None => false,
-    }
-}
-
-/// Whether a state that doesn't list the variable sets a type.
-fn is_unlisted(source: TypeSource) -> bool
-    ensures { result ≡ spec.is_unlisted source }
-{
-    match source {
-        TypeSource::Stored | TypeSource::Taken(_) | TypeSource::Listed(_) => false,
-        TypeSource::Unlisted(_) => true,
-    }
+    let (p, hidden) = (trace.program, known.hidden.has(z));
+    let origin = origin_along(&known.controls, locks, z, steps);
+    add_any_origin(p, names, bytes, steps, hidden, z, origin, text)?;
+    let later = change_along(trace, &known.controls, locks, z, steps)?;
+    add_any_later(trace, names, bytes, steps, z, later, text)
 }
 
 /// Adds where the type of a variable comes from.
@@ -413,40 +371,57 @@ fn add_place(bytes: &[u8], at: u32, text: &mut Blob) -> Result<(), NoMemory>
     add_number(position(bytes, at as usize).line, text)
 }
 
-/// Adds what may have forgotten the type of a variable since, if something may.
+/// Adds what changed the type of a variable since, or may have, if something did.
 fn add_any_later(
-    p: &Program,
+    trace: &Trace<'_>,
     names: &NameTable,
     bytes: &[u8],
-    hidden: bool,
+    steps: &[Step<'_>],
     z: u32,
     later: Option<Later>,
     text: &mut Blob,
 ) -> Result<(), NoMemory>
-    ensures { OnOk result (text.new ≡ text.old ++ spec.later_text (plain (view.program p.now)) names.now bytes.now hidden z later) }
+    requires { IsTrace trace.now }
+    ensures { OnOk result (text.new ≡ text.old ++ spec.later_text (plain_of trace.now) trace.now.thread names.now bytes.now (map paths.step steps.now) z later) }
 {
     match later {
-        Some(later) => add_later(p, names, bytes, hidden, z, later, text),
+        Some(later) => add_later(trace, names, bytes, steps, z, later, text),
         None => Ok(()),
     }
 }
 
-/// Adds what may have forgotten the type of a variable since, its line, and what the type is then.
+/// Adds what changed the type of a variable since, its line, and what the type is then.
 fn add_later(
-    p: &Program,
+    trace: &Trace<'_>,
     names: &NameTable,
     bytes: &[u8],
-    hidden: bool,
+    steps: &[Step<'_>],
     z: u32,
     later: Later,
     text: &mut Blob,
 ) -> Result<(), NoMemory>
-    ensures { OnOk result (text.new ≡ text.old ++ spec.forgotten_text (plain (view.program p.now)) names.now bytes.now hidden z later) }
+    requires { IsTrace trace.now }
+    ensures { OnOk result (text.new ≡ text.old ++ spec.changed_text (plain_of trace.now) trace.now.thread names.now bytes.now (map paths.step steps.now) z later) }
 {
-    add_change(p, later.change, text)?;
+    add_change(trace.program, later.change, text)?;
     add_place(bytes, later.at, text)?;
-    text.extend_from_slice(change_end(later.change).as_bytes())?;
-    add_default(p, names, hidden, z, text)
+    text.extend_from_slice(change_end(later.is_known, later.change).as_bytes())?;
+    add_default_behind(trace, names, first_steps(steps, later.steps), z, text)
+}
+
+/// Adds what is known of a variable without more behind steps.
+fn add_default_behind(
+    trace: &Trace<'_>,
+    names: &NameTable,
+    steps: &[Step<'_>],
+    z: u32,
+    text: &mut Blob,
+) -> Result<(), NoMemory>
+    requires { IsTrace trace.now }
+    ensures { OnOk result (text.new ≡ text.old ++ spec.default_behind (plain_of trace.now) trace.now.thread names.now (map paths.step steps.now) z) }
+{
+    let hidden = hidden_after_steps(trace.alloc, trace.program, trace.thread, steps)?;
+    add_default(trace.program, names, hidden.has(z), z, text)
 }
 
 /// Adds what is done that may forget a type.

@@ -1,4 +1,4 @@
-//! What a type comes from, and what may have forgotten it since.
+//! What a type comes from, and what changed it since.
 
 /// What lists a type of a variable, or doesn't.
 #[derive(Clone, Copy, PartialEq, Eq)]
@@ -43,17 +43,12 @@ pub enum TypeChange {
     Returned(u32),
 }
 
-/// What may have forgotten a type since it was set, and the byte offset of the statement.
+/// What changed a type since it was set, or may have, the byte offset of the statement, and how many steps lead to the point behind it.
 #[derive(Clone, Copy, PartialEq, Eq)]
 pub struct Later {
     pub change: TypeChange,
     pub at: u32,
-}
-
-/// Where the type of a variable comes from, and the last that may have forgotten it since. A type without an origin is from the start of
-/// the thread.
-#[derive(Clone, Copy, PartialEq, Eq)]
-pub struct History {
-    pub origin: Option<TypeOrigin>,
-    pub later: Option<Later>,
+    pub steps: usize,
+    /// Whether the type is known to be another behind it; else the points aren't known there.
+    pub is_known: bool,
 }

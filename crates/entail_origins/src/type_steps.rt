@@ -1,104 +1,56 @@
-//! The steps that set the type of a variable, and those that may forget it.
+//! The steps that set the type of a variable.
 
-ghost use Rattle.std.specs.Prelude.{◌≡◌, ◌∷◌, IfOk, Some, None, map};
+ghost use Rattle.std.specs.Prelude.{◌≡◌, ◌∷◌, IfOk, map};
 ghost use Rattle.cov_expr.specs.View.{term};
 ghost use Rattle.cov_ast.specs.Plain.{plain};
 ghost use Rattle.cov_ast.specs.View as view;
 ghost use Rattle.statement_paths.specs.Paths as paths;
 ghost use Rattle.entail_origins.specs.TypeOrigins as spec;
 
-use crate::type_origin::{By, History, Later, TypeChange, TypeOrigin, TypeSource};
+use crate::type_origin::{By, TypeOrigin, TypeSource};
 use cov_ast::{NumberSet, Program, Retype, State, StmtKind};
 use cov_expr::{Expr, List, NoMemory};
 use mode_state::Mask;
 use statement_paths::Step;
 use std::alloc::Global;
 
-/// The history of the type of a variable behind steps from the start of a thread, where these are the controls and the locks that the
-/// variable is under. It takes no memory, and time in proportion to what the steps list.
-pub fn history_of(controls: &Mask, locks: &NumberSet, z: u32, steps: &[Step<'_>]) -> History
-    ensures { result ≡ spec.history controls.now locks.now z (map paths.step steps.now) }
+/// Where the type of a variable behind steps from the start of a thread comes from, with these controls and the locks that the variable
+/// is under. `None` comes where no step sets it. It takes no memory, and time in proportion to what the steps list.
+pub fn origin_along(
+    controls: &Mask,
+    locks: &NumberSet,
+    z: u32,
+    steps: &[Step<'_>],
+) -> Option<TypeOrigin>
+    ensures { result ≡ spec.origin_along controls.now locks.now z (map paths.step steps.now) }
 {
-    let mut so_far = History {
-        origin: None,
-        later: None,
-    };
+    let mut so_far = None;
     for (index, step) in steps.iter().enumerate() {
-        so_far = history_after_step(controls, locks, z, index, step, so_far);
+        so_far = origin_after_step(controls, locks, z, index, step, so_far);
     }
     so_far
 }
 
-/// The history with a step more, that with this index.
-fn history_after_step(
+/// The origin with a step more, that with this index.
+fn origin_after_step(
     controls: &Mask,
     locks: &NumberSet,
     z: u32,
     index: usize,
     step: &Step<'_>,
-    so_far: History,
-) -> History
-    ensures { result ≡ spec.history_after_step controls.now locks.now z index (paths.step step.now) so_far }
+    so_far: Option<TypeOrigin>,
+) -> Option<TypeOrigin>
+    ensures { result ≡ spec.origin_after_step controls.now locks.now z index (paths.step step.now) so_far }
 {
     let at = step.place();
     match set_by(controls, locks, z, step) {
-        Some(source) => set_at(index, at, source),
-        None => changed_at(at, changed_by(controls, step), so_far),
-    }
-}
-
-/// A type that was set by the step with an index, and not changed since.
-fn set_at(index: usize, at: u32, source: TypeSource) -> History
-    ensures { result ≡ spec.set_at index at source }
-{
-    History {
-        origin: Some(TypeOrigin { source, at, index }),
-        later: None,
-    }
-}
-
-/// The same type, which may be forgotten at a place.
-fn changed_at(at: u32, change: Option<TypeChange>, so_far: History) -> History
-    ensures { result ≡ spec.changed_at at change so_far }
-{
-    match change {
-        Some(change) => History {
-            origin: so_far.origin,
-            later: Some(Later { change, at }),
-        },
+        Some(source) => Some(TypeOrigin { source, at, index }),
         None => so_far,
     }
 }
 
-/// What in a step may forget the type.
-fn changed_by(controls: &Mask, step: &Step<'_>) -> Option<TypeChange>
-    ensures { result ≡ spec.changed_by controls.now (paths.step step.now) }
-{
-    match step {
-        Step::Passed(stmt) => changed_past(controls, &stmt.kind),
-        Step::Yes(_, _) | Step::No(_, _) | Step::Head(_, _) => None,
-    }
-}
-
-/// What may forget the type behind a statement.
-fn changed_past(controls: &Mask, kind: &StmtKind) -> Option<TypeChange>
-    ensures { result ≡ spec.changed_past controls.now (view.kind kind.now) }
-{
-    match kind {
-        StmtKind::Assign(x, _, _, _) if controls.has(*x) => Some(TypeChange::ControlStored(*x)),
-        StmtKind::Unlock(l) => Some(TypeChange::Returned(*l)),
-        StmtKind::Assign(_, _, _, _)
-        | StmtKind::Skip
-        | StmtKind::Lock(_)
-        | StmtKind::If(_, _, _, _)
-        | StmtKind::While(_, _, _)
-        | StmtKind::Note(_)
-        | StmtKind::Output(_) => None,
-    }
-}
-
 /// What in a step sets the type at its end.
-fn set_by(controls: &Mask, locks: &NumberSet, z: u32, step: &Step<'_>) -> Option<TypeSource>
+pub fn set_by(controls: &Mask, locks: &NumberSet, z: u32, step: &Step<'_>) -> Option<TypeSource>
     ensures { result ≡ spec.set_by controls.now locks.now z (paths.step step.now) }
 {
     match step {

@@ -80,12 +80,18 @@ pub fn change_word(change: TypeChange) -> &'static str
     }
 }
 
-/// What stands behind the line of a later change.
-pub fn change_end(change: TypeChange) -> &'static str
-    ensures { result.now ≡ spec.change_end change }
+/// What stands behind the line of a change that is known, or of one that may have been.
+pub fn change_end(is_known: bool, change: TypeChange) -> &'static str
+    ensures { result.now ≡ spec.change_end is_known change }
 {
-    match change {
-        TypeChange::ControlStored(_) => ", which turns a type that mentions it into ",
-        TypeChange::Returned(_) => ", which turns a type that mentions what it protects into ",
+    match (is_known, change) {
+        (true, TypeChange::ControlStored(_)) => ", which it mentions, so that it becomes ",
+        (false, TypeChange::ControlStored(_)) => ", which it may mention, so that it may become ",
+        (true, TypeChange::Returned(_)) => {
+            ", and it mentions what that protects, so that it becomes "
+        }
+        (false, TypeChange::Returned(_)) => {
+            ", and it may mention what that protects, so that it may become "
+        }
     }
 }

@@ -3,6 +3,7 @@ mod Asks
 mod OnceListed
 mod RefusedListed
 mod SitePoints
+mod SiteRanges
 mod SiteLaws
 mod WholeProgram
 mod OthersListed

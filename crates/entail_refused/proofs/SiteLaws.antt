@@ -31,7 +31,7 @@ use Rattle.entail_origins.specs.declared.kinds.Question.{Question}
 use Rattle.entail_origins.specs.declared.kinds.Question.TheVariants as q
 use Rattle.entail_origins.proofs.EachAsked.{Differ, In, There, apart, differ, differ_left, differ_right, in_left, in_right, no_way, no_way_from, no_way_within, stands_in, way_from}
 use Rattle.statement_paths.proofs.HeldAtPoints.{after_held}
-use Rattle.entail_origins.specs.Points.{after_steps, point_after_steps}
+use Rattle.typing_points.specs.Points.{after_steps, point_after_steps}
 use Rattle.entail_origins.proofs.GoalLaws.{as_asked}
 use Rattle.entail_origins.specs.GoalTypes.{asked_point, goal_of}
 use Rattle.entail_refused.proofs.SitePoints.{past_block, to_the_point}

@@ -7,8 +7,8 @@ use Rattle.entail_origins.specs.declared.kinds.End.{End}
 use Rattle.entail_origins.specs.declared.kinds.End.TheVariants as e
 use Rattle.entail_origins.specs.declared.kinds.Question.{Question}
 use Rattle.entail_origins.specs.declared.kinds.Question.TheVariants as q
-use Rattle.entail_origins.proofs.PointLaws.{appended}
-use Rattle.entail_origins.specs.Points.{after_steps, point_after_steps}
+use Rattle.typing_points.proofs.PointLaws.{appended}
+use Rattle.typing_points.specs.Points.{after_steps, point_after_steps}
 use Rattle.statement_paths.specs.Paths.{Step, passed_all, to_body_end, to_first_end, to_head, to_second_end}
 use Rattle.entail_origins.specs.GoalTypes.{asked_point, at_body_end, at_end, at_first_end, at_head, at_second_end}
 use Rattle.typing_law.specs.Blocks.{after_block, after_stm}

@@ -7,7 +7,7 @@ use Rattle.std.specs.Prelude.{◌≡◌, ℕ, List, [], ◌∷◌, ◌++◌, Boo
 use Rattle.cov_ast.specs.Plain.{plain}
 use Rattle.cov_ast.specs.Syntax.{Program}
 use Rattle.cov_expr.specs.Term.{Term}
-use Rattle.entail_origins.specs.Points.{point_after_steps}
+use Rattle.typing_points.specs.Points.{point_after_steps}
 use Rattle.entail_origins.specs.GoalTypes.{goal_of}
 use Rattle.typing_law.specs.ThreadEntailments.{PlacedEntailment}
 use Rattle.entail_refused.specs.Remarked.{asks_more}

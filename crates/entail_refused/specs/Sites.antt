@@ -1,5 +1,5 @@
 -- Where an entailment for which a program is refused is asked: the way to the point from whose predicates it is to follow.
-use Rattle.std.specs.Prelude.{ℕ, List, [], ◌++◌, map, Option, Some, None}
+use Rattle.std.specs.Prelude.{ℕ, List, [], ◌++◌, map, All, Option, Some, None}
 use Rattle.cov_ast.specs.Syntax.{Stm, Program}
 use Rattle.cov_ast.specs.View as view
 use Rattle.entail_origins.specs.Questions.{asked}
@@ -10,6 +10,7 @@ use Rattle.entail_origins.specs.declared.kinds.Question.{Question}
 use Rattle.entail_origins.specs.declared.kinds.Question.TheVariants as q
 use Rattle.mode_compat.specs.Compatible.{numbered}
 use Rattle.statement_paths.specs.Paths.{Step, Way, step, to_body_end, to_first_end, to_head, to_second_end, way_to}
+use Rattle.typing_points.specs.PointsBehind.{IsStepInRange}
 use Rattle.entail_refused.specs.declared.site.Site as declared
 
 -- From the statement at a place ---------------------------------------------------------------------------------
@@ -60,3 +61,8 @@ site_of p t place number = site_of_way place (way_to (numbered p t).body place) 
 -- what the code has
 abbrev pub site : declared.Site → Site
 site s = record { steps = map step s.steps; question = s.question; stm = view.kind s.kind.now }
+
+-- What the steps to where something is asked are about has ids in range, if it is known where that is.
+abbrev pub IsSiteInRange : (vars locks : ℕ) → Option Site → Type 0
+IsSiteInRange vars locks None = Unit {0}
+IsSiteInRange vars locks (Some s) = All (IsStepInRange vars locks) s.steps

@@ -7,6 +7,7 @@ ghost use Rattle.entail_text.specs.Findings.{found_for, seen};
 ghost use Rattle.typing_law.specs.ThreadEntailments.{view_entail};
 ghost use Rattle.entail_refused.specs.Asked as spec;
 ghost use Rattle.entail_refused.specs.Sites as sites;
+ghost use Rattle.entail_refused.specs.Sites.{IsSiteInRange};
 
 use crate::further::add_further;
 use crate::given::{add_given, cert_of};
@@ -142,6 +143,7 @@ fn add_searched(
 ) -> Result<(), NoMemory>
     requires formed { IsWellFormed (view.program p.now) }
     requires thread { t < length p.now.threads }
+    requires range { IsSiteInRange (length p.now.vars) (length p.now.locks) (option_map sites.site site.now) }
     ensures { OnOk result (text.new ≡ text.old ++ spec.lines_of_finding (view.program p.now) bytes.now t (option_map sites.site site.now) (view_entail e.now) (found_for (view_entail e.now).entailment.hyps (view_entail e.now).entailment.goal)) }
 {
     let found = found_for(alloc, &e.hyps, &e.goal)?;
@@ -162,6 +164,7 @@ fn add_of_finding(
 ) -> Result<(), NoMemory>
     requires formed { IsWellFormed (view.program p.now) }
     requires thread { t < length p.now.threads }
+    requires range { IsSiteInRange (length p.now.vars) (length p.now.locks) (option_map sites.site site.now) }
     ensures { OnOk result (text.new ≡ text.old ++ spec.lines_of_finding (view.program p.now) bytes.now t (option_map sites.site site.now) (view_entail e.now) (seen found.now)) }
 {
     add_given(alloc, p, t, e, found, text)?;

@@ -1,12 +1,13 @@
 //! What is told of the point of which an entailment asks, beside its hypotheses.
 
-ghost use Rattle.std.specs.Prelude.{◌≡◌, ◌<◌, ◌++◌, OnOk, length, option_map};
+ghost use Rattle.std.specs.Prelude.{◌≡◌, ◌<◌, ◌++◌, OnOk, Some, length, option_map};
 ghost use Rattle.cov_ast.specs.View as view;
 ghost use Rattle.cov_ast.specs.WellFormed.{IsWellFormed};
 ghost use Rattle.entail_text.specs.Findings.{seen};
 ghost use Rattle.typing_law.specs.ThreadEntailments.{view_entail};
 ghost use Rattle.entail_refused.specs.Further as spec;
 ghost use Rattle.entail_refused.specs.Sites as sites;
+ghost use Rattle.entail_refused.specs.Sites.{IsSiteInRange};
 
 use crate::dropped::add_dropped_at;
 use crate::site::Site;
@@ -32,6 +33,7 @@ pub fn add_further(
 ) -> Result<(), NoMemory>
     requires formed { IsWellFormed (view.program p.now) }
     requires thread { t < length p.now.threads }
+    requires range { IsSiteInRange (length p.now.vars) (length p.now.locks) (option_map sites.site site.now) }
     ensures { OnOk result (text.new ≡ text.old ++ spec.further_lines (view.program p.now) t bytes.now (option_map sites.site site.now) (seen found.now) (view_entail e.now).entailment) }
 {
     match site {
@@ -53,6 +55,7 @@ fn add_unless_shown(
 ) -> Result<(), NoMemory>
     requires formed { IsWellFormed (view.program p.now) }
     requires thread { t < length p.now.threads }
+    requires range { IsSiteInRange (length p.now.vars) (length p.now.locks) (Some (sites.site site.now)) }
     ensures { OnOk result (text.new ≡ text.old ++ spec.unless_shown (view.program p.now) t bytes.now (sites.site site.now) (seen found.now) (view_entail e.now).entailment) }
 {
     if found.is_shown() {
@@ -74,6 +77,7 @@ fn add_further_at(
 ) -> Result<(), NoMemory>
     requires formed { IsWellFormed (view.program p.now) }
     requires thread { t < length p.now.threads }
+    requires range { IsSiteInRange (length p.now.vars) (length p.now.locks) (Some (sites.site site.now)) }
     ensures { OnOk result (text.new ≡ text.old ++ spec.further_at (view.program p.now) t bytes.now (sites.site site.now) (view_entail e.now).entailment) }
 {
     let steps = site.steps.as_slice();

@@ -5,7 +5,7 @@ ghost use Rattle.cov_ast.specs.Plain.{Plain};
 ghost use Rattle.cov_ast.specs.Syntax as syntax;
 ghost use Rattle.cov_ast.specs.WellFormed.{IsWellFormed};
 ghost use Rattle.entail_origins.specs.declared.kinds.Question as questions;
-ghost use Rattle.entail_origins.specs.Points.{point_after_steps};
+ghost use Rattle.typing_points.specs.Points.{point_after_steps};
 ghost use Rattle.statement_paths.specs.Paths as paths;
 ghost use Rattle.entail_origins.specs.GoalTypes.{asked_point};
 ghost use Rattle.typing_law.specs.ThreadEntailments.{PlacedEntailment, entailment_among, thread_entailments};

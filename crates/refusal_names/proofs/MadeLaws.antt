@@ -10,7 +10,7 @@ use Rattle.cov_expr.specs.Trees.{has_term, mentions}
 use Rattle.cov_ast.specs.Declarations.{invariant_of, invariant_term, lock_at}
 use Rattle.cov_ast.specs.Plain.{plain}
 use Rattle.cov_ast.specs.Syntax.{assign, branch, lock, loop, note, output, skip, unlock, Program, Stm}
-use Rattle.entail_origins.specs.Points.{after_step, after_steps}
+use Rattle.typing_points.specs.Points.{after_step, after_steps}
 use Rattle.point_law.specs.After.{after_unlock, keeps_value, start, with_term_if}
 use Rattle.point_law.specs.Point.{is_over_stable, Point}
 use Rattle.point_law.specs.Terms.{distinct_terms, is_small, with_option, with_term, with_terms}

@@ -2,7 +2,7 @@
 use Rattle.std.proofs.Common.{◌≡◌, ℕ, List, [], ◌∷◌, refl, ap, ◌∙◌}
 use Rattle.cov_ast.specs.Plain.{Plain}
 use Rattle.cov_ast.specs.LocksAlong.{no_locks}
-use Rattle.entail_origins.specs.Points.{after_step, after_steps, point_after_steps}
+use Rattle.typing_points.specs.Points.{after_step, after_steps, point_after_steps}
 use Rattle.point_law.specs.After.{start}
 use Rattle.point_law.specs.Point.{Point}
 use Rattle.statement_paths.specs.LocksHeld.{held_after, held_along}

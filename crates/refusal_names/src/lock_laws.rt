@@ -11,7 +11,7 @@ ghost use Rattle.cov_ast.specs.declared.refusal.Rule.TheVariants.{V8};
 ghost use Rattle.typing_law.specs.ThreadObligations.{agree, same_held};
 ghost use Rattle.refusal_names.specs.RefusalNames.{line_of};
 ghost use Rattle.refusal_names.specs.ToldLocks.{IsApart, TellsOfBranch, TellsOfTurn};
-ghost use Rattle.entail_origins.specs.Points.{point_after_steps};
+ghost use Rattle.typing_points.specs.Points.{point_after_steps};
 ghost use Rattle.statement_paths.specs.LocksHeld.{held_along, held_at_end};
 ghost use Rattle.statement_paths.specs.Paths.{Step};
 

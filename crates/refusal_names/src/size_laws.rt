@@ -14,7 +14,7 @@ ghost use Rattle.point_law.specs.Terms.{is_small};
 ghost use Rattle.typing_law.specs.Blocks.{value_type};
 ghost use Rattle.typing_law.specs.Entailments.{assign_entailments, guard_follows, is_small_entailment};
 ghost use Rattle.typing_law.specs.ThreadObligations.{has_few_preds};
-ghost use Rattle.entail_origins.specs.Points.{point_after_steps};
+ghost use Rattle.typing_points.specs.Points.{point_after_steps};
 ghost use Rattle.refusal_names.specs.LargeTerms.{last_made};
 ghost use Rattle.refusal_names.specs.RefusalNames.{line_of};
 ghost use Rattle.refusal_names.specs.SpokenParts.{stated_types};

@@ -1,6 +1,4 @@
-pub mod PointLaws
 mod Pieces
 mod Ranges
-mod Reached
 mod SpotLaws
 mod TellingLaws

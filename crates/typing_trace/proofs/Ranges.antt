@@ -1,88 +1,22 @@
--- The steps of a way have ids in range, where each statement of the text has, and so have the steps to the ends of blocks.
-use Rattle.std.proofs.Common.{◌≡◌, ℕ, ◌==◌, List, [], ◌∷◌, ◌++◌, All, Bool, true, false, Option, Some, None, option_map, subst, if◌then◌else◌}
-use Rattle.std.specs.Option.{option_or}
-use Rattle.std.proofs.lemmas.List.Elements.{All-nil, All-cons, All-append}
-use Rattle.cov_ast.specs.Syntax.{Stm, skip, assign, lock, unlock, branch, loop, note, output, Block, done, more}
-use Rattle.cov_ast.specs.WellFormed.{IsStmInRange, IsBlockInRange}
-use Rattle.statement_paths.specs.Paths.{Step, passed, yes, no, head, Way, here, passed_all, with_steps_in_front, way_to, way_within}
+-- The steps to the ends of blocks have ids in range, where the statement has.
+use Rattle.std.proofs.Common.{ℕ, List, ◌++◌}
+use Rattle.std.proofs.lemmas.List.Elements.{All-append}
+use Rattle.cov_ast.specs.Syntax.{Stm}
+use Rattle.cov_ast.specs.WellFormed.{IsStmInRange}
+use Rattle.statement_paths.specs.Paths.{Step}
+use Rattle.typing_points.proofs.Ranges.{AreAllInRange, body_end_in_range, first_end_in_range, second_end_in_range}
+use Rattle.typing_points.specs.PointsBehind.{IsStepInRange}
 use Rattle.typing_trace.specs.PointLines.{steps_to}
-use Rattle.typing_trace.specs.PointsBehind.{IsStepInRange}
 use Rattle.typing_trace.specs.declared.ends.BlockEnd.{BlockEnd}
 use Rattle.typing_trace.specs.declared.ends.BlockEnd.TheVariants.{First, Second, Body}
 
 module _ (vars locks : ℕ) where
-  abbrev AreInRange : List Step → Type 0
-  AreInRange steps = All (IsStepInRange vars locks) steps
-
-  one_step : (s : Step) → IsStepInRange vars locks s → AreInRange (s ∷ [])
-  one_step s h = All-cons (IsStepInRange vars locks) s [] h (All-nil (IsStepInRange vars locks))
-
-  -- Ways -----------------------------------------------------------------------------------------------------------
-
-  abbrev LeadsInRange : Option Way → Type 0
-  LeadsInRange None = Unit {0}
-  LeadsInRange (Some w) = AreInRange w.steps × IsStmInRange vars locks w.stm
-
-  either : (first second : Option Way) → LeadsInRange first → LeadsInRange second → LeadsInRange (option_or first second)
-  either None second h k = k
-  either (Some w) second h k = h
-
-  further : (steps : List Step) (way : Option Way) → AreInRange steps → LeadsInRange way → LeadsInRange (option_map (with_steps_in_front steps) way)
-  further steps None front h = tt
-  further steps (Some w) front h = (All-append (IsStepInRange vars locks) steps w.steps front h.0, h.1)
-
-  itself : (b : Bool) (w : Way) (way : Option Way) → LeadsInRange (Some w) → LeadsInRange way → LeadsInRange (if b then Some w else way)
-  itself true w way h k = h
-  itself false w way h k = k
-
-  mutual
-    within_in_range : (at : ℕ) (s : Stm) (place : ℕ) → IsStmInRange vars locks s → LeadsInRange (way_within at s place)
-    within_in_range at skip place range = tt
-    within_in_range at (assign x e written retypes) place range = tt
-    within_in_range at (lock l) place range = tt
-    within_in_range at (unlock l) place range = tt
-    within_in_range at (branch e a b join) place range =
-        let first = option_map (with_steps_in_front (yes at e ∷ [])) (way_to a place) in
-        let second = option_map (with_steps_in_front (no at e ∷ [])) (way_to b place) in
-        either first second (further (yes at e ∷ []) (way_to a place) (one_step (yes at e) range.0) (way_in_range a place range.1))
-        (further (no at e ∷ []) (way_to b place) (one_step (no at e) range.0) (way_in_range b place range.2))
-    within_in_range at (loop e inv b) place range =
-        further (head at inv ∷ yes at e ∷ []) (way_to b place)
-        (All-cons (IsStepInRange vars locks) (head at inv) (yes at e ∷ []) range.1 (one_step (yes at e) range.0)) (way_in_range b place range.2)
-    within_in_range at (note j) place range = tt
-    within_in_range at (output e) place range = tt
-
-    way_in_range : (b : Block) (place : ℕ) → IsBlockInRange vars locks b → LeadsInRange (way_to b place)
-    way_in_range done place range = tt
-    way_in_range (more at s proofs rest) place range =
-        either (if at == place then Some (here s proofs) else way_within at s place) (option_map (with_steps_in_front (passed at s ∷ [])) (way_to rest place))
-        (itself (at == place) (here s proofs) (way_within at s place) (All-nil (IsStepInRange vars locks), range.0) (within_in_range at s place range.0))
-        (further (passed at s ∷ []) (way_to rest place) (one_step (passed at s) range.0) (way_in_range rest place range.2))
-
-  -- The ends of blocks ---------------------------------------------------------------------------------------------
-
-  passed_in_range : (b : Block) → IsBlockInRange vars locks b → AreInRange (passed_all b)
-  passed_in_range done range = All-nil (IsStepInRange vars locks)
-  passed_in_range (more at s proofs rest) range =
-      All-cons (IsStepInRange vars locks) (passed at s) (passed_all rest) range.0 (passed_in_range rest range.2)
-
-  to_end_in_range : (end : BlockEnd) (at : ℕ) (s : Stm) → IsStmInRange vars locks s → AreInRange (steps_to end at s)
-  to_end_in_range First at (branch e a b join) range = All-cons (IsStepInRange vars locks) (yes at e) (passed_all a) range.0 (passed_in_range a range.1)
-  to_end_in_range First at _ range = All-nil (IsStepInRange vars locks)
-  to_end_in_range Second at (branch e a b join) range = All-cons (IsStepInRange vars locks) (no at e) (passed_all b) range.0 (passed_in_range b range.2)
-  to_end_in_range Second at _ range = All-nil (IsStepInRange vars locks)
-  to_end_in_range Body at (loop e inv b) range =
-      All-cons (IsStepInRange vars locks) (head at inv) (yes at e ∷ passed_all b) range.1
-      (All-cons (IsStepInRange vars locks) (yes at e) (passed_all b) range.0 (passed_in_range b range.2))
-  to_end_in_range Body at _ range = All-nil (IsStepInRange vars locks)
+  to_end_in_range : (end : BlockEnd) (at : ℕ) (s : Stm) → IsStmInRange vars locks s → AreAllInRange vars locks (steps_to end at s)
+  to_end_in_range First at s range = first_end_in_range vars locks at s range
+  to_end_in_range Second at s range = second_end_in_range vars locks at s range
+  to_end_in_range Body at s range = body_end_in_range vars locks at s range
 
   -- steps to a statement, and to an end of a block of it
-  pub end_in_range : (steps : List Step) (end : BlockEnd) (at : ℕ) (s : Stm) → AreInRange steps → IsStmInRange vars locks s → AreInRange (steps ++ steps_to end at s)
+  pub end_in_range : (steps : List Step) (end : BlockEnd) (at : ℕ) (s : Stm)
+      → AreAllInRange vars locks steps → IsStmInRange vars locks s → AreAllInRange vars locks (steps ++ steps_to end at s)
   end_in_range steps end at s front range = All-append (IsStepInRange vars locks) steps (steps_to end at s) front (to_end_in_range end at s range)
-
--- a way that is found, of a program whose ids are in range
-pub found_in_range : (vars locks n m : ℕ) (b : Block) (place : ℕ) (w : Way) → IsBlockInRange vars locks b → way_to b place ≡ Some w → vars ≡ n → locks ≡ m
-    → All (IsStepInRange n m) w.steps × IsStmInRange n m w.stm
-found_in_range vars locks n m b place w range is all_vars all_locks =
-    subst (λ k. All (IsStepInRange k m) w.steps × IsStmInRange k m w.stm) all_vars
-    (subst (λ k. All (IsStepInRange vars k) w.steps × IsStmInRange vars k w.stm) all_locks (subst (LeadsInRange vars locks) is (way_in_range vars locks b place range)))

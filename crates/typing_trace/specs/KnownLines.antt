@@ -11,7 +11,7 @@ use Rattle.entail_text.specs.EntailmentLines.{hypothesis_lines}
 use Rattle.point_law.specs.Point.{Point}
 use Rattle.refusal_names.specs.NameLines.{held_text}
 use Rattle.statement_paths.specs.Paths.{Step}
-use Rattle.typing_trace.specs.PointsBehind.{point_behind}
+use Rattle.typing_points.specs.PointsBehind.{point_behind}
 
 -- the names of the locks that are held
 abbrev pub held_line : List Lock → (held : List Bool) → List ℕ

@@ -1,5 +1,3 @@
-pub mod PointsBehind
 pub mod KnownLines
 pub mod Spots
 pub mod PointLines
-pub mod Inside

@@ -1,6 +1,6 @@
 //! What is known at a point, as lines of text.
 
-ghost use Rattle.std.specs.Prelude.{◌≡◌, ◌≤◌, ◌++◌, All, Option, OnOk, length, map, option_copied, option_map};
+ghost use Rattle.std.specs.Prelude.{◌≡◌, ◌≤◌, ◌++◌, Option, OnOk, length, map, option_copied, option_map};
 ghost use Rattle.cov_expr.specs.Term.{const};
 ghost use Rattle.cov_expr.specs.Trees as tree;
 ghost use Rattle.cov_expr.specs.View.{term};
@@ -10,11 +10,9 @@ ghost use Rattle.cov_ast.specs.View as view;
 ghost use Rattle.point_law.specs.Point as law;
 ghost use Rattle.statement_paths.specs.Paths as paths;
 ghost use Rattle.typing_state.specs.KeptPoints.{AtPoint};
-ghost use Rattle.typing_trace.specs.Inside.{IsTrace, KeepsAny, plain_of};
+ghost use Rattle.typing_points.specs.Traces.{AreInRange, IsTrace, KeepsAny, plain_of};
 ghost use Rattle.typing_trace.specs.KnownLines as spec;
-ghost use Rattle.typing_trace.specs.PointsBehind.{IsStepInRange};
 
-use crate::passing::Trace;
 use cov_ast::{Class, NameTable, VarDecl};
 use cov_expr::{Blob, Expr, NoMemory, same};
 use cov_print::add_expr;
@@ -22,114 +20,113 @@ use entail_origins::remarks;
 use entail_text::add_hypotheses;
 use refusal_names::add_held;
 use statement_paths::Step;
+use typing_points::Trace;
 use typing_state::Point;
 
-impl Trace<'_> {
-    /// Adds what is known behind steps from the start of the thread. `names` are those of the variables, `bytes` the text of the program.
-    pub fn add_known_behind(
-        &self,
-        names: &NameTable,
-        bytes: &[u8],
-        steps: &[Step<'_>],
-        text: &mut Blob,
-    ) -> Result<(), NoMemory>
-        requires trace { IsTrace self.now }
-        requires range { All (IsStepInRange (length self.now.program.now.vars) (length self.now.program.now.locks)) (map paths.step steps.now) }
-        ensures { OnOk result (text.new ≡ text.old ++ spec.known_behind (plain_of self.now) self.now.thread names.now bytes.now (map paths.step steps.now)) }
-    {
-        let point = self.point_behind(steps)?;
-        self.add_any_known(names, bytes, steps, &point, text)
-    }
+/// Adds what is known behind steps from the start of the thread. `names` are those of the variables, `bytes` the text of the program.
+pub fn add_known_behind(
+    trace: &Trace<'_>,
+    names: &NameTable,
+    bytes: &[u8],
+    steps: &[Step<'_>],
+    text: &mut Blob,
+) -> Result<(), NoMemory>
+    requires trace { IsTrace trace.now }
+    requires range { AreInRange trace.now (map paths.step steps.now) }
+    ensures { OnOk result (text.new ≡ text.old ++ spec.known_behind (plain_of trace.now) trace.now.thread names.now bytes.now (map paths.step steps.now)) }
+{
+    let point = trace.point_behind(steps)?;
+    add_any_known(trace, names, bytes, steps, &point, text)
+}
 
-    /// Adds what is known at a point that is there.
-    fn add_any_known(
-        &self,
-        names: &NameTable,
-        bytes: &[u8],
-        steps: &[Step<'_>],
-        point: &Option<Point>,
-        text: &mut Blob,
-    ) -> Result<(), NoMemory>
-        requires { IsTrace self.now }
-        ensures { OnOk result ((a : Option law.Point) → KeepsAny (plain_of self.now) self.now.thread a point.now
-            → text.new ≡ text.old ++ spec.any_known (plain_of self.now) names.now bytes.now (map paths.step steps.now) a) }
-    {
-        match point {
-            Some(point) => self.add_known(names, bytes, steps, point, text),
-            None => text.extend_from_slice(
-                b"  nothing is told here: a type on the way has more nodes than V16 lets it have\n",
-            ),
-        }
+/// Adds what is known at a point that is there.
+fn add_any_known(
+    trace: &Trace<'_>,
+    names: &NameTable,
+    bytes: &[u8],
+    steps: &[Step<'_>],
+    point: &Option<Point>,
+    text: &mut Blob,
+) -> Result<(), NoMemory>
+    requires { IsTrace trace.now }
+    ensures { OnOk result ((a : Option law.Point) → KeepsAny (plain_of trace.now) trace.now.thread a point.now
+        → text.new ≡ text.old ++ spec.any_known (plain_of trace.now) names.now bytes.now (map paths.step steps.now) a) }
+{
+    match point {
+        Some(point) => add_known(trace, names, bytes, steps, point, text),
+        None => text.extend_from_slice(
+            b"  nothing is told here: a type on the way has more nodes than V16 lets it have\n",
+        ),
     }
+}
 
-    /// Adds what is known at a point to which steps lead.
-    fn add_known(
-        &self,
-        names: &NameTable,
-        bytes: &[u8],
-        steps: &[Step<'_>],
-        point: &Point,
-        text: &mut Blob,
-    ) -> Result<(), NoMemory>
-        requires { IsTrace self.now }
-        ensures { OnOk result (AtPoint (plain_of self.now) self.now.thread point.now (λ a.
-            text.new ≡ text.old ++ spec.known_lines (plain_of self.now) names.now bytes.now (map paths.step steps.now) a)) }
-    {
-        self.add_held_line(point, text)?;
-        self.add_predicates(names, bytes, steps, point, text)?;
-        self.add_types(names, self.program.vars.as_slice(), point, text)
-    }
+/// Adds what is known at a point to which steps lead.
+fn add_known(
+    trace: &Trace<'_>,
+    names: &NameTable,
+    bytes: &[u8],
+    steps: &[Step<'_>],
+    point: &Point,
+    text: &mut Blob,
+) -> Result<(), NoMemory>
+    requires { IsTrace trace.now }
+    ensures { OnOk result (AtPoint (plain_of trace.now) trace.now.thread point.now (λ a.
+        text.new ≡ text.old ++ spec.known_lines (plain_of trace.now) names.now bytes.now (map paths.step steps.now) a)) }
+{
+    add_held_line(trace, point, text)?;
+    add_predicates(trace, names, bytes, steps, point, text)?;
+    add_types(trace, names, trace.program.vars.as_slice(), point, text)
+}
 
-    /// Adds the names of the locks that are held.
-    fn add_held_line(&self, point: &Point, text: &mut Blob) -> Result<(), NoMemory>
-        requires { IsTrace self.now }
-        ensures { OnOk result (AtPoint (plain_of self.now) self.now.thread point.now (λ a.
-            text.new ≡ text.old ++ spec.held_line (view.program self.now.program.now).locks a.held)) }
-    {
-        text.extend_from_slice(b"  held:         ")?;
-        add_held(
-            self.alloc,
-            self.program.locks.as_slice(),
-            point.modes(),
-            text,
-        )?;
-        text.extend_from_slice(b"\n")
-    }
+/// Adds the names of the locks that are held.
+fn add_held_line(trace: &Trace<'_>, point: &Point, text: &mut Blob) -> Result<(), NoMemory>
+    requires { IsTrace trace.now }
+    ensures { OnOk result (AtPoint (plain_of trace.now) trace.now.thread point.now (λ a.
+        text.new ≡ text.old ++ spec.held_line (view.program trace.now.program.now).locks a.held)) }
+{
+    text.extend_from_slice(b"  held:         ")?;
+    add_held(
+        trace.alloc,
+        trace.program.locks.as_slice(),
+        point.modes(),
+        text,
+    )?;
+    text.extend_from_slice(b"\n")
+}
 
-    /// Adds what holds at a point, with where it comes from.
-    fn add_predicates(
-        &self,
-        names: &NameTable,
-        bytes: &[u8],
-        steps: &[Step<'_>],
-        point: &Point,
-        text: &mut Blob,
-    ) -> Result<(), NoMemory>
-        ensures { OnOk result (AtPoint (plain_of self.now) self.now.thread point.now (λ a.
-            text.new ≡ text.old ++ spec.predicate_lines (plain_of self.now) names.now bytes.now (map paths.step steps.now) a.preds)) }
-    {
-        let preds = point.preds().as_slice();
-        let origins = remarks(self.alloc, self.program, bytes, steps, preds, false)?;
-        add_hypotheses(names, preds, origins.as_slice(), text)
-    }
+/// Adds what holds at a point, with where it comes from.
+fn add_predicates(
+    trace: &Trace<'_>,
+    names: &NameTable,
+    bytes: &[u8],
+    steps: &[Step<'_>],
+    point: &Point,
+    text: &mut Blob,
+) -> Result<(), NoMemory>
+    ensures { OnOk result (AtPoint (plain_of trace.now) trace.now.thread point.now (λ a.
+        text.new ≡ text.old ++ spec.predicate_lines (plain_of trace.now) names.now bytes.now (map paths.step steps.now) a.preds)) }
+{
+    let preds = point.preds().as_slice();
+    let origins = remarks(trace.alloc, trace.program, bytes, steps, preds, false)?;
+    add_hypotheses(names, preds, origins.as_slice(), text)
+}
 
-    /// Adds the types of variables at a point that aren't their classes.
-    fn add_types(
-        &self,
-        names: &NameTable,
-        vars: &[VarDecl],
-        point: &Point,
-        text: &mut Blob,
-    ) -> Result<(), NoMemory>
-        requires few { length vars.now ≤ MOST_VARIABLES }
-        ensures { OnOk result (AtPoint (plain_of self.now) self.now.thread point.now (λ a.
-            text.new ≡ text.old ++ spec.type_lines names.now a.types 0 (map view.var vars.now))) }
-    {
-        for (x, var) in vars.iter().enumerate() {
-            add_type(names, var, point.type_of(x as u32), text)?;
-        }
-        Ok(())
+/// Adds the types of variables at a point that aren't their classes.
+fn add_types(
+    trace: &Trace<'_>,
+    names: &NameTable,
+    vars: &[VarDecl],
+    point: &Point,
+    text: &mut Blob,
+) -> Result<(), NoMemory>
+    requires few { length vars.now ≤ MOST_VARIABLES }
+    ensures { OnOk result (AtPoint (plain_of trace.now) trace.now.thread point.now (λ a.
+        text.new ≡ text.old ++ spec.type_lines names.now a.types 0 (map view.var vars.now))) }
+{
+    for (x, var) in vars.iter().enumerate() {
+        add_type(names, var, point.type_of(x as u32), text)?;
     }
+    Ok(())
 }
 
 /// Adds the type of a variable, if it has one that isn't its class.

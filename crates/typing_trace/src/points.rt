@@ -1,19 +1,18 @@
 //! What is told of statements.
 
-ghost use Rattle.std.specs.Prelude.{◌≡◌, ◌<◌, ◌++◌, All, OnOk, flat_map, length, map};
+ghost use Rattle.std.specs.Prelude.{◌≡◌, ◌<◌, ◌++◌, OnOk, flat_map, length, map};
 ghost use Rattle.cov_ast.specs.Plain.{plain};
 ghost use Rattle.cov_ast.specs.View as view;
 ghost use Rattle.cov_ast.specs.WellFormed.{IsStmInRange, IsWellFormed};
 ghost use Rattle.mode_compat.specs.Compatible.{numbered};
 ghost use Rattle.statement_paths.specs.Paths as paths;
-ghost use Rattle.typing_trace.specs.Inside.{IsTrace, plain_of};
+ghost use Rattle.typing_points.specs.Traces.{AreInRange, IsTrace, plain_of};
 ghost use Rattle.typing_trace.specs.PointLines as spec;
-ghost use Rattle.typing_trace.specs.PointsBehind.{IsStepInRange};
 ghost use Rattle.typing_trace.specs.Spots.{spot};
 ghost use Rattle.typing_trace.specs.declared.points.TheConstants.{MOST_TOLD};
 
 use crate::ends::{BlockEnd, end_words, has_end, steps_to};
-use crate::passing::Trace;
+use crate::known::add_known_behind;
 use crate::spots::{Spot, span_of, spots_of};
 use cov_ast::{NameTable, Program, StmtKind};
 use cov_expr::{Blob, NoMemory};
@@ -21,6 +20,7 @@ use entail_origins::{Asked, Question, add_question_line, questions};
 use statement_paths::{Step, Way, hidden_after_steps, way_to};
 use std::alloc::Global;
 use text_parts::{add_excerpt, add_number, position, variable_names};
+use typing_points::Trace;
 
 /// Of how many statements is told.
 const MOST_TOLD: usize = 256;
@@ -127,137 +127,141 @@ fn add_spot(
             program: p,
             thread: spot.thread,
         };
-        trace.add_statement(bytes, spot.place, text)
+        add_statement(&trace, bytes, spot.place, text)
     } else {
         Ok(())
     }
 }
 
-impl Trace<'_> {
-    /// Adds what is told of the statement at a place of the thread.
-    fn add_statement(&self, bytes: &[u8], at: u32, text: &mut Blob) -> Result<(), NoMemory>
-        requires { IsTrace self.now }
-        ensures { OnOk result (text.new ≡ text.old ++ spec.spot_lines (view.program self.now.program.now) bytes.now (spot self.now.thread at)) }
-    {
-        match way_to(self.alloc, self.program.body_of(self.thread), at)? {
-            Some(way) => self.add_way(bytes, at, &way, text),
-            None => Ok(()),
-        }
+/// Adds what is told of the statement at a place of the thread.
+fn add_statement(trace: &Trace<'_>, bytes: &[u8], at: u32, text: &mut Blob) -> Result<(), NoMemory>
+    requires { IsTrace trace.now }
+    ensures { OnOk result (text.new ≡ text.old ++ spec.spot_lines (view.program trace.now.program.now) bytes.now (spot trace.now.thread at)) }
+{
+    match way_to(trace.alloc, trace.program.body_of(trace.thread), at)? {
+        Some(way) => add_way(trace, bytes, at, &way, text),
+        None => Ok(()),
     }
+}
 
-    /// Adds what is told of a statement at a place, by the way to it.
-    fn add_way(&self, bytes: &[u8], at: u32, way: &Way<'_>, text: &mut Blob) -> Result<(), NoMemory>
-        requires trace { IsTrace self.now }
-        requires range { All (IsStepInRange (length self.now.program.now.vars) (length self.now.program.now.locks)) (map paths.step way.now.steps) }
-        requires statement { IsStmInRange (length self.now.program.now.vars) (length self.now.program.now.locks) (view.kind way.now.stmt.now.kind) }
-        ensures { OnOk result (text.new ≡ text.old ++ spec.way_told (view.program self.now.program.now) self.now.thread bytes.now at (paths.way way.now)) }
-    {
-        let names = variable_names(self.alloc, self.program)?;
-        let (steps, kind) = (way.steps.as_slice(), &way.stmt.kind);
-        self.add_head(bytes, at, text)?;
-        self.add_known_behind(&names, bytes, steps, text)?;
-        self.add_ends(&names, bytes, steps, at, kind, text)?;
-        self.add_asked(steps, kind, text)
-    }
+/// Adds what is told of a statement at a place, by the way to it.
+fn add_way(
+    trace: &Trace<'_>,
+    bytes: &[u8],
+    at: u32,
+    way: &Way<'_>,
+    text: &mut Blob,
+) -> Result<(), NoMemory>
+    requires trace { IsTrace trace.now }
+    requires range { AreInRange trace.now (map paths.step way.now.steps) }
+    requires statement { IsStmInRange (length trace.now.program.now.vars) (length trace.now.program.now.locks) (view.kind way.now.stmt.now.kind) }
+    ensures { OnOk result (text.new ≡ text.old ++ spec.way_told (view.program trace.now.program.now) trace.now.thread bytes.now at (paths.way way.now)) }
+{
+    let names = variable_names(trace.alloc, trace.program)?;
+    let (steps, kind) = (way.steps.as_slice(), &way.stmt.kind);
+    add_head(trace, bytes, at, text)?;
+    add_known_behind(trace, &names, bytes, steps, text)?;
+    add_ends(trace, &names, bytes, steps, at, kind, text)?;
+    add_asked(trace, steps, kind, text)
+}
 
-    /// Adds which statement it is, of which thread.
-    fn add_head(&self, bytes: &[u8], at: u32, text: &mut Blob) -> Result<(), NoMemory>
-        requires { IsTrace self.now }
-        ensures { OnOk result (text.new ≡ text.old ++ spec.head_lines bytes.now (numbered (view.program self.now.program.now) self.now.thread).name at) }
-    {
-        text.extend_from_slice(b"line ")?;
-        add_number(position(bytes, at as usize).line, text)?;
-        text.extend_from_slice(b", thread ")?;
-        text.extend_from_slice(
-            self.program.threads.as_slice()[self.thread as usize]
-                .name
-                .text(),
-        )?;
-        text.extend_from_slice(b", in front of:\n")?;
-        add_excerpt(bytes, at as usize, text)
-    }
+/// Adds which statement it is, of which thread.
+fn add_head(trace: &Trace<'_>, bytes: &[u8], at: u32, text: &mut Blob) -> Result<(), NoMemory>
+    requires { IsTrace trace.now }
+    ensures { OnOk result (text.new ≡ text.old ++ spec.head_lines bytes.now (numbered (view.program trace.now.program.now) trace.now.thread).name at) }
+{
+    text.extend_from_slice(b"line ")?;
+    add_number(position(bytes, at as usize).line, text)?;
+    text.extend_from_slice(b", thread ")?;
+    text.extend_from_slice(
+        trace.program.threads.as_slice()[trace.thread as usize]
+            .name
+            .text(),
+    )?;
+    text.extend_from_slice(b", in front of:\n")?;
+    add_excerpt(bytes, at as usize, text)
+}
 
-    /// Adds what is known at the ends of the blocks of a statement.
-    fn add_ends(
-        &self,
-        names: &NameTable,
-        bytes: &[u8],
-        steps: &[Step<'_>],
-        at: u32,
-        kind: &StmtKind,
-        text: &mut Blob,
-    ) -> Result<(), NoMemory>
-        requires trace { IsTrace self.now }
-        requires range { All (IsStepInRange (length self.now.program.now.vars) (length self.now.program.now.locks)) (map paths.step steps.now) }
-        requires statement { IsStmInRange (length self.now.program.now.vars) (length self.now.program.now.locks) (view.kind kind.now) }
-        ensures { OnOk result (text.new ≡ text.old ++ spec.ends_of (plain_of self.now) self.now.thread names.now bytes.now (map paths.step steps.now) at (view.kind kind.now)) }
-    {
-        self.add_end_if(names, bytes, steps, BlockEnd::First, at, kind, text)?;
-        self.add_end_if(names, bytes, steps, BlockEnd::Second, at, kind, text)?;
-        self.add_end_if(names, bytes, steps, BlockEnd::Body, at, kind, text)
-    }
+/// Adds what is known at the ends of the blocks of a statement.
+fn add_ends(
+    trace: &Trace<'_>,
+    names: &NameTable,
+    bytes: &[u8],
+    steps: &[Step<'_>],
+    at: u32,
+    kind: &StmtKind,
+    text: &mut Blob,
+) -> Result<(), NoMemory>
+    requires trace { IsTrace trace.now }
+    requires range { AreInRange trace.now (map paths.step steps.now) }
+    requires statement { IsStmInRange (length trace.now.program.now.vars) (length trace.now.program.now.locks) (view.kind kind.now) }
+    ensures { OnOk result (text.new ≡ text.old ++ spec.ends_of (plain_of trace.now) trace.now.thread names.now bytes.now (map paths.step steps.now) at (view.kind kind.now)) }
+{
+    add_end_if(trace, names, bytes, steps, BlockEnd::First, at, kind, text)?;
+    add_end_if(trace, names, bytes, steps, BlockEnd::Second, at, kind, text)?;
+    add_end_if(trace, names, bytes, steps, BlockEnd::Body, at, kind, text)
+}
 
-    /// Adds what is known at an end of a block of a statement, if it has such a block.
-    fn add_end_if(
-        &self,
-        names: &NameTable,
-        bytes: &[u8],
-        steps: &[Step<'_>],
-        end: BlockEnd,
-        at: u32,
-        kind: &StmtKind,
-        text: &mut Blob,
-    ) -> Result<(), NoMemory>
-        requires trace { IsTrace self.now }
-        requires range { All (IsStepInRange (length self.now.program.now.vars) (length self.now.program.now.locks)) (map paths.step steps.now) }
-        requires statement { IsStmInRange (length self.now.program.now.vars) (length self.now.program.now.locks) (view.kind kind.now) }
-        ensures { OnOk result (text.new ≡ text.old ++ spec.end_if (plain_of self.now) self.now.thread names.now bytes.now (map paths.step steps.now) end at (view.kind kind.now)) }
-    {
-        if has_end(end, kind) {
-            self.add_end(names, bytes, steps, end, at, kind, text)
-        } else {
-            Ok(())
-        }
+/// Adds what is known at an end of a block of a statement, if it has such a block.
+fn add_end_if(
+    trace: &Trace<'_>,
+    names: &NameTable,
+    bytes: &[u8],
+    steps: &[Step<'_>],
+    end: BlockEnd,
+    at: u32,
+    kind: &StmtKind,
+    text: &mut Blob,
+) -> Result<(), NoMemory>
+    requires trace { IsTrace trace.now }
+    requires range { AreInRange trace.now (map paths.step steps.now) }
+    requires statement { IsStmInRange (length trace.now.program.now.vars) (length trace.now.program.now.locks) (view.kind kind.now) }
+    ensures { OnOk result (text.new ≡ text.old ++ spec.end_if (plain_of trace.now) trace.now.thread names.now bytes.now (map paths.step steps.now) end at (view.kind kind.now)) }
+{
+    if has_end(end, kind) {
+        add_end(trace, names, bytes, steps, end, at, kind, text)
+    } else {
+        Ok(())
     }
+}
 
-    /// Adds what is known at an end of a block of a statement.
-    fn add_end(
-        &self,
-        names: &NameTable,
-        bytes: &[u8],
-        steps: &[Step<'_>],
-        end: BlockEnd,
-        at: u32,
-        kind: &StmtKind,
-        text: &mut Blob,
-    ) -> Result<(), NoMemory>
-        requires trace { IsTrace self.now }
-        requires range { All (IsStepInRange (length self.now.program.now.vars) (length self.now.program.now.locks)) (map paths.step steps.now) }
-        requires statement { IsStmInRange (length self.now.program.now.vars) (length self.now.program.now.locks) (view.kind kind.now) }
-        ensures { OnOk result (text.new ≡ text.old ++ spec.end_lines (plain_of self.now) self.now.thread names.now bytes.now (map paths.step steps.now) end at (view.kind kind.now)) }
-    {
-        let further = steps_to(self.alloc, steps, end, at, kind)?;
-        text.extend_from_slice(b"  at the end of ")?;
-        text.extend_from_slice(end_words(end).as_bytes())?;
-        text.extend_from_slice(b":\n")?;
-        self.add_known_behind(names, bytes, further.as_slice(), text)
-    }
+/// Adds what is known at an end of a block of a statement.
+fn add_end(
+    trace: &Trace<'_>,
+    names: &NameTable,
+    bytes: &[u8],
+    steps: &[Step<'_>],
+    end: BlockEnd,
+    at: u32,
+    kind: &StmtKind,
+    text: &mut Blob,
+) -> Result<(), NoMemory>
+    requires trace { IsTrace trace.now }
+    requires range { AreInRange trace.now (map paths.step steps.now) }
+    requires statement { IsStmInRange (length trace.now.program.now.vars) (length trace.now.program.now.locks) (view.kind kind.now) }
+    ensures { OnOk result (text.new ≡ text.old ++ spec.end_lines (plain_of trace.now) trace.now.thread names.now bytes.now (map paths.step steps.now) end at (view.kind kind.now)) }
+{
+    let further = steps_to(trace.alloc, steps, end, at, kind)?;
+    text.extend_from_slice(b"  at the end of ")?;
+    text.extend_from_slice(end_words(end).as_bytes())?;
+    text.extend_from_slice(b":\n")?;
+    add_known_behind(trace, names, bytes, further.as_slice(), text)
+}
 
-    /// Adds what the entailments of a statement ask.
-    fn add_asked(
-        &self,
-        steps: &[Step<'_>],
-        kind: &StmtKind,
-        text: &mut Blob,
-    ) -> Result<(), NoMemory>
-        requires trace { IsTrace self.now }
-        requires statement { IsStmInRange (length self.now.program.now.vars) (length self.now.program.now.locks) (view.kind kind.now) }
-        ensures { OnOk result (text.new ≡ text.old ++ spec.asked_lines (plain_of self.now) self.now.thread (map paths.step steps.now) (view.kind kind.now)) }
-    {
-        let hidden = hidden_after_steps(self.alloc, self.program, self.thread, steps)?;
-        let asked = questions(self.alloc, self.program, &hidden, kind)?;
-        add_questions(self.program, asked.as_slice(), text)
-    }
+/// Adds what the entailments of a statement ask.
+fn add_asked(
+    trace: &Trace<'_>,
+    steps: &[Step<'_>],
+    kind: &StmtKind,
+    text: &mut Blob,
+) -> Result<(), NoMemory>
+    requires trace { IsTrace trace.now }
+    requires statement { IsStmInRange (length trace.now.program.now.vars) (length trace.now.program.now.locks) (view.kind kind.now) }
+    ensures { OnOk result (text.new ≡ text.old ++ spec.asked_lines (plain_of trace.now) trace.now.thread (map paths.step steps.now) (view.kind kind.now)) }
+{
+    let hidden = hidden_after_steps(trace.alloc, trace.program, trace.thread, steps)?;
+    let asked = questions(trace.alloc, trace.program, &hidden, kind)?;
+    add_questions(trace.program, asked.as_slice(), text)
 }
 
 /// Adds what each entailment of a statement asks, with its number.

@@ -1,0 +1,4 @@
+pub mod OfTheRules
+pub mod PointLaws
+pub mod Ranges
+mod Reached

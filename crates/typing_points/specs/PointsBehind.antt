@@ -1,0 +1,69 @@
+-- The point behind steps of a thread's text, built step by step, as long as behind each assignment types have no more nodes than the rules let them have, and the
+-- type of its value, where that isn't written, has at most 500 conjuncts.
+use Rattle.std.specs.Prelude.{ℕ, List, [], ◌∷◌, length, Bool, true, nat_le, if◌then◌else◌, Option, Some, None, option_and_then, option_map}
+use Rattle.cov_expr.specs.Term.{Term, neg}
+use Rattle.cov_expr.specs.Trees.{vars}
+use Rattle.cov_ast.specs.Plain.{Plain}
+use Rattle.cov_ast.specs.Syntax.{State, Stm, skip, assign, lock, unlock, branch, loop, note, output, Block, done, more}
+use Rattle.cov_ast.specs.WellFormed.{IsExprInRange, IsStateInRange, IsStmInRange}
+use Rattle.point_law.specs.After.{start, after_assign, after_lock, after_unlock, with_guard, meet, noted}
+use Rattle.point_law.specs.Point.{Point, conjuncts_of_types, has_small_types}
+use Rattle.statement_paths.specs.Paths.{Step, passed, yes, no, head}
+use Rattle.typing_law.specs.Blocks.{value_type}
+use Rattle.typing_points.specs.declared.passing.TheConstants.{MOST_CONJUNCTS}
+
+-- a point whose types are small, and else none
+abbrev pub if_small : Point → Option Point
+if_small a = if has_small_types a then Some a else None
+
+module _ (p : Plain) (t : ℕ) where
+  -- whether the type of an assigned value is written, or has few conjuncts
+  abbrev pub has_few_conjuncts : Point → Option Term → Term → Bool
+  has_few_conjuncts a None e = nat_le (length (conjuncts_of_types p t a (vars e))) MOST_CONJUNCTS
+  has_few_conjuncts a (Some q) e = true
+
+  -- after an assignment
+  abbrev pub assigned : Point → (x : ℕ) → Term → Option Term → (retypes : List (ℕ × Term)) → Option Point
+  assigned a x e q retypes = if has_few_conjuncts a q e then if_small (after_assign p t a x e (value_type p t a q e) retypes) else None
+
+  abbrev mutual
+    -- the point behind a statement
+    pub behind_stm : Stm → Point → Option Point
+    behind_stm skip a = Some a
+    behind_stm (assign x e q retypes) a = assigned a x e q retypes
+    behind_stm (lock l) a = Some (after_lock p t a l)
+    behind_stm (unlock l) a = Some (after_unlock p t a l)
+    behind_stm (branch e first second join) a = option_map (λ b. meet p t b join) (behind_block first (with_guard p t a e))
+    behind_stm (loop e inv b) a = Some (with_guard p t (meet p t a inv) (neg e))
+    behind_stm (note j) a = Some (noted a j)
+    behind_stm (output e) a = Some a
+
+    -- the point behind the statements of a block
+    pub behind_block : Block → Point → Option Point
+    behind_block done a = Some a
+    behind_block (more at s proofs rest) a = option_and_then (λ b. behind_block rest b) (behind_stm s a)
+
+  -- the point behind a branch with this guard, first block and state, from that at the end of the block
+  abbrev pub behind_branch : Term → Block → (join : State) → Point → Option Point
+  behind_branch e first join a = option_map (λ b. meet p t b join) (behind_block first (with_guard p t a e))
+
+  abbrev pub behind_step : Step → Point → Option Point
+  behind_step (passed at s) a = behind_stm s a
+  behind_step (yes at e) a = Some (with_guard p t a e)
+  behind_step (no at e) a = Some (with_guard p t a (neg e))
+  behind_step (head at inv) a = Some (meet p t a inv)
+
+  abbrev pub behind_steps : List Step → Point → Option Point
+  behind_steps [] a = Some a
+  behind_steps (s ∷ ss) a = option_and_then (λ b. behind_steps ss b) (behind_step s a)
+
+  -- the point behind steps from the start of the thread; none where a type on the way is too large
+  abbrev pub point_behind : List Step → Option Point
+  point_behind ss = behind_steps ss (start p t)
+
+-- What a step is about has ids in range.
+abbrev pub IsStepInRange : (vars locks : ℕ) → Step → Type 0
+IsStepInRange vars locks (passed at s) = IsStmInRange vars locks s
+IsStepInRange vars locks (yes at e) = IsExprInRange vars locks e
+IsStepInRange vars locks (no at e) = IsExprInRange vars locks e
+IsStepInRange vars locks (head at inv) = IsStateInRange vars locks inv
