@@ -14,5 +14,6 @@ pub mod VariableLaws
 mod WarningExamples
 pub mod FrontLaws
 pub mod FollowLaws
+pub mod BraceLaws
 pub mod LanguageLaws
 mod ExpectedExamples

@@ -16,5 +16,6 @@ pub mod HiddenText
 pub mod Warnings
 pub mod ExpectedTokens
 pub mod ExpectedLines
+pub mod OpenBraces
 pub mod ByteSentences
 pub mod OtherTellings

@@ -1,5 +1,5 @@
--- All that is told of the bytes of a file: the explanation of what `check` replies to them; then, where they are malformed by a token, what
--- could stand at its place, where they are refused, what the refusal is about and what is warned of in them, and where they are accepted, what
+-- All that is told of the bytes of a file: the explanation of what `check` replies to them; then, where they are malformed by a token, which
+-- brace is open at its place and what could stand there, where they are refused, what the refusal is about and what is warned of in them, and where they are accepted, what
 -- is warned of in them and in the program that they spell. Where they are refused for a name that isn't declared, the nearest one that is.
 use Rattle.std.specs.Prelude.{◌≡◌, ℕ, List, [], ◌++◌, Bool, true, codes, if◌then◌else◌, Option, Some, None}
 use Rattle.code_lines.specs.CodeLines.{code_lines}
@@ -9,6 +9,7 @@ use Rattle.cov_ast.specs.Syntax.{Parsed, Program}
 use Rattle.cov_ast.specs.declared.refusal.Refusal.{Refusal}
 use Rattle.entail_refused.specs.Asked.{asked}
 use Rattle.explain.specs.ExpectedLines.{expected_line}
+use Rattle.explain.specs.OpenBraces.{brace_line}
 use Rattle.policy_class.specs.Resolved.{name_obligations, resolved}
 use Rattle.explain.specs.HiddenText.{text_warnings}
 use Rattle.explain.specs.Warnings.{warnings}
@@ -44,9 +45,13 @@ abbrev pub asked_lines : (first : Bool) (name : List ℕ) → Parsed → (bytes 
 asked_lines first name p bytes refusal =
     if all_hold (name_obligations p) then refusal_lines first name (resolved p) bytes refusal else unnamed_asked p refusal
 
--- what could stand at the place of a token with which no program goes on; nothing where another fault is the first
+-- which brace is open at a place, and what could stand there
+unfoldable pub stand_lines_at : (bytes : List ℕ) (at : ℕ) → List ℕ
+stand_lines_at bytes at = brace_line bytes at ++ expected_line bytes at
+
+-- what is told of the place of a token with which no program goes on; nothing where another fault is the first
 abbrev pub stand_lines : (bytes : List ℕ) → Fault → List ℕ
-stand_lines bytes (f.Text k.Token at) = expected_line bytes at
+stand_lines bytes (f.Text k.Token at) = stand_lines_at bytes at
 stand_lines bytes fault = []
 
 -- What is told of bytes to which `check` replies so, beside the explanation: of malformed ones, what could stand at the place of a token;

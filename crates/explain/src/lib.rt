@@ -2,7 +2,7 @@
 //!
 //! [`explain`] takes the names of files, the files (a shelf) and the output (a sink), and ends with a status of `call_reports`. Of each
 //! file it tells what `check` reports; where that names a place, also the line and the column of the place, its line in
-//! the text with a caret, and what is wrong, in one sentence. Where no program goes on with a token, it tells what could stand there,
+//! the text with a caret, and what is wrong, in one sentence. Where no program goes on with a token, it tells which brace is open there and what could stand there,
 //! where a file is refused, what that is about (`refusal_names`, `entail_refused`) and what is warned of in its text, and
 //! where it is accepted, what is warned of in it, a line each.
 //!
@@ -34,6 +34,7 @@
 //! | `level_files`, `observers` | `FileCalls`, `LevelTellings` | how a program and levels are read, and what is told of them |
 //! | `suggested` | `SuggestedTexts` | what is told of a program for which certificates are searched |
 //! | `next`, `fronts`, `places`, `line` | `ExpectedTokens`, `ExpectedLines` | what could stand at a place, in the order of the table of spellings, and the line that says so |
+//! | `braces` | `OpenBraces` | the line that says which brace is open at the place of a token |
 //! | `warnings`, `sentences` | `WarningSentences` | what is warned of in a file, as text |
 //! | `warning`, `merged`, `uses`, `unused`, `nowhere`, `unreached`, `hidden` | `Warnings`, `StatementUses`, `Unused`, `HoldsNowhere`, `NeverReached`, `HiddenText` | what is warned of, each at its place: in declarations, statements and bytes |
 //! | `rules` | `RuleSentences` | the sentence of each rule |
@@ -45,6 +46,7 @@
 
 mod asked;
 mod beside;
+mod braces;
 mod bytes;
 mod call;
 mod expected_laws;

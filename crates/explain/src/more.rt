@@ -12,6 +12,7 @@ ghost use Rattle.explain.specs.Tellings.{Adds, stand_lines};
 ghost use Rattle.explain.specs.WarningSentences.{warning_lines};
 ghost use Rattle.explain.specs.HiddenText.{text_warnings};
 
+use crate::braces::add_brace_line;
 use crate::line::add_expected;
 use crate::others::add_others_unless;
 use crate::warnings::{add_text_warnings, add_warnings};
@@ -120,7 +121,7 @@ fn add_refusal_lines(
     add_others_unless(alloc, first, name, bytes, refusal, program, text)
 }
 
-/// Adds what could stand at the place of a fault, if that is a token with which no program goes on.
+/// Adds what could stand at the place of a fault, if that is a token with which no program goes on, and in front of it which brace is open there.
 pub fn add_stand_lines(
     alloc: Global,
     bytes: &[u8],
@@ -131,7 +132,17 @@ pub fn add_stand_lines(
     ensures { OnOk result (text.new ≡ text.old ++ stand_lines bytes.now fault.now) }
 {
     match fault {
-        Fault::Text(FaultKind::Token, at) => add_expected(alloc, bytes, *at, text),
+        Fault::Text(FaultKind::Token, at) => add_stand_lines_at(alloc, bytes, *at, text),
         _ => Ok(()),
     }
+}
+
+/// Adds which brace is open at a place, and what could stand there.
+#[tactic(auto, unfolding(crate::specs::Tellings::stand_lines_at))]
+fn add_stand_lines_at(alloc: Global, bytes: &[u8], at: u32, text: &mut Blob) -> Result<(), NoMemory>
+    requires { length bytes.now ≤ MOST_BYTES }
+    ensures { OnOk result (text.new ≡ text.old ++ spec.stand_lines_at bytes.now at) }
+{
+    add_brace_line(alloc, bytes, at, text)?;
+    add_expected(alloc, bytes, at, text)
 }

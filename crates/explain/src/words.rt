@@ -113,7 +113,7 @@ fn begins_declaration(word: &[u8]) -> bool
 }
 
 /// The longest run of letters, digits and underscores that a text begins with.
-fn word_run(text: &[u8]) -> &[u8]
+pub fn word_run(text: &[u8]) -> &[u8]
     ensures { result.now ≡ take_while class.is_word text.now }
 {
     for (i, byte) in text.iter().enumerate() {

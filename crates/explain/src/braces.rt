@@ -1,0 +1,190 @@
+//! The line that says to which brace a token mostly belongs with which no program goes on.
+
+ghost use Rattle.std.specs.Prelude.{◌≡◌, ◌≤◌, ◌++◌, length, false, IfOk, OnOk};
+ghost use Rattle.cov_expr.specs.declared.limits.TheConstants.{MOST_BYTES};
+ghost use Rattle.cov_text.specs.Text.{words_of};
+ghost use Rattle.explain.specs.OpenBraces as spec;
+
+use crate::words::word_run;
+use cov_expr::{Blob, Kind, List, NoMemory};
+use cov_grammar::{Token, is};
+use cov_lex::LexFault;
+use cov_parse::read_tokens;
+use std::alloc::Global;
+use text_parts::{add_number, halves, position};
+
+/// Adds a line that says which `{` is open at a place of a text of at most 1 MiB, or which the `}` in front of it closes; none where the token there
+/// tells nothing of braces.
+pub fn add_brace_line(alloc: Global, bytes: &[u8], at: u32, text: &mut Blob) -> Result<(), NoMemory>
+    requires { length bytes.now ≤ MOST_BYTES }
+    ensures { OnOk result (text.new ≡ text.old ++ spec.brace_line bytes.now at) }
+{
+    let (front, rest) = halves(bytes, at as usize);
+    let tokens = tokens_of(alloc, front)?;
+    add_line(bytes, rest, tokens.as_slice(), text)
+}
+
+/// The tokens of a text of at most 1 MiB; none where it has none.
+#[tactic(auto, using(crate::proofs::BraceLaws::tokens_read, crate::proofs::BraceLaws::tokens_fault))]
+fn tokens_of(alloc: Global, front: &[u8]) -> Result<List<Token>, NoMemory>
+    requires { length front.now ≤ MOST_BYTES }
+    ensures { IfOk result (λ tokens. tokens ≡ words_of front.now) }
+{
+    match read_tokens(alloc, front) {
+        Ok(read) => Ok(read.tokens),
+        Err(LexFault::NoMemory) => Err(NoMemory),
+        Err(LexFault::BadByte(_) | LexFault::NumberTooLarge(_) | LexFault::NameTooLong(_)) => {
+            Ok(List::new(alloc))
+        }
+    }
+}
+
+/// Adds the line, by the text from a token on and the tokens in front of it.
+fn add_line(bytes: &[u8], rest: &[u8], tokens: &[Token], text: &mut Blob) -> Result<(), NoMemory>
+    ensures { OnOk result (text.new ≡ text.old ++ spec.brace_line_of bytes.now rest.now tokens.now) }
+{
+    if is_outside(rest) {
+        return add_open(bytes, open_brace(tokens), text);
+    }
+    if word_run(rest) == b"else".as_slice() {
+        return add_else(bytes, tokens, text);
+    }
+    Ok(())
+}
+
+/// Whether a text ends, or goes on with a word with which a declaration begins.
+fn is_outside(rest: &[u8]) -> bool
+    ensures { result ≡ spec.is_outside rest.now }
+{
+    match rest {
+        [] => true,
+        [_, ..] => begins_declared(word_run(rest)),
+    }
+}
+
+/// Whether a declaration begins with a word, which no block has.
+fn begins_declared(word: &[u8]) -> bool
+    ensures { result ≡ spec.begins_declared word.now }
+{
+    word == b"thread".as_slice()
+        || word == b"lock".as_slice()
+        || word == b"var".as_slice()
+        || word == b"level".as_slice()
+}
+
+/// Adds the line of an `else`, by the tokens in front of it.
+fn add_else(bytes: &[u8], tokens: &[Token], text: &mut Blob) -> Result<(), NoMemory>
+    ensures { OnOk result (text.new ≡ text.old ++ spec.else_line bytes.now tokens.now) }
+{
+    if ends_closed(tokens) {
+        add_closed(bytes, open_brace(all_but_last(tokens)), text)
+    } else {
+        add_open(bytes, open_brace(tokens), text)
+    }
+}
+
+/// Adds a line that says that a `{` is open, by its place, if there is one.
+fn add_open(bytes: &[u8], brace: Option<u32>, text: &mut Blob) -> Result<(), NoMemory>
+    ensures { OnOk result (text.new ≡ text.old ++ spec.open_line bytes.now brace) }
+{
+    match brace {
+        Some(place) => add_open_text(bytes, place as usize, text),
+        None => Ok(()),
+    }
+}
+
+/// Adds a line that says that the `{` at a place is open.
+fn add_open_text(bytes: &[u8], place: usize, text: &mut Blob) -> Result<(), NoMemory>
+    ensures { OnOk result (text.new ≡ text.old ++ spec.open_text bytes.now place) }
+{
+    let front = "  a `}` may be missing: the `{` of line ";
+    add_line_text(front, " is open here\n", bytes, place, text)
+}
+
+/// Adds a line that says that a `}` in front of an `else` closes a `{`, by the place of that, if there is one.
+fn add_closed(bytes: &[u8], brace: Option<u32>, text: &mut Blob) -> Result<(), NoMemory>
+    ensures { OnOk result (text.new ≡ text.old ++ spec.closed_line bytes.now brace) }
+{
+    match brace {
+        Some(place) => add_closed_text(bytes, place as usize, text),
+        None => Ok(()),
+    }
+}
+
+/// Adds a line that says that a `}` in front of an `else` closes the `{` at a place.
+fn add_closed_text(bytes: &[u8], place: usize, text: &mut Blob) -> Result<(), NoMemory>
+    ensures { OnOk result (text.new ≡ text.old ++ spec.closed_text bytes.now place) }
+{
+    let front = "  the `}` in front of it closes the `{` of line ";
+    let back = ", to which no `else` belongs: a `}` may be missing between them\n";
+    add_line_text(front, back, bytes, place, text)
+}
+
+/// Adds the line of a place, between words.
+fn add_line_text(
+    front: &str,
+    back: &str,
+    bytes: &[u8],
+    place: usize,
+    text: &mut Blob,
+) -> Result<(), NoMemory>
+    ensures { OnOk result (text.new ≡ text.old ++ spec.line_text front.now back.now bytes.now place) }
+{
+    let position = position(bytes, place);
+    text.extend_from_slice(front.as_bytes())?;
+    add_number(position.line, text)?;
+    text.extend_from_slice(back.as_bytes())
+}
+
+/// The place of the innermost `{` that is open behind tokens. Each token is looked at once.
+fn open_brace(tokens: &[Token]) -> Option<u32>
+    ensures { result ≡ spec.open_brace tokens.now }
+{
+    let mut closing: usize = 0;
+    let mut place = None;
+    for i in (0..tokens.len()).rev() {
+        let token = tokens[i];
+        if is(Kind::OpenBrace, token.kind) {
+            if closing == 0 {
+                place = or_place(place, token.at);
+            } else {
+                closing -= 1;
+            }
+        } else if is(Kind::CloseBrace, token.kind) {
+            closing += 1;
+        }
+    }
+    place
+}
+
+/// A place, or another where there is none.
+fn or_place(place: Option<u32>, other: u32) -> Option<u32>
+    ensures { result ≡ spec.or_place place other }
+{
+    match place {
+        Some(place) => Some(place),
+        None => Some(other),
+    }
+}
+
+/// Whether the last of tokens is a `}`.
+fn ends_closed(tokens: &[Token]) -> bool
+    ensures { result ≡ spec.ends_closed false tokens.now }
+{
+    let mut closed = false;
+    for token in tokens {
+        closed = is(Kind::CloseBrace, token.kind);
+    }
+    closed
+}
+
+/// All of some tokens but the last.
+fn all_but_last(tokens: &[Token]) -> &[Token]
+    ensures { result.now ≡ spec.all_but_last tokens.now }
+{
+    if tokens.is_empty() {
+        tokens
+    } else {
+        &tokens[..tokens.len() - 1]
+    }
+}
