@@ -20,8 +20,9 @@ use Rattle.entail_origins.specs.declared.kinds.End.{End}
 use Rattle.entail_origins.specs.declared.kinds.End.TheVariants as ends
 use Rattle.entail_origins.specs.declared.kinds.Question.{Question}
 use Rattle.entail_origins.specs.declared.kinds.Question.TheVariants as q
-use Rattle.entail_origins.specs.AskedVariables.{guard_of, printed_of, untyped_value, assigned_value, variables_of, vars_of, where_unwritten}
-use Rattle.entail_origins.specs.GoalTypes.{AgreeOnTypes, asked_point, at_end, goal_of, goals, goals_of, preds_of, stored_type, type_of_any}
+use Rattle.statement_parts.specs.Parts.{parts, preds_of, Store, untyped, where_unwritten}
+use Rattle.entail_origins.specs.AskedVariables.{assigned_value, variables_of, vars_of}
+use Rattle.entail_origins.specs.GoalTypes.{AgreeOnTypes, asked_point, at_end, goal_of, goals, goals_of, stored_type, type_of_any}
 
 -- Parts of lists -------------------------------------------------------------------------------------------------
 
@@ -53,7 +54,7 @@ module _ (p : Plain) (t : ℕ) (s : Stm) (a : Point) where
   abbrev goal_from : Question → Term
   goal_from question = goal_of p t question s (asked_point p t question s a)
 
-  of_each_state : (end : End) (j : State) → preds_of s ≡ j.preds → goals (state_follows (at_end p t end s a) j) ≡ map goal_from (of_state end j)
+  of_each_state : (end : End) (j : State) → preds_of (parts s).state ≡ j.preds → goals (state_follows (at_end p t end s a) j) ≡ map goal_from (of_state end j)
   of_each_state end j same =
       let b = at_end p t end s a in
       both (λ g. g.goal) goal_from (map (from_preds b.preds) j.preds) (map (type_follows b) j.types) (of_preds end 1 j.preds) (map (λ r. q.TypeOf end r.0) j.types)
@@ -155,28 +156,22 @@ module _ (p : Plain) (t : ℕ) (a b : Point) (held : a.held ≡ b.held) where
   same_value None e agree = same_type e agree
   same_value (Some r) e agree = refl
 
-  same_stored : (s : Stm) → AgreeOnTypes (vars_of (untyped_value s)) a b → stored_type p t s a ≡ stored_type p t s b
-  same_stored skip agree = refl
-  same_stored (assign x e w retypes) agree = same_value w e agree
-  same_stored (lock l) agree = refl
-  same_stored (unlock l) agree = refl
-  same_stored (branch e yes_block no_block join) agree = refl
-  same_stored (loop e inv c) agree = refl
-  same_stored (note j) agree = refl
-  same_stored (output e) agree = refl
+  same_stored : (o : Option Store) → AgreeOnTypes (vars_of (untyped o)) a b → stored_type p t o a ≡ stored_type p t o b
+  same_stored None agree = refl
+  same_stored (Some k) agree = same_value k.written k.value agree
 
   same_one : (z : ℕ) → AgreeOnTypes (z ∷ []) a b → type_at a z ≡ type_at b z
   same_one z agree = All-head (λ y. type_at a y ≡ type_at b y) z [] agree
 
   pub same_goal : (question : Question) (s : Stm) → AgreeOnTypes (variables_of question s) a b → goal_of p t question s a ≡ goal_of p t question s b
   same_goal q.Written s agree = same_any (assigned_value s) agree
-  same_goal (q.Shown x) s agree = same_stored s agree
+  same_goal (q.Shown x) s agree = same_stored (parts s).store agree
   same_goal (q.Controlled y) s agree = same_var y (same_one y agree)
   same_goal (q.Retyped z) s agree = same_one z agree
   same_goal (q.Invariant l) s agree = refl
   same_goal (q.Freed x) s agree = same_one x agree
-  same_goal q.Guard s agree = same_any (guard_of s) agree
-  same_goal q.HeadGuard s agree = same_any (guard_of s) agree
-  same_goal q.Printed s agree = same_any (printed_of s) agree
+  same_goal q.Guard s agree = same_any (parts s).guard agree
+  same_goal q.HeadGuard s agree = same_any (parts s).guard agree
+  same_goal q.Printed s agree = same_any (parts s).printed agree
   same_goal (q.Predicate end i) s agree = refl
   same_goal (q.TypeOf end z) s agree = same_one z agree

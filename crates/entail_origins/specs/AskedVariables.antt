@@ -1,36 +1,19 @@
 -- The variables whose types make up the goal of what is asked of a statement.
-use Rattle.std.specs.Prelude.{ℕ, List, [], ◌∷◌, Option, Some, None}
+use Rattle.std.specs.Prelude.{ℕ, List, [], ◌∷◌, Option, Some, None, option_map}
 use Rattle.cov_expr.specs.Term.{Term}
 use Rattle.cov_expr.specs.Trees.{vars}
-use Rattle.cov_ast.specs.Syntax.{Stm, assign, branch, loop, output}
+use Rattle.cov_ast.specs.Syntax.{Stm}
+use Rattle.statement_parts.specs.Parts.{parts, untyped}
 use Rattle.entail_origins.specs.declared.kinds.Question.{Question}
 use Rattle.entail_origins.specs.declared.kinds.Question.TheVariants as q
 
 -- the value that an assignment stores
 abbrev pub assigned_value : Stm → Option Term
-assigned_value (assign x e q retypes) = Some e
-assigned_value s = None
-
--- a value, unless its type is written
-abbrev pub where_unwritten : Option Term → Term → Option Term
-where_unwritten None e = Some e
-where_unwritten (Some q) e = None
+assigned_value s = option_map (λ k. k.value) (parts s).store
 
 -- the value that an assignment stores, where its type is that of its variables
 abbrev pub untyped_value : Stm → Option Term
-untyped_value (assign x e q retypes) = where_unwritten q e
-untyped_value s = None
-
--- the guard of a branch or of a loop
-abbrev pub guard_of : Stm → Option Term
-guard_of (branch e a b join) = Some e
-guard_of (loop e inv b) = Some e
-guard_of s = None
-
--- what is put out
-abbrev pub printed_of : Stm → Option Term
-printed_of (output e) = Some e
-printed_of s = None
+untyped_value s = untyped (parts s).store
 
 -- the variables of an expression, if there is one, each once by first occurrence
 abbrev pub vars_of : Option Term → List ℕ
@@ -45,8 +28,8 @@ variables_of (q.Controlled y) s = y ∷ []
 variables_of (q.Retyped z) s = z ∷ []
 variables_of (q.Invariant l) s = []
 variables_of (q.Freed x) s = x ∷ []
-variables_of q.Guard s = vars_of (guard_of s)
-variables_of q.HeadGuard s = vars_of (guard_of s)
-variables_of q.Printed s = vars_of (printed_of s)
+variables_of q.Guard s = vars_of (parts s).guard
+variables_of q.HeadGuard s = vars_of (parts s).guard
+variables_of q.Printed s = vars_of (parts s).printed
 variables_of (q.Predicate end i) s = []
 variables_of (q.TypeOf end z) s = z ∷ []

@@ -1,10 +1,11 @@
 -- The goal of what is asked of a statement, by the types at the point of which is asked, and on which of them it depends.
-use Rattle.std.specs.Prelude.{◌≡◌, ℕ, ◌-◌, List, [], get_or, map, Option, Some, None}
+use Rattle.std.specs.Prelude.{◌≡◌, ℕ, ◌-◌, List, get_or, map, Option, Some, None}
 use Rattle.std.specs.List.{All}
 use Rattle.cov_expr.specs.Term.{Term, const, neg}
 use Rattle.cov_ast.specs.Declarations.{invariant_of}
 use Rattle.cov_ast.specs.Plain.{Plain}
-use Rattle.cov_ast.specs.Syntax.{Stm, assign, branch, loop, note}
+use Rattle.cov_ast.specs.Syntax.{Stm, branch, loop}
+use Rattle.statement_parts.specs.Parts.{parts, preds_of, Store}
 use Rattle.entail_origins.specs.Questions.{questions}
 use Rattle.entail_origins.specs.declared.kinds.End.{End}
 use Rattle.entail_origins.specs.declared.kinds.End.TheVariants as e
@@ -14,14 +15,7 @@ use Rattle.typing_law.specs.Blocks.{after_block, value_type}
 use Rattle.typing_law.specs.Entailments.{Entailment}
 use Rattle.point_law.specs.After.{meet, with_guard}
 use Rattle.point_law.specs.Point.{Point, ty, ty_var, type_at}
-use Rattle.entail_origins.specs.AskedVariables.{guard_of, printed_of, assigned_value}
-
--- the predicates of the state of a statement, if it has one
-abbrev pub preds_of : Stm → List Term
-preds_of (branch r a b join) = join.preds
-preds_of (loop r inv b) = inv.preds
-preds_of (note j) = j.preds
-preds_of s = []
+use Rattle.entail_origins.specs.AskedVariables.{assigned_value}
 
 -- Of which point is asked ----------------------------------------------------------------------------------------
 
@@ -74,23 +68,23 @@ module _ (p : Plain) (t : ℕ) where
   type_of_any None a = const 0
   type_of_any (Some r) a = ty p t a r
 
-  -- the type of what an assignment stores
-  abbrev pub stored_type : Stm → Point → Term
-  stored_type (assign x r written retypes) a = value_type p t a written r
-  stored_type s a = const 0
+  -- the type of what is stored, if something is
+  abbrev pub stored_type : Option Store → Point → Term
+  stored_type None a = const 0
+  stored_type (Some k) a = value_type p t a k.written k.value
 
   -- the goal of a question, at the point of which it asks
   abbrev pub goal_of : Question → Stm → Point → Term
   goal_of q.Written s a = type_of_any (assigned_value s) a
-  goal_of (q.Shown x) s a = stored_type s a
+  goal_of (q.Shown x) s a = stored_type (parts s).store a
   goal_of (q.Controlled y) s a = ty_var p t a y
   goal_of (q.Retyped z) s a = type_at a z
   goal_of (q.Invariant l) s a = invariant_of p l
   goal_of (q.Freed x) s a = type_at a x
-  goal_of q.Guard s a = type_of_any (guard_of s) a
-  goal_of q.HeadGuard s a = type_of_any (guard_of s) a
-  goal_of q.Printed s a = type_of_any (printed_of s) a
-  goal_of (q.Predicate end i) s a = get_or (preds_of s) (i - 1) (const 0)
+  goal_of q.Guard s a = type_of_any (parts s).guard a
+  goal_of q.HeadGuard s a = type_of_any (parts s).guard a
+  goal_of q.Printed s a = type_of_any (parts s).printed a
+  goal_of (q.Predicate end i) s a = get_or (preds_of (parts s).state) (i - 1) (const 0)
   goal_of (q.TypeOf end z) s a = type_at a z
 
   -- the goals of what is asked of a statement, from the point in front of it

@@ -7,10 +7,11 @@ use Rattle.std.specs.Prelude.{ℕ, ◌+◌, List, [], ◌∷◌, Bool, true, fal
 use Rattle.cov_expr.specs.Term.{Term}
 use Rattle.cov_expr.specs.Trees.{same}
 use Rattle.cov_ast.specs.Plain.{Plain}
-use Rattle.cov_ast.specs.Syntax.{Stm, skip, assign, lock, unlock, branch, loop, note, output}
+use Rattle.cov_ast.specs.Syntax.{Stm}
 use Rattle.cov_ast.specs.Tables.{has}
 use Rattle.point_law.specs.After.{start}
 use Rattle.point_law.specs.Point.{Point, given_type}
+use Rattle.statement_parts.specs.Parts.{parts, Store}
 use Rattle.statement_paths.specs.Paths.{Step, passed, yes, no, head, place_of}
 use Rattle.typing_points.specs.PointsBehind.{behind_step}
 use Rattle.entail_origins.specs.TypeOrigins.{set_by, where_true}
@@ -23,16 +24,15 @@ use Rattle.entail_origins.specs.declared.type_origin.TypeSource.{TypeSource}
 
 -- with the set of the controls
 module _ (controls : List Bool) where
+  -- what is stored, or the lock that is given back
+  abbrev pub changed_where : Option Store → (returned : Option ℕ) → Option TypeChange
+  changed_where (Some k) returned = where_true (has controls k.variable) (change.ControlStored k.variable)
+  changed_where None (Some l) = Some (change.Returned l)
+  changed_where None None = None
+
   -- what may forget it behind a statement
   abbrev pub changed_past : Stm → Option TypeChange
-  changed_past skip = None
-  changed_past (assign x e q retypes) = where_true (has controls x) (change.ControlStored x)
-  changed_past (lock l) = None
-  changed_past (unlock l) = Some (change.Returned l)
-  changed_past (branch e a b join) = None
-  changed_past (loop e inv b) = None
-  changed_past (note j) = None
-  changed_past (output e) = None
+  changed_past s = changed_where (parts s).store (parts s).returned
 
   -- what may forget it in a step
   abbrev pub changed_by : Step → Option TypeChange

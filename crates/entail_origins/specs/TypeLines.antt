@@ -5,11 +5,12 @@ use Rattle.std.specs.List.{slice_get}
 use Rattle.cov_expr.specs.Term.{Term, const}
 use Rattle.cov_ast.specs.Declarations.{class_of, lock_at, name_of}
 use Rattle.cov_ast.specs.Plain.{Plain}
-use Rattle.cov_ast.specs.Syntax.{Stm, assign}
+use Rattle.cov_ast.specs.Syntax.{Stm}
 use Rattle.cov_ast.specs.Tables.{has}
 use Rattle.cov_print.specs.Spelling.{Names, whole}
 use Rattle.entail_origins.specs.declared.kinds.Question.{Question}
 use Rattle.text_parts.specs.VariableNames.{variable_names}
+use Rattle.statement_parts.specs.Parts.{parts, Store}
 use Rattle.statement_paths.specs.Paths.{Step, passed, yes, no, head, place_of}
 use Rattle.statement_paths.specs.VariableSets.{hidden_after_steps}
 use Rattle.text_parts.specs.Lines.{line}
@@ -89,9 +90,12 @@ value_text names None e = quoted names (codes ", of `") e
 value_text names (Some q) e = quoted names (codes ", which says that it is `") q
 
 -- of what a statement stores
+abbrev pub store_text : Names → Option Store → List ℕ
+store_text names None = []
+store_text names (Some k) = value_text names k.written k.value
+
 abbrev pub stored_text : Names → Stm → List ℕ
-stored_text names (assign x e q retypes) = value_text names q e
-stored_text names s = []
+stored_text names s = store_text names (parts s).store
 
 -- the same of a step, if there is one
 abbrev pub stored_in : Names → Option Step → List ℕ

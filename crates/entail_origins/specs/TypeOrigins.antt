@@ -7,8 +7,9 @@ use Rattle.std.specs.List.{list_any}
 use Rattle.cov_expr.specs.Term.{Term}
 use Rattle.cov_ast.specs.Declarations.{lists}
 use Rattle.cov_ast.specs.Plain.{Plain}
-use Rattle.cov_ast.specs.Syntax.{State, Stm, skip, assign, lock, unlock, branch, loop, note, output}
+use Rattle.cov_ast.specs.Syntax.{State, Stm}
 use Rattle.cov_ast.specs.Tables.{has}
+use Rattle.statement_parts.specs.Parts.{either, Nested, none, parts, Store, turn}
 use Rattle.statement_paths.specs.Paths.{Step, passed, yes, no, head, place_of}
 use Rattle.entail_origins.specs.declared.type_origin.By.{By}
 use Rattle.entail_origins.specs.declared.type_origin.By.TheVariants as by
@@ -38,22 +39,28 @@ set_by_state z by j = if is_listed j.types z then source.Listed by else source.U
 abbrev pub set_by_types : (z : ℕ) → By → List (ℕ × Term) → Option TypeSource
 set_by_types z by types = where_true (is_listed types z) (source.Listed by)
 
+-- what is stated with blocks sets every type, and a note those that it lists
+abbrev pub set_where_stated : (z : ℕ) → Nested → State → Option TypeSource
+set_where_stated z none j = set_by_types z by.Noted j.types
+set_where_stated z (turn b) j = Some (set_by_state z by.LoopState j)
+set_where_stated z (either a b) j = Some (set_by_state z by.Join j)
+
 -- a control has no type itself: what is stored there gives the types that are written behind it
 abbrev pub set_by_assignment : (controls : List Bool) → (z x : ℕ) → (retypes : List (ℕ × Term)) → Option TypeSource
 set_by_assignment controls z x retypes = if has controls x then set_by_types z by.Retype retypes else where_true (x == z) source.Stored
 
 -- with the set of the controls, and the set of the locks that the variable is under
 module _ (controls locks : List Bool) (z : ℕ) where
+  -- by what is stored, the lock that is taken, or what is stated
+  abbrev pub set_where : Option Store → (taken : Option ℕ) → Nested → Option State → Option TypeSource
+  set_where (Some k) taken nested j = set_by_assignment controls z k.variable k.retypes
+  set_where None (Some l) nested j = where_true (has locks l) (source.Taken l)
+  set_where None None nested None = None
+  set_where None None nested (Some j) = set_where_stated z nested j
+
   -- what in a statement sets the type behind it
   abbrev pub set_past : Stm → Option TypeSource
-  set_past skip = None
-  set_past (assign x e q retypes) = set_by_assignment controls z x retypes
-  set_past (lock l) = where_true (has locks l) (source.Taken l)
-  set_past (unlock l) = None
-  set_past (branch e a b join) = Some (set_by_state z by.Join join)
-  set_past (loop e inv b) = Some (set_by_state z by.LoopState inv)
-  set_past (note j) = set_by_types z by.Noted j.types
-  set_past (output e) = None
+  set_past s = set_where (parts s).store (parts s).taken (parts s).nested (parts s).state
 
   -- what in a step sets the type at its end
   abbrev pub set_by : Step → Option TypeSource

@@ -1,12 +1,13 @@
 -- What the origin and the last change of a type say of the type at the point behind steps, by the rules of types.
 use Rattle.std.specs.List.{All}
-use Rattle.std.specs.Prelude.{◌≡◌, ℕ, ◌+◌, length, List, [], ◌∷◌, ◌++◌, Bool, true, Option, Some, None, is_some}
+use Rattle.std.specs.Prelude.{◌≡◌, ℕ, ◌+◌, length, List, [], ◌∷◌, ◌++◌, Bool, true, Option, Some, None, option_map, is_some}
 use Rattle.cov_expr.specs.Term.{Term}
 use Rattle.cov_ast.specs.Declarations.{class_of}
 use Rattle.cov_ast.specs.Plain.{Plain}
-use Rattle.cov_ast.specs.Syntax.{Stm, skip, assign, lock, unlock, branch, loop, note, output}
+use Rattle.cov_ast.specs.Syntax.{Stm}
 use Rattle.point_law.specs.Point.{controls_of}
 use Rattle.typing_points.specs.Points.{after_step, point_after_steps}
+use Rattle.statement_parts.specs.Parts.{listed_types, parts}
 use Rattle.statement_paths.specs.Paths.{Step, passed, yes, no, head, place_of}
 use Rattle.typing_law.specs.Blocks.{value_type}
 use Rattle.point_law.specs.Point.{Point, default_type, given_type}
@@ -22,14 +23,7 @@ use Rattle.entail_origins.specs.declared.type_origin.TypeSource.TheVariants as s
 
 -- the types that a statement lists
 abbrev pub types_of : Stm → List (ℕ × Term)
-types_of skip = []
-types_of (assign x e q retypes) = retypes
-types_of (lock l) = []
-types_of (unlock l) = []
-types_of (branch e a b join) = join.types
-types_of (loop e inv b) = inv.types
-types_of (note j) = j.types
-types_of (output e) = []
+types_of s = listed_types (parts s).store (parts s).state
 
 -- the types that are listed in a step
 abbrev pub types_in : Step → List (ℕ × Term)
@@ -41,8 +35,7 @@ types_in (head at inv) = inv.types
 module _ (p : Plain) (t : ℕ) where
   -- the type of the value that a statement stores
   abbrev pub stored_by : Stm → Point → Option Term
-  stored_by (assign x e q retypes) a = Some (value_type p t a q e)
-  stored_by s a = None
+  stored_by s a = option_map (λ k. value_type p t a k.written k.value) (parts s).store
 
   -- the type of the value that is stored in a step
   abbrev pub stored_in : Step → Point → Option Term

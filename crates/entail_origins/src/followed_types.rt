@@ -8,13 +8,13 @@ ghost use Rattle.cov_expr.specs.View.{term};
 ghost use Rattle.statement_paths.specs.Paths as paths;
 ghost use Rattle.entail_origins.specs.FollowedTypes as spec;
 
-use crate::goal_variables::untyped_value;
 use crate::known_types::{Known, known_after_steps};
 use crate::type_origin::{TypeOrigin, TypeSource};
 use crate::type_steps::{locks_over, origin_along};
 use cov_ast::Program;
 use cov_expr::{Expr, List, NoMemory, vars};
 use mode_state::Mask;
+use statement_parts::parts_of;
 use statement_paths::Step;
 use std::alloc::Global;
 
@@ -170,7 +170,7 @@ fn value_in<'p>(step: Option<&Step<'p>>) -> Option<&'p Expr>
     ensures { option_map (λ e. term e.now) result ≡ spec.value_in (option_map (λ s. paths.step s.now) step.entry) }
 {
     match step {
-        Some(Step::Passed(stmt)) => untyped_value(&stmt.kind),
+        Some(Step::Passed(stmt)) => parts_of(&stmt.kind).untyped(),
         Some(Step::Yes(_, _) | Step::No(_, _) | Step::Head(_, _)) | None => None,
     }
 }

@@ -1,6 +1,6 @@
 //! What a step may give.
 
-ghost use Rattle.std.specs.Prelude.{◌≡◌, [], ◌∷◌, ◌++◌, IfOk, OnOk, map, option_map};
+ghost use Rattle.std.specs.Prelude.{◌≡◌, [], ◌∷◌, ◌++◌, IfOk, OnOk, Some, map, option_map};
 ghost use Rattle.cov_expr.specs.Term.{bin, neg, var};
 ghost use Rattle.cov_expr.specs.Trees as tree;
 ghost use Rattle.cov_expr.specs.View.{term};
@@ -8,6 +8,7 @@ ghost use Rattle.cov_expr.specs.declared.expr.Op.TheVariants.{Eq};
 ghost use Rattle.cov_ast.specs.Declarations.{lock_at};
 ghost use Rattle.cov_ast.specs.Plain.{plain};
 ghost use Rattle.cov_ast.specs.View as view;
+ghost use Rattle.statement_parts.specs.Parts as table;
 ghost use Rattle.statement_paths.specs.Paths as paths;
 ghost use Rattle.entail_origins.specs.GivenViews as spec;
 ghost use Rattle.entail_origins.specs.Origins as origins;
@@ -15,6 +16,7 @@ ghost use Rattle.entail_origins.specs.Origins as origins;
 use crate::hypothesis_origin::HypothesisSource;
 use cov_ast::{Program, State, StmtKind};
 use cov_expr::{Expr, List, NoMemory, Op, boxed, copy, same};
+use statement_parts::{Nested, Parts, parts_of};
 use statement_paths::Step;
 use std::alloc::Global;
 
@@ -92,32 +94,43 @@ fn add_given_after_statement<'p>(
 ) -> Result<(), NoMemory>
     ensures { OnOk result (map spec.given all.new ≡ map spec.given all.old ++ origins.given_after_statement (plain (view.program p.now)) (view.kind kind.now)) }
 {
-    match kind {
-        StmtKind::Skip | StmtKind::Unlock(_) | StmtKind::Output(_) => Ok(()),
-        StmtKind::Assign(x, value, _, _) => {
-            add_one(
-                HypothesisSource::Assigned,
-                GivenTerm::Equation(*x, value),
-                all,
-            )
-        }
-        StmtKind::Lock(l) => add_invariant(*l, invariant_of(p, *l), all),
-        StmtKind::If(_, _, _, join) => add_each(HypothesisSource::Join, join, all),
-        StmtKind::While(guard, inv, _) => add_given_after_loop(guard, inv, all),
-        StmtKind::Note(note) => add_each(HypothesisSource::Noted, note, all),
+    let parts = parts_of(kind);
+    match (parts.store, parts.taken, parts.state) {
+        (Some(store), _, _) => add_one(
+            HypothesisSource::Assigned,
+            GivenTerm::Equation(store.variable, store.value),
+            all,
+        ),
+        (None, Some(l), _) => add_invariant(l, invariant_of(p, l), all),
+        (None, None, Some(state)) => add_stated(&parts, state, all),
+        (None, None, None) => Ok(()),
     }
 }
 
-/// Adds what a loop may give to the point behind it.
-fn add_given_after_loop<'p>(
-    guard: &'p Expr,
-    inv: &'p State,
+/// Adds what a state may give behind the statement that has it, and that the guard of a loop doesn't hold.
+fn add_stated<'p>(
+    parts: &Parts<'p>,
+    state: &'p State,
     all: &mut List<Given<'p>>,
 ) -> Result<(), NoMemory>
-    ensures { OnOk result (map spec.given all.new ≡ map spec.given all.old ++ origins.given_after_loop (term guard.now) (view.state inv.now)) }
+    ensures { OnOk result (map spec.given all.new ≡ map spec.given all.old
+        ++ origins.given_stated (table.parts_of parts.now).nested (table.parts_of parts.now).guard (Some (view.state state.now))) }
 {
-    add_one(HypothesisSource::LoopLeft, GivenTerm::Negation(guard), all)?;
-    add_each(HypothesisSource::LoopState, inv, all)
+    if let Some(guard) = parts.left_guard() {
+        add_one(HypothesisSource::LoopLeft, GivenTerm::Negation(guard), all)?;
+    }
+    add_each(state_source(parts.nested), state, all)
+}
+
+/// What gives the predicates of a state, by the blocks of the statement that has it.
+fn state_source(nested: Nested<'_>) -> HypothesisSource
+    ensures { result ≡ origins.state_source (table.nested_of nested.entry) }
+{
+    match nested {
+        Nested::None => HypothesisSource::Noted,
+        Nested::Turn(_) => HypothesisSource::LoopState,
+        Nested::Either(_, _) => HypothesisSource::Join,
+    }
 }
 
 /// Adds one predicate.

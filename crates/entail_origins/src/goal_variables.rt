@@ -8,6 +8,7 @@ ghost use Rattle.entail_origins.specs.AskedVariables as spec;
 use crate::kinds::Question;
 use cov_ast::StmtKind;
 use cov_expr::{Expr, List, NoMemory, vars};
+use statement_parts::parts_of;
 use std::alloc::Global;
 
 /// The variables whose types make up the goal of what is asked of a statement, each once.
@@ -18,11 +19,15 @@ pub fn variables_of(
 ) -> Result<List<u32>, NoMemory>
     ensures { IfOk result (λ made. made ≡ spec.variables_of question (view.kind kind.now)) }
 {
+    let parts = parts_of(kind);
     match question {
-        Question::Written => vars_of(alloc, assigned_value(kind)),
-        Question::Shown(_) => vars_of(alloc, untyped_value(kind)),
-        Question::Guard | Question::HeadGuard => vars_of(alloc, guard_of(kind)),
-        Question::Printed => vars_of(alloc, printed_of(kind)),
+        Question::Written => match parts.store {
+            Some(store) => vars(alloc, store.value),
+            None => Ok(List::new(alloc)),
+        },
+        Question::Shown(_) => vars_of(alloc, parts.untyped()),
+        Question::Guard | Question::HeadGuard => vars_of(alloc, parts.guard),
+        Question::Printed => vars_of(alloc, parts.printed),
         Question::Controlled(z) => one(alloc, z),
         Question::Retyped(z) => one(alloc, z),
         Question::Freed(z) => one(alloc, z),
@@ -47,70 +52,5 @@ fn vars_of(alloc: Global, e: Option<&Expr>) -> Result<List<u32>, NoMemory>
     match e {
         Some(e) => vars(alloc, e),
         None => Ok(List::new(alloc)),
-    }
-}
-
-/// The value that an assignment stores.
-fn assigned_value(kind: &StmtKind) -> Option<&Expr>
-    ensures { option_map (λ e. term e.now) result ≡ spec.assigned_value (view.kind kind.now) }
-{
-    match kind {
-        StmtKind::Assign(_, e, _, _) => Some(e),
-        StmtKind::Skip
-        | StmtKind::Lock(_)
-        | StmtKind::Unlock(_)
-        | StmtKind::If(_, _, _, _)
-        | StmtKind::While(_, _, _)
-        | StmtKind::Note(_)
-        | StmtKind::Output(_) => None,
-    }
-}
-
-/// The value that an assignment stores, where its type is that of its variables.
-pub fn untyped_value(kind: &StmtKind) -> Option<&Expr>
-    ensures { option_map (λ e. term e.now) result ≡ spec.untyped_value (view.kind kind.now) }
-{
-    match kind {
-        StmtKind::Assign(_, e, None, _) => Some(e),
-        StmtKind::Assign(_, _, Some(_), _)
-        | StmtKind::Skip
-        | StmtKind::Lock(_)
-        | StmtKind::Unlock(_)
-        | StmtKind::If(_, _, _, _)
-        | StmtKind::While(_, _, _)
-        | StmtKind::Note(_)
-        | StmtKind::Output(_) => None,
-    }
-}
-
-/// The guard of a branch or of a loop.
-fn guard_of(kind: &StmtKind) -> Option<&Expr>
-    ensures { option_map (λ e. term e.now) result ≡ spec.guard_of (view.kind kind.now) }
-{
-    match kind {
-        StmtKind::If(e, _, _, _) => Some(e),
-        StmtKind::While(e, _, _) => Some(e),
-        StmtKind::Skip
-        | StmtKind::Assign(_, _, _, _)
-        | StmtKind::Lock(_)
-        | StmtKind::Unlock(_)
-        | StmtKind::Note(_)
-        | StmtKind::Output(_) => None,
-    }
-}
-
-/// What is put out.
-fn printed_of(kind: &StmtKind) -> Option<&Expr>
-    ensures { option_map (λ e. term e.now) result ≡ spec.printed_of (view.kind kind.now) }
-{
-    match kind {
-        StmtKind::Output(e) => Some(e),
-        StmtKind::Skip
-        | StmtKind::Assign(_, _, _, _)
-        | StmtKind::Lock(_)
-        | StmtKind::Unlock(_)
-        | StmtKind::If(_, _, _, _)
-        | StmtKind::While(_, _, _)
-        | StmtKind::Note(_) => None,
     }
 }

@@ -15,6 +15,7 @@ use crate::type_steps::set_by;
 use cov_ast::{NumberSet, StmtKind};
 use cov_expr::{Expr, NoMemory, copy, same};
 use mode_state::Mask;
+use statement_parts::parts_of;
 use statement_paths::Step;
 use std::alloc::Global;
 use typing_points::Trace;
@@ -177,15 +178,12 @@ fn changed_by(controls: &Mask, step: &Step<'_>) -> Option<TypeChange>
 fn changed_past(controls: &Mask, kind: &StmtKind) -> Option<TypeChange>
     ensures { result ≡ spec.changed_past controls.now (view.kind kind.now) }
 {
-    match kind {
-        StmtKind::Assign(x, _, _, _) if controls.has(*x) => Some(TypeChange::ControlStored(*x)),
-        StmtKind::Unlock(l) => Some(TypeChange::Returned(*l)),
-        StmtKind::Assign(_, _, _, _)
-        | StmtKind::Skip
-        | StmtKind::Lock(_)
-        | StmtKind::If(_, _, _, _)
-        | StmtKind::While(_, _, _)
-        | StmtKind::Note(_)
-        | StmtKind::Output(_) => None,
+    let parts = parts_of(kind);
+    match (parts.store, parts.returned) {
+        (Some(store), _) if controls.has(store.variable) => {
+            Some(TypeChange::ControlStored(store.variable))
+        }
+        (Some(_), _) | (None, None) => None,
+        (None, Some(l)) => Some(TypeChange::Returned(l)),
     }
 }

@@ -5,12 +5,14 @@ ghost use Rattle.cov_expr.specs.View.{term};
 ghost use Rattle.cov_ast.specs.Plain.{plain};
 ghost use Rattle.cov_ast.specs.View as view;
 ghost use Rattle.statement_paths.specs.Paths as paths;
+ghost use Rattle.statement_parts.specs.Parts.{nested_of};
 ghost use Rattle.entail_origins.specs.TypeOrigins as spec;
 
 use crate::type_origin::{By, TypeOrigin, TypeSource};
 use cov_ast::{NumberSet, Program, Retype, State, StmtKind};
 use cov_expr::{Expr, List, NoMemory};
 use mode_state::Mask;
+use statement_parts::{Nested, parts_of};
 use statement_paths::Step;
 use std::alloc::Global;
 
@@ -64,18 +66,26 @@ pub fn set_by(controls: &Mask, locks: &NumberSet, z: u32, step: &Step<'_>) -> Op
 fn set_past(controls: &Mask, locks: &NumberSet, z: u32, kind: &StmtKind) -> Option<TypeSource>
     ensures { result ≡ spec.set_past controls.now locks.now z (view.kind kind.now) }
 {
-    match kind {
-        StmtKind::Skip | StmtKind::Unlock(_) | StmtKind::Output(_) => None,
-        StmtKind::Assign(x, _, _, retypes) => {
-            set_by_assignment(controls, z, *x, retypes.as_slice())
-        }
-        StmtKind::Lock(l) => where_true(locks.has(*l), TypeSource::Taken(*l)),
-        StmtKind::If(_, _, _, join) => Some(set_by_state(z, By::Join, join)),
-        StmtKind::While(_, inv, _) => Some(set_by_state(z, By::LoopState, inv)),
-        StmtKind::Note(note) => where_true(
-            is_listed(note.types.as_slice(), z),
+    let parts = parts_of(kind);
+    match (parts.store, parts.taken, parts.state) {
+        (Some(store), _, _) => set_by_assignment(controls, z, store.variable, store.retypes),
+        (None, Some(l), _) => where_true(locks.has(l), TypeSource::Taken(l)),
+        (None, None, Some(state)) => set_where_stated(z, parts.nested, state),
+        (None, None, None) => None,
+    }
+}
+
+/// What in a state sets the type: with blocks it sets every one, and a note those that it lists.
+fn set_where_stated(z: u32, nested: Nested<'_>, state: &State) -> Option<TypeSource>
+    ensures { result ≡ spec.set_where_stated z (nested_of nested.entry) (view.state state.now) }
+{
+    match nested {
+        Nested::None => where_true(
+            is_listed(state.types.as_slice(), z),
             TypeSource::Listed(By::Noted),
         ),
+        Nested::Turn(_) => Some(set_by_state(z, By::LoopState, state)),
+        Nested::Either(_, _) => Some(set_by_state(z, By::Join, state)),
     }
 }
 

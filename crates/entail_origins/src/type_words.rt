@@ -1,6 +1,6 @@
 //! The words on an origin, and on a later change.
 
-ghost use Rattle.std.specs.Prelude.{◌≡◌, ◌++◌, OnOk, codes, option_map};
+ghost use Rattle.std.specs.Prelude.{◌≡◌, ◌++◌, OnOk, codes};
 ghost use Rattle.cov_ast.specs.View as view;
 ghost use Rattle.cov_expr.specs.View.{term};
 ghost use Rattle.cov_print.specs.Spelling.{whole};
@@ -10,6 +10,7 @@ use crate::type_origin::{By, TypeChange};
 use cov_ast::{NameTable, StmtKind};
 use cov_expr::{Blob, Expr, NoMemory};
 use cov_print::add_expr;
+use statement_parts::parts_of;
 
 /// What lists types, or doesn't.
 pub fn list_word(by: By) -> &'static str
@@ -39,25 +40,12 @@ pub fn listed_text(by: By) -> &'static str
 pub fn add_stored(names: &NameTable, kind: &StmtKind, text: &mut Blob) -> Result<(), NoMemory>
     ensures { OnOk result (text.new ≡ text.old ++ spec.stored_text names.now (view.kind kind.now)) }
 {
-    match kind {
-        StmtKind::Assign(_, e, q, _) => add_value(names, q, e, text),
-        StmtKind::Skip
-        | StmtKind::Lock(_)
-        | StmtKind::Unlock(_)
-        | StmtKind::If(_, _, _, _)
-        | StmtKind::While(_, _, _)
-        | StmtKind::Note(_)
-        | StmtKind::Output(_) => Ok(()),
-    }
-}
-
-/// Adds a value, or the type that is written for it.
-fn add_value(names: &NameTable, q: &Option<Expr>, e: &Expr, text: &mut Blob) -> Result<(), NoMemory>
-    ensures { OnOk result (text.new ≡ text.old ++ spec.value_text names.now (option_map term q.now) (term e.now)) }
-{
-    match q {
-        None => add_quoted(names, b", of `", e, text),
-        Some(q) => add_quoted(names, b", which says that it is `", q, text),
+    match parts_of(kind).store {
+        Some(store) => match store.written {
+            None => add_quoted(names, b", of `", store.value, text),
+            Some(q) => add_quoted(names, b", which says that it is `", q, text),
+        },
+        None => Ok(()),
     }
 }
 
