@@ -11,7 +11,7 @@ use Rattle.statement_paths.specs.VariableSets.{stable}
 use Rattle.text_parts.specs.VariableNames.{variable_names}
 use Rattle.refusal_names.proofs.OutsideSets.{next_failing, occurrences_below, NextFailing}
 use Rattle.refusal_names.proofs.UnstableLaws as unstable_laws
-use Rattle.refusal_names.specs.NameLines.{other_cause, read_line, reads_line, with_second}
+use Rattle.refusal_names.specs.NameLines.{other_cause, read_line, reads_line}
 use Rattle.refusal_names.specs.ToldReads.{TellsOfReads, TellsOfSecond}
 use Rattle.refusal_names.specs.UnstableVariables.{unstable_line, TellsWhyUnstable}
 
@@ -44,7 +44,7 @@ module _ (p : Program) (bytes : List ℕ) (t : ℕ) (held : List Bool) where
     why = unstable_laws.told p bytes t a.x held a.fails;
     second_cause = other_cause cause a.x b.x;
     why_second = second a.x b.x b.fails;
-    told = ap (λ xs. read_line (variable_names p.vars) cause xs) a.next_found ∙ ap (λ xs. with_second (variable_names p.vars) cause a.x xs) b.next_found;
+    told = ap (λ xs. read_line (variable_names p.vars) cause xs) a.next_found ∙ ap (λ xs. read_line (variable_names p.vars) cause (a.x ∷ xs)) b.next_found;
   }
 
   by_first : (e : Term) (a : NextFailing (length p.vars) (is_stable (plain p) t held) (occurrences e))

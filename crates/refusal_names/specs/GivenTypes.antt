@@ -4,8 +4,9 @@ use Rattle.std.specs.Prelude.{◌≡◌, ◌⊎◌, ℕ, List, [], ◌++◌, Boo
 use Rattle.cov_expr.specs.Trees.{has_number}
 use Rattle.cov_ast.specs.Declarations.{is_control}
 use Rattle.cov_ast.specs.NameTables.{find_name}
+use Rattle.statement_parts.specs.Parts.{parts, Store}
 use Rattle.cov_ast.specs.Plain.{plain}
-use Rattle.cov_ast.specs.Syntax.{Program, Stm, skip, assign, lock, unlock, branch, loop, note, output}
+use Rattle.cov_ast.specs.Syntax.{Program, State, Stm}
 use Rattle.cov_ast.specs.Tables.{has}
 use Rattle.cov_ast.specs.declared.refusal.Detail.{Detail}
 use Rattle.cov_ast.specs.declared.refusal.Detail.TheVariants.{One}
@@ -45,16 +46,15 @@ type_line names cause stable controls z = if has controls z then control_text na
 abbrev pub retype_line : Names → (cause : ℕ → List ℕ) → (stable controls : List Bool) → (x z : ℕ) → List ℕ
 retype_line names cause stable controls x z = if has controls x then type_line names cause stable controls z else assigned_text names x
 
+-- where a statement stores, and where it states types
+abbrev pub given_where : Names → (cause : ℕ → List ℕ) → (stable controls : List Bool) → Option Store → Option State → (z : ℕ) → List ℕ
+given_where names cause stable controls (Some k) j z = retype_line names cause stable controls k.variable z
+given_where names cause stable controls None (Some j) z = type_line names cause stable controls z
+given_where names cause stable controls None None z = []
+
 -- of a statement that gives types
 abbrev pub given_line : Names → (cause : ℕ → List ℕ) → (stable controls : List Bool) → Stm → (z : ℕ) → List ℕ
-given_line names cause stable controls skip z = []
-given_line names cause stable controls (assign x e q retypes) z = retype_line names cause stable controls x z
-given_line names cause stable controls (lock l) z = []
-given_line names cause stable controls (unlock l) z = []
-given_line names cause stable controls (branch e a b join) z = type_line names cause stable controls z
-given_line names cause stable controls (loop e inv b) z = type_line names cause stable controls z
-given_line names cause stable controls (note j) z = type_line names cause stable controls z
-given_line names cause stable controls (output e) z = []
+given_line names cause stable controls s z = given_where names cause stable controls (parts s).store (parts s).state z
 
 -- of a variable by its name, if there is one
 abbrev pub line_of_any : Names → (cause : ℕ → List ℕ) → (stable controls : List Bool) → Stm → Option ℕ → List ℕ

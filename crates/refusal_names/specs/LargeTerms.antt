@@ -8,8 +8,9 @@ use Rattle.cov_expr.specs.Term.{Term, var, neg, bin}
 use Rattle.cov_expr.specs.Trees.{nodes, mentions, subst}
 use Rattle.cov_expr.specs.declared.expr.Op.TheVariants.{Eq}
 use Rattle.cov_expr.specs.declared.limits.TheConstants.{MOST_NODES}
+use Rattle.statement_parts.specs.Parts.{left_guard, parts, Store}
 use Rattle.cov_ast.specs.Plain.{class_term}
-use Rattle.cov_ast.specs.Syntax.{Var, Stm, skip, assign, lock, unlock, branch, loop, note, output}
+use Rattle.cov_ast.specs.Syntax.{State, Stm, Var}
 use Rattle.cov_ast.specs.Tables.{has}
 use Rattle.cov_print.specs.Spelling.{Names, name}
 use Rattle.statement_paths.specs.Paths.{Step, passed, yes, no, head}
@@ -59,15 +60,14 @@ large_equation at x e = if is_large (bin Eq (var x) e) then Some (at, codes "equ
 abbrev pub large_negation : (at : ℕ) → Term → Option (ℕ × List ℕ)
 large_negation at e = if is_large (neg e) then Some (at, codes "negation of the guard") else None
 
+-- of what is stored, or of a guard that doesn't hold behind
+abbrev pub made_where : (at : ℕ) → Option Store → (left : Option Term) → Option (ℕ × List ℕ)
+made_where at (Some k) left = large_equation at k.variable k.value
+made_where at None (Some e) = large_negation at e
+made_where at None None = None
+
 abbrev pub made_after_statement : (at : ℕ) → Stm → Option (ℕ × List ℕ)
-made_after_statement at skip = None
-made_after_statement at (assign x e q retypes) = large_equation at x e
-made_after_statement at (lock l) = None
-made_after_statement at (unlock l) = None
-made_after_statement at (branch e a b join) = None
-made_after_statement at (loop e inv b) = large_negation at e
-made_after_statement at (note j) = None
-made_after_statement at (output e) = None
+made_after_statement at s = made_where at (parts s).store (left_guard (parts s).nested (parts s).guard)
 
 -- what a step makes that is too large
 abbrev pub made_by : Step → Option (ℕ × List ℕ)
@@ -91,15 +91,21 @@ made_or bytes (Some m) later = codes "  the " ++ m.1 ++ codes " in line " ++ dec
 abbrev pub value_text : List ℕ
 value_text = codes "  the type of the value, by those of its variables, has more than 1,000 nodes\n"
 
+-- what is made on the way, where something is put out, stated or given back, so that an entailment is asked for
+abbrev pub made_where_asked : (bytes : List ℕ) → Option (ℕ × List ℕ) → (printed : Option Term) → Option State → (returned : Option ℕ) → List ℕ
+made_where_asked bytes made (Some e) j l = made_or bytes made value_text
+made_where_asked bytes made None (Some j) l = made_or bytes made []
+made_where_asked bytes made None None (Some l) = made_or bytes made []
+made_where_asked bytes made None None None = []
+
+-- of what is stored, where something is; else another
+abbrev pub stored_or : List Var → Names → (bytes : List ℕ) → (hidden : List Bool) → Option (ℕ × List ℕ) → Option Store → (later : List ℕ) → List ℕ
+stored_or vars names bytes hidden made None later = later
+stored_or vars names bytes hidden made (Some k) later =
+    assigned_or names k.variable (large_class hidden k.variable k.value 0 vars) (large_retype k.variable k.value k.retypes) (made_or bytes made value_text)
+
 -- Of a statement, behind steps. A statement that has a value and nothing else that is too large can only have too large a type of it; of other
 -- statements nothing is said then.
 abbrev pub large_line : List Var → Names → (bytes : List ℕ) → (hidden : List Bool) → List Step → Stm → List ℕ
-large_line vars names bytes hidden steps skip = []
-large_line vars names bytes hidden steps (assign x e q retypes) =
-    assigned_or names x (large_class hidden x e 0 vars) (large_retype x e retypes) (made_or bytes (last_made steps) value_text)
-large_line vars names bytes hidden steps (lock l) = []
-large_line vars names bytes hidden steps (unlock l) = made_or bytes (last_made steps) []
-large_line vars names bytes hidden steps (branch e a b join) = made_or bytes (last_made steps) []
-large_line vars names bytes hidden steps (loop e inv b) = made_or bytes (last_made steps) []
-large_line vars names bytes hidden steps (note j) = made_or bytes (last_made steps) []
-large_line vars names bytes hidden steps (output e) = made_or bytes (last_made steps) value_text
+large_line vars names bytes hidden steps s =
+    stored_or vars names bytes hidden (last_made steps) (parts s).store (made_where_asked bytes (last_made steps) (parts s).printed (parts s).state (parts s).returned)

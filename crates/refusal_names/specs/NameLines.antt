@@ -4,8 +4,9 @@ use Rattle.std.specs.Prelude.{ℕ, suc, ◌==◌, List, [], ◌∷◌, ◌++◌,
 use Rattle.cov_expr.specs.Term.{Term}
 use Rattle.cov_expr.specs.Trees.{occurrences, vars}
 use Rattle.cov_ast.specs.Declarations.{lock_at}
+use Rattle.statement_parts.specs.Parts.{either, Nested, none, parts, Store, turn}
 use Rattle.cov_ast.specs.Plain.{Plain}
-use Rattle.cov_ast.specs.Syntax.{Block, Lock, Stm, skip, assign, lock, unlock, branch, loop, note, output}
+use Rattle.cov_ast.specs.Syntax.{Block, Lock, Stm}
 use Rattle.cov_ast.specs.Tables.{has}
 use Rattle.cov_print.specs.Spelling.{Names, name, whole, expr}
 use Rattle.statement_paths.specs.LocksHeld.{held_at_end}
@@ -22,21 +23,14 @@ two_reads names x y = codes "  not stable here: " ++ name names x ++ codes ", " 
 abbrev pub other_cause : (cause : ℕ → List ℕ) → (x y : ℕ) → List ℕ
 other_cause cause x y = if x == y then [] else cause y
 
-abbrev pub both_causes : (cause : ℕ → List ℕ) → (x y : ℕ) → List ℕ
-both_causes cause x y = cause x ++ other_cause cause x y
-
 abbrev pub two_with_causes : Names → (cause : ℕ → List ℕ) → (x y : ℕ) → List ℕ
-two_with_causes names cause x y = two_reads names x y ++ both_causes cause x y
-
--- a first occurrence that isn't stable, and the next of the rest, if there is one
-abbrev pub with_second : Names → (cause : ℕ → List ℕ) → (x : ℕ) → List ℕ → List ℕ
-with_second names cause x [] = []
-with_second names cause x (y ∷ rest) = two_with_causes names cause x y
+two_with_causes names cause x y = two_reads names x y ++ (cause x ++ other_cause cause x y)
 
 -- the first two of the occurrences that aren't stable, if there are two
 abbrev pub read_line : Names → (cause : ℕ → List ℕ) → List ℕ → List ℕ
 read_line names cause [] = []
-read_line names cause (x ∷ rest) = with_second names cause x rest
+read_line names cause (x ∷ []) = []
+read_line names cause (x ∷ y ∷ rest) = two_with_causes names cause x y
 
 abbrev pub reads_line : Names → (cause : ℕ → List ℕ) → (stable : List Bool) → Option Term → List ℕ
 reads_line names cause stable None = []
@@ -127,16 +121,14 @@ abbrev pub loop_ends : (bytes : List ℕ) → List Lock → (start end : List Bo
 loop_ends bytes locks start end b =
     two_ends (codes "  held at the start of the block: ") (codes "; at its end: ") locks start end ++ changes bytes end start b None 0 locks
 
--- of a statement, by the locks that are held in front of it
+-- of blocks, by the locks that are held in front of them
+abbrev pub nested_ends : (bytes : List ℕ) → List Lock → (held : List Bool) → Nested → List ℕ
+nested_ends bytes locks held none = []
+nested_ends bytes locks held (turn b) = loop_ends bytes locks held (held_at_end b held) b
+nested_ends bytes locks held (either a b) = branch_ends bytes locks (held_at_end a held) (held_at_end b held) a b
+
 abbrev pub ends_line : (bytes : List ℕ) → List Lock → (held : List Bool) → Stm → List ℕ
-ends_line bytes locks held skip = []
-ends_line bytes locks held (assign x e q retypes) = []
-ends_line bytes locks held (lock l) = []
-ends_line bytes locks held (unlock l) = []
-ends_line bytes locks held (branch e a b join) = branch_ends bytes locks (held_at_end a held) (held_at_end b held) a b
-ends_line bytes locks held (loop e inv b) = loop_ends bytes locks held (held_at_end b held) b
-ends_line bytes locks held (note j) = []
-ends_line bytes locks held (output e) = []
+ends_line bytes locks held s = nested_ends bytes locks held (parts s).nested
 
 -- V15: the predicate that is one too many ----------------------------------------------------------------------
 
@@ -153,12 +145,12 @@ guard_line names e = codes "  one too many is the guard or its negation: `" ++ w
 abbrev pub equation_line : Names → (x : ℕ) → Term → List ℕ
 equation_line names x e = codes "  one too many is the equation `" ++ name names x ++ codes " == " ++ expr names true e ++ codes "`\n"
 
+-- where something is stored, a lock is taken, or there is a guard
+abbrev pub added_where : Plain → Names → Option Store → (taken : Option ℕ) → (guard : Option Term) → List ℕ
+added_where p names (Some k) taken guard = equation_line names k.variable k.value
+added_where p names None (Some l) guard = lock_line names (lock_at p l)
+added_where p names None None (Some e) = guard_line names e
+added_where p names None None None = []
+
 abbrev pub added_line : Plain → Names → Stm → List ℕ
-added_line p names skip = []
-added_line p names (assign x e q retypes) = equation_line names x e
-added_line p names (lock l) = lock_line names (lock_at p l)
-added_line p names (unlock l) = []
-added_line p names (branch e a b join) = guard_line names e
-added_line p names (loop e inv b) = guard_line names e
-added_line p names (note j) = []
-added_line p names (output e) = []
+added_line p names s = added_where p names (parts s).store (parts s).taken (parts s).guard

@@ -57,10 +57,12 @@ fn add_cause(
 {
     match guarantee_forbidding(t, writes, x) {
         Some(word) => add_guaranteed(names, bytes, t, word, x, text),
-        None => {
-            let found = first_forbidding(locks, modes, writes, x);
-            add_of_lock(alloc, names, bytes, locks, modes, found, x, text)
-        }
+        None => match first_forbidding(locks, modes, writes, x) {
+            Some((lock, word)) => {
+                add_lock_with_held(alloc, names, bytes, locks, modes, lock, word, x, text)
+            }
+            None => Ok(()),
+        },
     }
 }
 
@@ -130,29 +132,6 @@ fn add_guaranteed(
 {
     add_declared(bytes, b"thread", t.name, t.at, text)?;
     add_list(names, b", has `guarantee ", word, x, b"`\n", text)
-}
-
-/// Adds the line of a lock that isn't held, with those that are, if there is such a lock.
-fn add_of_lock(
-    alloc: Global,
-    names: &NameTable,
-    bytes: &[u8],
-    locks: &[LockDecl],
-    modes: &ModeState,
-    found: Option<(&LockDecl, &'static [u8])>,
-    x: u32,
-    text: &mut Blob,
-) -> Result<(), NoMemory>
-    requires { length locks.now ≤ MOST_LOCKS }
-    ensures { OnOk result (text.new ≡ text.old
-        ++ spec.lock_or_nothing names.now bytes.now (option_map (λ f. (view.lock f.0.now, f.1.now)) found.entry) x (held_text (map view.lock locks.now) (modes.now).held)) }
-{
-    match found {
-        Some((lock, word)) => {
-            add_lock_with_held(alloc, names, bytes, locks, modes, lock, word, x, text)
-        }
-        None => Ok(()),
-    }
 }
 
 /// Adds the line of a lock that isn't held, with those that are.

@@ -1,6 +1,6 @@
 //! The line of V15: the predicate that is one too many.
 
-ghost use Rattle.std.specs.Prelude.{◌≡◌, ◌++◌, OnOk, Some, option_map};
+ghost use Rattle.std.specs.Prelude.{◌≡◌, ◌++◌, OnOk, Some};
 ghost use Rattle.cov_ast.specs.Declarations.{lock_at};
 ghost use Rattle.cov_ast.specs.Plain.{plain};
 ghost use Rattle.cov_ast.specs.View as view;
@@ -8,9 +8,10 @@ ghost use Rattle.cov_expr.specs.View.{term};
 ghost use Rattle.refusal_names.specs.NameLines as spec;
 
 use crate::reads::add_variable;
-use cov_ast::{LockDecl, NameTable, Program, StmtKind};
+use cov_ast::{NameTable, Program, StmtKind};
 use cov_expr::{Blob, Expr, Name, NoMemory};
 use cov_print::add_expr;
+use statement_parts::parts_of;
 
 /// Adds the predicate that a statement adds to a point.
 pub fn add_added(
@@ -21,12 +22,12 @@ pub fn add_added(
 ) -> Result<(), NoMemory>
     ensures { OnOk result (text.new ≡ text.old ++ spec.added_line (plain (view.program p.now)) names.now (view.kind kind.now)) }
 {
-    match kind {
-        StmtKind::Assign(x, e, _, _) => add_equation(names, *x, e, text),
-        StmtKind::Lock(l) => add_lock(p, names, *l, text),
-        StmtKind::If(e, _, _, _) => add_guard(names, e, text),
-        StmtKind::While(e, _, _) => add_guard(names, e, text),
-        StmtKind::Skip | StmtKind::Unlock(_) | StmtKind::Note(_) | StmtKind::Output(_) => Ok(()),
+    let parts = parts_of(kind);
+    match (parts.store, parts.taken, parts.guard) {
+        (Some(store), _, _) => add_equation(names, store.variable, store.value, text),
+        (None, Some(l), _) => add_lock(p, names, l, text),
+        (None, None, Some(guard)) => add_guard(names, guard, text),
+        (None, None, None) => Ok(()),
     }
 }
 
@@ -46,17 +47,10 @@ fn add_lock(p: &Program, names: &NameTable, l: u32, text: &mut Blob) -> Result<(
     ensures { OnOk result (text.new ≡ text.old ++ spec.lock_line names.now (lock_at (plain (view.program p.now)) l)) }
 {
     match p.locks.as_slice().get(l as usize) {
-        Some(lock) => add_invariant_of(names, lock, text),
-        None => Ok(()),
-    }
-}
-
-/// Adds the line of the invariant of a lock that is there.
-fn add_invariant_of(names: &NameTable, lock: &LockDecl, text: &mut Blob) -> Result<(), NoMemory>
-    ensures { OnOk result (text.new ≡ text.old ++ spec.lock_line names.now (view.lock lock.now)) }
-{
-    match &lock.inv {
-        Some(e) => add_invariant(names, lock.name, e, text),
+        Some(lock) => match &lock.inv {
+            Some(e) => add_invariant(names, lock.name, e, text),
+            None => Ok(()),
+        },
         None => Ok(()),
     }
 }

@@ -9,6 +9,7 @@ use crate::changes::add_changes;
 use cov_ast::{LockDecl, Stmt, StmtKind};
 use cov_expr::{Blob, List, Name, NoMemory};
 use mode_state::ModeState;
+use statement_parts::{Nested, parts_of};
 use statement_paths::pass_block;
 use std::alloc::Global;
 
@@ -26,29 +27,19 @@ pub fn add_ends(
     requires { length locks.now ≤ MOST_LOCKS }
     ensures { OnOk result (text.new ≡ text.old ++ spec.ends_line bytes.now (map view.lock locks.now) (modes.old).held (view.kind kind.now)) }
 {
-    match kind {
-        StmtKind::If(_, a, b, _) => {
+    match parts_of(kind).nested {
+        Nested::Either(a, b) => {
             let mut first = modes.copy(alloc)?;
-            pass_block(a.as_slice(), &mut first);
-            pass_block(b.as_slice(), modes);
-            add_branch_ends(
-                alloc,
-                bytes,
-                locks,
-                &first,
-                modes,
-                a.as_slice(),
-                b.as_slice(),
-                text,
-            )
+            pass_block(a, &mut first);
+            pass_block(b, modes);
+            add_branch_ends(alloc, bytes, locks, &first, modes, a, b, text)
         }
-        StmtKind::While(_, _, b) => {
+        Nested::Turn(b) => {
             let mut end = modes.copy(alloc)?;
-            pass_block(b.as_slice(), &mut end);
-            add_loop_ends(alloc, bytes, locks, modes, &end, b.as_slice(), text)
+            pass_block(b, &mut end);
+            add_loop_ends(alloc, bytes, locks, modes, &end, b, text)
         }
-        StmtKind::Skip | StmtKind::Lock(_) | StmtKind::Unlock(_) => Ok(()),
-        StmtKind::Assign(_, _, _, _) | StmtKind::Note(_) | StmtKind::Output(_) => Ok(()),
+        Nested::None => Ok(()),
     }
 }
 

@@ -28,7 +28,11 @@ fn add_wrong_number(count: usize, proofs: &[Proof], n: u32, text: &mut Blob) -> 
     ensures { OnOk result (text.new ≡ text.old ++ spec.number_line count (map view.proof proofs.now) n) }
 {
     if 1 <= n && n as usize <= count {
-        add_repeated(proofs, n, text)
+        if 2 <= times_given(proofs, n) {
+            add_repeated_text(n, text)
+        } else {
+            Ok(())
+        }
     } else {
         add_count(count, text)
     }
@@ -39,13 +43,6 @@ fn add_count(count: usize, text: &mut Blob) -> Result<(), NoMemory>
     ensures { OnOk result (text.new ≡ text.old ++ spec.count_text count) }
 {
     text.extend_from_slice(b"  the statement has ")?;
-    add_count_words(count, text)
-}
-
-/// Adds a number of entailments.
-fn add_count_words(count: usize, text: &mut Blob) -> Result<(), NoMemory>
-    ensures { OnOk result (text.new ≡ text.old ++ spec.count_words count) }
-{
     if count == 0 {
         text.extend_from_slice(b"no entailments\n")
     } else if count == 1 {
@@ -61,17 +58,6 @@ fn add_many(count: usize, text: &mut Blob) -> Result<(), NoMemory>
 {
     add_number(count, text)?;
     text.extend_from_slice(b" entailments\n")
-}
-
-/// Adds that a number is given more than once, if it is.
-fn add_repeated(proofs: &[Proof], n: u32, text: &mut Blob) -> Result<(), NoMemory>
-    ensures { OnOk result (text.new ≡ text.old ++ spec.repeated_line (map view.proof proofs.now) n) }
-{
-    if 2 <= times_given(proofs, n) {
-        add_repeated_text(n, text)
-    } else {
-        Ok(())
-    }
 }
 
 /// Adds that a number is given more than once.

@@ -12,6 +12,7 @@ use crate::unstable::add_unstable;
 use cov_ast::{Detail, LockDecl, NameTable, StmtKind};
 use cov_expr::{Blob, NoMemory};
 use mode_state::ModeState;
+use statement_parts::parts_of;
 use std::alloc::Global;
 
 /// Adds why a statement may not give a type to the variable that a refusal shows, by the locks that are held.
@@ -55,38 +56,16 @@ fn add_of_statement(
     ensures { OnOk result (text.new ≡ text.old
         ++ spec.given_line names.now (unstable_line names.now bytes.now (map view.lock locks.now) (modes.now).held) known.now.stable known.now.controls (view.kind kind.now) z) }
 {
-    match kind {
-        StmtKind::Assign(x, _, _, _) => {
-            add_retype(alloc, names, bytes, locks, modes, known, *x, z, text)
+    let parts = parts_of(kind);
+    match (parts.store, parts.state) {
+        (Some(store), _) if !known.controls.has(store.variable) => {
+            let words = b", which is assigned, is no control: no `retype` may stand here\n";
+            add_with_words(names, store.variable, words, text)
         }
-        StmtKind::If(_, _, _, _) | StmtKind::While(_, _, _) | StmtKind::Note(_) => {
+        (Some(_), _) | (None, Some(_)) => {
             add_type(alloc, names, bytes, locks, modes, known, z, text)
         }
-        StmtKind::Skip | StmtKind::Lock(_) | StmtKind::Unlock(_) | StmtKind::Output(_) => Ok(()),
-    }
-}
-
-/// Adds why an assignment may not give a type to a variable.
-fn add_retype(
-    alloc: Global,
-    names: &NameTable,
-    bytes: &[u8],
-    locks: &[LockDecl],
-    modes: &ModeState,
-    known: &Known,
-    x: u32,
-    z: u32,
-    text: &mut Blob,
-) -> Result<(), NoMemory>
-    requires { length locks.now ≤ MOST_LOCKS }
-    ensures { OnOk result (text.new ≡ text.old
-        ++ spec.retype_line names.now (unstable_line names.now bytes.now (map view.lock locks.now) (modes.now).held) known.now.stable known.now.controls x z) }
-{
-    if known.controls.has(x) {
-        add_type(alloc, names, bytes, locks, modes, known, z, text)
-    } else {
-        let words = b", which is assigned, is no control: no `retype` may stand here\n";
-        add_with_words(names, x, words, text)
+        (None, None) => Ok(()),
     }
 }
 
@@ -107,27 +86,7 @@ fn add_type(
 {
     if known.controls.has(z) {
         add_with_words(names, z, b" is a control, and has no type\n", text)
-    } else {
-        add_of_stable(alloc, names, bytes, locks, modes, known, z, text)
-    }
-}
-
-/// Adds why a variable that is no control may not be given a type.
-fn add_of_stable(
-    alloc: Global,
-    names: &NameTable,
-    bytes: &[u8],
-    locks: &[LockDecl],
-    modes: &ModeState,
-    known: &Known,
-    z: u32,
-    text: &mut Blob,
-) -> Result<(), NoMemory>
-    requires { length locks.now ≤ MOST_LOCKS }
-    ensures { OnOk result (text.new ≡ text.old
-        ++ spec.stable_line names.now (unstable_line names.now bytes.now (map view.lock locks.now) (modes.now).held) known.now.stable z) }
-{
-    if known.stable.has(z) {
+    } else if known.stable.has(z) {
         add_with_words(names, z, b" is listed twice\n", text)
     } else {
         add_untracked(alloc, names, bytes, locks, modes, z, text)

@@ -12,6 +12,7 @@ use crate::guarantees::add_line_of;
 use crate::reads::add_variable;
 use cov_ast::{Class, NameTable, NumberSet, Retype, Stmt, StmtKind, VarDecl};
 use cov_expr::{Blob, Expr, MOST_NODES, NoMemory, mentions, nodes_at_most};
+use statement_parts::parts_of;
 use statement_paths::Step;
 use typing_rules::subst_nodes_left;
 
@@ -32,19 +33,22 @@ pub fn add_large(
     ensures { OnOk result (text.new ≡ text.old
         ++ spec.large_line (map view.var vars.now) names.now bytes.now hidden.now (map step steps.now) (view.kind kind.now)) }
 {
-    match kind {
-        StmtKind::Assign(x, e, _, retypes) => match large_class(vars, hidden, *x, e) {
-            Some(y) => add_class(names, *x, y, text),
-            None => match large_retype(retypes.as_slice(), *x, e) {
-                Some(y) => add_retype(names, *x, y, text),
+    let parts = parts_of(kind);
+    match parts.store {
+        Some(store) => match large_class(vars, hidden, store.variable, store.value) {
+            Some(y) => add_class(names, store.variable, y, text),
+            None => match large_retype(store.retypes, store.variable, store.value) {
+                Some(y) => add_retype(names, store.variable, y, text),
                 None => add_made_or_value(bytes, steps, text),
             },
         },
-        StmtKind::Output(_) => add_made_or_value(bytes, steps, text),
-        StmtKind::Unlock(_) | StmtKind::If(..) | StmtKind::While(..) | StmtKind::Note(_) => {
-            add_made_or(bytes, last_made(steps), b"", text)
-        }
-        StmtKind::Skip | StmtKind::Lock(_) => Ok(()),
+        None => match (parts.printed, parts.state, parts.returned) {
+            (Some(_), _, _) => add_made_or_value(bytes, steps, text),
+            (None, Some(_), _) | (None, None, Some(_)) => {
+                add_made_or(bytes, last_made(steps), b"", text)
+            }
+            (None, None, None) => Ok(()),
+        },
     }
 }
 
@@ -118,11 +122,11 @@ fn made_by(next: &Step<'_>) -> Option<Made>
 fn made_after_statement(stmt: &Stmt) -> Option<Made>
     ensures { option_map (λ m. (m.0, m.1.now)) result ≡ spec.made_after_statement stmt.now.at (view.kind stmt.now.kind) }
 {
-    match &stmt.kind {
-        StmtKind::Assign(x, value, _, _) => large_equation(stmt.at, *x, value),
-        StmtKind::While(guard, _, _) => large_negation(stmt.at, guard),
-        StmtKind::Skip | StmtKind::Lock(_) | StmtKind::Unlock(_) | StmtKind::If(..) => None,
-        StmtKind::Note(_) | StmtKind::Output(_) => None,
+    let parts = parts_of(&stmt.kind);
+    match (parts.store, parts.left_guard()) {
+        (Some(store), _) => large_equation(stmt.at, store.variable, store.value),
+        (None, Some(guard)) => large_negation(stmt.at, guard),
+        (None, None) => None,
     }
 }
 

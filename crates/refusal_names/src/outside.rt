@@ -67,11 +67,11 @@ fn first_retyped<'p>(retypes: &'p [Retype], set: &NumberSet) -> Option<(&'p Expr
 
 /// The same of the types of an assignment: the one that is written for its value, if one is, and then those that it gives to variables.
 pub fn first_written<'p>(
-    written: &'p Option<Expr>,
+    written: Option<&'p Expr>,
     retypes: &'p [Retype],
     set: &NumberSet,
 ) -> Option<(&'p Expr, u32)>
-    ensures { option_map (λ f. (term f.0.now, f.1)) result ≡ spec.first_with_outside set.now (with_written (option_map term written.now) (type_terms (map view.retype retypes.now))) }
+    ensures { option_map (λ f. (term f.0.now, f.1)) result ≡ spec.first_with_outside set.now (with_written (option_map (λ e. term e.now) written.entry) (type_terms (map view.retype retypes.now))) }
 {
     match written {
         Some(q) => match first_outside(q, set) {

@@ -1,12 +1,10 @@
 //! The line of V12: a predicate that isn't over stable variables.
 
 ghost use Rattle.cov_expr.specs.declared.limits.TheConstants.{MOST_LOCKS};
-ghost use Rattle.std.specs.Prelude.{◌≡◌, ◌++◌, ◌≤◌, OnOk, Some, length, map, option_map};
+ghost use Rattle.std.specs.Prelude.{◌≡◌, ◌++◌, ◌≤◌, OnOk, Some, length, map};
 ghost use Rattle.cov_ast.specs.View as view;
 ghost use Rattle.cov_expr.specs.View.{term};
 ghost use Rattle.refusal_names.specs.NameLines as spec;
-ghost use Rattle.refusal_names.specs.OutsideVariables.{first_with_outside};
-ghost use Rattle.refusal_names.specs.SpokenParts as parts;
 ghost use Rattle.refusal_names.specs.UnstableVariables.{unstable_line};
 
 use crate::outside::first_expr;
@@ -16,6 +14,7 @@ use cov_ast::{LockDecl, NameTable, NumberSet, StmtKind};
 use cov_expr::{Blob, Expr, NoMemory};
 use cov_print::add_expr;
 use mode_state::ModeState;
+use statement_parts::parts_of;
 use std::alloc::Global;
 
 /// Adds the first predicate that a statement states and that isn't over stable variables, and why its variable isn't stable, by the
@@ -34,22 +33,12 @@ pub fn add_predicates(
     ensures { OnOk result (text.new ≡ text.old
         ++ spec.predicates_line names.now (unstable_line names.now bytes.now (map view.lock locks.now) (modes.now).held) stable.now (view.kind kind.now)) }
 {
-    match first_predicate(kind, stable) {
+    let Some(state) = parts_of(kind).state else {
+        return Ok(());
+    };
+    match first_expr(state.preds.as_slice(), stable) {
         Some((e, x)) => add_predicate(alloc, names, bytes, locks, modes, e, x, text),
         None => Ok(()),
-    }
-}
-
-/// The first predicate of a statement that has a variable outside of a set, with the first such variable.
-fn first_predicate<'p>(kind: &'p StmtKind, set: &NumberSet) -> Option<(&'p Expr, u32)>
-    ensures { option_map (λ f. (term f.0.now, f.1)) result ≡ first_with_outside set.now (parts.stated_predicates (view.kind kind.now)) }
-{
-    match kind {
-        StmtKind::If(_, _, _, join) => first_expr(join.preds.as_slice(), set),
-        StmtKind::While(_, inv, _) => first_expr(inv.preds.as_slice(), set),
-        StmtKind::Note(j) => first_expr(j.preds.as_slice(), set),
-        StmtKind::Skip | StmtKind::Lock(_) | StmtKind::Unlock(_) => None,
-        StmtKind::Assign(_, _, _, _) | StmtKind::Output(_) => None,
     }
 }
 

@@ -13,6 +13,7 @@ ghost use Rattle.refusal_names.specs.StableSets as spec;
 use cov_ast::{NumberSet, Program, StmtKind};
 use cov_expr::{List, NoMemory};
 use mode_state::{Mask, ModeState};
+use statement_parts::{Nested, parts_of};
 use statement_paths::{pass_block, stable_set};
 use std::alloc::Global;
 use typing_state::control_set;
@@ -75,14 +76,8 @@ fn is_stable_control(modes: &ModeState, controls: &Mask, x: u32) -> bool
 pub fn pass_to_state(kind: &StmtKind, modes: &mut ModeState)
     ensures { modes.new ≡ record modes.old { held = spec.held_where_stated (view.kind kind.now) (modes.old).held } }
 {
-    match kind {
-        StmtKind::If(_, a, _, _) => pass_block(a.as_slice(), modes),
-        StmtKind::Skip
-        | StmtKind::Assign(_, _, _, _)
-        | StmtKind::Lock(_)
-        | StmtKind::Unlock(_)
-        | StmtKind::While(_, _, _)
-        | StmtKind::Note(_)
-        | StmtKind::Output(_) => {}
+    match parts_of(kind).nested {
+        Nested::Either(first, _) => pass_block(first, modes),
+        Nested::None | Nested::Turn(_) => {}
     }
 }

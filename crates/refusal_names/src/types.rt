@@ -3,7 +3,6 @@
 ghost use Rattle.cov_expr.specs.declared.limits.TheConstants.{MOST_LOCKS};
 ghost use Rattle.std.specs.Prelude.{◌≡◌, ◌++◌, ◌≤◌, IfOk, OnOk, Some, length, map, option_map};
 ghost use Rattle.cov_ast.specs.Plain.{plain};
-ghost use Rattle.cov_ast.specs.Tables.{has};
 ghost use Rattle.cov_ast.specs.View as view;
 ghost use Rattle.cov_expr.specs.View.{term};
 ghost use Rattle.refusal_names.specs.NameLines as spec;
@@ -19,6 +18,7 @@ use cov_ast::{LockDecl, NameTable, NumberSet, Program, StmtKind};
 use cov_expr::{Blob, Expr, NoMemory, vars};
 use cov_print::add_expr;
 use mode_state::{Mask, ModeState};
+use statement_parts::parts_of;
 use std::alloc::Global;
 
 /// Adds the first type of a statement that isn't over stable controls, or for a value without a type of its own the class that isn't, and
@@ -54,22 +54,12 @@ fn value_class(
 ) -> Result<Option<(u32, u32)>, NoMemory>
     ensures { IfOk result (λ found. found ≡ spec.value_class (plain (view.program p.now)) known.now.stable known.now.controls (parts.untyped_value (view.kind kind.now))) }
 {
-    match untyped_value(kind) {
+    match parts_of(kind).untyped() {
         Some(e) => {
             let variables = vars(alloc, e)?;
             Ok(first_unstable_class(p, &known.stable, &known.controls, variables.as_slice()))
         }
         None => Ok(None),
-    }
-}
-
-/// The value of an assignment for which no type is written.
-fn untyped_value(kind: &StmtKind) -> Option<&Expr>
-    ensures { option_map (λ e. term e.now) result ≡ parts.untyped_value (view.kind kind.now) }
-{
-    match kind {
-        StmtKind::Assign(_, e, None, _) => Some(e),
-        _ => None,
     }
 }
 
@@ -141,18 +131,15 @@ fn add_first_type(
 fn first_type<'p>(kind: &'p StmtKind, set: &NumberSet) -> Option<(&'p Expr, u32)>
     ensures { option_map (λ f. (term f.0.now, f.1)) result ≡ first_with_outside set.now (parts.stated_types (view.kind kind.now)) }
 {
-    match kind {
-        StmtKind::Assign(_, _, written, retypes) => {
-            first_written(written, retypes.as_slice(), set)
-        }
-        StmtKind::If(_, _, _, join) => first_listed(join.types.as_slice(), set),
-        StmtKind::While(_, inv, _) => first_listed(inv.types.as_slice(), set),
-        StmtKind::Note(j) => first_listed(j.types.as_slice(), set),
-        StmtKind::Skip | StmtKind::Lock(_) | StmtKind::Unlock(_) | StmtKind::Output(_) => None,
+    let parts = parts_of(kind);
+    match (parts.store, parts.state) {
+        (Some(store), _) => first_written(store.written, store.retypes, set),
+        (None, Some(state)) => first_listed(state.types.as_slice(), set),
+        (None, None) => None,
     }
 }
 
-/// Adds the lines of a type with a variable that may not be there.
+/// Adds the lines of a type with a variable that may not be there, and why it isn't stable, where it is a control.
 fn add_type(
     alloc: Global,
     names: &NameTable,
@@ -169,24 +156,6 @@ fn add_type(
         ++ spec.type_line names.now (unstable_line names.now bytes.now (map view.lock locks.now) (modes.now).held) controls.now (Some (term q.now, x))) }
 {
     add_type_text(names, controls, q, x, text)?;
-    add_control_cause(alloc, names, bytes, locks, modes, controls, x, text)
-}
-
-/// Adds why a variable isn't stable, where it is a control.
-fn add_control_cause(
-    alloc: Global,
-    names: &NameTable,
-    bytes: &[u8],
-    locks: &[LockDecl],
-    modes: &ModeState,
-    controls: &Mask,
-    x: u32,
-    text: &mut Blob,
-) -> Result<(), NoMemory>
-    requires { length locks.now ≤ MOST_LOCKS }
-    ensures { OnOk result (text.new ≡ text.old
-        ++ spec.control_cause (unstable_line names.now bytes.now (map view.lock locks.now) (modes.now).held) (has controls.now x) x) }
-{
     if controls.has(x) {
         add_unstable(alloc, names, bytes, locks, modes, x, text)
     } else {

@@ -1,9 +1,8 @@
 //! The lines of V5 and behind those of V3, V4, V12 and V14: why a variable isn't stable.
 
 ghost use Rattle.cov_expr.specs.declared.limits.TheConstants.{MOST_LOCKS};
-ghost use Rattle.std.specs.Prelude.{◌≡◌, ◌++◌, ◌≤◌, OnOk, length, map, option_map};
+ghost use Rattle.std.specs.Prelude.{◌≡◌, ◌++◌, ◌≤◌, OnOk, length, map};
 ghost use Rattle.cov_ast.specs.View as view;
-ghost use Rattle.refusal_names.specs.NameLines.{held_text};
 ghost use Rattle.refusal_names.specs.UnstableVariables as spec;
 
 use crate::access::{add_list, add_lock_with_held, first_forbidding};
@@ -26,8 +25,12 @@ pub fn add_unstable(
     requires { length locks.now ≤ MOST_LOCKS }
     ensures { OnOk result (text.new ≡ text.old ++ spec.unstable_line names.now bytes.now (map view.lock locks.now) (modes.now).held x) }
 {
-    let found = first_forbidding(locks, modes, true, x);
-    add_lock_or_assumption(alloc, names, bytes, locks, modes, found, x, text)
+    match first_forbidding(locks, modes, true, x) {
+        Some((lock, word)) => {
+            add_lock_with_held(alloc, names, bytes, locks, modes, lock, word, x, text)
+        }
+        None => add_assumption(names, x, text),
+    }
 }
 
 /// Adds why the variable that a refusal shows isn't stable, by the locks that are held.
@@ -49,29 +52,6 @@ pub fn add_shown_cause(
             None => Ok(()),
         },
         _ => Ok(()),
-    }
-}
-
-/// Adds the line of a lock that isn't held, with those that are, or of a variable that is under no lock.
-fn add_lock_or_assumption(
-    alloc: Global,
-    names: &NameTable,
-    bytes: &[u8],
-    locks: &[LockDecl],
-    modes: &ModeState,
-    found: Option<(&LockDecl, &'static [u8])>,
-    x: u32,
-    text: &mut Blob,
-) -> Result<(), NoMemory>
-    requires { length locks.now ≤ MOST_LOCKS }
-    ensures { OnOk result (text.new ≡ text.old
-        ++ spec.lock_or_assumption names.now bytes.now (option_map (λ f. (view.lock f.0.now, f.1.now)) found.entry) x (held_text (map view.lock locks.now) (modes.now).held)) }
-{
-    match found {
-        Some((lock, word)) => {
-            add_lock_with_held(alloc, names, bytes, locks, modes, lock, word, x, text)
-        }
-        None => add_assumption(names, x, text),
     }
 }
 

@@ -6,16 +6,16 @@ ghost use Rattle.cov_expr.specs.View.{term};
 ghost use Rattle.refusal_names.specs.SpokenParts as parts;
 ghost use Rattle.refusal_names.specs.WideExpressions as spec;
 
-use crate::reads::evaluated_expression;
 use cov_ast::StmtKind;
 use cov_expr::{Blob, Expr, NoMemory};
+use statement_parts::parts_of;
 use text_parts::add_number;
 
 /// Adds how wide the expression is that a statement evaluates, if it does.
 pub fn add_width(kind: &StmtKind, text: &mut Blob) -> Result<(), NoMemory>
     ensures { OnOk result (text.new ≡ text.old ++ spec.width_line (parts.evaluated_expression (view.kind kind.now))) }
 {
-    match evaluated_expression(kind) {
+    match parts_of(kind).evaluated() {
         Some(e) => add_width_text(width(e), text),
         None => Ok(()),
     }
