@@ -41,16 +41,7 @@ pub fn beside_of(names: &[String]) -> Beside
 {
     if 1 < names.len() && names[0].as_str() == "--points" {
         points_by(names)
-    } else {
-        code_by(names)
-    }
-}
-
-/// Whether words ask for the code, of which the first isn't `--points`.
-fn code_by(names: &[String]) -> Beside
-    ensures { result ≡ spec.code_by (map string_bytes names.now) }
-{
-    if asks_for_code(names) {
+    } else if asks_for_code(names) {
         Beside::Code
     } else {
         Beside::Remarks
@@ -64,18 +55,10 @@ fn points_by(names: &[String]) -> Beside
     if names.len() == 2 {
         return Beside::Points;
     }
-    if names.len() == 3 {
-        in_line(names[2].as_bytes())
-    } else {
-        Beside::Remarks
+    if names.len() != 3 {
+        return Beside::Remarks;
     }
-}
-
-/// The points in front of the statements of the line whose number a word spells, if it spells one.
-fn in_line(word: &[u8]) -> Beside
-    ensures { result ≡ spec.in_line (spec.line_number word.now) }
-{
-    match line_number(word) {
+    match line_number(names[2].as_bytes()) {
         Some(number) => Beside::PointsOf(number),
         None => Beside::Remarks,
     }

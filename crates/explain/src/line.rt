@@ -1,6 +1,6 @@
 //! The line that says what could stand at a place.
 
-ghost use Rattle.std.specs.Prelude.{◌≡◌, ◌≤◌, ◌++◌, ◌∷◌, length, map, flat_map, OnOk};
+ghost use Rattle.std.specs.Prelude.{◌≡◌, ◌≤◌, ◌++◌, length, map, flat_map, OnOk};
 ghost use Rattle.cov_expr.specs.declared.limits.TheConstants.{MOST_BYTES};
 ghost use Rattle.explain.specs.ExpectedLines as spec;
 
@@ -26,18 +26,13 @@ fn add_line(of_version: bool, found: &[Next], text: &mut Blob) -> Result<(), NoM
 {
     match found {
         [] => Ok(()),
-        [first, others @ ..] => add_some(of_version, *first, others, text),
+        [first, others @ ..] => {
+            add_line_front(text)?;
+            add_phrase(of_version, *first, text)?;
+            add_others(of_version, others, text)?;
+            text.extend_from_slice(b"\n")
+        }
     }
-}
-
-/// Adds a line that has the first of what could stand at a place, and the others.
-fn add_some(of_version: bool, first: Next, others: &[Next], text: &mut Blob) -> Result<(), NoMemory>
-    ensures { OnOk result (text.new ≡ text.old ++ spec.line_of of_version (first ∷ others.now)) }
-{
-    add_line_front(text)?;
-    add_phrase(of_version, first, text)?;
-    add_others(of_version, others, text)?;
-    text.extend_from_slice(b"\n")
 }
 
 /// Adds what the line begins with.

@@ -46,12 +46,7 @@ fn add_blocks(kind: &StmtKind, found: &mut List<Warning>) -> Result<(), NoMemory
             add_block(b.as_slice(), is_closed_true(e), found)
         }
         StmtKind::While(e, _, b) => add_block(b.as_slice(), is_closed_false(e), found),
-        StmtKind::Skip
-        | StmtKind::Assign(_, _, _, _)
-        | StmtKind::Lock(_)
-        | StmtKind::Unlock(_)
-        | StmtKind::Note(_)
-        | StmtKind::Output(_) => Ok(()),
+        _ => Ok(()),
     }
 }
 

@@ -1,11 +1,10 @@
 //! What is warned of in declarations.
 
-ghost use Rattle.std.specs.Prelude.{◌≡◌, ◌++◌, ◌||◌, flat_map, length, map, option_map, IfOk, OnOk};
+ghost use Rattle.std.specs.Prelude.{◌≡◌, ◌++◌, flat_map, length, map, option_map, IfOk, OnOk};
 ghost use Rattle.cov_ast.specs.Plain.{plain};
 ghost use Rattle.cov_ast.specs.Tables.{table};
 ghost use Rattle.cov_ast.specs.View as view;
 ghost use Rattle.cov_expr.specs.View.{term};
-ghost use Rattle.explain.specs.HoldsNowhere as nowhere;
 ghost use Rattle.explain.specs.Unused as spec;
 ghost use Rattle.explain.specs.StatementUses.{has_reader, has_writer};
 
@@ -100,19 +99,10 @@ fn is_false(alloc: Global, inv: &Option<Expr>) -> Result<bool, NoMemory>
     ensures { IfOk result (λ found. found ≡ spec.is_false (option_map term inv.now)) }
 {
     match inv {
-        Some(e) => is_false_in_each(alloc, e),
+        Some(e) if is_closed_false(e) => Ok(true),
+        Some(e) => holds_nowhere(alloc, e),
         None => Ok(false),
     }
-}
-
-/// The same of an expression.
-fn is_false_in_each(alloc: Global, e: &Expr) -> Result<bool, NoMemory>
-    ensures { IfOk result (λ found. found ≡ (spec.is_closed_false (term e.now) || nowhere.holds_nowhere (term e.now))) }
-{
-    if is_closed_false(e) {
-        return Ok(true);
-    }
-    holds_nowhere(alloc, e)
 }
 
 /// Whether an expression is 0 without a look at memory.

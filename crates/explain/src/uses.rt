@@ -1,7 +1,7 @@
 //! Which variables have a reader and a writer: a statement, or a thread that assumes that no other reads or writes them.
 
 ghost use Rattle.std.specs.Prelude.{◌≡◌, ◌++◌, flat_map, length, map, IfOk};
-ghost use Rattle.cov_ast.specs.Plain.{plain, plain_block};
+ghost use Rattle.cov_ast.specs.Plain.{plain};
 ghost use Rattle.cov_ast.specs.Tables.{table, with_all};
 ghost use Rattle.cov_ast.specs.View as view;
 ghost use Rattle.cov_expr.specs.Trees.{occurrences};
@@ -72,7 +72,6 @@ fn add_kind(kind: &StmtKind, read: &mut NumberSet, written: &mut NumberSet)
     ensures written { written.new ≡ with_all written.old (stm_writes (view.kind kind.now)) }
 {
     match kind {
-        StmtKind::Skip | StmtKind::Lock(_) | StmtKind::Unlock(_) | StmtKind::Note(_) => {}
         StmtKind::Assign(x, e, _, _) => {
             add_read(e, read);
             written.put(*x, true);
@@ -87,6 +86,7 @@ fn add_kind(kind: &StmtKind, read: &mut NumberSet, written: &mut NumberSet)
             add_block(b.as_slice(), read, written);
         }
         StmtKind::Output(e) => add_read(e, read),
+        _ => {}
     }
 }
 

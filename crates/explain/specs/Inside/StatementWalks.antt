@@ -1,41 +1,37 @@
 -- Words of private contracts: what statements read and write, and which of them are never reached, with their annotations passed over.
-use Rattle.std.specs.Prelude.{ℕ, List, [], ◌∷◌, ◌++◌, Bool, false}
+use Rattle.std.specs.Prelude.{ℕ, List, [], ◌++◌, map, Bool, false, Option, Some, None, option_to_list}
+use Rattle.cov_expr.specs.Term.{Term}
 use Rattle.cov_expr.specs.Trees.{occurrences}
 use Rattle.cov_ast.specs.Syntax.{Stm, Block, done, more}
 use Rattle.cov_ast.specs.Syntax as s
+use Rattle.statement_parts.specs.Parts.{collected, collected_in, evaluated, Parts}
 use Rattle.explain.specs.NeverReached.{is_closed_true, of_front}
 use Rattle.explain.specs.Unused.{is_closed_false}
 use Rattle.explain.specs.declared.warning.Warning.{Warning}
 
-abbrev mutual
-  pub stm_reads : Stm → List ℕ
-  stm_reads s.skip = []
-  stm_reads (s.assign x e q retypes) = occurrences e
-  stm_reads (s.lock l) = []
-  stm_reads (s.unlock l) = []
-  stm_reads (s.branch e a b join) = occurrences e ++ (block_reads a ++ block_reads b)
-  stm_reads (s.loop e inv b) = occurrences e ++ block_reads b
-  stm_reads (s.note j) = []
-  stm_reads (s.output e) = occurrences e
+-- the variables of an expression, if there is one
+abbrev pub occurrences_in : Option Term → List ℕ
+occurrences_in None = []
+occurrences_in (Some e) = occurrences e
 
-  pub block_reads : Block → List ℕ
-  block_reads done = []
-  block_reads (more at c proofs b) = stm_reads c ++ block_reads b
+-- what a statement itself evaluates, and what it assigns
+abbrev pub own_reads : Parts → List ℕ
+own_reads ps = occurrences_in (evaluated ps)
 
-abbrev mutual
-  pub stm_writes : Stm → List ℕ
-  stm_writes s.skip = []
-  stm_writes (s.assign x e q retypes) = x ∷ []
-  stm_writes (s.lock l) = []
-  stm_writes (s.unlock l) = []
-  stm_writes (s.branch e a b join) = block_writes a ++ block_writes b
-  stm_writes (s.loop e inv b) = block_writes b
-  stm_writes (s.note j) = []
-  stm_writes (s.output e) = []
+abbrev pub own_writes : Parts → List ℕ
+own_writes ps = map (λ k. k.variable) (option_to_list ps.store)
 
-  pub block_writes : Block → List ℕ
-  block_writes done = []
-  block_writes (more at c proofs b) = stm_writes c ++ block_writes b
+abbrev pub stm_reads : Stm → List ℕ
+stm_reads s = collected own_reads s
+
+abbrev pub block_reads : Block → List ℕ
+block_reads b = collected_in own_reads b
+
+abbrev pub stm_writes : Stm → List ℕ
+stm_writes s = collected own_writes s
+
+abbrev pub block_writes : Block → List ℕ
+block_writes b = collected_in own_writes b
 
 -- a statement itself; a note is passed over
 abbrev pub stm_front : (is_cut_off : Bool) → Stm → (at : ℕ) → List Warning
