@@ -32,17 +32,12 @@ flat_map_same f g h e (x ∷ xs) = λ i. e x i ++ flat_map_same f g h e xs i
 -- the spelling doesn't depend on places
 mutual
   stm_spelled : (names : List (List ℕ)) (x : s.Stm) (margin : List ℕ) (ps : List s.Proof) → spec.stm names margin (unplaced_stm x) ps ≡ spec.stm names margin x ps
-  stm_spelled names s.skip margin ps = refl
-  stm_spelled names (s.assign x e q rs) margin ps = refl
-  stm_spelled names (s.lock l) margin ps = refl
-  stm_spelled names (s.unlock l) margin ps = refl
   stm_spelled names (s.branch e a b j) margin ps =
       ap₂ (λ x y. codes "if " ++ spec.whole names e ++ codes " {\n" ++ x ++ margin ++ codes "} else {\n" ++ y ++ margin ++ codes "}" ++ spec.stated names (codes " join ") j ++ spec.by names ps)
       (block_spelled names a (spec.deeper margin)) (block_spelled names b (spec.deeper margin))
   stm_spelled names (s.loop e j b) margin ps =
       ap (λ x. codes "while " ++ spec.whole names e ++ spec.stated names (codes " inv ") j ++ codes " {\n" ++ x ++ margin ++ codes "}" ++ spec.by names ps) (block_spelled names b (spec.deeper margin))
-  stm_spelled names (s.note j) margin ps = refl
-  stm_spelled names (s.output e) margin ps = refl
+  stm_spelled names _ margin ps = refl
 
   block_spelled : (names : List (List ℕ)) (b : s.Block) (margin : List ℕ) → spec.block names margin (unplaced_block b) ≡ spec.block names margin b
   block_spelled names s.done margin = refl
@@ -60,14 +55,9 @@ spelling_unplaced p =
 -- and neither do uses
 mutual
   stm_uses : (x : s.Stm) (ps : List s.Proof) → uses_in_stm (unplaced_stm x) ps ≡ uses_in_stm x ps
-  stm_uses s.skip ps = refl
-  stm_uses (s.assign x e q rs) ps = refl
-  stm_uses (s.lock l) ps = refl
-  stm_uses (s.unlock l) ps = refl
   stm_uses (s.branch e a b j) ps = ap₂ (λ x y. ready.uses_in e ++ x ++ y ++ ready.uses_in_state j ++ flat_map ready.uses_in_proof ps) (block_uses a) (block_uses b)
   stm_uses (s.loop e j b) ps = ap (λ x. ready.uses_in e ++ ready.uses_in_state j ++ x ++ flat_map ready.uses_in_proof ps) (block_uses b)
-  stm_uses (s.note j) ps = refl
-  stm_uses (s.output e) ps = refl
+  stm_uses _ ps = refl
 
   block_uses : (b : s.Block) → uses_in_block (unplaced_block b) ≡ uses_in_block b
   block_uses s.done = refl

@@ -245,15 +245,13 @@ option_same (Some e) = expr_same e
 -- where so many blocks more may be nested
 abbrev mutual
   pub stm_fine : (room : ℕ) → s.Stm → List s.Proof → Bool
-  stm_fine room s.skip ps = true
   stm_fine room (s.assign x e q rs) ps = term_fine e && (option_fine q && (list_all pair_fine rs && list_all proof_fine ps))
-  stm_fine room (s.lock x) ps = true
-  stm_fine room (s.unlock x) ps = list_all proof_fine ps
   stm_fine room (s.branch e a b j) ps =
       term_fine e && ((not (room - 1 == 0) && block_fine (room - 1) a) && ((not (room - 1 == 0) && block_fine (room - 1) b) && (state_fine j && list_all proof_fine ps)))
   stm_fine room (s.loop e j b) ps = term_fine e && (state_fine j && ((not (room - 1 == 0) && block_fine (room - 1) b) && list_all proof_fine ps))
   stm_fine room (s.note j) ps = state_fine j && list_all proof_fine ps
   stm_fine room (s.output e) ps = term_fine e && list_all proof_fine ps
+  stm_fine room _ ps = list_all proof_fine ps
 
   pub block_fine : (room : ℕ) → s.Block → Bool
   block_fine room s.done = true
@@ -275,7 +273,6 @@ mutual
       (both_fine (l.in_option q) _ (option_fine (option_map expr_of q)) _ (option_same q)
       (both_fine (least l.in_pair rs) (least l.in_proof ps) (list_all pair_fine (map pair_of rs)) (list_all proof_fine (map proof_of ps)) (fine_least l.in_pair pair_of pair_fine (λ y. expr_same y.1) rs) (proofs_same ps)))
   stm_same room (t.lock x) = refl
-  stm_same room (t.unlock x ps) = proofs_same ps
   stm_same room (t.branch e a b j ps) =
       both_fine (l.in_expr e) _ (term_fine (expr_of e)) _ (expr_same e)
       (both_fine (l.in_block (room - 1) a) _ _ _ (block_same (room - 1) a)
@@ -287,6 +284,7 @@ mutual
       (both_fine (l.in_block (room - 1) b) (least l.in_proof ps) _ (list_all proof_fine (map proof_of ps)) (block_same (room - 1) b) (proofs_same ps)))
   stm_same room (t.note j ps) = both_fine (l.in_state j) (least l.in_proof ps) (state_fine (state_of j)) (list_all proof_fine (map proof_of ps)) (state_same j) (proofs_same ps)
   stm_same room (t.output e ps) = both_fine (l.in_expr e) (least l.in_proof ps) (term_fine (expr_of e)) (list_all proof_fine (map proof_of ps)) (expr_same e) (proofs_same ps)
+  stm_same room _ = simp proofs_same refl
 
   block_same : (room : ℕ) (b : t.Block) → fine (l.in_block room b) ≡ (not (room == 0) && block_fine room (unplaced_block (block_of b)))
   block_same room (t.block begin end ss) = both_fine _ (l.in_stms room ss) (not (room == 0)) (block_fine room (unplaced_block (stms_of ss))) (fine_room room begin) (stms_same room ss)
@@ -318,14 +316,9 @@ fine_past (suc n) c (at ∷ ats) = fine_past n c ats ∙ by (nat_lt n (length at
 
 abbrev mutual
   pub stms_in : s.Stm → ℕ
-  stms_in s.skip = 0
-  stms_in (s.assign x e q rs) = 0
-  stms_in (s.lock x) = 0
-  stms_in (s.unlock x) = 0
   stms_in (s.branch e a b j) = count a + count b
   stms_in (s.loop e j b) = count b
-  stms_in (s.note j) = 0
-  stms_in (s.output e) = 0
+  stms_in _ = 0
 
   pub count : s.Block → ℕ
   count s.done = 0
@@ -337,14 +330,9 @@ mutual
   places_same (t.next at x ss) = omega (arith, length-append (l.places_in x) (l.places ss), places_in_same x, places_same ss)
 
   places_in_same : (x : t.Stm) → length (l.places_in x) ≡ stms_in (unplaced_stm (stm_of x))
-  places_in_same t.skip = refl
-  places_in_same (t.assign x e q rs ps) = refl
-  places_in_same (t.lock x) = refl
-  places_in_same (t.unlock x ps) = refl
   places_in_same (t.branch e a b j ps) = omega (arith, length-append (l.places_of a) (l.places_of b), places_of_same a, places_of_same b)
   places_in_same (t.loop e j b ps) = places_of_same b
-  places_in_same (t.note j ps) = refl
-  places_in_same (t.output e ps) = refl
+  places_in_same _ = refl
 
   places_of_same : (b : t.Block) → length (l.places_of b) ≡ count (unplaced_block (block_of b))
   places_of_same (t.block begin end ss) = places_same ss
