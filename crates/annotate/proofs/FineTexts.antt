@@ -50,11 +50,8 @@ module _ (chosen : ℕ → List (ℕ × Cert)) (small : (x : ℕ) → All (λ c.
   mutual
     stm_put : (room : ℕ) (c : Stm) (qs rs : List Proof) → (list_all proof_fine qs ≡ true → list_all proof_fine rs ≡ true)
         → stm_fine room (unplaced_stm c) qs ≡ true → stm_fine room (unplaced_stm (put_in_stm chosen c)) rs ≡ true
-    stm_put room s.skip qs rs f h = refl
     stm_put room (s.assign x e q ts) qs rs f h =
         second (term_fine e) _ _ (second (option_fine q) _ _ (second (list_all pair_fine ts) (list_all proof_fine qs) (list_all proof_fine rs) f)) h
-    stm_put room (s.lock x) qs rs f h = refl
-    stm_put room (s.unlock x) qs rs f h = f h
     stm_put room (s.branch e a b j) qs rs f h =
         second (term_fine e) _ _
         (each (not (room - 1 == 0) && block_fine (room - 1) (unplaced_block a)) _ _ _
@@ -69,6 +66,7 @@ module _ (chosen : ℕ → List (ℕ × Cert)) (small : (x : ℕ) → All (λ c.
         (second (not (room - 1 == 0)) (block_fine (room - 1) (unplaced_block b)) _ (block_put (room - 1) b)) f)) h
     stm_put room (s.note j) qs rs f h = second (state_fine j) (list_all proof_fine qs) (list_all proof_fine rs) f h
     stm_put room (s.output e) qs rs f h = second (term_fine e) (list_all proof_fine qs) (list_all proof_fine rs) f h
+    stm_put room _ qs rs f h = f h
 
     block_put : (room : ℕ) (b : Block) → block_fine room (unplaced_block b) ≡ true → block_fine room (unplaced_block (put_in chosen b)) ≡ true
     block_put room done h = refl

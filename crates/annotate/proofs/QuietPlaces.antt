@@ -5,7 +5,7 @@ use Rattle.std.proofs.lemmas.Bool.{and_parts, not-true, or_left, or_right}
 use Rattle.cov_expr.specs.Term.{neg}
 use Rattle.cov_grammar.specs.PlacedTrees as t
 use Rattle.cov_ast.specs.Plain.{Plain, plain}
-use Rattle.cov_ast.specs.Syntax.{Cert, Proof, Stm, skip, assign, lock, unlock, branch, loop, note, output, Block, done, more, Parsed}
+use Rattle.cov_ast.specs.Syntax.{Cert, Proof, Stm, skip, lock, branch, loop, output, Block, done, more, Parsed}
 use Rattle.cov_ast.specs.WellFormed.{are_distinct, IsWellFormed, places, places_within}
 use Rattle.cov_text.specs.GivenTrees.{block_of, parsed_of, thread_of}
 use Rattle.cov_ast.specs.declared.parsed.NameUse.{NameUse}
@@ -15,7 +15,7 @@ use Rattle.point_law.specs.After.{meet, start, with_guard}
 use Rattle.policy_class.specs.Resolved.{lock_id, resolved, resolved_block, resolved_thread, var_id}
 use Rattle.typing_law.specs.Blocks.{after_block, after_stm}
 use Rattle.typing_law.specs.Counts.{entailment_count}
-use Rattle.typing_law.specs.Entailments.{assign_entailments, Entailment, guard_follows, state_follows, unlock_entailments}
+use Rattle.typing_law.specs.Entailments.{Entailment, guard_follows, state_follows}
 use Rattle.typing_law.specs.ThreadEntailments.{all_entailments, block_entailments, PlacedEntailment, placed_from, reached, stm_entailments, thread_entailments}
 use Rattle.typing_law.specs.ThreadObligations.{thread_obligations}
 use Rattle.annotate.specs.Annotated.{as_choice, choices_among, found_for}
@@ -80,13 +80,10 @@ abbrev mutual
   -- the places of statements but for `skip` and `lock`
   asking_within : Stm → (at : ℕ) → List ℕ
   asking_within skip at = []
-  asking_within (assign x e q retypes) at = at ∷ []
   asking_within (lock l) at = []
-  asking_within (unlock l) at = at ∷ []
   asking_within (branch e a b join) at = at ∷ asking a ++ asking b
   asking_within (loop e inv b) at = at ∷ asking b
-  asking_within (note j) at = at ∷ []
-  asking_within (output e) at = at ∷ []
+  asking_within _ at = at ∷ []
 
   asking : Block → List ℕ
   asking done = []
@@ -114,13 +111,10 @@ module _ (P : ℕ → Type 0) where
   abbrev mutual
     QuietWithin : Stm → (at : ℕ) → Type 0
     QuietWithin skip at = P at
-    QuietWithin (assign x e q retypes) at = Unit {0}
     QuietWithin (lock l) at = P at
-    QuietWithin (unlock l) at = Unit {0}
     QuietWithin (branch e a b join) at = Quiet a × Quiet b
     QuietWithin (loop e inv b) at = Quiet b
-    QuietWithin (note j) at = Unit {0}
-    QuietWithin (output e) at = Unit {0}
+    QuietWithin _ at = Unit {0}
 
     Quiet : Block → Type 0
     Quiet done = Unit {0}
@@ -225,9 +219,7 @@ module _ (P : Plain) (u x : ℕ) where
   mutual
     stm_elsewhere : (c : Stm) (at : ℕ) (a : Point) → (Member x (asking_within c at) → ⊥) → AreElsewhere x (stm_entailments P u c at a)
     stm_elsewhere skip at a h = tt
-    stm_elsewhere (assign y e q retypes) at a h = placed_elsewhere x at 1 (assign_entailments P u a y e q retypes) (λ i. h (inl i))
     stm_elsewhere (lock l) at a h = tt
-    stm_elsewhere (unlock l) at a h = placed_elsewhere x at 1 (unlock_entailments P u a l) (λ i. h (inl i))
     stm_elsewhere (branch e yes_block no_block join) at a h =
         let yes_start = with_guard P u a e in
         let no_start = with_guard P u a (neg e) in
@@ -249,8 +241,8 @@ module _ (P : Plain) (u x : ℕ) where
         let last = placed_from at (suc (length gs)) hs in
         elsewhere_append x (placed_from at 1 gs) (inner ++ last) (placed_elsewhere x at 1 gs (λ i. h (inl i)))
         (elsewhere_append x inner last (block_elsewhere b body_start (λ i. h (inr i))) (placed_elsewhere x at (suc (length gs)) hs (λ i. h (inl i))))
-    stm_elsewhere (note j) at a h = placed_elsewhere x at 1 (state_follows a j) (λ i. h (inl i))
     stm_elsewhere (output e) at a h = placed_elsewhere x at 1 (guard_follows P u a e ∷ []) (λ i. h (inl i))
+    stm_elsewhere _ at a h = placed_elsewhere x at 1 _ (λ i. h (inl i))
 
     block_elsewhere : (b : Block) (a : Point) → (Member x (asking b) → ⊥) → AreElsewhere x (block_entailments P u b a)
     block_elsewhere done a h = tt

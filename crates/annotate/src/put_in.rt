@@ -61,13 +61,12 @@ fn put_in_kind(alloc: Global, chosen: &ThreadChoices, kind: &mut StmtKind) -> Re
     ensures { OnOk result (view.kind kind.new ≡ spec.put_in_stm (chosen_at chosen.now) (view.kind kind.old)) }
 {
     match kind {
-        StmtKind::Skip | StmtKind::Assign(_, _, _, _) | StmtKind::Lock(_) => Ok(()),
-        StmtKind::Unlock(_) | StmtKind::Note(_) | StmtKind::Output(_) => Ok(()),
         StmtKind::If(_, yes, no, _) => {
             put_in_block(alloc, chosen, yes.as_mut_slice())?;
             put_in_block(alloc, chosen, no.as_mut_slice())
         }
         StmtKind::While(_, _, turn) => put_in_block(alloc, chosen, turn.as_mut_slice()),
+        _ => Ok(()),
     }
 }
 
