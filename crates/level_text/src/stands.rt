@@ -98,7 +98,6 @@ fn in_kind(kind: &StmtKind, m: u32) -> bool
     ensures { result ≡ spec.in_stm m (view.kind kind.now) }
 {
     match kind {
-        StmtKind::Skip | StmtKind::Lock(_) | StmtKind::Unlock(_) => false,
         StmtKind::Assign(x, e, _, retypes) => {
             *x == m || mentions(e, m) || in_retypes(retypes.as_slice(), m)
         }
@@ -113,6 +112,7 @@ fn in_kind(kind: &StmtKind, m: u32) -> bool
         }
         StmtKind::Note(state) => in_types(state.types.as_slice(), m),
         StmtKind::Output(e) => mentions(e, m),
+        _ => false,
     }
 }
 
