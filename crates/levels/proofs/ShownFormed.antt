@@ -11,7 +11,7 @@ use Rattle.cov_expr.specs.Term.{Term, const, var, neg, bin, flag}
 use Rattle.cov_expr.specs.Trees.{nodes}
 use Rattle.cov_expr.specs.Words.{IsWord, HasVarsBelow, HasWords}
 use Rattle.cov_expr.specs.declared.expr.TheConstants.{HOLE}
-use Rattle.cov_ast.specs.Syntax.{Class, low, high, when, Var, Lock, Modes, State, Cert, Proof, Stm, Block, done, more, Thread, Program}
+use Rattle.cov_ast.specs.Syntax.{Class, low, high, Var, State, Cert, Proof, Stm, Block, done, more, Thread, Program}
 use Rattle.cov_ast.specs.Syntax as s
 use Rattle.cov_ast.specs.Plain.{class_term}
 use Rattle.cov_ast.specs.Tables.{has}
@@ -80,14 +80,9 @@ module _ (marks : List (Option ℕ)) where
 
   mutual
     within_same : (c : Stm) → places_within (marked_stm marks c) ≡ places_within c
-    within_same s.skip = refl
-    within_same (s.assign x e q retypes) = refl
-    within_same (s.lock k) = refl
-    within_same (s.unlock k) = refl
     within_same (s.branch e a b join) = ap₂ (λ xs ys. xs ++ ys) (places_same a) (places_same b)
     within_same (s.loop e inv b) = places_same b
-    within_same (s.note j) = refl
-    within_same (s.output e) = refl
+    within_same _ = refl
 
     pub places_same : (b : Block) → places (marked_block marks b) ≡ places b
     places_same done = refl
@@ -95,14 +90,11 @@ module _ (marks : List (Option ℕ)) where
 
   mutual
     stm_same : (c : Stm) → stm_size (marked_stm marks c) ≡ stm_size c
-    stm_same s.skip = refl
     stm_same (s.assign x e q retypes) = λ i. nodes e + type_same q i + types_same retypes i
-    stm_same (s.lock k) = refl
-    stm_same (s.unlock k) = refl
     stm_same (s.branch e a b join) = λ i. nodes e + block_same a i + block_same b i + state_same join i
     stm_same (s.loop e inv b) = λ i. nodes e + state_same inv i + block_same b i
     stm_same (s.note j) = state_same j
-    stm_same (s.output e) = refl
+    stm_same _ = refl
 
     block_same : (b : Block) → block_size (marked_block marks b) ≡ block_size b
     block_same done = refl
@@ -110,14 +102,9 @@ module _ (marks : List (Option ℕ)) where
 
   mutual
     stm_silent : (c : Stm) → IsSilentStm c → IsSilentStm (marked_stm marks c)
-    stm_silent s.skip h = h
-    stm_silent (s.assign x e q retypes) h = h
-    stm_silent (s.lock k) h = h
-    stm_silent (s.unlock k) h = h
     stm_silent (s.branch e a b join) h = (block_silent a h.0, block_silent b h.1)
     stm_silent (s.loop e inv b) h = block_silent b h
-    stm_silent (s.note j) h = h
-    stm_silent (s.output e) h = absurd h
+    stm_silent _ h = h
 
     block_silent : (b : Block) → IsSilent b → IsSilent (marked_block marks b)
     block_silent done h = h
@@ -195,14 +182,11 @@ module _ (marks : List (Option ℕ)) where
 
     mutual
       of_stm : (c : Stm) → IsStmInRange vars locks c → IsStmInRange vars locks (marked_stm marks c)
-      of_stm s.skip h = tt
       of_stm (s.assign x e q retypes) h = (h.0, h.1, of_option q h.2, of_types retypes h.3)
-      of_stm (s.lock k) h = h
-      of_stm (s.unlock k) h = h
       of_stm (s.branch e a b join) h = (h.0, of_block a h.1, of_block b h.2, of_state join h.3)
       of_stm (s.loop e inv b) h = (h.0, of_state inv h.1, of_block b h.2)
       of_stm (s.note j) h = of_state j h
-      of_stm (s.output e) h = h
+      of_stm _ h = h
 
       of_block : (b : Block) → IsBlockInRange vars locks b → IsBlockInRange vars locks (marked_block marks b)
       of_block done h = tt
@@ -264,14 +248,11 @@ module _ (marks : List (Option ℕ)) where
 
     mutual
       word_stm : (c : Stm) → StmHasWords c → StmHasWords (marked_stm marks c)
-      word_stm s.skip h = tt
       word_stm (s.assign x e q retypes) h = (h.0, word_option q h.1, word_types retypes h.2)
-      word_stm (s.lock k) h = tt
-      word_stm (s.unlock k) h = tt
       word_stm (s.branch e a b join) h = (h.0, word_block a h.1, word_block b h.2, word_state join h.3)
       word_stm (s.loop e inv b) h = (h.0, word_state inv h.1, word_block b h.2)
       word_stm (s.note j) h = word_state j h
-      word_stm (s.output e) h = h
+      word_stm _ h = h
 
       word_block : (b : Block) → BlockHasWords b → BlockHasWords (marked_block marks b)
       word_block done h = tt

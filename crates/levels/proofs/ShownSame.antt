@@ -9,14 +9,9 @@ use Rattle.levels.specs.Projection.{marks_of, marked_stm, marked_block, marked_t
 module _ (marks : List (Option ℕ)) where
   mutual
     stm_same : (c : Stm) (at : ℕ) (rest : Cmds) → plain_stm (marked_stm marks c) at rest ≡ plain_stm c at rest
-    stm_same s.skip at rest = refl
-    stm_same (s.assign x e q retypes) at rest = refl
-    stm_same (s.lock l) at rest = refl
-    stm_same (s.unlock l) at rest = refl
     stm_same (s.branch e a b join) at rest = ap₂ (λ c d. next at (branch e c d) rest) (block_same a) (block_same b)
     stm_same (s.loop e inv b) at rest = ap (λ c. next at (loop e c) rest) (block_same b)
-    stm_same (s.note j) at rest = refl
-    stm_same (s.output e) at rest = refl
+    stm_same _ at rest = refl
 
     block_same : (b : Block) → plain_block (marked_block marks b) ≡ plain_block b
     block_same done = refl
