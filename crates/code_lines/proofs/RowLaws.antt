@@ -1,7 +1,7 @@
 -- Every line of a code is told once, in order.
 use Rattle.std.proofs.Common.{◌≡◌, ℕ, ◌+◌, List, [], ◌∷◌, ◌++◌, length, take, drop, refl, ap, sym, subst, ◌∙◌, append_assoc, append-nil, arith}
 use Rattle.std.proofs.lemmas.List.{take-append-drop, length-append}
-use Rattle.cov_ast.specs.Syntax.{Stm, skip, assign, lock, unlock, branch, loop, note, output, Block, done, more}
+use Rattle.cov_ast.specs.Syntax.{Stm, branch, loop, note, Block, done, more}
 use Rattle.code_lines.specs.CodeShares.{Share, behind_block, behind_own, behind_statement, block_shares, own_count, share, statement_shares}
 use Rattle.code_lines.specs.CompiledShares.{AreInRow, lines_of}
 use Rattle.code_lines.specs.declared.walk.Role.{Role}
@@ -49,10 +49,6 @@ nothing i ls = record { lines = refl; row = tt }
 module _ (total : ℕ) where
   mutual
     statement_told : (s : Stm) (at i : ℕ) (ls : List Line) → total ≡ i + length ls → AreTold i (statement_shares total at s ls) ls (behind_statement s ls)
-    statement_told skip at i ls is = one Whole at (own_count ls) i total ls is
-    statement_told (assign x e q retypes) at i ls is = one Whole at (own_count ls) i total ls is
-    statement_told (lock l) at i ls is = one Whole at (own_count ls) i total ls is
-    statement_told (unlock l) at i ls is = one Whole at (own_count ls) i total ls is
     statement_told (branch e a b state) at i ls is =
         let inside = behind_own ls in
         let jump = behind_block a inside in
@@ -67,7 +63,7 @@ module _ (total : ℕ) where
         (λ j in_j. join j total (block_shares total a inside) (share total Back at 1 jump ∷ []) inside jump (drop 1 jump) in_j (block_told a j inside in_j)
         (λ k at_k. one Back at 1 k total jump at_k))
     statement_told (note state) at i ls is = nothing i ls
-    statement_told (output e) at i ls is = one Whole at (own_count ls) i total ls is
+    statement_told _ at i ls is = one Whole at (own_count ls) i total ls is
 
     block_told : (b : Block) (i : ℕ) (ls : List Line) → total ≡ i + length ls → AreTold i (block_shares total b ls) ls (behind_block b ls)
     block_told done i ls is = nothing i ls

@@ -116,11 +116,6 @@ impl Scene<'_> {
         ensures seen { OnOk result (IsSeen self.now.bytes.now seen.new) }
     {
         match kind {
-            StmtKind::Skip
-            | StmtKind::Assign(_, _, _, _)
-            | StmtKind::Lock(_)
-            | StmtKind::Unlock(_)
-            | StmtKind::Output(_) => self.add_own(Role::Whole, at, lines, seen, text),
             StmtKind::If(_, a, b, _) => {
                 let inside = self.add_own(Role::Guard, at, lines, seen, text)?;
                 let number = seen.line;
@@ -135,6 +130,7 @@ impl Scene<'_> {
                 self.add_share(Role::Back, number, at, 1, jump, text)
             }
             StmtKind::Note(_) => Ok(lines),
+            _ => self.add_own(Role::Whole, at, lines, seen, text),
         }
     }
 
