@@ -5,7 +5,7 @@ use Rattle.cov_ast.specs.Declarations.{no_thread, thread_at}
 use Rattle.cov_ast.specs.LocksAlong.{locks_after, no_locks}
 use Rattle.cov_ast.specs.Plain.{Cmd, Cmds, Plain, next, plain, plain_block, plain_stm, plain_thread}
 use Rattle.cov_ast.specs.Plain as cmd
-use Rattle.cov_ast.specs.Syntax.{Stm, skip, assign, lock, unlock, branch, loop, note, output, Block, done, more, Program, Thread}
+use Rattle.cov_ast.specs.Syntax.{Stm, assign, branch, loop, note, output, Block, done, more, Program, Thread}
 use Rattle.cov_expr.specs.Term.{Term, const, var, neg, bin}
 use Rattle.cov_expr.specs.Trees.{occurrences, width}
 use Rattle.code_lines.specs.CodeLines.{bodies_of}
@@ -17,7 +17,7 @@ use Rattle.compiled_code.specs.Compiled.{block_lines, cmd_lines, cmd_plan, direc
 use Rattle.mode_state.specs.Sets.{is_stable}
 use Rattle.regalloc.specs.Plan.{Plan, held, start}
 use Rattle.risc_machine.specs.declared.parts.Instr.{Instr}
-use Rattle.risc_machine.specs.declared.parts.Instr.TheVariants.{Store, Jump, Jz, Nop, Acquire, Release, Out}
+use Rattle.risc_machine.specs.declared.parts.Instr.TheVariants.{Store, Jump, Jz, Nop, Out}
 use Rattle.risc_machine.specs.declared.parts.Line.{Line}
 
 -- Lines of evaluations -------------------------------------------------------------------------------------------
@@ -114,6 +114,11 @@ jump_share role at i total u rest is =
     ap (λ n. made role at n (u ∷ [])) from
 
 -- Statements -----------------------------------------------------------------------------------------------------
+
+-- the first of commands, of which there is one
+abbrev first_of : Cmds → Cmd
+first_of cmd.none = cmd.skip
+first_of (next at c cs) = c
 
 module _ (p : Plain) (t total : ℕ) where
   -- In front of others, the lines of a statement are told under it, and those others are behind it.
@@ -220,7 +225,6 @@ module _ (p : Plain) (t total : ℕ) where
 
   block_ok : (b : Block) → BlockOk b (plain_block b)
   block_ok done = λ locks plan i rest is. (refl, refl)
-  block_ok (more at skip proofs b) = next_ok skip cmd.skip at proofs b (λ locks plan i rest is. whole_ok at i [] (line 1 Nop) rest tt refl is) (block_ok b)
   block_ok (more at (assign x e q retypes) proofs b) =
       next_ok (assign x e q retypes) (cmd.assign x e) at proofs b
       (λ locks plan i rest is.
@@ -228,8 +232,6 @@ module _ (p : Plain) (t total : ℕ) where
       let from = store_from stable plan x e in
       whole_ok at i (eval_lines stable plan e from) (line (use_weight from) (Store x (eval_register stable plan e from))) rest (eval_makes stable plan e from) refl is)
       (block_ok b)
-  block_ok (more at (lock l) proofs b) = next_ok (lock l) (cmd.lock l) at proofs b (λ locks plan i rest is. whole_ok at i [] (line 1 (Acquire l)) rest tt refl is) (block_ok b)
-  block_ok (more at (unlock l) proofs b) = next_ok (unlock l) (cmd.unlock l) at proofs b (λ locks plan i rest is. whole_ok at i [] (line 1 (Release l)) rest tt refl is) (block_ok b)
   block_ok (more at (branch e a c state) proofs b) =
       next_ok (branch e a c state) (cmd.branch e (plain_block a) (plain_block c)) at proofs b (branch_ok e a c state at (block_ok a) (block_ok c)) (block_ok b)
   block_ok (more at (loop e state a) proofs b) = next_ok (loop e state a) (cmd.loop e (plain_block a)) at proofs b (loop_ok e state a at (block_ok a)) (block_ok b)
@@ -240,6 +242,10 @@ module _ (p : Plain) (t total : ℕ) where
       let stable = is_stable p t locks in
       whole_ok at i (expr_lines stable plan e) (line 1 (Out (expr_register stable plan e))) rest (expr_makes stable plan e) refl is)
       (block_ok b)
+  -- a statement of one line
+  block_ok (more at s proofs b) =
+      let c = first_of (plain_stm s at (plain_block b)) in
+      next_ok s c at proofs b (λ locks plan i rest is. whole_ok at i [] (get_or (cmd_lines p t c locks plan i) 0 (line 1 Nop)) rest tt refl is) (block_ok b)
 
 -- Threads --------------------------------------------------------------------------------------------------------
 
