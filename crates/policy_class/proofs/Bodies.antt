@@ -34,14 +34,9 @@ module _ (v l : ℕ → ℕ) where
 
   mutual
     within_same : (c : Stm) → places_within (spec.resolved_stm v l c) ≡ places_within c
-    within_same s.skip = refl
-    within_same (s.assign x e q retypes) = refl
-    within_same (s.lock k) = refl
-    within_same (s.unlock k) = refl
     within_same (s.branch e a b join) = ap₂ (λ xs ys. xs ++ ys) (places_same a) (places_same b)
     within_same (s.loop e inv b) = places_same b
-    within_same (s.note j) = refl
-    within_same (s.output e) = refl
+    within_same _ = refl
 
     places_same : (b : Block) → places (spec.resolved_block v l b) ≡ places b
     places_same done = refl
@@ -49,14 +44,12 @@ module _ (v l : ℕ → ℕ) where
 
   mutual
     stm_same : (c : Stm) → stm_size (spec.resolved_stm v l c) ≡ stm_size c
-    stm_same s.skip = refl
     stm_same (s.assign x e q retypes) = λ i. nodes_same e i + type_same q i + types_same retypes i
-    stm_same (s.lock k) = refl
-    stm_same (s.unlock k) = refl
     stm_same (s.branch e a b join) = λ i. nodes_same e i + block_same a i + block_same b i + state_same join i
     stm_same (s.loop e inv b) = λ i. nodes_same e i + state_same inv i + block_same b i
     stm_same (s.note j) = state_same j
     stm_same (s.output e) = nodes_same e
+    stm_same _ = refl
 
     block_same : (b : Block) → block_size (spec.resolved_block v l b) ≡ block_size b
     block_same done = refl
@@ -64,14 +57,9 @@ module _ (v l : ℕ → ℕ) where
 
   mutual
     stm_silent : (c : Stm) → IsSilentStm c → IsSilentStm (spec.resolved_stm v l c)
-    stm_silent s.skip h = h
-    stm_silent (s.assign x e q retypes) h = h
-    stm_silent (s.lock k) h = h
-    stm_silent (s.unlock k) h = h
     stm_silent (s.branch e a b join) h = (block_silent a h.0, block_silent b h.1)
     stm_silent (s.loop e inv b) h = block_silent b h
-    stm_silent (s.note j) h = h
-    stm_silent (s.output e) h = absurd h
+    stm_silent _ h = h
 
     block_silent : (b : Block) → IsSilent b → IsSilent (spec.resolved_block v l b)
     block_silent done h = h

@@ -11,7 +11,7 @@ use Rattle.cov_ast.specs.Syntax as s
 use Rattle.cov_ast.specs.Plain.{class_term}
 use Rattle.cov_ast.specs.Declarations.{invariant_term}
 use Rattle.cov_ast.specs.WellFormed.{IsTemplateBelow, AreInRange, AreTypesInRange, IsStateInRange, IsCertInRange, IsTypeInRange, IsStmInRange, IsBlockInRange, IsLockInRange, AreModesInRange, IsThreadInRange, AreIdsInRange}
-use Rattle.cov_ast.specs.Ready.{Use, as_variable, as_lock, uses_in, uses_in_option, uses_in_type, uses_in_state, uses_in_cert, uses_in_proof, uses_in_stm, uses_in_block, uses_in_class, uses_in_lock, uses_in_modes, uses_in_thread}
+use Rattle.cov_ast.specs.Ready.{Use, as_variable, uses_in, uses_in_option, uses_in_type, uses_in_state, uses_in_cert, uses_in_proof, uses_in_stm, uses_in_block, uses_in_class, uses_in_lock, uses_in_modes, uses_in_thread}
 use Rattle.policy_class.specs.Resolved as spec
 use Rattle.policy_class.proofs.Each.{Each, each_parts, flat_each}
 
@@ -122,8 +122,6 @@ module _ (n : ℕ) (few : n ≤ HOLE) (vars locks : ℕ) (v l : ℕ → ℕ) whe
         let c = parts (as_variable x ++ uses_in e) (uses_in_option q) b.0 in
         let d = parts (as_variable x) (uses_in e) c.0 in
         ((of_variable x h.0 d.0, of_term e h.1 d.1, of_option q h.2 c.1, of_types retypes h.3 b.1), a.1)
-    of_stm (s.lock k) proofs h u = let a = parts (as_lock k) (flat_map uses_in_proof proofs) u in (a.0.0, a.1)
-    of_stm (s.unlock k) proofs h u = let a = parts (as_lock k) (flat_map uses_in_proof proofs) u in (a.0.0, a.1)
     of_stm (s.branch e x y join) proofs h u =
         let a = parts (uses_in e ++ uses_in_block x ++ uses_in_block y ++ uses_in_state join) (flat_map uses_in_proof proofs) u in
         let b = parts (uses_in e ++ uses_in_block x ++ uses_in_block y) (uses_in_state join) a.0 in
@@ -137,6 +135,7 @@ module _ (n : ℕ) (few : n ≤ HOLE) (vars locks : ℕ) (v l : ℕ → ℕ) whe
         ((of_term e h.0 c.0, of_state inv h.1 c.1, of_block x h.2 b.1), a.1)
     of_stm (s.note j) proofs h u = let a = parts (uses_in_state j) (flat_map uses_in_proof proofs) u in (of_state j h a.0, a.1)
     of_stm (s.output e) proofs h u = let a = parts (uses_in e) (flat_map uses_in_proof proofs) u in (of_term e h a.0, a.1)
+    of_stm _ proofs h u = u
 
     of_block : (b : Block) → IsBlockInRange n n b → AreDeclaredIds (uses_in_block b) → IsBlockInRange vars locks (spec.resolved_block v l b)
     of_block done h u = tt
