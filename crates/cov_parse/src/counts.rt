@@ -121,12 +121,10 @@ fn count_inside(kind: &PlacedStmtKind, room: u32) -> Counting
     ensures { result ≡ counted room (spec.places_in (stmts.kind kind.now)) }
 {
     match kind {
-        PlacedStmtKind::Skip | PlacedStmtKind::Lock(_) => Counting::Left(room),
-        PlacedStmtKind::Assign(..) | PlacedStmtKind::Unlock(..) => Counting::Left(room),
-        PlacedStmtKind::Note(..) | PlacedStmtKind::Output(..) => Counting::Left(room),
         PlacedStmtKind::If(_, _, first, _, second, _, _) => {
             count_more(count_stmts(first.as_slice(), room), second.as_slice())
         }
         PlacedStmtKind::While(_, _, _, body, _) => count_stmts(body.as_slice(), room),
+        _ => Counting::Left(room),
     }
 }
