@@ -2,7 +2,7 @@
 use Rattle.std.proofs.Common.{◌≡◌, ◌⊎◌, ℕ, suc, pred, List, [], ◌∷◌, length, get_or, Bool, true, false, Option, Some, None, refl, sym, ◌∙◌, ap, subst, inl, inr, ⊎_elim, slice_get, le_refl}
 use Rattle.std.proofs.lemmas.Option.{slice_get_past}
 use Rattle.cov_expr.specs.Term.{Term, value}
-use Rattle.cov_ast.specs.Plain.{Cmd, skip, assign, lock, unlock, branch, loop, output, Cmds, Plain}
+use Rattle.cov_ast.specs.Plain.{Cmd, assign, branch, loop, output, Cmds, Plain}
 use Rattle.flow_model.specs.Source.{Item, run, put, test, emit, local}
 use Rattle.regalloc.specs.Plan.{Plan}
 use Rattle.compiled_code.proofs.Cores.{Core, exec, IsStraight, Straight}
@@ -66,15 +66,13 @@ module _ (p : Plain) (t : ℕ) (lines : List Line) where
   eval_line e H P i N f (inr k) = f 2 P k.result i k.follows
 
   cmd_line : (c : Cmd) (H : List Bool) (P : Plan) (i : ℕ) (N : List Bool → Plan → ℕ → Type 0) → CmdCode p t lines c H P i N → HasLine lines i
-  cmd_line skip H P i N k = (_, k.0)
   cmd_line (assign x e) H P i N k =
       eval_line e H P i (λ w Q d j. LineIs lines j w (Store x d) × (R : Plan) × AfterStore p t H Q x d R × N H R (suc j)) (λ w Q d j n. (_, n.0)) k.1
-  cmd_line (lock l) H P i N k = (_, k.1)
-  cmd_line (unlock l) H P i N k = (_, k.2)
   cmd_line (branch e a b) H P i N k =
       eval_line e H P i (λ w Q d j. (z : ℕ) × LineIs lines j w (Jz d z) × BlockCode p t lines a H Q (suc j) N × BlockCode p t lines b H Q z N) (λ w Q d j n. (_, n.1)) k
   cmd_line (loop e a) H P i N k = (_, k.at_first)
   cmd_line (output e) H P i N k = (_, k.at_first)
+  cmd_line _ H P i N k = (_, k.0)
 
   reach_line : (N : ℕ → Type 0) {i : ℕ} → ((j : ℕ) → N j → HasLine lines j) → Reach lines N i → HasLine lines i
   reach_line N f (here {i = i} n) = f i n
@@ -134,15 +132,13 @@ module _ (p : Plain) (t : ℕ) (lines : List Line) where
 
     module _ (H : List Bool) (P : Plan) (eight : length c.registers ≡ 8) (keeps : Record p t P H c.registers c.memory) where
       cmd_reads : (at : ℕ) (x : Cmd) (is : List Item) (N : List Bool → Plan → ℕ → Type 0) → CmdCode p t lines x H P c.position N → Reads c (run at x ∷ is) w r
-      cmd_reads at skip is N k = no_jz (_, k.0, refl) _
       cmd_reads at (assign x e) is N k = ⊎_elim (λ q. no_jz (_, q.at_first, straight_no_jz q.first q.first_straight) _) (λ q. no_jz (_, q.follows.0, refl) _) k.1
-      cmd_reads at (lock l) is N k = no_jz (_, k.1, refl) _
-      cmd_reads at (unlock l) is N k = no_jz (_, k.2, refl) _
       cmd_reads at (branch e a b) is N k =
           ⊎_elim (λ q. no_jz (_, q.at_first, straight_no_jz q.first q.first_straight) _)
           (λ q. reads_here (run at (branch e a b) ∷ is) 2 q.result q.follows.0 (value e c.memory) q.follows.1 (q.right c.registers c.memory eight keeps) refl) k
       cmd_reads at (loop e a) is N k = no_jz (_, k.at_first, straight_no_jz k.first k.first_straight) _
       cmd_reads at (output e) is N k = no_jz (_, k.at_first, straight_no_jz k.first k.first_straight) _
+      cmd_reads at _ is N k = no_jz (_, k.0, refl) _
 
       reach_reads : (at : ℕ) (x : Cmd) (is : List Item) {i : ℕ} → i ≡ c.position → Reach lines (λ j. CmdCode p t lines x H P j (ItemsCode p t lines is)) i → Reads c (run at x ∷ is) w r
       reach_reads at x is e (here k) = cmd_reads at x is (ItemsCode p t lines is) (subst (λ i. CmdCode p t lines x H P i (ItemsCode p t lines is)) e k)

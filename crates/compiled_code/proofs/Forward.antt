@@ -2,7 +2,7 @@
 use Rattle.std.proofs.Common.{◌≡◌, ◌⊎◌, ℕ, zero, suc, ◌+◌, ◌<◌, ◌≤◌, List, [], ◌∷◌, ◌++◌, length, map, Bool, Option, Some, None, refl, le_refl, sym, subst, subst₂, arith, IsTrue, inl, inr, slice_get, add-zero, zero-add}
 use Rattle.cov_expr.specs.Term.{Term}
 use Rattle.cov_ast.specs.LocksAlong.{locks_after}
-use Rattle.cov_ast.specs.Plain.{Cmd, skip, assign, lock, unlock, branch, loop, output, Cmds, none, next, Plain}
+use Rattle.cov_ast.specs.Plain.{Cmd, assign, branch, loop, output, Cmds, none, next, Plain}
 use Rattle.mode_state.specs.Sets.{is_stable}
 use Rattle.regalloc.specs.Plan.{Plan, start}
 use Rattle.compiled_code.specs.Compiled.{line, weigh, expr_plan, expr_register, expr_instrs, expr_lines, direct, eval_lines, eval_plan, eval_register, use_weight, store_from, cmd_plan, cmd_lines, block_lines}
@@ -68,13 +68,10 @@ module _ (p : Plain) (t : ℕ) (lines : List Line) where
 
   mutual
     cmd_lead : (c : Cmd) (H : List Bool) (P : Plan) (i : ℕ) → IsTidyCmd p t c H → At lines i (cmd_lines p t c H P i) → AllLead lines i (cmd_lines p t c H P i)
-    cmd_lead skip H P i k h = (inr (le_refl 1), tt)
     cmd_lead (assign x e) H P i k h =
         let st = is_stable p t H in
         let o = store_from st P x e in
         lead_append lines i (eval_lines st P e o) (line (use_weight o) (Store x (eval_register st P e o)) ∷ []) (eval_lead H P e i o k.1) (inr (used o), tt)
-    cmd_lead (lock l) H P i k h = (inr (le_refl 1), tt)
-    cmd_lead (unlock l) H P i k h = (inr (le_refl 1), tt)
     cmd_lead (branch e a b) H P i k h =
         let st = is_stable p t H in
         let o = direct st P e in
@@ -111,6 +108,7 @@ module _ (p : Plain) (t : ℕ) (lines : List Line) where
     cmd_lead (output e) H P i k h =
         let st = is_stable p t H in
         lead_append lines i (expr_lines st P e) (line 1 (Out (expr_register st P e)) ∷ []) (expr_lead H P e i k) (inr (le_refl 1), tt)
+    cmd_lead _ H P i k h = (inr (le_refl 1), tt)
 
     block_lead : (c : Cmds) (H : List Bool) (P : Plan) (i : ℕ) → IsTidy p t c H → At lines i (block_lines p t c H P i) → AllLead lines i (block_lines p t c H P i)
     block_lead none H P i k h = tt

@@ -125,10 +125,10 @@ module _ (p : Plain) (t : ℕ) (lines : List Line) where
                 subst (N H (store_plan (st x) Q x g)) (simp length-append (omega arith)) n,
               ),
         )
-    cmd_at (lock l) H P i N f k h n = (k, h.0, subst (N (set H l true) P) (omega arith) n)
+    cmd_at (lock l) H P i N f k h n = (h.0, k, subst (N (set H l true) P) (omega arith) n)
     cmd_at (unlock l) H P i N f k h n =
         let R = restrict (is_stable p t (set H l false)) P in
-        (k.0, k.1, h.0, R, (λ j y e. restricted_is (is_stable p t (set H l false)) P j y e), subst (N (set H l false) R) (omega arith) n)
+        (h.0, k.0, k.1, R, (λ j y e. restricted_is (is_stable p t (set H l false)) P j y e), subst (N (set H l false) R) (omega arith) n)
     cmd_at (branch e a b) H P i N f k h n =
         let st = is_stable p t H in
         let o = direct st P e in

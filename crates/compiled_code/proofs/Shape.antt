@@ -105,9 +105,9 @@ module _ (p : Plain) (t : ℕ) (lines : List Line) where
     CmdCode skip H P i N = LineIs lines i 1 Nop × N H P (suc i)
     CmdCode (assign x e) H P i N =
         IsTrue (may_write p t H x) × EvalCode H P i e (λ w Q d j. LineIs lines j w (Store x d) × (R : Plan) × AfterStore p t H Q x d R × N H R (suc j))
-    CmdCode (lock l) H P i N = (l < length p.locks) × LineIs lines i 1 (Acquire l) × N (set H l true) P (suc i)
+    CmdCode (lock l) H P i N = LineIs lines i 1 (Acquire l) × (l < length p.locks) × N (set H l true) P (suc i)
     CmdCode (unlock l) H P i N =
-        (l < length p.locks) × IsTrue (has H l) × LineIs lines i 1 (Release l) × (R : Plan) × Left p t (set H l false) P R × N (set H l false) R (suc i)
+        LineIs lines i 1 (Release l) × (l < length p.locks) × IsTrue (has H l) × (R : Plan) × Left p t (set H l false) P R × N (set H l false) R (suc i)
     CmdCode (branch e a b) H P i N =
         EvalCode H P i e (λ w Q d j. (z : ℕ) × LineIs lines j w (Jz d z) × BlockCode a H Q (suc j) N × BlockCode b H Q z N)
     CmdCode (loop e a) H P i N =

@@ -4,7 +4,7 @@ use Rattle.std.proofs.lemmas.List.{length-map}
 use Rattle.cov_expr.specs.Term.{Term, const, var, neg, bin}
 use Rattle.cov_expr.specs.Trees.{nodes, occurrences, width}
 use Rattle.cov_ast.specs.LocksAlong.{locks_after}
-use Rattle.cov_ast.specs.Plain.{Cmd, skip, assign, lock, unlock, branch, loop, output, Cmds, none, next, Plain, plain_stm, plain_block}
+use Rattle.cov_ast.specs.Plain.{Cmd, assign, branch, loop, output, Cmds, none, next, Plain, plain_stm, plain_block}
 use Rattle.cov_ast.specs.Syntax.{Stm, Block, done, more}
 use Rattle.cov_ast.specs.Syntax as annotated
 use Rattle.cov_ast.specs.WellFormed.{stm_size, block_size}
@@ -72,13 +72,11 @@ eval_size st P e (Some r) = omega arith
 
 abbrev mutual
   pub cmd_size : Cmd → ℕ
-  cmd_size skip = 1
   cmd_size (assign x e) = 1 + nodes e
-  cmd_size (lock l) = 1
-  cmd_size (unlock l) = 1
   cmd_size (branch e a b) = 1 + nodes e + cmds_size a + cmds_size b
   cmd_size (loop e a) = 1 + nodes e + cmds_size a
   cmd_size (output e) = 1 + nodes e
+  cmd_size _ = 1
 
   -- statements and the nodes of what they evaluate
   pub cmds_size : Cmds → ℕ
@@ -87,14 +85,9 @@ abbrev mutual
 
 mutual
   stm_sized : (s : Stm) (at : ℕ) (rest : Cmds) → cmds_size (plain_stm s at rest) ≤ 1 + stm_size s + cmds_size rest
-  stm_sized annotated.skip at rest = omega arith
-  stm_sized (annotated.assign x e q retypes) at rest = omega arith
-  stm_sized (annotated.lock l) at rest = omega arith
-  stm_sized (annotated.unlock l) at rest = omega arith
   stm_sized (annotated.branch e a b join) at rest = let k = block_sized a in let n = block_sized b in omega arith
   stm_sized (annotated.loop e inv b) at rest = let k = block_sized b in omega arith
-  stm_sized (annotated.note j) at rest = omega arith
-  stm_sized (annotated.output e) at rest = omega arith
+  stm_sized _ at rest = omega arith
 
   pub block_sized : (b : Block) → cmds_size (plain_block b) ≤ block_size b
   block_sized done = omega arith
@@ -103,7 +96,6 @@ mutual
 module _ (p : Plain) (t : ℕ) where
   mutual
     cmd_few : (c : Cmd) (H : List Bool) (P : Plan) (i : ℕ) → length (cmd_lines p t c H P i) ≤ 3 * cmd_size c
-    cmd_few skip H P i = omega arith
     cmd_few (assign x e) H P i =
         let st = is_stable p t H in
         let o = store_from st P x e in
@@ -111,8 +103,6 @@ module _ (p : Plain) (t : ℕ) where
         let all : length (eval_lines st P e o ++ (line (use_weight o) (Store x (eval_register st P e o)) ∷ [])) ≡ length (eval_lines st P e o) + 1 =
         length-append (eval_lines st P e o) (line (use_weight o) (Store x (eval_register st P e o)) ∷ []) in
         omega arith
-    cmd_few (lock l) H P i = omega arith
-    cmd_few (unlock l) H P i = omega arith
     cmd_few (branch e a b) H P i =
         let st = is_stable p t H in
         let o = direct st P e in
@@ -147,6 +137,7 @@ module _ (p : Plain) (t : ℕ) where
         let all : length (expr_lines st P e ++ (line 1 (Out (expr_register st P e)) ∷ [])) ≡ length (expr_lines st P e) + 1 =
         length-append (expr_lines st P e) (line 1 (Out (expr_register st P e)) ∷ []) in
         omega arith
+    cmd_few _ H P i = omega arith
 
     pub block_few : (c : Cmds) (H : List Bool) (P : Plan) (i : ℕ) → length (block_lines p t c H P i) ≤ 3 * cmds_size c
     block_few none H P i = omega arith

@@ -309,14 +309,14 @@ module _ (p : Plain) (t : ℕ) (sets : AreSets p t) (lines : List Line) where
       unlock_matched : (i at l : ℕ) (is : List Item) → CmdCode p t lines (unlock l) H P i (ItemsCode p t lines is)
           → Matched p t lines (core m h o r i) (run at (unlock l) ∷ is) (slice_get lines i)
       unlock_matched i at l is k =
-          let mine : is_held_by (holder h l) t ≡ true = sym (held l) ∙ k.1 in
+          let mine : is_held_by (holder h l) t ≡ true = sym (held l) ∙ k.2 in
           let now : core_instr t (core m h o r i) (Release l) ≡ core m (set h l None) o r (suc i) =
           ap (λ b. if not b then core m h o r i else core m (set h l None) o r (suc i)) mine in
-          subst (λ q. Matched p t lines (core m h o r i) (run at (unlock l) ∷ is) q) (sym k.2)
+          subst (λ q. Matched p t lines (core m h o r i) (run at (unlock l) ∷ is) q) (sym k.0)
           (record {
             next = local m (set h l None) o is;
             turns = sym (ap (after_unlock m h o at l is) mine);
-            leaves = switched p t m h o l None is (rw locks k.0) (λ u d. ap (λ (q : Option ℕ). is_held_by q u) (held_is (holder h l) t mine) ∙ ne_eqb t u (λ i. d (sym i))) (λ u d. refl);
+            leaves = switched p t m h o l None is (rw locks k.1) (λ u d. ap (λ (q : Option ℕ). is_held_by q u) (held_is (holder h l) t mine) ∙ ne_eqb t u (λ i. d (sym i))) (λ u d. refl);
             memory = ap (λ (c : Core). c.memory) now;
             holders = ap (λ (c : Core). c.holders) now;
             outputs = ap (λ (c : Core). c.outputs) now;
@@ -325,7 +325,7 @@ module _ (p : Plain) (t : ℕ) (sets : AreSets p t) (lines : List Line) where
                   H = set H l false;
                   plan = k.3;
                   sized = length-set H l false ∙ sized;
-                  held = held_switched p t h l None H false locks sized k.0 refl held;
+                  held = held_switched p t h l None H false locks sized k.1 refl held;
                   locks = length-set h l None ∙ locks;
                   eight = eight;
                   keeps = λ j x e. let q = k.4 j x e in (q.1, (keeps j x q.0).1);
@@ -371,7 +371,7 @@ module _ (p : Plain) (t : ℕ) (sets : AreSets p t) (lines : List Line) where
             stands = go_on P is (suc i) keeps k.1;
           })
       cmd_matched (assign x e) at is i k = eval_store i at x e is k.0 k.1
-      cmd_matched (lock l) at is i k = lock_matched i at l is k.0 k.1 k.2 (here k) (holder h l) refl
+      cmd_matched (lock l) at is i k = lock_matched i at l is k.1 k.0 k.2 (here k) (holder h l) refl
       cmd_matched (unlock l) at is i k = unlock_matched i at l is k
       cmd_matched (branch e a b) at is i k =
           eval_branch i at e a b is
