@@ -57,14 +57,12 @@ type_words_prop (Some q) = words_prop q
 
 mutual
   stm_words_prop : (c : Stm) → IsProp (StmHasWords c)
-  stm_words_prop s.skip = hlevel
   stm_words_prop (s.assign x e q retypes) = hlevel (words_prop, type_words_prop)
-  stm_words_prop (s.lock l) = hlevel
-  stm_words_prop (s.unlock l) = hlevel
   stm_words_prop (s.branch e a b join) = hlevel (words_prop, block_words_prop a, block_words_prop b)
   stm_words_prop (s.loop e inv b) = hlevel (words_prop, block_words_prop b)
   stm_words_prop (s.note j) = hlevel words_prop
   stm_words_prop (s.output e) = words_prop e
+  stm_words_prop _ = hlevel
 
   block_words_prop : (b : Block) → IsProp (BlockHasWords b)
   block_words_prop done = hlevel
@@ -72,14 +70,9 @@ mutual
 
 mutual
   stm_silent_prop : (c : Stm) → IsProp (IsSilentStm c)
-  stm_silent_prop s.skip = hlevel
-  stm_silent_prop (s.assign x e q retypes) = hlevel
-  stm_silent_prop (s.lock l) = hlevel
-  stm_silent_prop (s.unlock l) = hlevel
   stm_silent_prop (s.branch e a b join) = hlevel (silent_prop a, silent_prop b)
   stm_silent_prop (s.loop e inv b) = silent_prop b
-  stm_silent_prop (s.note j) = hlevel
-  stm_silent_prop (s.output e) = hlevel
+  stm_silent_prop _ = hlevel
 
   silent_prop : (b : Block) → IsProp (IsSilent b)
   silent_prop done = hlevel
@@ -122,12 +115,11 @@ module _ (vars locks : ℕ) (few : vars ≤ 256) where
     stm_range_prop : (c : Stm) → IsProp (IsStmInRange vars locks c)
     stm_range_prop s.skip = hlevel
     stm_range_prop (s.assign x e q retypes) = hlevel (le_prop, vars_prop, type_range_prop q)
-    stm_range_prop (s.lock l) = hlevel le_prop
-    stm_range_prop (s.unlock l) = hlevel le_prop
     stm_range_prop (s.branch e a b join) = hlevel (le_prop, vars_prop, block_range_prop a, block_range_prop b)
     stm_range_prop (s.loop e inv b) = hlevel (le_prop, vars_prop, block_range_prop b)
     stm_range_prop (s.note j) = hlevel (le_prop, vars_prop)
     stm_range_prop (s.output e) = vars_prop e vars
+    stm_range_prop _ = hlevel le_prop
 
     block_range_prop : (b : Block) → IsProp (IsBlockInRange vars locks b)
     block_range_prop done = hlevel
