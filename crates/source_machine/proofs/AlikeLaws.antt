@@ -30,25 +30,13 @@ module _ (at : ℕ) (proofs : List s.Proof) (b : Block) (bs : List Block) where
   left c = items (more at c proofs b ∷ bs)
 
   first_left : (c : Stm) → IsReady (more at c proofs b) → first_place (left c) ≡ Some at
-  first_left s.skip r = refl
-  first_left (s.assign x e q retypes) r = refl
-  first_left (s.lock l) r = refl
-  first_left (s.unlock l) r = refl
-  first_left (s.output e) r = refl
-  first_left (s.branch e x y join) r = refl
-  first_left (s.loop e inv x) r = refl
   first_left (s.note j) r = absurd r
+  first_left _ r = refl
 
   pub first_with_word : (w : Option ℕ) (c : Stm) → IsReady (more at c proofs b) → first_place (with_word w (left c)) ≡ Some at
   first_with_word None c r = first_left c r
-  first_with_word (Some w) s.skip r = refl
-  first_with_word (Some w) (s.assign x e q retypes) r = refl
-  first_with_word (Some w) (s.lock l) r = refl
-  first_with_word (Some w) (s.unlock l) r = refl
-  first_with_word (Some w) (s.output e) r = refl
-  first_with_word (Some w) (s.branch e x y join) r = refl
-  first_with_word (Some w) (s.loop e inv x) r = refl
   first_with_word (Some w) (s.note j) r = absurd r
+  first_with_word (Some w) _ r = refl
 
   same_word_is : (w v : Option ℕ) → same_word w v ≡ true → w ≡ v
   same_word_is None None h = refl
@@ -57,10 +45,6 @@ module _ (at : ℕ) (proofs : List s.Proof) (b : Block) (bs : List Block) where
   same_word_is (Some w) (Some v) h = ap Some (eqb-true w v h)
 
   words_sound : (c : Stm) (w v : Option ℕ) → IsReady (more at c proofs b) → alike_words c w v ≡ true → AreAlike (with_word w (left c)) (with_word v (left c))
-  words_sound s.skip None None r h = refl
-  words_sound s.skip None (Some v) r h = refl
-  words_sound s.skip (Some w) None r h = refl
-  words_sound s.skip (Some w) (Some v) r h = refl
   words_sound (s.assign x e q retypes) None None r h = refl
   words_sound (s.assign x e q retypes) None (Some v) r h = absurd cc
   words_sound (s.assign x e q retypes) (Some w) None r h = absurd cc
@@ -69,23 +53,18 @@ module _ (at : ℕ) (proofs : List s.Proof) (b : Block) (bs : List Block) where
   words_sound (s.output e) None (Some v) r h = absurd cc
   words_sound (s.output e) (Some w) None r h = absurd cc
   words_sound (s.output e) (Some w) (Some v) r h = refl
-  words_sound (s.lock l) None None r h = refl
-  words_sound (s.lock l) None (Some v) r h = refl
-  words_sound (s.lock l) (Some w) None r h = refl
-  words_sound (s.lock l) (Some w) (Some v) r h = refl
-  words_sound (s.unlock l) None None r h = refl
-  words_sound (s.unlock l) None (Some v) r h = refl
-  words_sound (s.unlock l) (Some w) None r h = refl
-  words_sound (s.unlock l) (Some w) (Some v) r h = refl
   words_sound (s.branch e x y join) w v r h = ap (λ u. map shape (with_word u (left (s.branch e x y join)))) (same_word_is w v h)
   words_sound (s.loop e inv x) w v r h = ap (λ u. map shape (with_word u (left (s.loop e inv x)))) (same_word_is w v h)
   words_sound (s.note j) w v r h = absurd r
+  words_sound _ None None r h = refl
+  words_sound _ None (Some v) r h = refl
+  words_sound _ (Some w) None r h = refl
+  words_sound _ (Some w) (Some v) r h = refl
 
   same_words : {at1 at2 w v : ℕ} {a1 b1 a2 b2 : p.Cmds} {is js : List Item} → test at1 w a1 b1 ∷ is ≡ test at2 v a2 b2 ∷ js → w ≡ v
   same_words e = cc
 
   words_complete : (c : Stm) (w v : Option ℕ) → AreAlike (with_word w (left c)) (with_word v (left c)) → alike_words c w v ≡ true
-  words_complete s.skip w v h = refl
   words_complete (s.assign x e q retypes) None None h = refl
   words_complete (s.assign x e q retypes) None (Some v) h = absurd cc
   words_complete (s.assign x e q retypes) (Some w) None h = absurd cc
@@ -94,8 +73,6 @@ module _ (at : ℕ) (proofs : List s.Proof) (b : Block) (bs : List Block) where
   words_complete (s.output e) None (Some v) h = absurd cc
   words_complete (s.output e) (Some w) None h = absurd cc
   words_complete (s.output e) (Some w) (Some v) h = refl
-  words_complete (s.lock l) w v h = refl
-  words_complete (s.unlock l) w v h = refl
   words_complete (s.branch e x y join) None None h = refl
   words_complete (s.branch e x y join) None (Some v) h = absurd cc
   words_complete (s.branch e x y join) (Some w) None h = absurd cc
@@ -104,7 +81,7 @@ module _ (at : ℕ) (proofs : List s.Proof) (b : Block) (bs : List Block) where
   words_complete (s.loop e inv x) None (Some v) h = absurd cc
   words_complete (s.loop e inv x) (Some w) None h = absurd cc
   words_complete (s.loop e inv x) (Some w) (Some v) h = eq-eqb w v (same_words h)
-  words_complete (s.note j) w v h = refl
+  words_complete _ w v h = refl
 
 module _ (body : Block) (differ : are_distinct (◌==◌) (places body) ≡ true) where
   same_left : (is js : List Item) (at : ℕ) → first_place is ≡ Some at → first_place js ≡ Some at → Stands body is → Stands body js → is ≡ js

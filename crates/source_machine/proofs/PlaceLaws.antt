@@ -76,17 +76,13 @@ right xs ys is p = (p.0, p.1, among_right xs ys p.0 p.2)
 
 mutual
   stm_place : (c : Stm) (at : ℕ) (after is : List Item) → IsAtStm c at after is → HasPlace (at ∷ places_within c) is
-  stm_place s.skip at after is h = here at [] is (ap first_place h)
-  stm_place (s.assign x e q retypes) at after is h = here at [] is (ap first_place h)
-  stm_place (s.lock l) at after is h = here at [] is (ap first_place h)
-  stm_place (s.unlock l) at after is h = here at [] is (ap first_place h)
-  stm_place (s.output e) at after is h = here at [] is (ap first_place h)
   stm_place (s.branch e x y join) at after is (inl h) = here at (places x ++ places y) is (ap first_place h)
   stm_place (s.branch e x y join) at after is (inr (inl h)) = right (at ∷ []) (places x ++ places y) is (left (places x) (places y) is (part_place x after is h))
   stm_place (s.branch e x y join) at after is (inr (inr h)) = right (at ∷ []) (places x ++ places y) is (right (places x) (places y) is (part_place y after is h))
   stm_place (s.loop e inv x) at after is (inl h) = here at (places x) is (ap first_place h)
   stm_place (s.loop e inv x) at after is (inr h) = right (at ∷ []) (places x) is (part_place x _ is h)
   stm_place (s.note j) at after is h = absurd h
+  stm_place _ at after is h = here at [] is (ap first_place h)
 
   part_place : (b : Block) (after is : List Item) → IsPart b after is → HasPlace (places b) is
   part_place done after is h = absurd h
@@ -96,11 +92,6 @@ mutual
 mutual
   same_stm : (c : Stm) (at : ℕ) (after is js : List Item) → differ (at ∷ places_within c) ≡ true → IsAtStm c at after is → IsAtStm c at after js
       → first_place is ≡ first_place js → is ≡ js
-  same_stm s.skip at after is js d h k e = h ∙ sym k
-  same_stm (s.assign x v q retypes) at after is js d h k e = h ∙ sym k
-  same_stm (s.lock l) at after is js d h k e = h ∙ sym k
-  same_stm (s.unlock l) at after is js d h k e = h ∙ sym k
-  same_stm (s.output v) at after is js d h k e = h ∙ sym k
   same_stm (s.branch v x y join) at after is js d (inl h) (inl k) e = h ∙ sym k
   same_stm (s.branch v x y join) at after is js d (inl h) (inr (inl k)) e =
       absurd (clash (at ∷ []) (places x ++ places y) is js d (here at [] is (ap first_place h)) (left (places x) (places y) js (part_place x after js k)) e)
@@ -125,6 +116,7 @@ mutual
       absurd (clash (at ∷ []) (places x) js is d (here at [] js (ap first_place k)) (part_place x _ is h) (sym e))
   same_stm (s.loop v inv x) at after is js d (inr h) (inr k) e = same_part x _ is js (differ_right (at ∷ []) (places x) d) h k e
   same_stm (s.note j) at after is js d h k e = absurd h
+  same_stm _ at after is js d h k e = h ∙ sym k
 
   pub same_part : (b : Block) (after is js : List Item) → differ (places b) ≡ true → IsPart b after is → IsPart b after js → first_place is ≡ first_place js → is ≡ js
   same_part done after is js d h k e = absurd h

@@ -28,13 +28,9 @@ fn kind_height(kind: &StmtKind) -> usize
     ensures { result ≡ spec.stm_height (view.kind kind.now) }
 {
     match kind {
-        StmtKind::Skip
-        | StmtKind::Assign(_, _, _, _)
-        | StmtKind::Lock(_)
-        | StmtKind::Unlock(_)
-        | StmtKind::Output(_) => 1,
         StmtKind::If(_, a, b, _) => 1 + height(a.as_slice()).max(height(b.as_slice())),
         StmtKind::While(_, _, b) => 1 + height(b.as_slice()),
         StmtKind::Note(_) => 0,
+        _ => 1,
     }
 }
