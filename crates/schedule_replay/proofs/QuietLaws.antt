@@ -1,11 +1,11 @@
 -- Steps that leave what threads share as it is.
 use Rattle.std.proofs.Common.{◌≡◌, ◌≢◌, ◌⊎◌, inl, inr, ℕ, List, [], ◌∷◌, map, Bool, true, false, not, Option, Some, None, is_some, if◌then◌else◌, refl, sym, ap, ◌∙◌, subst, arith}
 use Rattle.std.proofs.lemmas.List.{set-get_or, get_or-set_other}
-use Rattle.cov_ast.specs.Plain.{Plain, skip, assign, lock, unlock, branch, loop, output}
+use Rattle.cov_ast.specs.Plain.{Plain, skip, lock, unlock}
 use Rattle.cov_ast.specs.declared.decl.Program.{Program}
 use Rattle.flow_model.specs.Agreement.{AreAlike, IsAlikeAt, MemoriesAgree, StatesAgree, shape}
 use Rattle.flow_model.specs.Runs.{has_moved}
-use Rattle.flow_model.specs.Source.{Item, run, put, test, emit, Holders, Outputs, local, Run, turn, step, put_back, items_of, holder, is_held_by, after_lock, after_unlock, step_says}
+use Rattle.flow_model.specs.Source.{Item, run, put, emit, Holders, Outputs, local, Run, turn, step, put_back, items_of, holder, is_held_by, after_lock, after_unlock, step_says}
 use Rattle.flow_model.specs.declared.machine.Stepped.TheVariants as stepped
 use Rattle.source_machine.specs.SourceMachine.{change_of}
 use Rattle.schedule_replay.specs.Inside.{is_quiet, stores}
@@ -30,16 +30,9 @@ module _ (t : ℕ) (m : List ℕ) (h : Holders) (o : Outputs) where
 
   turn_still : (is : List Item) → has_moved (step_says t h is) ≡ false → turn t m h o is ≡ local m h o is
   turn_still [] e = refl
-  turn_still (run at skip ∷ rest) e = absurd cc
-  turn_still (run at (assign x v) ∷ rest) e = absurd cc
   turn_still (run at (lock l) ∷ rest) e = lock_still at l rest (holder h l) e
   turn_still (run at (unlock l) ∷ rest) e = unlock_still at l rest (is_held_by (holder h l) t) e
-  turn_still (run at (branch v a b) ∷ rest) e = absurd cc
-  turn_still (run at (loop v b) ∷ rest) e = absurd cc
-  turn_still (run at (output v) ∷ rest) e = absurd cc
-  turn_still (put at x word ∷ rest) e = absurd cc
-  turn_still (test at word a b ∷ rest) e = absurd cc
-  turn_still (emit at word ∷ rest) e = absurd cc
+  turn_still _ e = absurd cc
 
 -- A step that doesn't go on changes nothing.
 pub step_still : (r : Run) (t : ℕ) → has_moved (step_says t r.holders (items_of r t)) ≡ false → step r t ≡ r
@@ -50,30 +43,15 @@ step_still r t e =
 -- Steps that change nothing but what remains of a thread -------------------------------------------------------
 
 turn_quiet : (t : ℕ) (m : List ℕ) (h : Holders) (o : Outputs) (is : List Item) → is_quiet (change_of is) ≡ true → turn t m h o is ≡ local m h o (turn t m h o is).items
-turn_quiet t m h o [] e = refl
-turn_quiet t m h o (run at skip ∷ rest) e = refl
-turn_quiet t m h o (run at (assign x v) ∷ rest) e = refl
 turn_quiet t m h o (run at (lock l) ∷ rest) e = absurd cc
 turn_quiet t m h o (run at (unlock l) ∷ rest) e = absurd cc
-turn_quiet t m h o (run at (branch v a b) ∷ rest) e = refl
-turn_quiet t m h o (run at (loop v b) ∷ rest) e = refl
-turn_quiet t m h o (run at (output v) ∷ rest) e = refl
 turn_quiet t m h o (put at x word ∷ rest) e = absurd cc
-turn_quiet t m h o (test at word a b ∷ rest) e = refl
 turn_quiet t m h o (emit at word ∷ rest) e = absurd cc
+turn_quiet t m h o _ e = refl
 
 change_shape : (is : List Item) → change_of (map shape is) ≡ change_of is
-change_shape [] = refl
 change_shape (run at skip ∷ rest) = refl
-change_shape (run at (assign x v) ∷ rest) = refl
-change_shape (run at (lock l) ∷ rest) = refl
-change_shape (run at (unlock l) ∷ rest) = refl
-change_shape (run at (branch v a b) ∷ rest) = refl
-change_shape (run at (loop v b) ∷ rest) = refl
-change_shape (run at (output v) ∷ rest) = refl
-change_shape (put at x word ∷ rest) = refl
-change_shape (test at word a b ∷ rest) = refl
-change_shape (emit at word ∷ rest) = refl
+change_shape _ = refl
 
 -- Threads that are alike change the same.
 change_alike : (is js : List Item) → AreAlike is js → change_of is ≡ change_of js
@@ -119,17 +97,10 @@ unlock_memory m h o at l rest true = refl
 unlock_memory m h o at l rest false = refl
 
 turn_memory : (t : ℕ) (m : List ℕ) (h : Holders) (o : Outputs) (is : List Item) → stores (change_of is) ≡ false → (turn t m h o is).memory ≡ m
-turn_memory t m h o [] e = refl
-turn_memory t m h o (run at skip ∷ rest) e = refl
-turn_memory t m h o (run at (assign x v) ∷ rest) e = refl
 turn_memory t m h o (run at (lock l) ∷ rest) e = lock_memory t m h o at l rest (holder h l)
 turn_memory t m h o (run at (unlock l) ∷ rest) e = unlock_memory m h o at l rest (is_held_by (holder h l) t)
-turn_memory t m h o (run at (branch v a b) ∷ rest) e = refl
-turn_memory t m h o (run at (loop v b) ∷ rest) e = refl
-turn_memory t m h o (run at (output v) ∷ rest) e = refl
 turn_memory t m h o (put at x word ∷ rest) e = absurd cc
-turn_memory t m h o (test at word a b ∷ rest) e = refl
-turn_memory t m h o (emit at word ∷ rest) e = refl
+turn_memory t m h o _ e = refl
 
 -- A step that doesn't store leaves the memory.
 pub step_memory : (r : Run) (t : ℕ) → stores (change_of (items_of r t)) ≡ false → (step r t).memory ≡ r.memory
@@ -146,17 +117,10 @@ unlock_grows m h o at l rest true = same_outputs o
 unlock_grows m h o at l rest false = same_outputs o
 
 turn_grows : (t : ℕ) (m : List ℕ) (h : Holders) (o : Outputs) (is : List Item) → GrowsByOne o (turn t m h o is).outputs
-turn_grows t m h o [] = same_outputs o
-turn_grows t m h o (run at skip ∷ rest) = same_outputs o
-turn_grows t m h o (run at (assign x e) ∷ rest) = same_outputs o
 turn_grows t m h o (run at (lock l) ∷ rest) = lock_grows t m h o at l rest (holder h l)
 turn_grows t m h o (run at (unlock l) ∷ rest) = unlock_grows m h o at l rest (is_held_by (holder h l) t)
-turn_grows t m h o (run at (branch e a b) ∷ rest) = same_outputs o
-turn_grows t m h o (run at (loop e b) ∷ rest) = same_outputs o
-turn_grows t m h o (run at (output e) ∷ rest) = same_outputs o
-turn_grows t m h o (put at x word ∷ rest) = same_outputs o
-turn_grows t m h o (test at word a b ∷ rest) = same_outputs o
 turn_grows t m h o (emit at word ∷ rest) = record { more = word ∷ []; few = omega arith; grown = refl }
+turn_grows t m h o _ = same_outputs o
 
 -- A step adds at most one output.
 pub step_grows : (r : Run) (t : ℕ) → GrowsByOne r.outputs (step r t).outputs
