@@ -6,7 +6,7 @@ use Rattle.std.proofs.lemmas.Bool.{and_parts, or_left, or_right, not-true, false
 use Rattle.std.proofs.lemmas.List.{map-append}
 use Rattle.cov_expr.specs.Term.{neg}
 use Rattle.cov_ast.specs.Plain.{Plain, plain}
-use Rattle.cov_ast.specs.Syntax.{Stm, skip, assign, lock, unlock, branch, loop, note, output, Block, done, more, Program}
+use Rattle.cov_ast.specs.Syntax.{Stm, branch, loop, Block, done, more, Program}
 use Rattle.cov_ast.specs.WellFormed.{are_distinct, places, places_within, IsWellFormed}
 use Rattle.mode_compat.specs.Compatible.{numbered, no_thread}
 use Rattle.point_law.specs.Point.{Point}
@@ -22,18 +22,13 @@ places_of rs = map (λ r. r.0) rs
 module _ (p : Plain) (t : ℕ) where
   mutual
     stm_places : (s : Stm) (a : Point) → places_of (points_within p t s a) ≡ places_within s
-    stm_places skip a = refl
-    stm_places (assign x e q retypes) a = refl
-    stm_places (lock l) a = refl
-    stm_places (unlock l) a = refl
     stm_places (branch e yes_block no_block join) a =
         let yes = with_guard p t a e in
         let no = with_guard p t a (neg e) in
         map-append (λ r. r.0) (points p t yes_block yes) (points p t no_block no)
         ∙ (λ i. block_places yes_block yes i ++ block_places no_block no i)
     stm_places (loop e inv b) a = block_places b (with_guard p t (meet p t a inv) e)
-    stm_places (note j) a = refl
-    stm_places (output e) a = refl
+    stm_places _ a = refl
 
     block_places : (b : Block) (a : Point) → places_of (points p t b a) ≡ places b
     block_places done a = refl
