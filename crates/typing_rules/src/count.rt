@@ -26,9 +26,8 @@ fn statements_within(kind: &StmtKind) -> u64
     ensures { result ≡ length (places_within (view.kind kind.now)) }
 {
     match kind {
-        StmtKind::Skip | StmtKind::Lock(_) | StmtKind::Unlock(_) => 0,
-        StmtKind::Assign(_, _, _, _) | StmtKind::Note(_) | StmtKind::Output(_) => 0,
         StmtKind::If(_, a, b, _) => statements(a.as_slice()) + statements(b.as_slice()),
         StmtKind::While(_, _, b) => statements(b.as_slice()),
+        _ => 0,
     }
 }
