@@ -15,32 +15,17 @@ set_words (v ∷ m) (suc x) w h k = (h.0, set_words m x w h.1 k)
 -- Lengths ------------------------------------------------------------------------------------------------------
 
 pub long_memory : (t : ℕ) (m : List ℕ) (h : Holders) (o : Outputs) (is : List Item) → length (turn t m h o is).memory ≡ length m
-long_memory t m h o [] = refl
-long_memory t m h o (run at skip ∷ is) = refl
-long_memory t m h o (run at (assign x e) ∷ is) = refl
 long_memory t m h o (run at (lock l) ∷ is) = elim (holder h l) as (λ f. length (after_lock t m h o at l is f).memory ≡ length m) [ None ↦ refl | Some u ↦ refl ]
 long_memory t m h o (run at (unlock l) ∷ is) = elim (is_held_by (holder h l) t) as (λ f. length (after_unlock m h o at l is f).memory ≡ length m) [ true ↦ refl | false ↦ refl ]
-long_memory t m h o (run at (branch e a b) ∷ is) = refl
-long_memory t m h o (run at (loop e b) ∷ is) = refl
-long_memory t m h o (run at (output e) ∷ is) = refl
 long_memory t m h o (put at x w ∷ is) = length-set m x w
-long_memory t m h o (test at w a b ∷ is) = refl
-long_memory t m h o (emit at w ∷ is) = refl
+long_memory t m h o _ = refl
 
 pub long_holders : (t : ℕ) (m : List ℕ) (h : Holders) (o : Outputs) (is : List Item) → length (turn t m h o is).holders ≡ length h
-long_holders t m h o [] = refl
-long_holders t m h o (run at skip ∷ is) = refl
-long_holders t m h o (run at (assign x e) ∷ is) = refl
 long_holders t m h o (run at (lock l) ∷ is) =
     elim (holder h l) as (λ f. length (after_lock t m h o at l is f).holders ≡ length h) [ None ↦ length-set h l (Some t) | Some u ↦ refl ]
 long_holders t m h o (run at (unlock l) ∷ is) =
     elim (is_held_by (holder h l) t) as (λ f. length (after_unlock m h o at l is f).holders ≡ length h) [ true ↦ length-set h l None | false ↦ refl ]
-long_holders t m h o (run at (branch e a b) ∷ is) = refl
-long_holders t m h o (run at (loop e b) ∷ is) = refl
-long_holders t m h o (run at (output e) ∷ is) = refl
-long_holders t m h o (put at x w ∷ is) = refl
-long_holders t m h o (test at w a b ∷ is) = refl
-long_holders t m h o (emit at w ∷ is) = refl
+long_holders t m h o _ = refl
 
 -- Words --------------------------------------------------------------------------------------------------------
 
