@@ -58,14 +58,9 @@ found_below n (x ∷ xs) q h k =
 
 mutual
   pub few_places_within : (s : Stm) → length (places_within s) ≤ stm_size s
-  few_places_within skip = omega arith
-  few_places_within (assign x e q retypes) = omega arith
-  few_places_within (lock l) = omega arith
-  few_places_within (unlock l) = omega arith
   few_places_within (branch e a b join) = omega (arith, length-append (places a) (places b), few_places a, few_places b)
   few_places_within (loop e inv b) = omega (arith, few_places b)
-  few_places_within (note j) = omega arith
-  few_places_within (output e) = omega arith
+  few_places_within _ = omega arith
 
   pub few_places : (b : Block) → length (places b) ≤ block_size b
   few_places done = omega arith

@@ -63,14 +63,9 @@ found (q ∷ qs) h =
 
 mutual
   within_placed : (s : Stm) → places_of (proofs_within s) ≡ places_within s
-  within_placed skip = refl
-  within_placed (assign x e q retypes) = refl
-  within_placed (lock l) = refl
-  within_placed (unlock l) = refl
   within_placed (branch e a b join) = map-append (λ q. q.0) (placed_proofs a) (placed_proofs b) ∙ joined _ _ _ _ (block_placed a) (block_placed b)
   within_placed (loop e inv b) = block_placed b
-  within_placed (note j) = refl
-  within_placed (output e) = refl
+  within_placed _ = refl
 
   block_placed : (b : Block) → places_of (placed_proofs b) ≡ places b
   block_placed done = refl

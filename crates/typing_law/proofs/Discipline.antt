@@ -30,7 +30,8 @@ use Rattle.typing_law.specs.ThreadObligations.{thread_obligations, block_obligat
 use Rattle.typing_law.specs.Accepted.{IsAccepted}
 use Rattle.typing_law.specs.Disciplined.{held_at, held_in_front_of, evaluated_expression, IsEvaluable, IsDisciplinedAt, IsDisciplined}
 use Rattle.typing_law.proofs.Parts.{thread_holds}
-use Rattle.typing_law.proofs.Placed.{Reads, PlacedCmd, Placed, placed_block, block_sized}
+use Rattle.typing_law.proofs.Placed.{Reads, PlacedCmd, Placed, placed_block}
+use Rattle.typing_law.proofs.Soundness.Sound.{block_sized}
 use Rattle.typing_law.proofs.Places.{places_found}
 
 -- Expressions ----------------------------------------------------------------------------------------------------
@@ -229,17 +230,11 @@ module _ (p : Plain) (t : ℕ) (at_place : ℕ → List Bool) where
     own_turn m h said (emit at w ∷ is) H nh nH held k = still m h (said ++ w ∷ []) is H nH held (left is H k.1)
 
     evaluates : (h : Holders) (is : List Item) (H : List Bool) → AreHeldBy h t H → IsLeft is H → IfSome (evaluated_expression is) (IsEvaluable p h t)
-    evaluates h [] H held k = tt
-    evaluates h (run at skip ∷ is) H held k = tt
     evaluates h (run at (assign x e) ∷ is) H held k = evaluable p h t H (sets h H held) e k.2.1
-    evaluates h (run at (lock l) ∷ is) H held k = tt
-    evaluates h (run at (unlock l) ∷ is) H held k = tt
     evaluates h (run at (branch e a b) ∷ is) H held k = evaluable p h t H (sets h H held) e k.2.0
     evaluates h (run at (loop e a) ∷ is) H held k = evaluable p h t H (sets h H held) e k.2.0
     evaluates h (run at (output e) ∷ is) H held k = evaluable p h t H (sets h H held) e k.2.0
-    evaluates h (put at x w ∷ is) H held k = tt
-    evaluates h (test at w a b ∷ is) H held k = tt
-    evaluates h (emit at w ∷ is) H held k = tt
+    evaluates h _ H held k = tt
 
 -- Runs -----------------------------------------------------------------------------------------------------------
 

@@ -1,6 +1,6 @@
 -- What the statements of a thread keep, with the locks that are held before each and after it: statements without
 -- annotations, each with the held locks of its place.
-use Rattle.std.proofs.Common.{◌≡◌, ℕ, zero, suc, ◌<◌, ◌≤◌, ◌+◌, not, nat_le, List, [], ◌∷◌, ◌++◌, length, set, Bool, true, false, refl, sym, ◌∙◌, subst, arith, IsTrue, inl, inr, length-set, count_by}
+use Rattle.std.proofs.Common.{◌≡◌, ℕ, zero, suc, ◌<◌, ◌≤◌, ◌+◌, not, nat_le, List, [], ◌∷◌, ◌++◌, length, set, Bool, true, false, refl, sym, ◌∙◌, subst, arith, IsTrue, inl, inr, count_by}
 use Rattle.std.specs.List.{list_all, range_with_len}
 use Rattle.std.proofs.lemmas.Bool.{and_parts, cases_lt}
 use Rattle.std.proofs.lemmas.List.{ext_get_or}
@@ -19,7 +19,7 @@ use Rattle.point_law.specs.Point.{Point}
 use Rattle.point_law.specs.After.{with_guard, meet}
 use Rattle.typing_law.specs.Blocks.{after_stm, after_block}
 use Rattle.typing_law.specs.ThreadObligations.{flat, agree, same_held, reads, one_unstable, narrow, assign_parts, unlock_parts, stm_parts, block_obligations}
-use Rattle.typing_law.proofs.Soundness.Sound.{agreed}
+use Rattle.typing_law.proofs.Soundness.Sound.{agreed, stm_sized, block_sized}
 use Rattle.typing_law.specs.Disciplined.{points_within, points}
 
 module _ (p : Plain) (t : ℕ) where
@@ -82,22 +82,6 @@ module _ (at_place : ℕ → List Bool) where
   found_right (r ∷ rs) qs h = found_right rs qs h.1
 
 module _ (p : Plain) (t : ℕ) where
-  -- A statement keeps of how many locks a point tells.
-  mutual
-    stm_sized : (s : Stm) (a : Point) → length (after_stm p t s a).held ≡ length a.held
-    stm_sized skip a = refl
-    stm_sized (assign x e q retypes) a = refl
-    stm_sized (lock l) a = length-set a.held l true
-    stm_sized (unlock l) a = length-set a.held l false
-    stm_sized (branch e yes_block no_block join) a = block_sized yes_block (with_guard p t a e)
-    stm_sized (loop e inv b) a = refl
-    stm_sized (note j) a = refl
-    stm_sized (output e) a = refl
-
-    pub block_sized : (b : Block) (a : Point) → length (after_block p t b a).held ≡ length a.held
-    block_sized done a = refl
-    block_sized (more at s proofs b) a = block_sized b (after_stm p t s a) ∙ stm_sized s a
-
   module _ (at_place : ℕ → List Bool) where
     guard_reads : (at : ℕ) (H : List Bool) (e : Term)
         → IsTrue (all_hold (reads p t at H e ++ one_unstable p t at H e ++ narrow p t at e)) → Reads p t H e
@@ -127,7 +111,7 @@ module _ (p : Plain) (t : ℕ) where
           let yes_held = (after_block p t yes_block yes).held in
           let no_held = (after_block p t no_block no).held in
           let hs = parts (stm_parts p t (branch g yes_block no_block join) at proofs a) h in
-          let same = same_lists p yes_held no_held (block_sized yes_block yes ∙ n) (block_sized no_block no ∙ n) (and_parts _ true hs.1.1.1.1.1.1.0).0 in (
+          let same = same_lists p yes_held no_held (block_sized p t yes_block yes ∙ n) (block_sized p t no_block no ∙ n) (and_parts _ true hs.1.1.1.1.1.1.0).0 in (
             yes_held,
             e,
             (
@@ -141,7 +125,7 @@ module _ (p : Plain) (t : ℕ) where
       placed_stm (loop g inv b) at proofs rest a K n r h e f k =
           let from = with_guard p t (meet p t a inv) g in
           let hs = parts (stm_parts p t (loop g inv b) at proofs a) h in
-          let same = same_lists p (after_block p t b from).held a.held (block_sized b from ∙ n) n (and_parts _ true hs.1.1.1.1.1.1.0).0 in (
+          let same = same_lists p (after_block p t b from).held a.held (block_sized p t b from ∙ n) n (and_parts _ true hs.1.1.1.1.1.1.0).0 in (
             a.held,
             e,
             (
@@ -163,4 +147,4 @@ module _ (p : Plain) (t : ℕ) where
           let both = both_hold (flat (stm_parts p t s at proofs a)) (block_obligations p t b (after_stm p t s a)) h in
           placed_stm s at proofs (plain_block b) a (after_block p t b (after_stm p t s a)).held n r.0 both.0 f.0
           (found_left at_place (points_within p t s a) (points p t b (after_stm p t s a)) f.1)
-          (placed_block b (after_stm p t s a) (stm_sized s a ∙ n) r.2 both.1 (found_right at_place (points_within p t s a) (points p t b (after_stm p t s a)) f.1))
+          (placed_block b (after_stm p t s a) (stm_sized p t s a ∙ n) r.2 both.1 (found_right at_place (points_within p t s a) (points p t b (after_stm p t s a)) f.1))

@@ -43,17 +43,13 @@ held_alike p H K h k same l = elim (cases_lt l (length p.locks)) [
 module _ (p : Plain) (t : ℕ) where
   -- A statement keeps how many locks are told of.
   mutual
-    stm_sized : (s : Stm) (a : Point) → length (after_stm p t s a).held ≡ length a.held
-    stm_sized skip a = refl
-    stm_sized (assign x e q retypes) a = refl
+    pub stm_sized : (s : Stm) (a : Point) → length (after_stm p t s a).held ≡ length a.held
     stm_sized (lock l) a = length-set a.held l true
     stm_sized (unlock l) a = length-set a.held l false
     stm_sized (branch e yes_block no_block join) a = block_sized yes_block (with_guard p t a e)
-    stm_sized (loop e inv b) a = refl
-    stm_sized (note j) a = refl
-    stm_sized (output e) a = refl
+    stm_sized _ a = refl
 
-    block_sized : (b : Block) (a : Point) → length (after_block p t b a).held ≡ length a.held
+    pub block_sized : (b : Block) (a : Point) → length (after_block p t b a).held ≡ length a.held
     block_sized done a = refl
     block_sized (more at s proofs b) a = block_sized b (after_stm p t s a) ∙ stm_sized s a
 
