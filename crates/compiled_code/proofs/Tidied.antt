@@ -1,5 +1,5 @@
 -- The rules give what the code of a body rests on.
-use Rattle.std.proofs.Common.{◌≡◌, ℕ, zero, suc, ◌+◌, ◌<◌, ◌≤◌, ◌==◌, not, nat_le, List, [], ◌∷◌, ◌++◌, length, Bool, true, false, cond, refl, sym, ◌∙◌, ap, subst, arith, IsTrue, inl, inr, length-set, count_by, zero-add, eqb-true, ◌⊎◌}
+use Rattle.std.proofs.Common.{◌≡◌, ℕ, zero, suc, ◌+◌, ◌<◌, ◌≤◌, ◌==◌, not, nat_le, List, [], ◌∷◌, ◌++◌, length, Bool, true, false, cond, refl, sym, ◌∙◌, ap, subst, arith, IsTrue, inl, inr, count_by, zero-add, eqb-true, ◌⊎◌}
 use Rattle.std.specs.List.{range_with_len, flat_map}
 use Rattle.std.proofs.Math.ListN.{get_or-map}
 use Rattle.std.proofs.lemmas.Bool.{and_parts, or_cases, leb-true}
@@ -23,7 +23,7 @@ use Rattle.mode_compat.specs.Declared.{declaration_obligations}
 use Rattle.mode_state.specs.Sets.{is_stable, may_write}
 use Rattle.typing_law.specs.Blocks.{after_stm, after_block}
 use Rattle.typing_law.specs.ThreadObligations.{flat, agree, same_held, reads, one_unstable, narrow, assign_parts, unlock_parts, stm_parts, block_obligations, end_obligation, end_point, thread_obligations}
-use Rattle.typing_law.proofs.Soundness.Sound.{agreed}
+use Rattle.typing_law.proofs.Soundness.Sound.{agreed, stm_sized, block_sized}
 use Rattle.point_law.specs.After.{start, with_guard, meet}
 use Rattle.point_law.specs.Point.{Point}
 use Rattle.typing_law.specs.Accepted.{IsAccepted}
@@ -88,33 +88,11 @@ module _ (p : Plain) (t : ℕ) where
 
   -- Statements ----------------------------------------------------------------------------------------------------
 
-  -- A statement keeps of how many locks a point tells.
-  mutual
-    stm_sized : (s : Stm) (a : Point) → length (after_stm p t s a).held ≡ length a.held
-    stm_sized skip a = refl
-    stm_sized (assign x e q retypes) a = refl
-    stm_sized (lock l) a = length-set a.held l true
-    stm_sized (unlock l) a = length-set a.held l false
-    stm_sized (branch e yes_block no_block join) a = block_sized yes_block (with_guard p t a e)
-    stm_sized (loop e inv b) a = refl
-    stm_sized (note j) a = refl
-    stm_sized (output e) a = refl
-
-    block_sized : (b : Block) (a : Point) → length (after_block p t b a).held ≡ length a.held
-    block_sized done a = refl
-    block_sized (more at s proofs b) a = block_sized b (after_stm p t s a) ∙ stm_sized s a
-
   -- The points have the locks that the plain statements have.
   mutual
     stm_locks : (s : Stm) (at : ℕ) (rest : Cmds) (a : Point) → locks_at_end (plain_stm s at rest) a.held ≡ locks_at_end rest (after_stm p t s a).held
-    stm_locks skip at rest a = refl
-    stm_locks (assign x e q retypes) at rest a = refl
-    stm_locks (lock l) at rest a = refl
-    stm_locks (unlock l) at rest a = refl
     stm_locks (branch e yes_block no_block join) at rest a = ap (locks_at_end rest) (held_behind yes_block (with_guard p t a e))
-    stm_locks (loop e inv b) at rest a = refl
-    stm_locks (note j) at rest a = refl
-    stm_locks (output e) at rest a = refl
+    stm_locks _ at rest a = refl
 
     held_behind : (b : Block) (a : Point) → locks_at_end (plain_block b) a.held ≡ (after_block p t b a).held
     held_behind done a = refl
@@ -137,7 +115,7 @@ module _ (p : Plain) (t : ℕ) where
         let yes_held = (after_block p t yes_block yes).held in
         let no_held = (after_block p t no_block no).held in
         let hs = each_part (stm_parts p t (branch g yes_block no_block join) at proofs a) h in
-        let same = one_list yes_held no_held (block_sized yes_block yes ∙ n) (block_sized no_block no ∙ n) (and_parts _ true hs.1.1.1.1.1.1.0).0 in (
+        let same = one_list yes_held no_held (block_sized p t yes_block yes ∙ n) (block_sized p t no_block no ∙ n) (and_parts _ true hs.1.1.1.1.1.1.0).0 in (
           (
             tidy_guard at a.held g hs.0,
             tidy_block yes_block yes n r.1 hs.1.1.1.1.0,
@@ -149,7 +127,7 @@ module _ (p : Plain) (t : ℕ) where
     tidy_stm (loop g inv b) at proofs rest a n r h k =
         let from = with_guard p t (meet p t a inv) g in
         let hs = each_part (stm_parts p t (loop g inv b) at proofs a) h in
-        let same = one_list (after_block p t b from).held a.held (block_sized b from ∙ n) n (and_parts _ true hs.1.1.1.1.1.1.0).0 in
+        let same = one_list (after_block p t b from).held a.held (block_sized p t b from ∙ n) n (and_parts _ true hs.1.1.1.1.1.1.0).0 in
         ((tidy_guard at a.held g hs.1.0, tidy_block b from n r.2 hs.1.1.1.1.1.0, held_behind b from ∙ same), k)
     tidy_stm (note j) at proofs rest a n r h k = k
     tidy_stm (output g) at proofs rest a n r h k = (tidy_guard at a.held g (each_part (stm_parts p t (output g) at proofs a) h).0, k)
@@ -159,7 +137,7 @@ module _ (p : Plain) (t : ℕ) where
     tidy_block done a n r h = tt
     tidy_block (more at s proofs b) a n r h =
         let both = both_hold (flat (stm_parts p t s at proofs a)) (block_obligations p t b (after_stm p t s a)) h in
-        tidy_stm s at proofs (plain_block b) a n r.0 both.0 (tidy_block b (after_stm p t s a) (stm_sized s a ∙ n) r.2 both.1)
+        tidy_stm s at proofs (plain_block b) a n r.0 both.0 (tidy_block b (after_stm p t s a) (stm_sized p t s a ∙ n) r.2 both.1)
 
 -- Threads ---------------------------------------------------------------------------------------------------------
 
