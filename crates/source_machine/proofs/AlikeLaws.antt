@@ -1,7 +1,6 @@
 -- Threads of one body that stand alike by their first statements are alike in all that remains.
 use Rattle.std.proofs.Common.{◌≡◌, inl, inr, ℕ, ◌==◌, List, [], ◌∷◌, map, refl, ap, sym, ◌∙◌, true, Option, Some, None, eq-eqb, eqb-true}
 use Rattle.std.proofs.lemmas.Bool.{and_parts, and_from}
-use Rattle.cov_ast.specs.Plain.{plain_block, none, next, ◌then_all◌}
 use Rattle.cov_ast.specs.Plain as p
 use Rattle.cov_ast.specs.Syntax.{Stm, Block, done, more}
 use Rattle.cov_ast.specs.Syntax as s
