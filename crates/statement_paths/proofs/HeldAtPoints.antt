@@ -1,7 +1,7 @@
 -- The locks that are held are those of the points of the rules of types.
 use Rattle.std.proofs.Common.{◌≡◌, ℕ, refl, ap, ◌∙◌}
 use Rattle.cov_ast.specs.Plain.{Plain, plain_block}
-use Rattle.cov_ast.specs.Syntax.{Stm, skip, assign, lock, unlock, branch, loop, note, output, Block, done, more}
+use Rattle.cov_ast.specs.Syntax.{Stm, skip, branch, Block, done, more}
 use Rattle.typing_law.specs.Blocks.{after_stm, after_block}
 use Rattle.point_law.specs.After.{with_guard}
 use Rattle.point_law.specs.Point.{Point}
@@ -12,13 +12,8 @@ module _ (p : Plain) (t : ℕ) where
   mutual
     held_behind : (s : Stm) (a : Point) → held_past s a.held ≡ (after_stm p t s a).held
     held_behind skip a = refl
-    held_behind (assign x e q retypes) a = refl
-    held_behind (lock l) a = refl
-    held_behind (unlock l) a = refl
     held_behind (branch e yes_block no_block join) a = held_behind_block yes_block (with_guard p t a e)
-    held_behind (loop e inv b) a = refl
-    held_behind (note j) a = refl
-    held_behind (output e) a = refl
+    held_behind _ a = refl
 
     held_behind_block : (b : Block) (a : Point) → held_at_end b a.held ≡ (after_block p t b a).held
     held_behind_block done a = refl

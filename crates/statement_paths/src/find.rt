@@ -73,8 +73,6 @@ fn find_within<'p>(
     ensures kept { IfOk result (λ stmt. kept stmt steps.old steps.new) }
 {
     match kind {
-        StmtKind::Skip | StmtKind::Lock(_) | StmtKind::Unlock(_) => Ok(None),
-        StmtKind::Assign(_, _, _, _) | StmtKind::Note(_) | StmtKind::Output(_) => Ok(None),
         StmtKind::If(e, a, b, _) => {
             if let Some(stmt) = find_behind(Step::Yes(at, e), a.as_slice(), place, steps)? {
                 return Ok(Some(stmt));
@@ -89,6 +87,7 @@ fn find_within<'p>(
             let _ = steps.pop();
             Ok(None)
         }
+        _ => Ok(None),
     }
 }
 

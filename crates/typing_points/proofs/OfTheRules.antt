@@ -3,7 +3,7 @@ use Rattle.std.proofs.Common.{◌≡◌, ℕ, List, [], ◌∷◌, Bool, true, f
 use Rattle.std.specs.Prelude.{option_and_then}
 use Rattle.cov_expr.specs.Term.{Term}
 use Rattle.cov_ast.specs.Plain.{Plain}
-use Rattle.cov_ast.specs.Syntax.{State, Stm, skip, assign, lock, unlock, branch, loop, note, output, Block, done, more}
+use Rattle.cov_ast.specs.Syntax.{State, Stm, skip, assign, branch, Block, done, more}
 use Rattle.typing_points.specs.Points.{after_step, after_steps, point_after_steps}
 use Rattle.point_law.specs.After.{start, after_assign, with_guard, meet}
 use Rattle.point_law.specs.Point.{Point, has_small_types}
@@ -47,12 +47,8 @@ module _ (p : Plain) (t : ℕ) where
     stm_is : (s : Stm) (a : Point) → Is (after_stm p t s a) (behind_stm p t s a)
     stm_is skip a = refl
     stm_is (assign x e q retypes) a = assigned_is a x e q retypes
-    stm_is (lock l) a = refl
-    stm_is (unlock l) a = refl
     stm_is (branch e first second join) a = met_is (behind_block p t first (with_guard p t a e)) (after_block p t first (with_guard p t a e)) join (block_is first (with_guard p t a e))
-    stm_is (loop e inv b) a = refl
-    stm_is (note j) a = refl
-    stm_is (output e) a = refl
+    stm_is _ a = refl
 
     block_is : (b : Block) (a : Point) → Is (after_block p t b a) (behind_block p t b a)
     block_is done a = refl

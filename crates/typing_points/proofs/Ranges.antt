@@ -2,7 +2,7 @@
 use Rattle.std.proofs.Common.{◌≡◌, ℕ, zero, suc, ◌==◌, List, [], ◌∷◌, All, Bool, true, false, Option, Some, None, option_map, subst, take, if◌then◌else◌}
 use Rattle.std.specs.Option.{option_or}
 use Rattle.std.proofs.lemmas.List.Elements.{All-nil, All-cons, All-append, All-head, All-tail}
-use Rattle.cov_ast.specs.Syntax.{Stm, skip, assign, lock, unlock, branch, loop, note, output, Block, done, more}
+use Rattle.cov_ast.specs.Syntax.{Stm, skip, branch, loop, Block, done, more}
 use Rattle.cov_ast.specs.WellFormed.{IsStmInRange, IsBlockInRange}
 use Rattle.statement_paths.specs.Paths.{Step, passed, yes, no, head, Way, here, passed_all, to_body_end, to_first_end, to_head, to_second_end, with_steps_in_front, way_to, way_within}
 use Rattle.typing_points.specs.PointsBehind.{IsStepInRange}
@@ -35,9 +35,6 @@ module _ (vars locks : ℕ) where
   mutual
     within_in_range : (at : ℕ) (s : Stm) (place : ℕ) → IsStmInRange vars locks s → LeadsInRange (way_within at s place)
     within_in_range at skip place range = tt
-    within_in_range at (assign x e written retypes) place range = tt
-    within_in_range at (lock l) place range = tt
-    within_in_range at (unlock l) place range = tt
     within_in_range at (branch e a b join) place range =
         let first = option_map (with_steps_in_front (yes at e ∷ [])) (way_to a place) in
         let second = option_map (with_steps_in_front (no at e ∷ [])) (way_to b place) in
@@ -46,8 +43,7 @@ module _ (vars locks : ℕ) where
     within_in_range at (loop e inv b) place range =
         further (head at inv ∷ yes at e ∷ []) (way_to b place)
         (All-cons (IsStepInRange vars locks) (head at inv) (yes at e ∷ []) range.1 (one_step (yes at e) range.0)) (way_in_range b place range.2)
-    within_in_range at (note j) place range = tt
-    within_in_range at (output e) place range = tt
+    within_in_range at _ place range = tt
 
     way_in_range : (b : Block) (place : ℕ) → IsBlockInRange vars locks b → LeadsInRange (way_to b place)
     way_in_range done place range = tt

@@ -107,12 +107,7 @@ fn add_within(
             add_block(span, t, b.as_slice(), spots)
         }
         StmtKind::While(_, _, b) => add_block(span, t, b.as_slice(), spots),
-        StmtKind::Skip
-        | StmtKind::Assign(_, _, _, _)
-        | StmtKind::Lock(_)
-        | StmtKind::Unlock(_)
-        | StmtKind::Note(_)
-        | StmtKind::Output(_) => Ok(()),
+        _ => Ok(()),
     }
 }
 
