@@ -9,7 +9,7 @@ use Rattle.cov_expr.specs.Term.{Term}
 use Rattle.cov_expr.specs.Trees.{has_term, is_closed, same}
 use Rattle.cov_ast.specs.LocksAlong.{no_locks}
 use Rattle.cov_ast.specs.Plain.{Plain, plain_block}
-use Rattle.cov_ast.specs.Syntax.{State, Block, done, more, skip, assign, lock, unlock, branch, loop, note, output}
+use Rattle.cov_ast.specs.Syntax.{State, Block, done, more, skip, branch}
 use Rattle.cov_ast.specs.Tables.{has}
 use Rattle.entail_losses.specs.Forgotten.{untouched_along}
 use Rattle.entail_losses.specs.Joined.{StillGiven, from_join, given_at, is_still_given, is_unjoined, still_given, still_terms, unjoined, with_joined, with_one_given, with_one_unjoined, with_still_given, with_still_of_step, with_unjoined}
@@ -285,15 +285,7 @@ module _ (p : Plain) (hypotheses : List Term) (marks : List Bool) where
           | inr new ↦ inr (record { front = []; at = at; guard = guard; first = first; second = second; join = join; back = ss; parts = refl; new = new })
         ]
     by_join (passed at skip ∷ ss) o k = further (passed at skip) ss o (by_join ss o k)
-    by_join (passed at (assign x e q retypes) ∷ ss) o k = further (passed at (assign x e q retypes)) ss o (by_join ss o k)
-    by_join (passed at (lock l) ∷ ss) o k = further (passed at (lock l)) ss o (by_join ss o k)
-    by_join (passed at (unlock l) ∷ ss) o k = further (passed at (unlock l)) ss o (by_join ss o k)
-    by_join (passed at (loop e inv b) ∷ ss) o k = further (passed at (loop e inv b)) ss o (by_join ss o k)
-    by_join (passed at (note j) ∷ ss) o k = further (passed at (note j)) ss o (by_join ss o k)
-    by_join (passed at (output e) ∷ ss) o k = further (passed at (output e)) ss o (by_join ss o k)
-    by_join (yes at e ∷ ss) o k = further (yes at e) ss o (by_join ss o k)
-    by_join (no at e ∷ ss) o k = further (no at e) ss o (by_join ss o k)
-    by_join (head at inv ∷ ss) o k = further (head at inv) ss o (by_join ss o k)
+    by_join (s ∷ ss) o k = further s ss o (by_join ss o k)
 
 -- The locks at the end of a block --------------------------------------------------------------------------------
 

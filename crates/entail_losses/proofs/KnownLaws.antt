@@ -7,7 +7,7 @@ use Rattle.cov_expr.proofs.Trees.{has_term_append, same_is}
 use Rattle.cov_expr.specs.Term.{Term, neg}
 use Rattle.cov_expr.specs.Trees.{has_term, is_closed, same}
 use Rattle.cov_ast.specs.Plain.{Plain}
-use Rattle.cov_ast.specs.Syntax.{skip, assign, lock, unlock, branch, loop, note, output}
+use Rattle.cov_ast.specs.Syntax.{skip, branch, loop, note}
 use Rattle.cov_ast.specs.Tables.{has}
 use Rattle.statement_paths.proofs.HeldAtPoints.{after_held}
 use Rattle.cov_ast.specs.LocksAlong.{no_locks}
@@ -46,16 +46,10 @@ module _ (p : Plain) (t : ℕ) where
   -- what states list changes no locks
   pub held_listing : (e : Term) (s : Step) (a : Point) → (after_step p t (step_with e s) a).held ≡ (after_step p t s a).held
   held_listing e (passed at skip) a = refl
-  held_listing e (passed at (assign x v q retypes)) a = refl
-  held_listing e (passed at (lock l)) a = refl
-  held_listing e (passed at (unlock l)) a = refl
-  held_listing e (passed at (branch g yes_block no_block join)) a = refl
-  held_listing e (passed at (loop g inv b)) a = refl
-  held_listing e (passed at (note j)) a = refl
-  held_listing e (passed at (output v)) a = refl
   held_listing e (yes at g) a = refl
   held_listing e (no at g) a = refl
   held_listing e (head at inv) a = refl
+  held_listing e (passed at _) a = refl
 
   pub held_steps : (ss : List Step) (a : Point) → held_along ss a.held ≡ (after_steps p t ss a).held
   held_steps [] a = refl
@@ -106,9 +100,6 @@ among source (f ∷ fs) e h = elim (or_cases (same f e) (has_term fs e) h) [
 -- what a step lists it gives
 listed_is_given : (p : Plain) (s : Step) (e : Term) → has_term (predicates_of_step s) e ≡ true → IsGivenTerm p s e
 listed_is_given p (passed at skip) e h = absurd (true≢false (sym h))
-listed_is_given p (passed at (assign x v q retypes)) e h = absurd (true≢false (sym h))
-listed_is_given p (passed at (lock l)) e h = absurd (true≢false (sym h))
-listed_is_given p (passed at (unlock l)) e h = absurd (true≢false (sym h))
 listed_is_given p (passed at (branch g a b join)) e h = record { source = by.Join; there = among by.Join join.preds e h; gives_some = refl }
 listed_is_given p (passed at (loop g inv b)) e h = record {
   source = by.LoopState;
@@ -116,7 +107,7 @@ listed_is_given p (passed at (loop g inv b)) e h = record {
   gives_some = refl;
 }
 listed_is_given p (passed at (note j)) e h = record { source = by.Noted; there = among by.Noted j.preds e h; gives_some = refl }
-listed_is_given p (passed at (output v)) e h = absurd (true≢false (sym h))
+listed_is_given p (passed at _) e h = absurd (true≢false (sym h))
 listed_is_given p (yes at g) e h = absurd (true≢false (sym h))
 listed_is_given p (no at g) e h = absurd (true≢false (sym h))
 listed_is_given p (head at inv) e h = record { source = by.LoopState; there = among by.LoopState inv.preds e h; gives_some = refl }
@@ -124,16 +115,13 @@ listed_is_given p (head at inv) e h = record { source = by.LoopState; there = am
 -- a step without a state is the same with a predicate more
 pub unstated : (e : Term) (s : Step) → state_of_step s ≡ None → step_with e s ≡ s
 unstated e (passed at skip) h = refl
-unstated e (passed at (assign x v q retypes)) h = refl
-unstated e (passed at (lock l)) h = refl
-unstated e (passed at (unlock l)) h = refl
 unstated e (passed at (branch g a b join)) h = absurd (some_state h)
 unstated e (passed at (loop g inv b)) h = absurd (some_state h)
 unstated e (passed at (note j)) h = absurd (some_state h)
-unstated e (passed at (output v)) h = refl
 unstated e (yes at g) h = refl
 unstated e (no at g) h = refl
 unstated e (head at inv) h = absurd (some_state h)
+unstated e (passed at _) h = refl
 
 -- where there is no state, the first step has none, and neither have the others
 pub none_first : (x y : Option StateAt) → option_or x y ≡ None → (x ≡ None) × (y ≡ None)

@@ -1,8 +1,8 @@
 -- What is told of the predicates that were lost on the way to the point of which an entailment asks: those of which one alone would help, where there are
 -- such; else none, where a memory breaks the entailment even with all of them; and else all. Then why nothing is known of variables of the goal that no
 -- hypothesis mentions.
-use Rattle.std.specs.Prelude.{ℕ, List, [], ◌∷◌, ◌++◌, map, Bool, true, if◌then◌else◌}
-use Rattle.cov_expr.specs.Term.{Term}
+use Rattle.std.specs.Prelude.{ℕ, List, [], ◌∷◌, ◌++◌, map, Bool, true, not, ◌&&◌, if◌then◌else◌}
+use Rattle.cov_expr.specs.Term.{Term, const}
 use Rattle.cov_ast.specs.Plain.{Plain, plain}
 use Rattle.cov_ast.specs.Syntax.{Program}
 use Rattle.cov_print.specs.Spelling.{Names}
@@ -35,18 +35,22 @@ abbrev pub unless_hopeless : (hyps : List Term) → (goal : Term) → (more : Li
 unless_hopeless hyps goal [] lines = []
 unless_hopeless hyps goal (e ∷ es) lines = if is_hopeless hyps goal (e ∷ es) then [] else lines
 
--- of an entailment with these hypotheses and this goal
-module _ (p : Plain) (names : Names) (bytes : List ℕ) (hyps : List Term) (goal : Term) where
+-- Whether a predicate alone would help, of an entailment with these hypotheses, of which these are known, and this goal. One that is contrary to
+-- what is known doesn't, as it can't be known too.
+abbrev pub helps : (known hyps : List Term) → (goal : Term) → Term → Bool
+helps known hyps goal e = would_help hyps goal e && not (would_help known (const 0) e)
+
+module _ (p : Plain) (names : Names) (bytes : List ℕ) (known hyps : List Term) (goal : Term) where
   -- a line where it alone would help
   abbrev pub helping_left_out_line : LeftOut → List ℕ
-  helping_left_out_line o = if would_help hyps goal o.term then left_out_line p names bytes true o else []
+  helping_left_out_line o = if helps known hyps goal o.term then left_out_line p names bytes true o else []
 
   abbrev pub helping_left_out : List LeftOut → List ℕ
   helping_left_out [] = []
   helping_left_out (o ∷ os) = helping_left_out_line o ++ helping_left_out os
 
   abbrev pub helping_forgotten_line : ForgottenPart → List ℕ
-  helping_forgotten_line f = if would_help hyps goal f.part then forgotten_line p names bytes true f else []
+  helping_forgotten_line f = if helps known hyps goal f.part then forgotten_line p names bytes true f else []
 
   abbrev pub helping_forgotten : List ForgottenPart → List ℕ
   helping_forgotten [] = []
@@ -67,7 +71,7 @@ module _ (p : Plain) (names : Names) (bytes : List ℕ) (hyps : List Term) (goal
   lines_along stable steps = lost_lines (all_left_out stable steps) (forgotten_parts hyps (all_left_out stable steps) p stable steps)
 
 -- of an entailment that is asked behind steps of a thread
-abbrev pub losses : Program → (t : ℕ) → (bytes : List ℕ) → List Step → (hyps : List Term) → (goal : Term) → List ℕ
-losses p t bytes steps hyps goal =
-    lines_along (plain p) (variable_names p.vars) bytes hyps goal (stable_after_steps (plain p) t steps) steps
+abbrev pub losses : Program → (t : ℕ) → (bytes : List ℕ) → List Step → (known hyps : List Term) → (goal : Term) → List ℕ
+losses p t bytes steps known hyps goal =
+    lines_along (plain p) (variable_names p.vars) bytes known hyps goal (stable_after_steps (plain p) t steps) steps
     ++ unknown_lines (plain p) t (variable_names p.vars) bytes (stable_after_steps (plain p) t steps) steps hyps goal

@@ -88,13 +88,7 @@ fn add_of_statement<'p>(
             };
             add_unjoined(alloc, hypotheses, branch, firsts.as_slice(), found)
         }
-        StmtKind::Skip
-        | StmtKind::Assign(_, _, _, _)
-        | StmtKind::Lock(_)
-        | StmtKind::Unlock(_)
-        | StmtKind::While(_, _, _)
-        | StmtKind::Note(_)
-        | StmtKind::Output(_) => Ok(()),
+        _ => Ok(()),
     }
 }
 

@@ -89,11 +89,7 @@ fn state_of_statement(at: u32, kind: &StmtKind) -> Option<StateAt>
         StmtKind::If(_, _, _, _) => state_at(StateKind::Join, at),
         StmtKind::While(_, _, _) => state_at(StateKind::Inv, at),
         StmtKind::Note(_) => state_at(StateKind::Note, at),
-        StmtKind::Skip
-        | StmtKind::Assign(_, _, _, _)
-        | StmtKind::Lock(_)
-        | StmtKind::Unlock(_)
-        | StmtKind::Output(_) => None,
+        _ => None,
     }
 }
 

@@ -37,25 +37,35 @@ pub fn add_losses<'p>(
     t: u32,
     bytes: &[u8],
     steps: &[Step<'p>],
-    hyps: &[Expr],
-    goal: &Expr,
+    e: Unshown<'_>,
     text: &mut Blob,
 ) -> Result<(), NoMemory>
     requires formed { IsWellFormed (view.program p.now) }
     requires thread { t < length p.now.threads }
-    ensures { OnOk result (text.new ≡ text.old ++ spec.losses (view.program p.now) t bytes.now (map paths.step steps.now) (map term hyps.now) (term goal.now)) }
+    ensures { OnOk result (text.new ≡ text.old ++ spec.losses (view.program p.now) t bytes.now (map paths.step steps.now) (map term e.entry.known.now) (map term e.entry.hyps.now) (term e.entry.goal.now)) }
 {
     let stable = stable_after_steps(alloc, p, t, steps)?;
     let names = variable_names(alloc, p)?;
-    let mut found = left_out(alloc, p, hyps, &stable, steps)?;
-    add_joined(alloc, p, hyps, &stable, steps, &mut found)?;
-    let parts = forgotten_parts(alloc, p, hyps, found.as_slice(), &stable, steps)?;
+    let mut found = left_out(alloc, p, e.hyps, &stable, steps)?;
+    add_joined(alloc, p, e.hyps, &stable, steps, &mut found)?;
+    let parts = forgotten_parts(alloc, p, e.hyps, found.as_slice(), &stable, steps)?;
     let lost = Lost {
         found: found.as_slice(),
         parts: parts.as_slice(),
     };
-    add_lost(alloc, p, &names, bytes, hyps, goal, lost, text)?;
-    add_unknown_lines(alloc, p, t, &names, bytes, &stable, steps, hyps, goal, text)
+    add_lost(alloc, p, &names, bytes, e, lost, text)?;
+    add_unknown_lines(alloc, p, t, &names, bytes, &stable, steps, e.hyps, e.goal, text)
+}
+
+/// An entailment that isn't shown.
+#[derive(Clone, Copy)]
+pub struct Unshown<'a> {
+    /// Its hypotheses.
+    pub hyps: &'a [Expr],
+    /// Those of them that are known: all but the one that is asked with the goal, where there is such a one.
+    pub known: &'a [Expr],
+    /// Its goal.
+    pub goal: &'a Expr,
 }
 
 /// What was lost: predicates that states left out, and parts that stores forgot.
@@ -71,17 +81,16 @@ fn add_lost(
     p: &Program,
     names: &NameTable,
     bytes: &[u8],
-    hyps: &[Expr],
-    goal: &Expr,
+    e: Unshown<'_>,
     lost: Lost<'_>,
     text: &mut Blob,
 ) -> Result<(), NoMemory>
-    ensures { OnOk result (text.new ≡ text.old ++ spec.lost_lines (plain (view.program p.now)) names.now bytes.now (map term hyps.now) (term goal.now) (map left.seen lost.entry.found.now) (map forgotten.seen lost.entry.parts.now)) }
+    ensures { OnOk result (text.new ≡ text.old ++ spec.lost_lines (plain (view.program p.now)) names.now bytes.now (map term e.entry.known.now) (map term e.entry.hyps.now) (term e.entry.goal.now) (map left.seen lost.entry.found.now) (map forgotten.seen lost.entry.parts.now)) }
 {
     let before = text.len();
-    add_helping(alloc, p, names, bytes, hyps, goal, lost, text)?;
+    add_helping(alloc, p, names, bytes, e, lost, text)?;
     if text.len() == before {
-        add_unless_hopeless(alloc, p, names, bytes, hyps, goal, lost, text)
+        add_unless_hopeless(alloc, p, names, bytes, e, lost, text)
     } else {
         Ok(())
     }
@@ -93,15 +102,14 @@ fn add_helping(
     p: &Program,
     names: &NameTable,
     bytes: &[u8],
-    hyps: &[Expr],
-    goal: &Expr,
+    e: Unshown<'_>,
     lost: Lost<'_>,
     text: &mut Blob,
 ) -> Result<(), NoMemory>
-    ensures { OnOk result (text.new ≡ text.old ++ spec.helping (plain (view.program p.now)) names.now bytes.now (map term hyps.now) (term goal.now) (map left.seen lost.entry.found.now) (map forgotten.seen lost.entry.parts.now)) }
+    ensures { OnOk result (text.new ≡ text.old ++ spec.helping (plain (view.program p.now)) names.now bytes.now (map term e.entry.known.now) (map term e.entry.hyps.now) (term e.entry.goal.now) (map left.seen lost.entry.found.now) (map forgotten.seen lost.entry.parts.now)) }
 {
-    add_helping_left_out(alloc, p, names, bytes, hyps, goal, lost.found, text)?;
-    add_helping_forgotten(alloc, p, names, bytes, hyps, goal, lost.parts, text)
+    add_helping_left_out(alloc, p, names, bytes, e, lost.found, text)?;
+    add_helping_forgotten(alloc, p, names, bytes, e, lost.parts, text)
 }
 
 /// The same of predicates that states left out.
@@ -110,15 +118,14 @@ fn add_helping_left_out(
     p: &Program,
     names: &NameTable,
     bytes: &[u8],
-    hyps: &[Expr],
-    goal: &Expr,
+    e: Unshown<'_>,
     found: &[LeftOut],
     text: &mut Blob,
 ) -> Result<(), NoMemory>
-    ensures { OnOk result (text.new ≡ text.old ++ spec.helping_left_out (plain (view.program p.now)) names.now bytes.now (map term hyps.now) (term goal.now) (map left.seen found.now)) }
+    ensures { OnOk result (text.new ≡ text.old ++ spec.helping_left_out (plain (view.program p.now)) names.now bytes.now (map term e.entry.known.now) (map term e.entry.hyps.now) (term e.entry.goal.now) (map left.seen found.now)) }
 {
     for one in found {
-        add_if_left_out_helps(alloc, p, names, bytes, hyps, goal, one, text)?;
+        add_if_left_out_helps(alloc, p, names, bytes, e, one, text)?;
     }
     Ok(())
 }
@@ -129,14 +136,13 @@ fn add_if_left_out_helps(
     p: &Program,
     names: &NameTable,
     bytes: &[u8],
-    hyps: &[Expr],
-    goal: &Expr,
+    e: Unshown<'_>,
     one: &LeftOut,
     text: &mut Blob,
 ) -> Result<(), NoMemory>
-    ensures { OnOk result (text.new ≡ text.old ++ spec.helping_left_out_line (plain (view.program p.now)) names.now bytes.now (map term hyps.now) (term goal.now) (left.seen one.now)) }
+    ensures { OnOk result (text.new ≡ text.old ++ spec.helping_left_out_line (plain (view.program p.now)) names.now bytes.now (map term e.entry.known.now) (map term e.entry.hyps.now) (term e.entry.goal.now) (left.seen one.now)) }
 {
-    if would_help(alloc, hyps, goal, &one.term)? {
+    if helps(alloc, e, &one.term)? {
         add_left_out_line(p, names, bytes, true, one, text)
     } else {
         Ok(())
@@ -149,15 +155,14 @@ fn add_helping_forgotten(
     p: &Program,
     names: &NameTable,
     bytes: &[u8],
-    hyps: &[Expr],
-    goal: &Expr,
+    e: Unshown<'_>,
     parts: &[ForgottenPart],
     text: &mut Blob,
 ) -> Result<(), NoMemory>
-    ensures { OnOk result (text.new ≡ text.old ++ spec.helping_forgotten (plain (view.program p.now)) names.now bytes.now (map term hyps.now) (term goal.now) (map forgotten.seen parts.now)) }
+    ensures { OnOk result (text.new ≡ text.old ++ spec.helping_forgotten (plain (view.program p.now)) names.now bytes.now (map term e.entry.known.now) (map term e.entry.hyps.now) (term e.entry.goal.now) (map forgotten.seen parts.now)) }
 {
     for one in parts {
-        add_if_forgotten_helps(alloc, p, names, bytes, hyps, goal, one, text)?;
+        add_if_forgotten_helps(alloc, p, names, bytes, e, one, text)?;
     }
     Ok(())
 }
@@ -168,17 +173,28 @@ fn add_if_forgotten_helps(
     p: &Program,
     names: &NameTable,
     bytes: &[u8],
-    hyps: &[Expr],
-    goal: &Expr,
+    e: Unshown<'_>,
     one: &ForgottenPart,
     text: &mut Blob,
 ) -> Result<(), NoMemory>
-    ensures { OnOk result (text.new ≡ text.old ++ spec.helping_forgotten_line (plain (view.program p.now)) names.now bytes.now (map term hyps.now) (term goal.now) (forgotten.seen one.now)) }
+    ensures { OnOk result (text.new ≡ text.old ++ spec.helping_forgotten_line (plain (view.program p.now)) names.now bytes.now (map term e.entry.known.now) (map term e.entry.hyps.now) (term e.entry.goal.now) (forgotten.seen one.now)) }
 {
-    if would_help(alloc, hyps, goal, &one.part)? {
+    if helps(alloc, e, &one.part)? {
         add_forgotten_line(p, names, bytes, true, one, text)
     } else {
         Ok(())
+    }
+}
+
+/// Whether a predicate alone would help, and isn't contrary to what is known: such a one would help only as it can't be.
+fn helps(alloc: Global, e: Unshown<'_>, more: &Expr) -> Result<bool, NoMemory>
+    ensures { IfOk result (λ helps. helps ≡ spec.helps (map term e.entry.known.now) (map term e.entry.hyps.now) (term e.entry.goal.now) (term more.now)) }
+{
+    if would_help(alloc, e.hyps, e.goal, more)? {
+        let is_contrary = would_help(alloc, e.known, &Expr::Const(0), more)?;
+        Ok(!is_contrary)
+    } else {
+        Ok(false)
     }
 }
 
@@ -188,15 +204,14 @@ fn add_unless_hopeless(
     p: &Program,
     names: &NameTable,
     bytes: &[u8],
-    hyps: &[Expr],
-    goal: &Expr,
+    e: Unshown<'_>,
     lost: Lost<'_>,
     text: &mut Blob,
 ) -> Result<(), NoMemory>
-    ensures { OnOk result (text.new ≡ text.old ++ spec.unless_hopeless (map term hyps.now) (term goal.now) (spec.lost_terms (map left.seen lost.entry.found.now) (map forgotten.seen lost.entry.parts.now)) (spec.all_lines (plain (view.program p.now)) names.now bytes.now (map left.seen lost.entry.found.now) (map forgotten.seen lost.entry.parts.now))) }
+    ensures { OnOk result (text.new ≡ text.old ++ spec.unless_hopeless (map term e.entry.hyps.now) (term e.entry.goal.now) (spec.lost_terms (map left.seen lost.entry.found.now) (map forgotten.seen lost.entry.parts.now)) (spec.all_lines (plain (view.program p.now)) names.now bytes.now (map left.seen lost.entry.found.now) (map forgotten.seen lost.entry.parts.now))) }
 {
     let more = lost_terms(alloc, lost)?;
-    if is_without_use(alloc, hyps, goal, more.as_slice())? {
+    if is_without_use(alloc, e.hyps, e.goal, more.as_slice())? {
         Ok(())
     } else {
         add_all(p, names, bytes, lost, text)

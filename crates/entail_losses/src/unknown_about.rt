@@ -31,7 +31,7 @@ pub fn is_statement_about(p: &Program, x: u32, kind: &StmtKind) -> bool
                 || is_mentioned(inv.preds.as_slice(), x)
         }
         StmtKind::Note(note) => is_mentioned(note.preds.as_slice(), x),
-        StmtKind::Skip | StmtKind::Unlock(_) | StmtKind::Output(_) => false,
+        _ => false,
     }
 }
 

@@ -5,7 +5,7 @@ use Rattle.std.specs.List.{list_any}
 use Rattle.std.specs.Option.{option_or}
 use Rattle.std.proofs.lemmas.Bool.{and_parts, or_left, or_right, not-true, false_from_ne_true, true≢false}
 use Rattle.std.proofs.lemmas.List.{map-append}
-use Rattle.cov_ast.specs.Syntax.{Stm, skip, assign, lock, unlock, branch, loop, note, output, Block, done, more, Proof, auto}
+use Rattle.cov_ast.specs.Syntax.{Stm, skip, branch, loop, Block, done, more, Proof, auto}
 use Rattle.cov_ast.specs.WellFormed.{are_distinct, places, places_within}
 use Rattle.entail_cert.specs.Valid.{is_valid}
 use Rattle.entail_text.specs.Given as text
@@ -37,13 +37,9 @@ keys rs = map (λ r. r.0) rs
 mutual
   stm_keys : (s : Stm) → keys (proofs_within s) ≡ places_within s
   stm_keys skip = refl
-  stm_keys (assign x e q retypes) = refl
-  stm_keys (lock l) = refl
-  stm_keys (unlock l) = refl
   stm_keys (branch e a b join) = map-append (λ r. r.0) (placed_proofs a) (placed_proofs b) ∙ (λ i. block_keys a i ++ block_keys b i)
   stm_keys (loop e inv b) = block_keys b
-  stm_keys (note j) = refl
-  stm_keys (output e) = refl
+  stm_keys _ = refl
 
   block_keys : (b : Block) → keys (placed_proofs b) ≡ places b
   block_keys done = refl
@@ -79,16 +75,12 @@ proofs_of_either (Some w) b = refl
 mutual
   stm_found : (at : ℕ) (s : Stm) (place : ℕ) → proofs_of (way_within at s place) ≡ look_up place (proofs_within s)
   stm_found at skip place = refl
-  stm_found at (assign x e q retypes) place = refl
-  stm_found at (lock l) place = refl
-  stm_found at (unlock l) place = refl
   stm_found at (branch e a b join) place =
       proofs_of_either (option_map (with_steps_in_front (yes at e ∷ [])) (way_to a place)) (option_map (with_steps_in_front (no at e ∷ [])) (way_to b place))
       ∙ (λ i. option_or (proofs_behind (yes at e ∷ []) (way_to a place) i) (proofs_behind (no at e ∷ []) (way_to b place) i))
       ∙ (λ i. option_or (block_found a place i) (block_found b place i)) ∙ sym (look_up-append place (placed_proofs a) (placed_proofs b))
   stm_found at (loop e inv b) place = proofs_behind (head at inv ∷ yes at e ∷ []) (way_to b place) ∙ block_found b place
-  stm_found at (note j) place = refl
-  stm_found at (output e) place = refl
+  stm_found at _ place = refl
 
   block_found : (b : Block) (place : ℕ) → proofs_of (way_to b place) ≡ look_up place (placed_proofs b)
   block_found done place = refl

@@ -2,7 +2,7 @@
 use Rattle.std.proofs.Common.{◌≡◌, ℕ, List, refl, ◌∙◌}
 use Rattle.cov_expr.specs.Term.{neg}
 use Rattle.cov_ast.specs.Plain.{Plain}
-use Rattle.cov_ast.specs.Syntax.{Stm, skip, assign, lock, unlock, branch, loop, note, output, Block, done, more}
+use Rattle.cov_ast.specs.Syntax.{Stm, skip, branch, loop, Block, done, more}
 use Rattle.entail_origins.specs.declared.kinds.End.{End}
 use Rattle.entail_origins.specs.declared.kinds.End.TheVariants as e
 use Rattle.entail_origins.specs.declared.kinds.Question.{Question}
@@ -24,43 +24,22 @@ module _ (p : Plain) (t : ℕ) where
 
   to_the_head : (at : ℕ) (s : Stm) (a : Point) → after_steps p t (to_head at s) a ≡ at_head p t s a
   to_the_head at skip a = refl
-  to_the_head at (assign x r w retypes) a = refl
-  to_the_head at (lock l) a = refl
-  to_the_head at (unlock l) a = refl
-  to_the_head at (branch r yes_block no_block join) a = refl
-  to_the_head at (loop r inv b) a = refl
-  to_the_head at (note j) a = refl
-  to_the_head at (output r) a = refl
+  to_the_head at _ a = refl
 
   to_the_first_end : (at : ℕ) (s : Stm) (a : Point) → after_steps p t (to_first_end at s) a ≡ at_first_end p t s a
   to_the_first_end at skip a = refl
-  to_the_first_end at (assign x r w retypes) a = refl
-  to_the_first_end at (lock l) a = refl
-  to_the_first_end at (unlock l) a = refl
   to_the_first_end at (branch r yes_block no_block join) a = past_block yes_block (with_guard p t a r)
-  to_the_first_end at (loop r inv b) a = refl
-  to_the_first_end at (note j) a = refl
-  to_the_first_end at (output r) a = refl
+  to_the_first_end at _ a = refl
 
   to_the_second_end : (at : ℕ) (s : Stm) (a : Point) → after_steps p t (to_second_end at s) a ≡ at_second_end p t s a
   to_the_second_end at skip a = refl
-  to_the_second_end at (assign x r w retypes) a = refl
-  to_the_second_end at (lock l) a = refl
-  to_the_second_end at (unlock l) a = refl
   to_the_second_end at (branch r yes_block no_block join) a = past_block no_block (with_guard p t a (neg r))
-  to_the_second_end at (loop r inv b) a = refl
-  to_the_second_end at (note j) a = refl
-  to_the_second_end at (output r) a = refl
+  to_the_second_end at _ a = refl
 
   to_the_body_end : (at : ℕ) (s : Stm) (a : Point) → after_steps p t (to_body_end at s) a ≡ at_body_end p t s a
   to_the_body_end at skip a = refl
-  to_the_body_end at (assign x r w retypes) a = refl
-  to_the_body_end at (lock l) a = refl
-  to_the_body_end at (unlock l) a = refl
-  to_the_body_end at (branch r yes_block no_block join) a = refl
   to_the_body_end at (loop r inv b) a = past_block b (with_guard p t (meet p t a inv) r)
-  to_the_body_end at (note j) a = refl
-  to_the_body_end at (output r) a = refl
+  to_the_body_end at _ a = refl
 
   to_the_end : (end : End) (at : ℕ) (s : Stm) (a : Point) → after_steps p t (steps_to_end end at s) a ≡ at_end p t end s a
   to_the_end e.Here at s a = refl

@@ -10,6 +10,8 @@ use Rattle.entail_text.specs.Findings.{Finding, is_shown}
 use Rattle.typing_law.specs.Entailments.{Entailment}
 use Rattle.entail_losses.specs.Losses.{losses}
 use Rattle.entail_origins.specs.TypeLines.{type_lines}
+use Rattle.entail_refused.specs.Readers.{reader_line}
+use Rattle.entail_refused.specs.Remarked.{known_of}
 use Rattle.entail_refused.specs.Sites.{Site}
 
 -- What the state drops that is asked of -------------------------------------------------------------------------
@@ -33,10 +35,10 @@ dropped_at question s hypotheses = []
 
 -- All that is told -----------------------------------------------------------------------------------------------
 
--- where the types come from that make up the goal, which hypotheses are dropped, and which of what was lost on the way would help
+-- why it is asked where others may read a variable, where the types come from that make up the goal, which hypotheses are dropped, and which of what was lost on the way would help
 abbrev pub further_at : Program → (t : ℕ) → (bytes : List ℕ) → Site → Entailment → List ℕ
 further_at p t bytes s g =
-    type_lines (plain p) t bytes s.steps s.question s.stm ++ dropped_at s.question s.stm g.hyps ++ losses p t bytes s.steps g.hyps g.goal
+    reader_line p t s.question ++ type_lines (plain p) t bytes s.steps s.question s.stm ++ dropped_at s.question s.stm g.hyps ++ losses p t bytes s.steps (known_of s.question g.hyps) g.hyps g.goal
 
 -- nothing where a certificate is found
 abbrev pub unless_shown : Program → (t : ℕ) → (bytes : List ℕ) → Site → Finding → Entailment → List ℕ

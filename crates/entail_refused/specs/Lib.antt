@@ -3,6 +3,7 @@ pub mod Further
 pub mod Asked
 pub mod GivenElsewhere
 pub mod Remarked
+pub mod Readers
 pub mod RefusedEntailment
 pub mod SiteHypotheses
 pub mod GivenCertificates

@@ -1,5 +1,5 @@
 -- What is remarked on the hypotheses of an entailment for which a program is refused: where each comes from.
-use Rattle.std.specs.Prelude.{ℕ, List, [], Bool, true, false, Option, Some, None}
+use Rattle.std.specs.Prelude.{ℕ, ◌-◌, List, [], length, take, Bool, true, false, if◌then◌else◌, Option, Some, None}
 use Rattle.cov_expr.specs.Term.{Term}
 use Rattle.cov_ast.specs.Plain.{Plain}
 use Rattle.entail_origins.specs.declared.kinds.Question.{Question}
@@ -20,6 +20,10 @@ asks_more q.HeadGuard = false
 asks_more q.Printed = false
 asks_more (q.Predicate end i) = false
 asks_more (q.TypeOf end z) = true
+
+-- the hypotheses that are known: all but the one that is asked with the goal, which is the last
+abbrev pub known_of : Question → (hypotheses : List Term) → List Term
+known_of question hypotheses = if asks_more question then take (length hypotheses - 1) hypotheses else hypotheses
 
 -- what is remarked on each hypothesis of what is asked somewhere, in the text of the program
 abbrev pub remarks_at : Plain → (bytes : List ℕ) → Site → (hypotheses : List Term) → List (List ℕ)

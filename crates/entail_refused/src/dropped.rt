@@ -37,7 +37,7 @@ pub fn add_dropped_at(
 }
 
 /// All but the last of some hypotheses.
-fn without_last(hypotheses: &[Expr]) -> &[Expr]
+pub fn without_last(hypotheses: &[Expr]) -> &[Expr]
     ensures { map term result.now ≡ take (length (map term hypotheses.now) - 1) (map term hypotheses.now) }
 {
     let count = hypotheses.len().saturating_sub(1);
@@ -61,7 +61,6 @@ fn add_dropped_by(
             add_dropped(alloc, b"inv", inv.preds.as_slice(), hypotheses, text)
         }
         StmtKind::Note(j) => add_dropped(alloc, b"note", j.preds.as_slice(), hypotheses, text),
-        StmtKind::Skip | StmtKind::Lock(_) | StmtKind::Unlock(_) => Ok(()),
-        StmtKind::Assign(_, _, _, _) | StmtKind::Output(_) => Ok(()),
+        _ => Ok(()),
     }
 }

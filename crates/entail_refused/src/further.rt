@@ -10,10 +10,12 @@ ghost use Rattle.entail_refused.specs.Sites as sites;
 ghost use Rattle.entail_refused.specs.Sites.{IsSiteInRange};
 
 use crate::dropped::add_dropped_at;
+use crate::readers::add_reader_line;
+use crate::remarked::known_of;
 use crate::site::Site;
 use cov_ast::Program;
 use cov_expr::{Blob, NoMemory};
-use entail_losses::add_losses;
+use entail_losses::{Unshown, add_losses};
 use entail_origins::add_type_lines;
 use entail_text::Finding;
 use std::alloc::Global;
@@ -82,7 +84,13 @@ fn add_further_at(
 {
     let steps = site.steps.as_slice();
     let hyps = e.hyps.as_slice();
+    let unshown = Unshown {
+        hyps,
+        known: known_of(site.question, hyps),
+        goal: &e.goal,
+    };
+    add_reader_line(p, t, site.question, text)?;
     add_type_lines(alloc, p, t, bytes, steps, site.question, site.kind, text)?;
     add_dropped_at(alloc, site.question, site.kind, hyps, text)?;
-    add_losses(alloc, p, t, bytes, steps, hyps, &e.goal, text)
+    add_losses(alloc, p, t, bytes, steps, unshown, text)
 }

@@ -24,6 +24,7 @@ mod further;
 mod given;
 mod laws;
 mod others;
+mod readers;
 mod remarked;
 mod site;
 mod site_laws;

@@ -7,6 +7,7 @@ ghost use Rattle.cov_ast.specs.View as view;
 ghost use Rattle.entail_refused.specs.Remarked as spec;
 ghost use Rattle.entail_refused.specs.Sites as sites;
 
+use crate::dropped::without_last;
 use crate::site::Site;
 use cov_ast::Program;
 use cov_expr::{Blob, Expr, List, NoMemory};
@@ -48,6 +49,17 @@ fn remarks_at(
         hypotheses,
         asks_more(site.question),
     )
+}
+
+/// The hypotheses of what is asked that are known: all but the one that is asked with the goal.
+pub fn known_of(question: Question, hypotheses: &[Expr]) -> &[Expr]
+    ensures { map term result.now ≡ spec.known_of question (map term hypotheses.now) }
+{
+    if asks_more(question) {
+        without_last(hypotheses)
+    } else {
+        hypotheses
+    }
 }
 
 /// Whether an entailment follows from one expression more than the predicates, which is its last hypothesis.

@@ -10,5 +10,5 @@ use Rattle.entail_losses.proofs.losses.add_helping_forgotten.Given as goal
 abbrev pub invariant-loop-one : goal.invariant-loop-one
 invariant-loop-one l =
     let p = plain (view.program l.p) in
-    l.text ++ helping_forgotten p l.names l.bytes (map term l.hyps) (term l.goal) (map seen (drop l.one-index l.parts))
-    ≡ l.fn.text ++ helping_forgotten p l.names l.bytes (map term l.hyps) (term l.goal) (map seen l.parts)
+    l.text ++ helping_forgotten p l.names l.bytes (map term l.e.known.now) (map term l.e.hyps.now) (term l.e.goal.now) (map seen (drop l.one-index l.parts))
+    ≡ l.fn.text ++ helping_forgotten p l.names l.bytes (map term l.e.known.now) (map term l.e.hyps.now) (term l.e.goal.now) (map seen l.parts)

@@ -14,12 +14,13 @@ returns-then-len-before c =
     let p = plain (view.program c.args.p.now) in
     let names = c.args.names.now in
     let bytes = c.args.bytes.now in
-    let hyps = map term c.args.hyps.now in
-    let asked = term c.args.goal.now in
+    let known = map term c.args.e.known.now in
+    let hyps = map term c.args.e.hyps.now in
+    let asked = term c.args.e.goal.now in
     let os = map left.seen c.args.lost.found.now in
     let fs = map forgotten.seen c.args.lost.parts.now in
     let old = c.args.text.now in
-    let told = helping p names bytes hyps asked os fs in
+    let told = helping p names bytes known hyps asked os fs in
     let other = unless_hopeless hyps asked (lost_terms os fs) (all_lines p names bytes os fs) in
     let same : length (old ++ told) ≡ length old
     = ap length (sym c.in_ok-add_helping.ensures) ∙ sym c.len.ensures ∙ c.if-len-before.true ∙ c.len-before.ensures in
@@ -32,12 +33,13 @@ returns-else-len-before c =
     let p = plain (view.program c.args.p.now) in
     let names = c.args.names.now in
     let bytes = c.args.bytes.now in
-    let hyps = map term c.args.hyps.now in
-    let asked = term c.args.goal.now in
+    let known = map term c.args.e.known.now in
+    let hyps = map term c.args.e.hyps.now in
+    let asked = term c.args.e.goal.now in
     let os = map left.seen c.args.lost.found.now in
     let fs = map forgotten.seen c.args.lost.parts.now in
     let old = c.args.text.now in
-    let told = helping p names bytes hyps asked os fs in
+    let told = helping p names bytes known hyps asked os fs in
     let other = unless_hopeless hyps asked (lost_terms os fs) (all_lines p names bytes os fs) in
     c.in_ok-add_helping.ensures
     ∙ text_told old told other
