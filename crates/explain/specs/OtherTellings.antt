@@ -1,6 +1,6 @@
 -- What is told beside a refusal by V9, of its thread and of those behind it: of the first refusal of each by a rule that isn't about certificates, and of the other entailments that
 -- have no valid certificate. Of one for which a certificate is found that is told in short, behind the others; of each of these it is told as of the first, up to so many.
-use Rattle.std.specs.Prelude.{ℕ, ◌-◌, ◌==◌, List, [], ◌++◌, Bool, true, false, length, take, flat_map, codes, decimal, if◌then◌else◌}
+use Rattle.std.specs.Prelude.{ℕ, ◌-◌, ◌==◌, List, [], ◌∷◌, ◌++◌, Bool, true, false, Option, Some, None, length, take, flat_map, codes, decimal, if◌then◌else◌}
 use Rattle.cov_ast.specs.Syntax.{Program}
 use Rattle.cov_ast.specs.declared.refusal.Refusal.{Refusal}
 use Rattle.call_judge.specs.Check.{name_in}
@@ -12,6 +12,7 @@ use Rattle.entail_refused.specs.Suggested.{found_among, open_among}
 use Rattle.entail_refused.specs.declared.suggested.Found.{Found}
 use Rattle.explain.specs.Explanations.{explanation, where_is}
 use Rattle.refusal_names.specs.RefusalNames.{refusal_names}
+use Rattle.text_parts.specs.Lines.{line}
 use Rattle.explain.specs.declared.others.TheConstants.{MOST_SOUGHT, MOST_TOLD}
 
 -- One refusal --------------------------------------------------------------------------------------------------
@@ -47,17 +48,39 @@ unsought_line n = if n == 0 then [] else codes "and as many more that weren't lo
 unfoldable pub open_lines : (name bytes : List ℕ) → Program → List Refusal → List ℕ
 open_lines name bytes p rs = flat_map (refusal_text name bytes p) (take MOST_TOLD rs) ++ left_line (length rs - MOST_TOLD)
 
--- of those that are looked at
-unfoldable pub sought_lines : (name bytes : List ℕ) → Program → List Refusal → List ℕ
-sought_lines name bytes p rs = open_lines name bytes p (open_among p rs) ++ suggested_lines name bytes p (found_among p rs)
+-- whether two refusals are of one thread
+abbrev pub is_of_thread : (t u : Option ℕ) → Bool
+is_of_thread (Some t) (Some u) = t == u
+is_of_thread t u = false
+
+-- another place to look at first
+abbrev pub look_end : List ℕ
+look_end = codes ", for which no certificate is found: what is mended there may move the numbers of this one\n"
+
+abbrev pub look_text : (bytes : List ℕ) → (place : ℕ) → List ℕ
+look_text bytes place = codes "  look first at line " ++ (decimal (line bytes place) ++ look_end)
+
+-- that, where of a refusal itself nothing is wanted but a certificate
+unfoldable pub look_unless_open : (bytes : List ℕ) → Program → Refusal → (place : ℕ) → List ℕ
+look_unless_open bytes p r place = if length (found_among p (r ∷ [])) == 0 then [] else look_text bytes place
+
+-- that place is the first of those of the same thread for which none is found, if there is one
+abbrev pub look_line : (bytes : List ℕ) → Program → Refusal → (others : List Refusal) → List ℕ
+look_line bytes p r [] = []
+look_line bytes p r (o ∷ os) = if is_of_thread o.thread r.thread then look_unless_open bytes p r o.place else []
+
+-- of those that are looked at, beside a refusal
+unfoldable pub sought_lines : (name bytes : List ℕ) → Program → Refusal → List Refusal → List ℕ
+sought_lines name bytes p r rs =
+    look_line bytes p r (open_among p rs) ++ (open_lines name bytes p (open_among p rs) ++ suggested_lines name bytes p (found_among p rs))
 
 -- of all
-unfoldable pub lines_of : (name bytes : List ℕ) → Program → List Refusal → List ℕ
-lines_of name bytes p rs = sought_lines name bytes p (take MOST_SOUGHT rs) ++ unsought_line (length rs - MOST_SOUGHT)
+unfoldable pub lines_of : (name bytes : List ℕ) → Program → Refusal → List Refusal → List ℕ
+lines_of name bytes p r rs = sought_lines name bytes p r (take MOST_SOUGHT rs) ++ unsought_line (length rs - MOST_SOUGHT)
 
 -- beside a refusal of a program
 unfoldable pub other_lines : (name bytes : List ℕ) → Program → Refusal → List ℕ
-other_lines name bytes p r = lines_of name bytes p (other_refusals p r)
+other_lines name bytes p r = lines_of name bytes p r (other_refusals p r)
 
 -- the same, unless the first alone is told
 abbrev pub others_unless : (first : Bool) → (name bytes : List ℕ) → Program → Refusal → List ℕ

@@ -1,9 +1,10 @@
 //! What is told of the other entailments for which a thread, and those behind it, would be refused, and of the first refusal of each by a rule that isn't about certificates.
 
-ghost use Rattle.std.specs.Prelude.{◌≡◌, ◌++◌, OnOk, flat_map, take};
+ghost use Rattle.std.specs.Prelude.{◌≡◌, ◌++◌, OnOk, decimal, flat_map, take};
 ghost use Rattle.cov_ast.specs.View as view;
 ghost use Rattle.cov_ast.specs.WellFormed.{IsWellFormed};
 ghost use Rattle.explain.specs.OtherTellings as spec;
+ghost use Rattle.text_parts.specs.Lines.{line};
 
 use crate::explanation::{add_explanation, add_report, add_where};
 use call_judge::check::thread_name;
@@ -13,7 +14,7 @@ use cov_expr::{Blob, NoMemory};
 use entail_refused::{Found, add_asked, other_refusals, sort_refusals};
 use refusal_names::add_names;
 use std::alloc::Global;
-use text_parts::add_number;
+use text_parts::{add_number, position};
 
 /// For how many others a certificate is sought. The search of each takes some time.
 const MOST_SOUGHT: usize = 32;
@@ -55,25 +56,27 @@ fn add_others(
     ensures { OnOk result (text.new ≡ text.old ++ spec.other_lines name.now bytes.now (view.program program.now) refusal.now) }
 {
     let others = other_refusals(alloc, program, refusal)?;
-    add_some(alloc, name, bytes, others.as_slice(), program, text)
+    add_some(alloc, name, bytes, refusal, others.as_slice(), program, text)
 }
 
-/// Adds what is told of refusals: of those that are looked at, and how many there are besides.
+/// Adds what is told of others beside a refusal: of those that are looked at, and how many there are besides.
 fn add_some(
     alloc: Global,
     name: &str,
     bytes: &[u8],
+    refusal: &Refusal,
     others: &[Refusal],
     program: &Program,
     text: &mut Blob,
 ) -> Result<(), NoMemory>
     requires { IsWellFormed (view.program program.now) }
-    ensures { OnOk result (text.new ≡ text.old ++ spec.lines_of name.now bytes.now (view.program program.now) others.now) }
+    ensures { OnOk result (text.new ≡ text.old ++ spec.lines_of name.now bytes.now (view.program program.now) refusal.now others.now) }
 {
     add_sought(
         alloc,
         name,
         bytes,
+        refusal,
         first(others, MOST_SOUGHT),
         program,
         text,
@@ -88,22 +91,98 @@ fn first(all: &[Refusal], most: usize) -> &[Refusal]
     if all.len() <= most { all } else { &all[..most] }
 }
 
-/// Adds what is told of refusals that are looked at: of those for which no certificate is found, and then in short of the others.
+/// Adds what is told of those that are looked at beside a refusal: where to look first, then of those for which no certificate is found, and then in short of the others.
 #[tactic(auto, unfolding(crate::specs::OtherTellings::sought_lines))]
 fn add_sought(
     alloc: Global,
     name: &str,
     bytes: &[u8],
+    refusal: &Refusal,
     sought: &[Refusal],
     program: &Program,
     text: &mut Blob,
 ) -> Result<(), NoMemory>
     requires { IsWellFormed (view.program program.now) }
-    ensures { OnOk result (text.new ≡ text.old ++ spec.sought_lines name.now bytes.now (view.program program.now) sought.now) }
+    ensures { OnOk result (text.new ≡ text.old ++ spec.sought_lines name.now bytes.now (view.program program.now) refusal.now sought.now) }
 {
     let parts = sort_refusals(alloc, program, sought)?;
+    add_look(alloc, bytes, refusal, parts.open.as_slice(), program, text)?;
     add_open(alloc, name, bytes, parts.open.as_slice(), program, text)?;
     add_suggested(alloc, name, bytes, parts.found.as_slice(), program, text)
+}
+
+/// Adds where to look first, where nothing is wanted of a refusal but a certificate: at the first of those of its thread for which none is found.
+fn add_look(
+    alloc: Global,
+    bytes: &[u8],
+    refusal: &Refusal,
+    open: &[Refusal],
+    program: &Program,
+    text: &mut Blob,
+) -> Result<(), NoMemory>
+    requires { IsWellFormed (view.program program.now) }
+    ensures { OnOk result (text.new ≡ text.old ++ spec.look_line bytes.now (view.program program.now) refusal.now open.now) }
+{
+    match open {
+        [] => Ok(()),
+        [next, ..] => {
+            if is_of_thread(next.thread, refusal.thread) {
+                add_look_unless_open(alloc, bytes, refusal, next.place, program, text)
+            } else {
+                Ok(())
+            }
+        }
+    }
+}
+
+/// Whether two refusals are of one thread.
+fn is_of_thread(t: Option<u32>, u: Option<u32>) -> bool
+    ensures { result ≡ spec.is_of_thread t u }
+{
+    match (t, u) {
+        (Some(t), Some(u)) => t == u,
+        (None, _) | (Some(_), None) => false,
+    }
+}
+
+/// Adds a place to look at first, where a certificate is found for a refusal.
+#[tactic(auto, unfolding(crate::specs::OtherTellings::look_unless_open))]
+fn add_look_unless_open(
+    alloc: Global,
+    bytes: &[u8],
+    refusal: &Refusal,
+    place: u32,
+    program: &Program,
+    text: &mut Blob,
+) -> Result<(), NoMemory>
+    requires { IsWellFormed (view.program program.now) }
+    ensures { OnOk result (text.new ≡ text.old ++ spec.look_unless_open bytes.now (view.program program.now) refusal.now place) }
+{
+    let one = [*refusal];
+    let parts = sort_refusals(alloc, program, &one)?;
+    if parts.found.is_empty() {
+        Ok(())
+    } else {
+        add_look_text(bytes, place, text)
+    }
+}
+
+/// Adds a place to look at first.
+fn add_look_text(bytes: &[u8], place: u32, text: &mut Blob) -> Result<(), NoMemory>
+    ensures { OnOk result (text.new ≡ text.old ++ spec.look_text bytes.now place) }
+{
+    text.extend_from_slice(b"  look first at line ")?;
+    add_line_of(bytes, place, text)?;
+    text.extend_from_slice(
+        b", for which no certificate is found: what is mended there may move the numbers of this one\n",
+    )
+}
+
+/// Adds the number of the line of a place.
+fn add_line_of(bytes: &[u8], place: u32, text: &mut Blob) -> Result<(), NoMemory>
+    ensures { OnOk result (text.new ≡ text.old ++ decimal (line bytes.now place)) }
+{
+    add_number(position(bytes, place as usize).line, text)
 }
 
 /// Adds what is told of refusals for which a certificate is found, if there are any.

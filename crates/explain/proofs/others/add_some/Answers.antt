@@ -8,7 +8,7 @@ use Rattle.explain.proofs.others.add_some.Goals as goal
 pub returns : goal.returns
 unfolding lines_of
 returns c =
-    let sought = sought_lines c.args.name.now c.args.bytes.now (view.program c.args.program.now) in
+    let sought = sought_lines c.args.name.now c.args.bytes.now (view.program c.args.program.now) c.args.refusal.now in
     let others = c.args.others.now in
     let old = c.args.text.now in
     let told = c.in_ok-add_sought.ensures ∙ ap (λ rs. old ++ sought rs) c.first.ensures in
