@@ -54,7 +54,9 @@ pub fn add_losses<'p>(
         parts: parts.as_slice(),
     };
     add_lost(alloc, p, &names, bytes, e, lost, text)?;
-    add_unknown_lines(alloc, p, t, &names, bytes, &stable, steps, e.hyps, e.goal, text)
+    add_unknown_lines(
+        alloc, p, t, &names, bytes, &stable, steps, e.hyps, e.goal, text,
+    )
 }
 
 /// An entailment that isn't shown.

@@ -56,7 +56,15 @@ fn add_others(
     ensures { OnOk result (text.new ≡ text.old ++ spec.other_lines name.now bytes.now (view.program program.now) refusal.now) }
 {
     let others = other_refusals(alloc, program, refusal)?;
-    add_some(alloc, name, bytes, refusal, others.as_slice(), program, text)
+    add_some(
+        alloc,
+        name,
+        bytes,
+        refusal,
+        others.as_slice(),
+        program,
+        text,
+    )
 }
 
 /// Adds what is told of others beside a refusal: of those that are looked at, and how many there are besides.
