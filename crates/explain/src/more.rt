@@ -102,7 +102,7 @@ pub fn add_refused(
     add_text_warnings(alloc, name, bytes, text)
 }
 
-/// Adds what a refusal of a program is about: of W9, V1, V2, V3, V4, V8, V12, V15 and V16 names, of V9 the entailment and others of the thread, of other
+/// Adds what a refusal of a program is about: of W8, W9, V1 to V5, V8, V12 and V14 to V16 names, of V9 the entailment and others of the thread, of other
 /// rules nothing.
 fn add_refusal_lines(
     alloc: Global,

@@ -4,9 +4,9 @@ use Rattle.std.proofs.lemmas.Fmt.{decimal_digit}
 use Rattle.cov_expr.specs.declared.expr.Op.TheVariants.{Add}
 use Rattle.cov_expr.specs.Term.{Term, const, var, bin}
 use Rattle.cov_ast.specs.Syntax as s
-use Rattle.cov_ast.specs.declared.refusal.Detail.TheVariants.{Nothing, Number, One, Three}
+use Rattle.cov_ast.specs.declared.refusal.Detail.TheVariants.{Nothing, Number, One, Three, Two}
 use Rattle.cov_ast.specs.declared.refusal.Rule.{Rule}
-use Rattle.cov_ast.specs.declared.refusal.Rule.TheVariants.{V1, V2, V3, V4, V8, V9, V10, V12, V13, V14, V15, V16, W8, W9}
+use Rattle.cov_ast.specs.declared.refusal.Rule.TheVariants.{V1, V2, V3, V4, V5, V8, V9, V10, V12, V13, V14, V15, V16, W8, W9}
 use Rattle.refusal_names.specs.RefusalNames as spec
 
 -- a is plain low and the control of b; c is high. The lock l hides a and b, the lock m writes c alone.
@@ -72,6 +72,17 @@ without_locks stm =
 under_no_lock : refusal_names (without_locks (s.note (stated (var 0)))) V12 (Some 0) 90
     ≡ codes "  the predicate `b` has the variable b, which isn't stable here\n  b is under no lock, and the thread doesn't assume `nowrite b`\n"
 under_no_lock = refl
+
+-- V5: of c, which is under no lock, and of b, which is under one
+abbrev unstable_part : s.Program → (variable : List ℕ) → List ℕ
+unstable_part p x = spec.refusal_names p (codes "first\nsecond\n") V5 (Some 0) 90 (One x)
+
+copied_part : unstable_part (without_locks (s.assign 0 (var 2) None [])) (codes "c")
+    ≡ codes "  c is under no lock, and the thread doesn't assume `nowrite c`\n  copy it first into a variable of which the thread assumes `nowrite`, and assign that\n"
+copied_part = refl
+
+locked_part : unstable_part (alone (s.assign 0 (var 1) None [])) (codes "b") ≡ codes "  lock l, line 3, has `hide b`, and isn't held here; held: none\n"
+locked_part = simp (decimal_digit 3 (lit< tt))
 
 -- V4: a type behind `as`, one of `retype`, and none
 no_control : refusal_names (behind_lock (s.assign 2 (var 1) (Some (var 1)) [])) V4 (Some 0) 90 ≡ codes "  the type `b` has the variable b, which is no control\n"
@@ -262,6 +273,14 @@ nothing_assumed = refl
 
 itself : spec.refusal_names two_threads [] W9 None 70 (Three (codes "t") (codes "t") (codes "a")) ≡ []
 itself = refl
+
+-- W8: b is assumed and its control a isn't, which is under l; c is under m; there is no d
+locked_control : spec.refusal_names two_threads (codes "first\nsecond\n") W8 None 70 (Two (codes "b") (codes "a"))
+    ≡ codes "  a is under the lock l, line 3, and can't be assumed: put b under that lock too, in the place of the assumption, or give b a class without a\n"
+locked_control = simp (decimal_digit 3 (lit< tt))
+
+no_control_named : spec.refusal_names two_threads [] W8 None 70 (Two (codes "b") (codes "d")) ≡ []
+no_control_named = refl
 
 a_rule_of_declarations : spec.refusal_names two_threads [] W8 None 70 (Three (codes "t") (codes "v") (codes "a")) ≡ []
 a_rule_of_declarations = refl

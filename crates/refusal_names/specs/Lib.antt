@@ -3,6 +3,7 @@ pub mod OutsideVariables
 pub mod StableSets
 pub mod LockChanges
 pub mod NameLines
+pub mod LockedControls
 pub mod MissingGuarantees
 pub mod ForbiddenAccess
 pub mod UnstableVariables

@@ -3,9 +3,9 @@ use Rattle.std.specs.Prelude.{ℕ, nat_lt, List, [], Bool, false, true, length, 
 use Rattle.cov_ast.specs.Plain.{plain}
 use Rattle.cov_ast.specs.Syntax.{Program, Stm, Proof}
 use Rattle.cov_ast.specs.declared.refusal.Rule.{Rule}
-use Rattle.cov_ast.specs.declared.refusal.Rule.TheVariants.{V1, V2, V3, V4, V5, V8, V10, V12, V13, V14, V15, V16, W9}
+use Rattle.cov_ast.specs.declared.refusal.Rule.TheVariants.{V1, V2, V3, V4, V5, V8, V10, V12, V13, V14, V15, V16, W8, W9}
 use Rattle.cov_ast.specs.declared.refusal.Detail.{Detail}
-use Rattle.cov_ast.specs.declared.refusal.Detail.TheVariants.{Three}
+use Rattle.cov_ast.specs.declared.refusal.Detail.TheVariants.{Three, Two}
 use Rattle.point_law.specs.Point.{controls_of}
 use Rattle.entail_origins.specs.Questions.{questions}
 use Rattle.text_parts.specs.VariableNames.{variable_names}
@@ -17,11 +17,12 @@ use Rattle.refusal_names.specs.ForbiddenAccess.{shown_access}
 use Rattle.refusal_names.specs.GivenNumbers.{shown_number}
 use Rattle.refusal_names.specs.GivenTypes.{shown_line}
 use Rattle.refusal_names.specs.LargeTerms.{large_line}
+use Rattle.refusal_names.specs.LockedControls.{control_line}
 use Rattle.refusal_names.specs.MissingGuarantees.{guarantee_line}
 use Rattle.refusal_names.specs.NameLines.{reads_line, types_line, ends_line, predicates_line, added_line}
 use Rattle.refusal_names.specs.SpokenParts.{evaluated_expression}
 use Rattle.refusal_names.specs.StableSets.{stable_controls, held_where_stated}
-use Rattle.refusal_names.specs.UnstableVariables.{shown_cause, unstable_line}
+use Rattle.refusal_names.specs.UnstableVariables.{shown_cause, unstable_line, unstable_part_line}
 use Rattle.refusal_names.specs.WideExpressions.{width_line}
 use Rattle.statement_paths.specs.Paths.{Step, Way, way_to}
 
@@ -39,7 +40,7 @@ line_of p bytes t V4 detail steps held s proofs =
     types_line (plain p) names (unstable_line names bytes p.locks there) (stable (plain p) t there) (controls_of (plain p)) (stable_controls (plain p) t there) s
 line_of p bytes t V5 detail steps held s proofs =
     let names = variable_names p.vars in
-    shown_cause names (unstable_line names bytes p.locks held) detail
+    shown_cause names (unstable_part_line names bytes p.locks held) detail
 line_of p bytes t V8 detail steps held s proofs = ends_line bytes p.locks held s
 line_of p bytes t V10 detail steps held s proofs = width_line (evaluated_expression s)
 line_of p bytes t V12 detail steps held s proofs =
@@ -66,10 +67,11 @@ line_at p bytes t rule place detail = if nat_lt t (length p.threads) then line_o
 
 -- of the declarations, by the names that the refusal shows
 abbrev pub line_of_declarations : Program → (bytes : List ℕ) → Rule → Detail → List ℕ
+line_of_declarations p bytes W8 (Two variable control) = control_line p bytes variable control
 line_of_declarations p bytes W9 (Three assuming other variable) = guarantee_line p bytes assuming other variable
 line_of_declarations p bytes rule detail = []
 
--- the line of a refusal; none where it names no thread and isn't one of W9, no statement, or another rule
+-- the line of a refusal; none where it names no thread and isn't one of W8 and W9, no statement, or another rule
 abbrev pub refusal_names : Program → (bytes : List ℕ) → Rule → (thread : Option ℕ) → (place : ℕ) → Detail → List ℕ
 refusal_names p bytes rule None place detail = line_of_declarations p bytes rule detail
 refusal_names p bytes rule (Some t) place detail = line_at p bytes t rule place detail

@@ -26,6 +26,17 @@ lock_or_assumption names bytes (Some k) x held = lock_text names bytes k.0 k.1 x
 abbrev pub unstable_line : Names → (bytes : List ℕ) → List Lock → (held : List Bool) → (x : ℕ) → List ℕ
 unstable_line names bytes locks held x = lock_or_assumption names bytes (first_forbidding held true x 0 locks) x (held_text locks held)
 
+-- of a variable of the value for a control: where it is under no lock, also what is mostly done
+abbrev pub copy_text : List ℕ
+copy_text = codes "  copy it first into a variable of which the thread assumes `nowrite`, and assign that\n"
+
+abbrev pub lock_or_copy : Names → (bytes : List ℕ) → Option (Lock × List ℕ) → (x : ℕ) → (held : List ℕ) → List ℕ
+lock_or_copy names bytes None x held = assumption_text names x ++ copy_text
+lock_or_copy names bytes (Some k) x held = lock_text names bytes k.0 k.1 x held
+
+abbrev pub unstable_part_line : Names → (bytes : List ℕ) → List Lock → (held : List Bool) → (x : ℕ) → List ℕ
+unstable_part_line names bytes locks held x = lock_or_copy names bytes (first_forbidding held true x 0 locks) x (held_text locks held)
+
 -- of a variable, if there is one, by what is told of each
 abbrev pub cause_of_any : (cause : ℕ → List ℕ) → Option ℕ → List ℕ
 cause_of_any cause None = []
@@ -49,3 +60,7 @@ module _ (p : Program) (bytes : List ℕ) (t : ℕ) (held : List Bool) (x : ℕ)
   -- the same, or of a lock that has it in a list and isn't held
   abbrev pub TellsWhyUnstable : (text : List ℕ) → Type 0
   TellsWhyUnstable text = IsOfLock p bytes t held true x text ⊎ IsOfNone text
+
+  -- of a lock likewise; or that there is none, with what is mostly done behind that
+  abbrev pub TellsOfPart : (text : List ℕ) → Type 0
+  TellsOfPart text = IsOfLock p bytes t held true x text ⊎ ((why : List ℕ) × IsOfNone why × (text ≡ why ++ copy_text))

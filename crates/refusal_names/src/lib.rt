@@ -1,6 +1,6 @@
 //! What a refusal is about, by name, where its rule shows no names, or not the declaration that it goes by: a line of text.
 //!
-//! - [`add_names`]: the line for W9, V1, V2, V3, V4, V5, V8, V10, V12, V13, V14, V15 and V16, with why a variable in it isn't stable.
+//! - [`add_names`]: the line for W8, W9, V1, V2, V3, V4, V5, V8, V10, V12, V13, V14, V15 and V16, with why a variable in it isn't stable.
 //! - [`add_held`]: the names of the locks that are held.
 //! - [`missing_guarantee_is_told`] and [`unmet_assumption_is_missing`] have no body: their contracts are laws, that the line of W9 tells of
 //!   the threads that have the names, and that there is one.
@@ -8,7 +8,7 @@
 //!   that is shown, and tells why.
 //! - [`unstable_variable_is_told`], [`unstable_predicate_is_told`], [`untyped_variable_is_told`], [`wrong_number_is_told`], likewise: the line
 //!   for a variable that isn't stable tells why, and that of V12, V14 or V13 tells of what the rule asks and doesn't hold.
-//! - [`unstable_part_is_told`], [`unstable_reads_are_told`], likewise: the line of V5 tells why the variable that is shown isn't stable, and that of V3
+//! - [`unstable_part_is_told`], [`unstable_reads_are_told`], likewise: the line of V5 tells why the variable that is shown isn't stable, and where it is under no lock what is mostly done, and that of V3
 //!   of the first two reads that the rule forbids.
 //! - [`width_is_told`], likewise: the line of V10 tells how wide the expression is.
 //! - [`bad_type_is_told`], [`bad_class_is_told`], likewise: the line of V4 tells of the first type that isn't over stable controls, or the class by which
@@ -26,6 +26,7 @@
 //! | `reads`, `types`, `predicates`, `ends`, `added` | `NameLines` | the line of V3, V4, V12, V8 and V15 |
 //! | `changes` | `LockChanges` | the lines behind that of V8: which statements take the locks and give them back |
 //! | `guarantees` | `MissingGuarantees` | the line of W9 |
+//! | `locked_controls` | `LockedControls` | the line of W8: the lock that a control is under |
 //! | `access` | `ForbiddenAccess` | the line of V1 and V2 |
 //! | `large` | `LargeTerms` | the line of V16 |
 //! | `wide` | `WideExpressions` | the line of V10 |
@@ -56,6 +57,7 @@ mod guarantees;
 mod large;
 mod laws;
 mod lock_laws;
+mod locked_controls;
 mod outside;
 mod predicates;
 mod read_laws;

@@ -15,15 +15,15 @@ ghost use Rattle.mode_state.specs.Sets.{is_stable};
 ghost use Rattle.refusal_names.specs.RefusalNames.{line_of};
 ghost use Rattle.refusal_names.specs.SpokenParts.{evaluated_expression};
 ghost use Rattle.refusal_names.specs.ToldReads.{TellsOfReads};
-ghost use Rattle.refusal_names.specs.UnstableVariables.{TellsWhyUnstable};
+ghost use Rattle.refusal_names.specs.UnstableVariables.{TellsOfPart};
 ghost use Rattle.refusal_names.specs.WideExpressions.{TellsOfWidth};
 ghost use Rattle.statement_paths.specs.Paths.{Step};
 
 /// A law: where a variable of a well formed program isn't stable, as V5 asks of each in the value of a control, the line of V5 by the
-/// variable's name tells why.
+/// variable's name tells why, and where it is under no lock what is mostly done.
 pub fn unstable_part_is_told()
     ensures { (p : Program) → IsWellFormed p → (bytes : List ℕ) → (t y : ℕ) → (held : List Bool) → y < length p.vars → (steps : List Step) → (s : Stm) → (proofs : List Proof)
-        → is_stable (plain p) t held y ≡ false → TellsWhyUnstable p bytes t held y (line_of p bytes t V5 (One (name_of (plain p) y)) steps held s proofs) }
+        → is_stable (plain p) t held y ≡ false → TellsOfPart p bytes t held y (line_of p bytes t V5 (One (name_of (plain p) y)) steps held s proofs) }
 {}
 
 /// A law: where an expression that a statement evaluates has more than one occurrence of variables that aren't stable, as V3 forbids, the line of

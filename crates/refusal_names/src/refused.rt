@@ -30,6 +30,7 @@ use crate::given_numbers::add_shown_number;
 use crate::given_types::add_given;
 use crate::guarantees::add_guarantee;
 use crate::large::add_large;
+use crate::locked_controls::add_locked_control;
 use crate::predicates::add_predicates;
 use crate::reads::add_reads;
 use crate::sets::{known_at, pass_to_state};
@@ -45,7 +46,7 @@ use std::alloc::Global;
 use text_parts::variable_names;
 
 /// Adds a line of what a refusal is about, by name, and why a variable in it isn't stable, in lines of their own. Nothing is added where it
-/// isn't one of W9, V1, V2, V3, V4, V5, V8, V10, V12, V13, V14, V15 and V16, and where no statement of the thread stands at the place. `bytes` are
+/// isn't one of W8, W9, V1, V2, V3, V4, V5, V8, V10, V12, V13, V14, V15 and V16, and where no statement of the thread stands at the place. `bytes` are
 /// the text of the program.
 pub fn add_names(
     alloc: Global,
@@ -76,6 +77,9 @@ fn add_of_declarations(
     ensures { OnOk result (text.new ≡ text.old ++ spec.line_of_declarations (view.program p.now) bytes.now rule detail) }
 {
     match (rule, detail) {
+        (Rule::W8, Detail::Two(variable, control)) => {
+            add_locked_control(alloc, p, bytes, variable, control, text)
+        }
         (Rule::W9, Detail::Three(assuming, other, variable)) => {
             add_guarantee(alloc, p, bytes, assuming, other, variable, text)
         }

@@ -33,7 +33,7 @@ pub fn add_unstable(
     }
 }
 
-/// Adds why the variable that a refusal shows isn't stable, by the locks that are held.
+/// Adds why the variable that a refusal shows isn't stable, by the locks that are held, and where it is under none what is mostly done.
 pub fn add_shown_cause(
     alloc: Global,
     names: &NameTable,
@@ -44,15 +44,46 @@ pub fn add_shown_cause(
     text: &mut Blob,
 ) -> Result<(), NoMemory>
     requires { length locks.now ≤ MOST_LOCKS }
-    ensures { OnOk result (text.new ≡ text.old ++ spec.shown_cause names.now (spec.unstable_line names.now bytes.now (map view.lock locks.now) (modes.now).held) detail) }
+    ensures { OnOk result (text.new ≡ text.old ++ spec.shown_cause names.now (spec.unstable_part_line names.now bytes.now (map view.lock locks.now) (modes.now).held) detail) }
 {
     match detail {
         Detail::One(shown) => match names.find(shown) {
-            Some(x) => add_unstable(alloc, names, bytes, locks, modes, x, text),
+            Some(x) => add_unstable_part(alloc, names, bytes, locks, modes, x, text),
             None => Ok(()),
         },
         _ => Ok(()),
     }
+}
+
+/// Adds why a variable of the value for a control isn't stable, and where it is under no lock what is mostly done.
+fn add_unstable_part(
+    alloc: Global,
+    names: &NameTable,
+    bytes: &[u8],
+    locks: &[LockDecl],
+    modes: &ModeState,
+    x: u32,
+    text: &mut Blob,
+) -> Result<(), NoMemory>
+    requires { length locks.now ≤ MOST_LOCKS }
+    ensures { OnOk result (text.new ≡ text.old ++ spec.unstable_part_line names.now bytes.now (map view.lock locks.now) (modes.now).held x) }
+{
+    match first_forbidding(locks, modes, true, x) {
+        Some((lock, word)) => {
+            add_lock_with_held(alloc, names, bytes, locks, modes, lock, word, x, text)
+        }
+        None => add_copied(names, x, text),
+    }
+}
+
+/// Adds the lines of a variable that is under no lock and is to be copied.
+fn add_copied(names: &NameTable, x: u32, text: &mut Blob) -> Result<(), NoMemory>
+    ensures { OnOk result (text.new ≡ text.old ++ (spec.assumption_text names.now x ++ spec.copy_text)) }
+{
+    add_assumption(names, x, text)?;
+    text.extend_from_slice(
+        b"  copy it first into a variable of which the thread assumes `nowrite`, and assign that\n",
+    )
 }
 
 /// Adds the line of a variable that is under no lock.

@@ -1,0 +1,134 @@
+//! The line of W8: the lock that a control is under which a thread doesn't assume beside what it controls.
+
+ghost use Rattle.std.specs.Prelude.{◌≡◌, ◌++◌, OnOk, map, option_map};
+ghost use Rattle.cov_ast.specs.Declarations.{lists};
+ghost use Rattle.cov_ast.specs.View as view;
+ghost use Rattle.cov_ast.specs.WellFormed.{IsWellFormed};
+ghost use Rattle.refusal_names.specs.LockedControls as spec;
+
+use crate::guarantees::add_line_of;
+use cov_ast::{LockDecl, Program};
+use cov_expr::{Blob, Name, NoMemory, has_number};
+use std::alloc::Global;
+use text_parts::variable_names;
+
+/// Adds under which lock the control of a variable is, by their names, and what is mostly done; nothing where it is under none.
+pub fn add_locked_control(
+    alloc: Global,
+    p: &Program,
+    bytes: &[u8],
+    variable: Name,
+    control: Name,
+    text: &mut Blob,
+) -> Result<(), NoMemory>
+    requires { IsWellFormed (view.program p.now) }
+    ensures { OnOk result (text.new ≡ text.old ++ spec.control_line (view.program p.now) bytes.now variable control) }
+{
+    let names = variable_names(alloc, p)?;
+    match names.find(control) {
+        Some(c) => {
+            let lock = lock_listing(c, p.locks.as_slice());
+            add_locked(bytes, lock, variable, control, text)
+        }
+        None => Ok(()),
+    }
+}
+
+/// The first lock that lists a variable.
+fn lock_listing(x: u32, locks: &[LockDecl]) -> Option<&LockDecl>
+    ensures { option_map (λ l. view.lock l.now) result ≡ spec.lock_listing x (map view.lock locks.now) }
+{
+    for lock in locks {
+        if is_listed(lock, x) {
+            return Some(lock);
+        }
+    }
+    None
+}
+
+/// Whether a lock lists a variable.
+fn is_listed(lock: &LockDecl, x: u32) -> bool
+    ensures { result ≡ lists (view.lock lock.now) x }
+{
+    has_number(lock.nowrite.as_slice(), x) || has_number(lock.hide.as_slice(), x)
+}
+
+/// Adds the line, where there is a lock.
+fn add_locked(
+    bytes: &[u8],
+    lock: Option<&LockDecl>,
+    variable: Name,
+    control: Name,
+    text: &mut Blob,
+) -> Result<(), NoMemory>
+    ensures { OnOk result (text.new ≡ text.old ++ spec.locked_line bytes.now (option_map (λ l. view.lock l.now) lock.entry) variable control) }
+{
+    match lock {
+        Some(lock) => {
+            add_lock(bytes, lock, control, text)?;
+            add_mend(variable, control, text)
+        }
+        None => Ok(()),
+    }
+}
+
+/// Adds under which lock a control is.
+fn add_lock(bytes: &[u8], lock: &LockDecl, control: Name, text: &mut Blob) -> Result<(), NoMemory>
+    ensures { OnOk result (text.new ≡ text.old ++ spec.locked_text bytes.now (view.lock lock.now) control) }
+{
+    add_control(control, text)?;
+    add_where(bytes, lock, text)
+}
+
+/// Adds that a control is under a lock.
+fn add_control(control: Name, text: &mut Blob) -> Result<(), NoMemory>
+    ensures { OnOk result (text.new ≡ text.old ++ spec.control_text control) }
+{
+    text.extend_from_slice(b"  ")?;
+    text.extend_from_slice(control.text())?;
+    text.extend_from_slice(b" is under the lock ")
+}
+
+/// Adds which lock it is, and in which line.
+fn add_where(bytes: &[u8], lock: &LockDecl, text: &mut Blob) -> Result<(), NoMemory>
+    ensures { OnOk result (text.new ≡ text.old ++ spec.lock_where bytes.now (view.lock lock.now)) }
+{
+    text.extend_from_slice(lock.name.text())?;
+    text.extend_from_slice(b", line ")?;
+    add_line_of(bytes, lock.at, text)
+}
+
+/// Adds what is mostly done.
+fn add_mend(variable: Name, control: Name, text: &mut Blob) -> Result<(), NoMemory>
+    ensures { OnOk result (text.new ≡ text.old ++ spec.mend_text variable control) }
+{
+    add_put(variable, text)?;
+    add_class(variable, control, text)
+}
+
+/// Adds that a variable is to be put under the lock.
+fn add_put(variable: Name, text: &mut Blob) -> Result<(), NoMemory>
+    ensures { OnOk result (text.new ≡ text.old ++ spec.put_text variable) }
+{
+    add_what(variable, text)?;
+    text.extend_from_slice(b" under that lock too, in the place of the assumption,")
+}
+
+/// Adds what is to be put there.
+fn add_what(variable: Name, text: &mut Blob) -> Result<(), NoMemory>
+    ensures { OnOk result (text.new ≡ text.old ++ spec.what_text variable) }
+{
+    text.extend_from_slice(b", and can't be assumed: put ")?;
+    text.extend_from_slice(variable.text())
+}
+
+/// Adds that a variable is to have a class without a control.
+fn add_class(variable: Name, control: Name, text: &mut Blob) -> Result<(), NoMemory>
+    ensures { OnOk result (text.new ≡ text.old ++ spec.class_text variable control) }
+{
+    text.extend_from_slice(b" or give ")?;
+    text.extend_from_slice(variable.text())?;
+    text.extend_from_slice(b" a class without ")?;
+    text.extend_from_slice(control.text())?;
+    text.extend_from_slice(b"\n")
+}
