@@ -2,15 +2,20 @@
 //!
 //! - [`parts_of`]: the row of a statement, [`Parts`], which lends from the tree. What asks a statement for one of its parts asks here, and has no
 //!   arm for each kind.
+//! - [`add_assigned`]: the variables to which the statements of a block store.
 //!
-//! `specs/Parts.antt` has the table, what is made of several parts, and what is collected along blocks.
+//! `specs/Parts.antt` has the table, what is made of several parts, and what is collected along blocks or made of them. `specs/PlainParts.antt` has the same
+//! of plain statements, which have no annotations, and `specs/Mapped.antt` statements with other parts.
 #![tactic(auto)]
+
+mod assigned;
 
 ghost use Rattle.std.specs.Prelude.{◌≡◌, option_map};
 ghost use Rattle.cov_expr.specs.View.{term};
 ghost use Rattle.statement_parts.specs.Parts as spec;
 ghost use Rattle.cov_ast.specs.View as view;
 
+pub use assigned::add_assigned;
 use cov_ast::{Retype, State, Stmt, StmtKind};
 use cov_expr::Expr;
 
