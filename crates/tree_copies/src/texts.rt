@@ -80,8 +80,9 @@ fn copy_stmt(alloc: Global, stmt: &Stmt) -> Result<Stmt, NoMemory>
     })
 }
 
+/// What an equal statement does.
 #[cycle(blocks)]
-fn copy_kind(alloc: Global, kind: &StmtKind) -> Result<StmtKind, NoMemory>
+pub fn copy_kind(alloc: Global, kind: &StmtKind) -> Result<StmtKind, NoMemory>
     ensures { IfOk result (λ copied. view.kind copied ≡ view.kind kind.now) }
 {
     match kind {
