@@ -1,7 +1,7 @@
 //! Parts of a text: names of a program's variables and locks, and numbers; and lines and columns of a text, and what it looks like
 //! around a place.
 //!
-//! - [`add_variable_name`], [`add_lock_name`], [`add_number`]: each adds its part to a text and leaves what stands there. A number that no
+//! - [`add_variable_name`], [`add_lock_name`], [`add_number`], [`add_line_of`]: each adds its part to a text and leaves what stands there. A number that no
 //!   declaration has adds nothing.
 //! - [`variable_names`]: the names of all variables, with which expressions of the program are spelled (`specs/VariableNames.antt`).
 //! - [`position`]: the line and the column of a place, both counted from 1 ([`LineColumn`]).
@@ -22,6 +22,7 @@ ghost use Rattle.std.specs.Prelude.{◌≡◌, ◌++◌, OnOk, decimal};
 ghost use Rattle.cov_ast.specs.Declarations.{lock_at, name_of};
 ghost use Rattle.cov_ast.specs.Plain.{plain};
 ghost use Rattle.cov_ast.specs.View as view;
+ghost use Rattle.text_parts.specs.Lines.{line};
 
 use cov_ast::Program;
 use cov_expr::{Blob, NoMemory};
@@ -57,4 +58,11 @@ pub fn add_number(n: usize, text: &mut Blob) -> Result<(), NoMemory>
 {
     let mut buffer = Buffer::new();
     text.extend_from_slice(buffer.format(n).as_bytes())
+}
+
+/// Adds the number of the line of a place.
+pub fn add_line_of(bytes: &[u8], place: u32, text: &mut Blob) -> Result<(), NoMemory>
+    ensures { OnOk result (text.new ≡ text.old ++ decimal (line bytes.now place)) }
+{
+    add_number(position(bytes, place as usize).line, text)
 }
