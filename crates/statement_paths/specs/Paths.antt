@@ -3,8 +3,9 @@ use Rattle.std.specs.Prelude.{ℕ, ◌==◌, List, [], ◌∷◌, ◌++◌, map,
 use Rattle.std.specs.Option.{option_or}
 use Rattle.cov_expr.specs.Term.{Term}
 use Rattle.cov_expr.specs.View.{term}
-use Rattle.cov_ast.specs.Syntax.{State, Proof, Stm, skip, assign, lock, unlock, branch, loop, note, output, Block, done, more}
+use Rattle.cov_ast.specs.Syntax.{State, Proof, Stm, branch, loop, Block, done, more}
 use Rattle.cov_ast.specs.View as view
+use Rattle.statement_parts.specs.Parts.{Inside, made, made_inside, of_either, of_none, of_turn}
 use Rattle.statement_paths.specs.declared.way.Step as declared
 use Rattle.statement_paths.specs.declared.way.Step.TheVariants as steps
 use Rattle.statement_paths.specs.declared.way.Way as declared_way
@@ -43,25 +44,28 @@ here s proofs = record { steps = []; stm = s; proofs = proofs }
 abbrev pub with_steps_in_front : List Step → Way → Way
 with_steps_in_front steps w = record { steps = steps ++ w.steps; stm = w.stm; proofs = w.proofs }
 
-abbrev mutual
-  -- The way to the first statement at a place, in the order of the text: a statement itself, then those in its blocks, then
-  -- those behind it. `None` comes where no statement is at the place.
-  pub way_to : Block → (place : ℕ) → Option Way
-  way_to done place = None
-  way_to (more at s proofs rest) place =
-      option_or (if at == place then Some (here s proofs) else way_within at s place) (option_map (with_steps_in_front (passed at s ∷ [])) (way_to rest place))
+-- where it stands in the blocks of a statement, by the ways from their starts on
+abbrev pub way_inside : (at : ℕ) → Inside ((place : ℕ) → Option Way) → (place : ℕ) → Option Way
+way_inside at of_none place = None
+way_inside at (of_turn e inv b) place = option_map (with_steps_in_front (head at inv ∷ yes at e ∷ [])) (b place)
+way_inside at (of_either e join a b) place =
+    option_or (option_map (with_steps_in_front (yes at e ∷ [])) (a place)) (option_map (with_steps_in_front (no at e ∷ [])) (b place))
 
-  -- where it stands in the blocks of a statement
-  pub way_within : (at : ℕ) → Stm → (place : ℕ) → Option Way
-  way_within at skip place = None
-  way_within at (assign x e q retypes) place = None
-  way_within at (lock l) place = None
-  way_within at (unlock l) place = None
-  way_within at (branch e a b join) place =
-      option_or (option_map (with_steps_in_front (yes at e ∷ [])) (way_to a place)) (option_map (with_steps_in_front (no at e ∷ [])) (way_to b place))
-  way_within at (loop e inv b) place = option_map (with_steps_in_front (head at inv ∷ yes at e ∷ [])) (way_to b place)
-  way_within at (note j) place = None
-  way_within at (output e) place = None
+abbrev pub no_way : (place : ℕ) → Option Way
+no_way place = None
+
+-- to a statement itself, then to those in its blocks, then to those behind it
+abbrev pub way_or : (at : ℕ) → Stm → List Proof → Inside (ℕ → Option Way) → (rest : ℕ → Option Way) → (place : ℕ) → Option Way
+way_or at s proofs inside rest place =
+    option_or (if at == place then Some (here s proofs) else way_inside at inside place) (option_map (with_steps_in_front (passed at s ∷ [])) (rest place))
+
+-- The way to the first statement at a place, in the order of the text. `None` comes where no statement is at the place.
+abbrev pub way_to : Block → (place : ℕ) → Option Way
+way_to b place = made no_way way_or b place
+
+-- where it stands in the blocks of a statement
+abbrev pub way_within : (at : ℕ) → Stm → (place : ℕ) → Option Way
+way_within at s place = way_inside at (made_inside no_way way_or s) place
 
 -- The ends of blocks -------------------------------------------------------------------------------------------
 

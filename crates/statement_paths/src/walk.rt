@@ -13,6 +13,7 @@ use crate::way::Step;
 use cov_ast::{Program, Stmt, StmtKind};
 use cov_expr::NoMemory;
 use mode_state::ModeState;
+use statement_parts::parts_of;
 use std::alloc::Global;
 
 /// The modes of a thread, with the locks that it holds at the end of steps from the start of its text.
@@ -42,7 +43,7 @@ fn follow(steps: &[Step<'_>], modes: &mut ModeState)
 }
 
 /// Takes and gives back the locks that are taken and given back in a step.
-fn follow_step(next: &Step<'_>, modes: &mut ModeState)
+pub fn follow_step(next: &Step<'_>, modes: &mut ModeState)
     ensures { modes.new ≡ record modes.old { held = spec.held_after (step next.now) (modes.old).held } }
 {
     match next {
@@ -67,13 +68,21 @@ fn pass_statement(kind: &StmtKind, modes: &mut ModeState)
     ensures { modes.new ≡ record modes.old { held = spec.held_past (view.kind kind.now) (modes.old).held } }
 {
     match kind {
-        StmtKind::Lock(l) => modes.take(*l),
-        StmtKind::Unlock(l) => modes.give(*l),
         StmtKind::If(_, a, _, _) => pass_block(a.as_slice(), modes),
-        StmtKind::Skip
-        | StmtKind::Assign(_, _, _, _)
-        | StmtKind::While(_, _, _)
-        | StmtKind::Note(_)
-        | StmtKind::Output(_) => {}
+        _ => {
+            let parts = parts_of(kind);
+            change_locks(parts.taken, parts.returned, modes)
+        }
+    }
+}
+
+/// Takes a lock or gives one back, if there is one to be taken or given back.
+fn change_locks(taken: Option<u32>, returned: Option<u32>, modes: &mut ModeState)
+    ensures { modes.new ≡ record modes.old { held = spec.held_by_own taken returned (modes.old).held } }
+{
+    match (taken, returned) {
+        (Some(l), _) => modes.take(l),
+        (None, Some(l)) => modes.give(l),
+        (None, None) => {}
     }
 }

@@ -4,12 +4,13 @@ use Rattle.std.specs.Prelude.{ℕ, List, [], ◌∷◌, length, Bool, true, nat_
 use Rattle.cov_expr.specs.Term.{Term, neg}
 use Rattle.cov_expr.specs.Trees.{vars}
 use Rattle.cov_ast.specs.Plain.{Plain}
-use Rattle.cov_ast.specs.Syntax.{State, Stm, skip, assign, lock, unlock, branch, loop, note, output, Block, done, more}
+use Rattle.cov_ast.specs.Syntax.{State, Proof, Stm, Block}
 use Rattle.cov_ast.specs.WellFormed.{IsExprInRange, IsStateInRange, IsStmInRange}
-use Rattle.point_law.specs.After.{start, after_assign, after_lock, after_unlock, with_guard, meet, noted}
+use Rattle.point_law.specs.After.{start, after_assign, with_guard, meet}
 use Rattle.point_law.specs.Point.{Point, conjuncts_of_types, has_small_types}
+use Rattle.statement_parts.specs.Parts.{Inside, made, made_inside, of_either, of_none, of_turn, parts, Store}
 use Rattle.statement_paths.specs.Paths.{Step, passed, yes, no, head}
-use Rattle.typing_law.specs.Blocks.{value_type}
+use Rattle.typing_law.specs.Blocks.{after_stm, value_type}
 use Rattle.typing_points.specs.declared.passing.TheConstants.{MOST_CONJUNCTS}
 
 -- a point whose types are small, and else none
@@ -26,22 +27,27 @@ module _ (p : Plain) (t : ℕ) where
   abbrev pub assigned : Point → (x : ℕ) → Term → Option Term → (retypes : List (ℕ × Term)) → Option Point
   assigned a x e q retypes = if has_few_conjuncts a q e then if_small (after_assign p t a x e (value_type p t a q e) retypes) else None
 
-  abbrev mutual
-    -- the point behind a statement
-    pub behind_stm : Stm → Point → Option Point
-    behind_stm skip a = Some a
-    behind_stm (assign x e q retypes) a = assigned a x e q retypes
-    behind_stm (lock l) a = Some (after_lock p t a l)
-    behind_stm (unlock l) a = Some (after_unlock p t a l)
-    behind_stm (branch e first second join) a = option_map (λ b. meet p t b join) (behind_block first (with_guard p t a e))
-    behind_stm (loop e inv b) a = Some (with_guard p t (meet p t a inv) (neg e))
-    behind_stm (note j) a = Some (noted a j)
-    behind_stm (output e) a = Some a
+  -- By what is behind the blocks inside a statement: behind a branch it goes by the end of its first block. Behind a statement that assigns nothing and has
+  -- no two blocks it is the point of the rules.
+  abbrev pub behind_inside : Stm → Option Store → Inside (Point → Option Point) → Point → Option Point
+  behind_inside s (Some k) inside a = assigned a k.variable k.value k.written k.retypes
+  behind_inside s None of_none a = Some (after_stm p t s a)
+  behind_inside s None (of_turn e inv b) a = Some (after_stm p t s a)
+  behind_inside s None (of_either e join first second) a = option_map (λ b. meet p t b join) (first (with_guard p t a e))
 
-    -- the point behind the statements of a block
-    pub behind_block : Block → Point → Option Point
-    behind_block done a = Some a
-    behind_block (more at s proofs rest) a = option_and_then (λ b. behind_block rest b) (behind_stm s a)
+  abbrev pub behind_end : Point → Option Point
+  behind_end a = Some a
+
+  abbrev pub behind_first : (at : ℕ) → Stm → List Proof → Inside (Point → Option Point) → (rest : Point → Option Point) → Point → Option Point
+  behind_first at s proofs inside rest a = option_and_then rest (behind_inside s (parts s).store inside a)
+
+  -- the point behind a statement
+  abbrev pub behind_stm : Stm → Point → Option Point
+  behind_stm s a = behind_inside s (parts s).store (made_inside behind_end behind_first s) a
+
+  -- the point behind the statements of a block
+  abbrev pub behind_block : Block → Point → Option Point
+  behind_block b a = made behind_end behind_first b a
 
   -- the point behind a branch with this guard, first block and state, from that at the end of the block
   abbrev pub behind_branch : Term → Block → (join : State) → Point → Option Point
