@@ -7,19 +7,20 @@ use Rattle.std.proofs.lemmas.Bool.{and_parts, or_parts, not-true, eqb-true, eq-e
 use Rattle.std.proofs.lemmas.List.{length-append}
 use Rattle.cov_expr.specs.Term.{neg}
 use Rattle.cov_ast.specs.Plain.{Plain, plain}
-use Rattle.cov_ast.specs.Syntax.{Stm, skip, assign, lock, unlock, branch, loop, note, output, Block, done, more, Proof, Program}
+use Rattle.cov_ast.specs.Syntax.{Stm, branch, loop, Block, done, more, Proof, Program}
 use Rattle.cov_ast.specs.WellFormed.{IsWellFormed, are_distinct, places, places_within}
 use Rattle.mode_compat.specs.Compatible.{no_thread, numbered}
 use Rattle.statement_paths.specs.Paths.{Step, passed, yes, no, head, Way, here, with_steps_in_front, way_to, way_within}
 use Rattle.typing_law.specs.Blocks.{after_stm, after_block}
 use Rattle.typing_law.specs.Counts.{entailment_count}
-use Rattle.typing_law.specs.Entailments.{Entailment, assign_entailments, guard_follows, state_follows, unlock_entailments}
+use Rattle.typing_law.specs.Entailments.{Entailment, guard_follows, state_follows}
 use Rattle.typing_law.specs.ThreadEntailments.{PlacedEntailment, placed_from, stm_entailments, block_entailments, entailment_among, all_entailments, reached, thread_entailments}
 use Rattle.typing_law.specs.ThreadObligations.{thread_obligations}
 use Rattle.point_law.specs.After.{meet, start, with_guard}
 use Rattle.point_law.specs.Point.{Point}
 use Rattle.cov_ast.specs.LocksAlong.{no_locks}
 use Rattle.statement_paths.specs.LocksHeld.{held_along}
+use Rattle.entail_origins.specs.OwnEntailments.{own_entailments}
 use Rattle.entail_origins.specs.Questions.{asked, asked_among, asked_of_way, questions}
 use Rattle.entail_origins.specs.declared.kinds.Asked.{Asked}
 use Rattle.entail_origins.specs.declared.kinds.Question.{Question}
@@ -181,16 +182,11 @@ module _ (place number : ℕ) where
 
     mutual
       pub no_way_within : (at : ℕ) (s : Stm) → (In place (places_within s) → ⊥) → way_within at s place ≡ None
-      no_way_within at skip out = refl
-      no_way_within at (assign x e q retypes) out = refl
-      no_way_within at (lock l) out = refl
-      no_way_within at (unlock l) out = refl
       no_way_within at (branch e a b join) out =
           ap (λ o. option_or (option_map (with_steps_in_front (yes at e ∷ [])) o) (option_map (with_steps_in_front (no at e ∷ [])) (way_to b place))) (no_way a (λ h. out (in_left place (places a) (places b) h)))
           ∙ ap (λ o. option_map (with_steps_in_front (no at e ∷ [])) o) (no_way b (λ h. out (in_right place (places a) (places b) h)))
       no_way_within at (loop e inv b) out = ap (λ o. option_map (with_steps_in_front (head at inv ∷ yes at e ∷ [])) o) (no_way b out)
-      no_way_within at (note j) out = refl
-      no_way_within at (output e) out = refl
+      no_way_within at _ out = refl
 
       pub no_way : (b : Block) → (In place (places b) → ⊥) → way_to b place ≡ None
       no_way done out = refl
@@ -216,10 +212,6 @@ module _ (place number : ℕ) where
 
     mutual
       stands_at : (s : Stm) (at : ℕ) (a : Point) → There (entailment_among (stm_entailments p t s at a) place number) → (at ≡ place) ⊎ In place (places_within s)
-      stands_at skip at a h = absurd h
-      stands_at (assign x e q retypes) at a h = inl (of_placed at 1 (assign_entailments p t a x e q retypes) h).0
-      stands_at (lock l) at a h = absurd h
-      stands_at (unlock l) at a h = inl (of_placed at 1 (unlock_entailments p t a l) h).0
       stands_at (branch e yes_block no_block join) at a h =
           let gs = guard_follows p t a e ∷ [] in
           let hs = state_follows (after_block p t yes_block (with_guard p t a e)) join ++ state_follows (after_block p t no_block (with_guard p t a (neg e))) join in
@@ -235,8 +227,7 @@ module _ (place number : ℕ) where
           let hs = state_follows (after_block p t b start) inv in
           in_three ((at ≡ place) ⊎ In place (places b)) (placed_from at 1 gs) (block_entailments p t b start) (placed_from at (suc (length gs)) hs) h
           (λ k. inl (of_placed at 1 gs k).0) (λ k. inr (stands_in b start k)) (λ k. inl (of_placed at (suc (length gs)) hs k).0)
-      stands_at (note j) at a h = inl (of_placed at 1 (state_follows a j) h).0
-      stands_at (output e) at a h = inl (of_placed at 1 (guard_follows p t a e ∷ []) h).0
+      stands_at s at a h = inl (of_placed at 1 (own_entailments p t s a) h).0
 
       pub stands_in : (b : Block) (a : Point) → There (entailment_among (block_entailments p t b a) place number) → In place (places b)
       stands_in done a h = absurd h
@@ -255,15 +246,6 @@ module _ (place number : ℕ) where
     mutual
       asked_at : (s : Stm) (proofs : List Proof) (at : ℕ) (a : Point) → Differ (at ∷ places_within s)
           → There (entailment_among (stm_entailments p t s at a) place number) → There (asked_from a.held (way_from at s proofs))
-      asked_at skip proofs at a d h = absurd h
-      asked_at (assign x e q retypes) proofs at a d h =
-          let s = assign x e q retypes in
-          let gs = assign_entailments p t a x e q retypes in
-          own_asked s proofs at a 1 (length gs) (of_placed at 1 gs h) (omega arith) (omega (arith, as_many p t s a))
-      asked_at (lock l) proofs at a d h = absurd h
-      asked_at (unlock l) proofs at a d h =
-          let gs = unlock_entailments p t a l in
-          own_asked (unlock l) proofs at a 1 (length gs) (of_placed at 1 gs h) (omega arith) (omega (arith, as_many p t (unlock l) a))
       asked_at (branch e yes_block no_block join) proofs at a d h =
           let s = branch e yes_block no_block join in
           let start = with_guard p t a e in
@@ -303,10 +285,8 @@ module _ (place number : ℕ) where
           further_in at s proofs a.held (λ is. d.0 (subst (λ z. In z (places b)) (sym is) stands))
           (two_steps a.held (head at inv) (yes at e) (way_to b place) (asked_in b start d.1 k)))
           (λ k. own_asked s proofs at a (suc (length gs)) (length hs) (of_placed at (suc (length gs)) hs k) (omega arith) (omega (arith, all, some)))
-      asked_at (note j) proofs at a d h =
-          own_asked (note j) proofs at a 1 (length (state_follows a j)) (of_placed at 1 (state_follows a j) h) (omega arith) (omega (arith, as_many p t (note j) a))
-      asked_at (output e) proofs at a d h =
-          own_asked (output e) proofs at a 1 1 (of_placed at 1 (guard_follows p t a e ∷ []) h) (omega arith) (omega (arith, as_many p t (output e) a))
+      asked_at s proofs at a d h =
+          let gs = own_entailments p t s a in own_asked s proofs at a 1 (length gs) (of_placed at 1 gs h) (omega arith) (omega (arith, as_many p t s a))
 
       asked_in : (b : Block) (a : Point) → Differ (places b) → There (entailment_among (block_entailments p t b a) place number) → There (asked_from a.held (way_to b place))
       asked_in done a d h = absurd h

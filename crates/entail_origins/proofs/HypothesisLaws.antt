@@ -9,7 +9,8 @@ use Rattle.cov_expr.specs.Term.{Term, var, neg, bin}
 use Rattle.cov_expr.specs.Trees.{same, has_term, mentions}
 use Rattle.cov_ast.specs.Declarations.{lock_at}
 use Rattle.cov_ast.specs.Plain.{Plain}
-use Rattle.cov_ast.specs.Syntax.{skip, assign, lock, unlock, branch, loop, note, output}
+use Rattle.cov_ast.specs.Syntax.{assign, lock, branch, loop, note}
+use Rattle.statement_parts.specs.Parts.{parts}
 use Rattle.statement_paths.specs.Paths.{Step, passed, yes, no, head, place_of}
 use Rattle.point_law.specs.After.{start, with_term_if, keeps_value}
 use Rattle.point_law.specs.Point.{Point, is_over_stable}
@@ -127,9 +128,17 @@ by_loop b e es h k = from (in_with_term_if b (distinct_terms es) (neg e) h k)
     from (inr m) = gives_first (given by.LoopLeft (neg e)) (each by.LoopState es) h m
 
 module _ (p : Plain) (t : ℕ) where
+  -- the predicates that are kept where a lock is given back, if one is
+  abbrev kept : (returned : Option ℕ) → Point → List Term
+  kept None a = a.preds
+  kept (Some l) a = filter (is_over_stable p t (set a.held l false)) a.preds
+
+  in_kept : (returned : Option ℕ) (a : Point) (h : Term) → has_term (kept returned a) h ≡ true → has_term a.preds h ≡ true
+  in_kept None a h k = k
+  in_kept (Some l) a h k = in_filter (is_over_stable p t (set a.held l false)) a.preds h k
+
   -- a predicate of the point behind a step was one before, or the step gives it
   step_gives : (s : Step) (a : Point) (h : Term) → has_term (after_step p t s a).preds h ≡ true → (has_term a.preds h ≡ true) ⊎ AreGiving (given_by p s) h
-  step_gives (passed at skip) a h k = inl k
   step_gives (passed at (assign x e q retypes)) a h k =
       from (one_more (keeps_value p t a.held x e) by.Assigned (filter (λ r. not (mentions r x)) a.preds) (bin Eq (var x) e) h k)
     where
@@ -138,11 +147,10 @@ module _ (p : Plain) (t : ℕ) where
       from (inl m) = inl (in_filter (λ r. not (mentions r x)) a.preds h m)
       from (inr m) = inr m
   step_gives (passed at (lock l)) a h k = by_lock l (lock_at p l).inv a.preds h k
-  step_gives (passed at (unlock l)) a h k = inl (in_filter (is_over_stable p t (set a.held l false)) a.preds h k)
   step_gives (passed at (branch e yes_block no_block join)) a h k = inr (gives_each by.Join join.preds h (in_distinct join.preds h k))
   step_gives (passed at (loop e inv b)) a h k = inr (by_loop (is_over_stable p t a.held (neg e)) e inv.preds h k)
   step_gives (passed at (note j)) a h k = inr (gives_each by.Noted j.preds h (in_distinct j.preds h k))
-  step_gives (passed at (output e)) a h k = inl k
+  step_gives (passed at s) a h k = inl (in_kept (parts s).returned a h k)
   step_gives (yes at e) a h k = one_more (is_over_stable p t a.held e) by.GuardHolds a.preds e h k
   step_gives (no at e) a h k = one_more (is_over_stable p t a.held (neg e)) by.GuardFails a.preds (neg e) h k
   step_gives (head at inv) a h k = inr (gives_each by.LoopState inv.preds h (in_distinct inv.preds h k))

@@ -1,7 +1,7 @@
 -- A statement to which a way leads has ids in range, where each statement of the text has.
 use Rattle.std.proofs.Common.{◌≡◌, ℕ, ◌==◌, List, [], ◌∷◌, Bool, true, false, Option, Some, None, option_map, subst, if◌then◌else◌}
 use Rattle.std.specs.Option.{option_or}
-use Rattle.cov_ast.specs.Syntax.{Stm, skip, assign, lock, unlock, branch, loop, note, output, Block, done, more}
+use Rattle.cov_ast.specs.Syntax.{Stm, branch, loop, Block, done, more}
 use Rattle.cov_ast.specs.WellFormed.{IsStmInRange, IsBlockInRange}
 use Rattle.statement_paths.specs.Paths.{Step, passed, yes, no, head, Way, here, with_steps_in_front, way_to, way_within}
 
@@ -24,17 +24,12 @@ module _ (vars locks : ℕ) where
 
   mutual
     within_in_range : (at : ℕ) (s : Stm) (place : ℕ) → IsStmInRange vars locks s → LeadsInRange (way_within at s place)
-    within_in_range at skip place range = tt
-    within_in_range at (assign x e written retypes) place range = tt
-    within_in_range at (lock l) place range = tt
-    within_in_range at (unlock l) place range = tt
     within_in_range at (branch e a b join) place range =
         let first = option_map (with_steps_in_front (yes at e ∷ [])) (way_to a place) in
         let second = option_map (with_steps_in_front (no at e ∷ [])) (way_to b place) in
         either first second (further (yes at e ∷ []) (way_to a place) (way_in_range a place range.1)) (further (no at e ∷ []) (way_to b place) (way_in_range b place range.2))
     within_in_range at (loop e inv b) place range = further (head at inv ∷ yes at e ∷ []) (way_to b place) (way_in_range b place range.2)
-    within_in_range at (note j) place range = tt
-    within_in_range at (output e) place range = tt
+    within_in_range at _ place range = tt
 
     way_in_range : (b : Block) (place : ℕ) → IsBlockInRange vars locks b → LeadsInRange (way_to b place)
     way_in_range done place range = tt

@@ -5,6 +5,7 @@ pub mod Ranges
 pub mod SameQuestions
 pub mod InRange
 mod QuestionExamples
+pub mod QuestionsInStep
 pub mod QuestionCounts
 pub mod EachAsked
 mod TypeExamples

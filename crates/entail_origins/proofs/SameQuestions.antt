@@ -3,7 +3,7 @@ use Rattle.std.proofs.Common.{◌≡◌, ℕ, ◌<◌, ◌&&◌, ◌||◌, not, 
 use Rattle.cov_expr.specs.Trees.{mentions}
 use Rattle.cov_ast.specs.Declarations.{class_of, is_control}
 use Rattle.cov_ast.specs.Plain.{Plain}
-use Rattle.cov_ast.specs.Syntax.{Stm, skip, assign, lock, unlock, branch, loop, note, output}
+use Rattle.cov_ast.specs.Syntax.{Stm, assign}
 use Rattle.cov_ast.specs.Tables.{has, table}
 use Rattle.cov_ast.specs.WellFormed.{IsStmInRange}
 use Rattle.cov_ast.proofs.TableLaws.{table_at}
@@ -21,15 +21,9 @@ module _ (p : Plain) (f g : ℕ → Bool) (same : (x : ℕ) → x < length p.var
       (filter_same (is_shown_by p f x) (is_shown_by p g x) 0 (length p.vars) (λ y h. ap (λ b. mentions (class_of p y) x && not b) (same y (omega (arith, h)))))
 
   same_questions : (locks : ℕ) (s : Stm) → IsStmInRange (length p.vars) locks s → of_statement p f s ≡ of_statement p g s
-  same_questions locks skip range = refl
   same_questions locks (assign x e written retypes) range =
       ap₂ (λ shown controlled. of_written written ++ shown ++ controlled ++ map (λ r. q.Retyped r.0) retypes) (same_shown x range.0) (same_controlled x)
-  same_questions locks (lock l) range = refl
-  same_questions locks (unlock l) range = refl
-  same_questions locks (branch e a b join) range = refl
-  same_questions locks (loop e inv b) range = refl
-  same_questions locks (note j) range = refl
-  same_questions locks (output e) range = refl
+  same_questions locks _ range = refl
 
 -- where that is kept as a set
 pub of_table : (p : Plain) (f : ℕ → Bool) (locks : ℕ) (s : Stm) → IsStmInRange (length p.vars) locks s

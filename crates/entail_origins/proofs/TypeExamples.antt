@@ -225,7 +225,8 @@ abbrev text : List ℕ
 text = 10 ∷ 120 ∷ 10 ∷ 10 ∷ 120 ∷ 120 ∷ 120 ∷ 120 ∷ []
 
 a_control_and_an_assignment : type_lines program 0 text (taken ∷ stored ∷ raised ∷ []) q.Printed (s.output (bin Add (var 0) (var 2)))
-    ≡ codes "  type of m:  1, as that of every control\n  type of o:  from the assignment, line 2, of `o + buf`; then m is stored to, line 3, which it mentions, so that it becomes its class `0` (high)\n"
+    ≡ codes "  type of m:  1, as that of every control\n  type of o:  from the assignment, line 2, of `o + buf`; then m is stored to, line 3, which it mentions, so that it becomes its class `0` (high)"
+    ++ codes "; another is set by `retype o as ..` there, or `as ..` at the assignment\n"
     ++ codes "  type of o at line 2:  its class `0` (high), from the start of the thread\n  type of buf at line 2:  its class `m == 0`, from the lock l, line 2\n"
 a_control_and_an_assignment = simp (decimal_digit 0 (lit< tt), decimal_digit 2 (lit< tt), decimal_digit 3 (lit< tt))
 
@@ -250,7 +251,7 @@ not_hidden = simp (decimal_digit 0 (lit< tt), decimal_digit 4 (lit< tt))
 
 -- under its lock a type that is forgotten says nothing
 forgotten_where_hidden : type_lines program 0 text (taken ∷ passed 3 (s.assign 0 (const 1) None []) ∷ []) (q.Controlled 1) s.skip
-    ≡ codes "  type of buf:  its class `m == 0`, from the lock l, line 2; then m is stored to, line 3, which it mentions, so that it becomes 0\n"
+    ≡ codes "  type of buf:  its class `m == 0`, from the lock l, line 2; then m is stored to, line 3, which it mentions, so that it becomes 0; another is set by `retype buf as ..` there\n"
 forgotten_where_hidden = simp (decimal_digit 0 (lit< tt), decimal_digit 2 (lit< tt), decimal_digit 3 (lit< tt))
 
 -- others may read `o`

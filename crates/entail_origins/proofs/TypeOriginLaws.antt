@@ -13,9 +13,10 @@ use Rattle.cov_expr.specs.Trees.{mentions}
 use Rattle.cov_ast.proofs.TableLaws.{table_at, table_length}
 use Rattle.cov_ast.specs.Declarations.{class_of, is_control, lists, no_lock, under}
 use Rattle.cov_ast.specs.Plain.{Plain}
-use Rattle.cov_ast.specs.Syntax.{State, skip, assign, lock, unlock, branch, loop, note, output}
+use Rattle.cov_ast.specs.Syntax.{State, assign, lock, branch, loop, note}
 use Rattle.cov_ast.specs.Tables.{has}
 use Rattle.point_law.specs.Point.{controls_of}
+use Rattle.statement_parts.specs.Parts.{parts}
 use Rattle.statement_paths.specs.Paths.{Step, passed, yes, no, head, place_of}
 use Rattle.typing_law.specs.Blocks.{after_block, value_type}
 use Rattle.typing_points.proofs.OfTheRules.{Is, step_is, then_is}
@@ -26,7 +27,7 @@ use Rattle.typing_points.specs.PointsBehind.{behind_step}
 use Rattle.point_law.specs.After.{start, start_type, with_guard, updated, updated_from, retyped, listed_or, locked_type, assigned_type, forgotten_type, kept_type, unlocked_type}
 use Rattle.point_law.specs.Point.{Point, default_type, given_type, is_over_stable, is_tracked}
 use Rattle.point_law.specs.Terms.{listed}
-use Rattle.entail_origins.specs.TypeChanges.{change_after_step, change_after_steps, change_at, changed_by, is_same_type, seen, type_there, unless_set, where_other, with_change}
+use Rattle.entail_origins.specs.TypeChanges.{change_after_step, change_after_steps, change_at, changed_by, changed_where, is_same_type, seen, type_there, unless_set, where_other, with_change}
 use Rattle.entail_origins.specs.TypeOrigins.{is_listed, locks_over, origin_after_step, origin_after_steps, set_by, set_by_assignment, set_by_state, set_by_types, where_true, with_source}
 use Rattle.entail_origins.specs.TypesFromOrigins.{Changed, IsFrom, IsTold, TellsOfType, type_by_source, type_by_source_in, type_after_steps}
 use Rattle.entail_origins.specs.declared.type_origin.By.{By}
@@ -216,9 +217,21 @@ module _ (p : Plain) (t z : ℕ) (declared : (x : ℕ) → length p.vars ≤ x �
   other_assigned x retypes plain h =
       fails (x == z) source.Stored (sym (ap (λ b. if b then set_by_types z by.Retype retypes else where_true (x == z) source.Stored) plain) ∙ h)
 
+  -- the locks that are held behind where one is given back, if one is, and the types there
+  abbrev held_behind : (returned : Option ℕ) → Point → List Bool
+  held_behind None a = a.held
+  held_behind (Some l) a = set a.held l false
+
+  abbrev types_behind : (returned : Option ℕ) → Point → List (Option Term)
+  types_behind None a = a.types
+  types_behind (Some l) a = updated (unlocked_type p t (held_behind (Some l) a)) a.types
+
+  unreturned : (returned : Option ℕ) (a : Point) → changed_where cs None returned ≡ None → get_or (types_behind returned a) z None ≡ get_or a.types z None
+  unreturned None a k = refl
+  unreturned (Some l) a k = let c : ◌≡◌ {A = Option TypeChange} (Some (change.Returned l)) None = k in cc
+
   -- what neither sets a type nor may forget it leaves it
   unset : (s : Step) (a : Point) → set_by cs ls z s ≡ None → changed_by cs s ≡ None → given_type (points.after_step p t s a) z ≡ given_type a z
-  unset (passed at skip) a h k = refl
   unset (passed at (assign x e q retypes)) a h k =
       let plain : has cs x ≡ false = fails (has cs x) (change.ControlStored x) k in
       kept_retyped (assigned_type p t a.held x (value_type p t a q e) retypes) a.types z
@@ -226,12 +239,11 @@ module _ (p : Plain) (t z : ℕ) (declared : (x : ℕ) → length p.vars ≤ x �
   unset (passed at (lock l)) a h k =
       kept (locked_type p l) a.types z
       (λ q. ap (λ b. if b && not (is_control p z) then Some (class_of p z) else q) (sym (is_under l) ∙ fails (has ls l) (source.Taken l) h))
-  unset (passed at (unlock l)) a h k = let c : ◌≡◌ {A = Option TypeChange} (Some (change.Returned l)) None = k in cc
   unset (passed at (branch e yes_block no_block join)) a h k = let c : ◌≡◌ {A = Option TypeSource} (Some (set_by_state z by.Join join)) None = h in cc
   unset (passed at (loop e inv b)) a h k = let c : ◌≡◌ {A = Option TypeSource} (Some (set_by_state z by.LoopState inv)) None = h in cc
   unset (passed at (note j)) a h k =
       kept_retyped (listed_or j.types) a.types z (λ g. kept_listed j.types z g (fails (is_listed j.types z) (source.Listed by.Noted) h))
-  unset (passed at (output e)) a h k = refl
+  unset (passed at s) a h k = unreturned (parts s).returned a k
   unset (yes at e) a h k = refl
   unset (no at e) a h k = refl
   unset (head at inv) a h k = let c : ◌≡◌ {A = Option TypeSource} (Some (set_by_state z by.LoopState inv)) None = h in cc
@@ -273,7 +285,6 @@ module _ (p : Plain) (t z : ℕ) (declared : (x : ℕ) → length p.vars ≤ x �
 
   -- what sets a type gives it
   gives : (s : Step) (a : Point) (k : TypeSource) → set_by cs ls z s ≡ Some k → is_some (given_type (points.after_step p t s a) z) ≡ true → Gives s a k
-  gives (passed at skip) a k h some = let c : ◌≡◌ {A = Option TypeSource} None (Some k) = h in cc
   gives (passed at (assign x e q retypes)) a k h some = by_assignment at x e q retypes a k h some
   gives (passed at (lock l)) a k h some =
       let m = holds (has ls l) (source.Taken l) k h in
@@ -281,7 +292,6 @@ module _ (p : Plain) (t z : ℕ) (declared : (x : ℕ) → length p.vars ≤ x �
       (updated_where (locked_type p l) a.types z some
       ∙ ap (λ b. if b && not (is_control p z) then Some (class_of p z) else get_or a.types z None) (sym (is_under l) ∙ m.0)
       ∙ ap (λ b. if true && not b then Some (class_of p z) else get_or a.types z None) no_control)
-  gives (passed at (unlock l)) a k h some = let c : ◌≡◌ {A = Option TypeSource} None (Some k) = h in cc
   gives (passed at (branch e yes_block no_block join)) a k h some =
       let end = after_block p t yes_block (with_guard p t a e) in
       subst (Gives (passed at (branch e yes_block no_block join)) a) (ap (λ o. unwrap_or o (set_by_state z by.Join join)) h)
@@ -292,12 +302,10 @@ module _ (p : Plain) (t z : ℕ) (declared : (x : ℕ) → length p.vars ≤ x �
   gives (passed at (note j)) a k h some =
       let m = holds (is_listed j.types z) (source.Listed by.Noted) k h in
       subst (Gives (passed at (note j)) a) m.1 (retyped_listed (listed_or j.types) j.types (λ g. g) a.types z m.0 (λ g. refl) some)
-  gives (passed at (output e)) a k h some = let c : ◌≡◌ {A = Option TypeSource} None (Some k) = h in cc
-  gives (yes at e) a k h some = let c : ◌≡◌ {A = Option TypeSource} None (Some k) = h in cc
-  gives (no at e) a k h some = let c : ◌≡◌ {A = Option TypeSource} None (Some k) = h in cc
   gives (head at inv) a k h some =
       subst (Gives (head at inv) a) (ap (λ o. unwrap_or o (set_by_state z by.LoopState inv)) h)
       (by_state by.LoopState inv a.held None a.types (is_listed inv.types z) refl some)
+  gives _ a k h some = let c : ◌≡◌ {A = Option TypeSource} None (Some k) = h in cc
 
   -- What forgets a type -----------------------------------------------------------------------------------------
 
@@ -333,9 +341,11 @@ module _ (p : Plain) (t z : ℕ) (declared : (x : ℕ) → length p.vars ≤ x �
           (get_or (retyped (assigned_type p t a.held x (value_type p t a q e) retypes) a.types) z None) was
           (changed ∙ ap (λ o. option_map (assigned_type p t a.held x (value_type p t a q e) retypes z) o) was ∙ ap Some (forgets g)) other
 
-  by_return : (at l : ℕ) (a : Point) → is_some (given_type (points.after_step p t (passed at (unlock l)) a) z) ≡ true
-      → Differs (passed at (unlock l)) a → Becomes (passed at (unlock l)) a
-  by_return at l a some other = by_tracked (is_tracked p t held z) (updated_where (unlocked_type p t held) a.types z some)
+  by_return : (returned : Option ℕ) (a : Point) (y : TypeChange) → changed_where cs None returned ≡ Some y → is_some (get_or (types_behind returned a) z None) ≡ true
+      → ¬ (get_or (types_behind returned a) z None ≡ get_or a.types z None)
+      → get_or (types_behind returned a) z None ≡ Some (default_type p t (held_behind returned a) z)
+  by_return None a y k some other = let c : ◌≡◌ {A = Option TypeChange} None (Some y) = k in cc
+  by_return (Some l) a y k some other = by_tracked (is_tracked p t held z) (updated_where (unlocked_type p t held) a.types z some)
     where
       held : List Bool
       held = set a.held l false
@@ -354,17 +364,13 @@ module _ (p : Plain) (t z : ℕ) (declared : (x : ℕ) → length p.vars ≤ x �
   -- what may forget a type, and by which it is another, did forget it
   becomes : (s : Step) (a : Point) (y : TypeChange) → set_by cs ls z s ≡ None → changed_by cs s ≡ Some y → is_some (given_type (points.after_step p t s a) z) ≡ true
       → Differs s a → Becomes s a
-  becomes (passed at skip) a y h k some other = let c : ◌≡◌ {A = Option TypeChange} None (Some y) = k in cc
   becomes (passed at (assign x e q retypes)) a y h k some other = by_store at x e q retypes a (holds (has cs x) (change.ControlStored x) y k).0 h some other
   becomes (passed at (lock l)) a y h k some other = let c : ◌≡◌ {A = Option TypeChange} None (Some y) = k in cc
-  becomes (passed at (unlock l)) a y h k some other = by_return at l a some other
   becomes (passed at (branch e yes_block no_block join)) a y h k some other = let c : ◌≡◌ {A = Option TypeChange} None (Some y) = k in cc
   becomes (passed at (loop e inv b)) a y h k some other = let c : ◌≡◌ {A = Option TypeChange} None (Some y) = k in cc
   becomes (passed at (note j)) a y h k some other = let c : ◌≡◌ {A = Option TypeChange} None (Some y) = k in cc
-  becomes (passed at (output e)) a y h k some other = let c : ◌≡◌ {A = Option TypeChange} None (Some y) = k in cc
-  becomes (yes at e) a y h k some other = let c : ◌≡◌ {A = Option TypeChange} None (Some y) = k in cc
-  becomes (no at e) a y h k some other = let c : ◌≡◌ {A = Option TypeChange} None (Some y) = k in cc
-  becomes (head at inv) a y h k some other = let c : ◌≡◌ {A = Option TypeChange} None (Some y) = k in cc
+  becomes (passed at s) a y h k some other = by_return (parts s).returned a y k some other
+  becomes _ a y h k some other = let c : ◌≡◌ {A = Option TypeChange} None (Some y) = k in cc
 
   -- a type at the start is the class
   at_start : is_some (type_after_steps p t z []) ≡ true → type_after_steps p t z [] ≡ Some (class_of p z)

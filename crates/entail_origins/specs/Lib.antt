@@ -7,6 +7,7 @@ pub mod OwnEntailments
 pub mod TypeOrigins
 pub mod TypeChanges
 pub mod AskedVariables
+pub mod AskedHypotheses
 pub mod GoalTypes
 pub mod KnownTypes
 pub mod FollowedTypes

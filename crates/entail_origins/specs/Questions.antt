@@ -5,9 +5,10 @@ use Rattle.cov_expr.specs.Term.{Term}
 use Rattle.cov_expr.specs.Trees.{mentions}
 use Rattle.cov_ast.specs.Declarations.{class_of, is_control, lock_at}
 use Rattle.cov_ast.specs.Plain.{Plain, plain}
-use Rattle.cov_ast.specs.Syntax.{State, Stm, skip, assign, lock, unlock, branch, loop, note, output, Program}
+use Rattle.cov_ast.specs.Syntax.{State, Stm, Program}
 use Rattle.mode_compat.specs.Compatible.{numbered}
 use Rattle.mode_state.specs.Sets.{is_hidden}
+use Rattle.statement_parts.specs.Parts.{either, Nested, none, parts, Store, turn}
 use Rattle.statement_paths.specs.Paths.{Way, way_to}
 use Rattle.cov_ast.specs.LocksAlong.{no_locks}
 use Rattle.statement_paths.specs.LocksHeld.{held_along}
@@ -28,6 +29,13 @@ of_preds end number (r ∷ rs) = q.Predicate end number ∷ of_preds end (number
 abbrev pub of_state : End → State → List Question
 of_state end j = of_preds end 1 j.preds ++ map (λ r. q.TypeOf end r.0) j.types
 
+-- Of what is stated: a note is to be met where it stands, the state of a loop in front of it and at the end of its block, and that of a
+-- branch at the ends of its blocks. The guard of either is asked of, that of a loop at its head.
+abbrev pub of_stated : Nested → State → List Question
+of_stated none j = of_state e.Here j
+of_stated (turn b) j = of_state e.Entry j ++ (q.HeadGuard ∷ of_state e.Body j)
+of_stated (either a b) j = q.Guard ∷ (of_state e.FirstBlock j ++ of_state e.SecondBlock j)
+
 -- Statements ---------------------------------------------------------------------------------------------------
 
 -- whether a type is written
@@ -35,9 +43,9 @@ abbrev pub of_written : Option Term → List Question
 of_written None = []
 of_written (Some r) = q.Written ∷ []
 
--- the invariant of a lock, and what it hides no longer
-abbrev pub of_unlock : Plain → (l : ℕ) → List Question
-of_unlock p l =
+-- of a lock that is given back: its invariant, and what it hides no longer
+abbrev pub of_returned : Plain → (l : ℕ) → List Question
+of_returned p l =
     map (λ r. q.Invariant l) (option_to_list (lock_at p l).inv) ++ map q.Freed (filter (λ x. not (is_control p x)) (lock_at p l).hide)
 
 -- `hidden` says which variables no other thread may read.
@@ -57,16 +65,17 @@ module _ (p : Plain) (hidden : ℕ → Bool) where
   abbrev pub of_assignment : (x : ℕ) → Option Term → (retypes : List (ℕ × Term)) → List Question
   of_assignment x written retypes = of_written written ++ of_shown x ++ of_controlled x ++ map (λ r. q.Retyped r.0) retypes
 
+  -- by what is stored, the lock that is given back, what is put out, or what is stated
+  abbrev pub of_parts : Option Store → (returned : Option ℕ) → (printed : Option Term) → Nested → Option State → List Question
+  of_parts (Some k) returned printed nested j = of_assignment k.variable k.written k.retypes
+  of_parts None (Some l) printed nested j = of_returned p l
+  of_parts None None (Some r) nested j = q.Printed ∷ []
+  of_parts None None None nested None = []
+  of_parts None None None nested (Some j) = of_stated nested j
+
   -- those of a statement itself, and not those of its blocks
   abbrev pub of_statement : Stm → List Question
-  of_statement skip = []
-  of_statement (assign x r written retypes) = of_assignment x written retypes
-  of_statement (lock l) = []
-  of_statement (unlock l) = of_unlock p l
-  of_statement (branch r a b join) = q.Guard ∷ (of_state e.FirstBlock join ++ of_state e.SecondBlock join)
-  of_statement (loop r inv b) = of_state e.Entry inv ++ (q.HeadGuard ∷ of_state e.Body inv)
-  of_statement (note j) = of_state e.Here j
-  of_statement (output r) = q.Printed ∷ []
+  of_statement s = of_parts (parts s).store (parts s).returned (parts s).printed (parts s).nested (parts s).state
 
 -- those of a statement in front of which the thread holds these locks
 abbrev pub questions : Plain → (t : ℕ) → (held : List Bool) → Stm → List Question

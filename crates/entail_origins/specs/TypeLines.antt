@@ -120,6 +120,12 @@ abbrev pub set_text : Plain → Names → (bytes : List ℕ) → List Step → (
 set_text p names bytes steps hidden z o =
     source_text p names hidden z o.source ++ place_text bytes o.at ++ source_end names steps o.index o.source
 
+abbrev pub is_stored : TypeSource → Bool
+is_stored source.Stored = true
+is_stored (source.Taken l) = false
+is_stored (source.Listed by) = false
+is_stored (source.Unlisted by) = false
+
 -- a type that no step sets is the class
 abbrev pub start_text : Plain → Names → (z : ℕ) → List ℕ
 start_text p names z = class_text p names z ++ codes ", from the start of the thread"
@@ -165,6 +171,36 @@ abbrev pub later_text : Plain → (t : ℕ) → Names → (bytes : List ℕ) →
 later_text p t names bytes steps z None = []
 later_text p t names bytes steps z (Some c) = changed_text p t names bytes steps z c
 
+-- The words on what sets another type --------------------------------------------------------------------------------
+
+-- whether a type is that of a value that is stored
+abbrev pub is_of_value : Option TypeOrigin → Bool
+is_of_value None = false
+is_of_value (Some o) = is_stored o.source
+
+-- the assignment, where the type is that of its value
+abbrev pub assignment_words : (of_value : Bool) → List ℕ
+assignment_words true = codes ", or `as ..` at the assignment"
+assignment_words false = []
+
+abbrev pub retype_words : Plain → (z : ℕ) → List ℕ
+retype_words p z = codes "; another is set by `retype " ++ name_of p z
+
+abbrev pub there_words : (of_value : Bool) → List ℕ
+there_words of_value = codes " as ..` there" ++ assignment_words of_value
+
+abbrev pub setters : Plain → (of_value : Bool) → (z : ℕ) → List ℕ
+setters p of_value z = retype_words p z ++ there_words of_value
+
+-- A store to a control forgets no type that a `retype` there sets.
+abbrev pub mend_of : Plain → (of_value : Bool) → (z : ℕ) → TypeChange → List ℕ
+mend_of p of_value z (change.ControlStored x) = setters p of_value z
+mend_of p of_value z (change.Returned l) = []
+
+abbrev pub mend_text : Plain → (z : ℕ) → Option TypeOrigin → Option Later → List ℕ
+mend_text p z origin None = []
+mend_text p z origin (Some c) = mend_of p (is_of_value origin) z c.change
+
 -- Lines --------------------------------------------------------------------------------------------------------
 
 -- where a type is looked at: in front of a step, which is in the line of an assignment, or at the point of which is asked
@@ -185,11 +221,12 @@ abbrev pub shared_text : Plain → Names → (z : ℕ) → List ℕ
 shared_text p names z = class_text p names z ++ codes ", since it isn't stable here: the thread doesn't assume that no other writes it, and holds no lock that it is under"
 
 module _ (p : Plain) (t : ℕ) (names : Names) (bytes : List ℕ) (steps : List Step) (known : Known) (z : ℕ) where
-  -- where a type comes from, and what changed it since, of a variable that is under these locks
+  -- where a type comes from, what changed it since, and what sets another, of a variable that is under these locks
   abbrev pub history_text : (locks : List Bool) → List ℕ
   history_text locks =
-      origin_text p names bytes steps (has known.hidden z) z (origin_along known.controls locks z steps)
-      ++ later_text p t names bytes steps z (change_along p t known.controls locks z steps)
+      let origin = origin_along known.controls locks z steps in
+      let later = change_along p t known.controls locks z steps in
+      origin_text p names bytes steps (has known.hidden z) z origin ++ later_text p t names bytes steps z later ++ mend_text p z origin later
 
   -- where the type of a variable behind steps comes from
   abbrev pub type_text : List ℕ

@@ -19,12 +19,12 @@ pub fn add_assignment(
     p: &Program,
     hidden: &NumberSet,
     x: u32,
-    written: &Option<Expr>,
+    written: Option<&Expr>,
     retypes: &[Retype],
     made: &mut List<Question>,
 ) -> Result<(), NoMemory>
     requires { length p.now.vars ≤ MOST_VARIABLES }
-    ensures { OnOk result (made.new ≡ made.old ++ spec.of_assignment (plain (view.program p.now)) (has hidden.now) x (option_map term written.now) (map view.retype retypes.now)) }
+    ensures { OnOk result (made.new ≡ made.old ++ spec.of_assignment (plain (view.program p.now)) (has hidden.now) x (option_map (λ e. term e.now) written.entry) (map view.retype retypes.now)) }
 {
     add_written(written, made)?;
     add_shown(p, hidden, x, made)?;
@@ -33,8 +33,8 @@ pub fn add_assignment(
 }
 
 /// Adds that the type that is written gives that of the value, where one is written.
-fn add_written(written: &Option<Expr>, made: &mut List<Question>) -> Result<(), NoMemory>
-    ensures { OnOk result (made.new ≡ made.old ++ spec.of_written (option_map term written.now)) }
+fn add_written(written: Option<&Expr>, made: &mut List<Question>) -> Result<(), NoMemory>
+    ensures { OnOk result (made.new ≡ made.old ++ spec.of_written (option_map (λ e. term e.now) written.entry)) }
 {
     match written {
         Some(_) => made.push(Question::Written),

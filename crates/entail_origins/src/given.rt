@@ -123,7 +123,7 @@ fn add_stated<'p>(
 }
 
 /// What gives the predicates of a state, by the blocks of the statement that has it.
-fn state_source(nested: Nested<'_>) -> HypothesisSource
+pub fn state_source(nested: Nested<'_>) -> HypothesisSource
     ensures { result ≡ origins.state_source (table.nested_of nested.entry) }
 {
     match nested {

@@ -3,11 +3,12 @@
 //! - [`question`]: what the entailment with a number asks, of those of the statement at a place ([`Question`], [`End`]): of which variable,
 //!   of which lock, at the end of which block. [`add_question`]: the same as a line of text. [`questions`] and [`add_question_line`]: the
 //!   same of a statement that is at hand ([`Asked`]).
-//! - [`add_given`]: the predicates that a step on the way to a statement may give ([`Given`], [`GivenTerm`], [`HypothesisSource`]). [`remarks`]: a few words
-//!   on each hypothesis, with the line of its origin, the last step that gives it ([`Origin`], [`origin_of`], [`origin_at`]). [`add_origin`] and
-//!   [`add_any_origin`]: the words on one.
+//! - [`add_given`]: the predicates that a step on the way to a statement may give ([`Given`], [`GivenTerm`], [`HypothesisSource`]), of a state by
+//!   [`state_source`]. [`remarks`]: a few words on each hypothesis, with the line of its origin, the last step that gives it ([`Origin`], [`origin_of`],
+//!   [`origin_at`]). [`add_origin`] and [`add_any_origin`]: the words on one.
+//! - [`variables_of`]: the variables whose types make up the goal of a question.
 //! - [`add_type_lines`]: a line for each variable whose type makes up the goal: the last step on the way that sets it, and the last after it
-//!   that changed it; and where the first is an assignment, such lines for the variables of its value in front of it, and so on.
+//!   that changed it, and what would set another; and where the first is an assignment, such lines for the variables of its value in front of it, and so on.
 //!
 //! Laws have no body. Of questions: [`each_entailment_has_a_question`] and [`what_is_listed_is_asked`], that they go by the rules of types.
 //! Of hypotheses: [`predicates_have_origins`], that each predicate of a point is given by a step to it. Of types:
@@ -28,6 +29,7 @@
 //! | `followed_types` | `FollowedTypes` | of which variables is told behind those of a goal |
 //! | `type_lines`, `type_classes`, `type_words` | `TypeLines` | the lines, by what is known of the variables at the point |
 //! | `type_laws` | `TypesFromOrigins`, `GoalTypes` | what an origin and a change say of the type at a point; the goal of a question, by the types there |
+//! | | `AskedHypotheses` | from what it is to follow what a question asks |
 #![tactic(auto)]
 
 mod assignments;
@@ -52,7 +54,8 @@ mod type_origin;
 mod type_steps;
 mod type_words;
 
-pub use given::{Given, GivenTerm, add_given};
+pub use given::{Given, GivenTerm, add_given, state_source};
+pub use goal_variables::variables_of;
 pub use hypothesis_laws::predicates_have_origins;
 pub use hypothesis_origin::{HypothesisSource, Origin, origin_at, origin_of};
 pub use kinds::{Asked, End, Question};

@@ -7,6 +7,7 @@ ghost use Rattle.cov_ast.specs.Plain.{plain};
 ghost use Rattle.cov_ast.specs.Tables.{has};
 ghost use Rattle.cov_ast.specs.View as view;
 ghost use Rattle.cov_ast.specs.WellFormed.{IsStmInRange, IsWellFormed};
+ghost use Rattle.statement_parts.specs.Parts as table;
 ghost use Rattle.entail_origins.specs.Questions as spec;
 
 use crate::assignments::add_assignment;
@@ -15,6 +16,7 @@ use crate::question_states::add_state;
 use cov_ast::{NumberSet, Program, State, StmtKind};
 use cov_expr::{Expr, List, NoMemory};
 use policy_class::is_control;
+use statement_parts::{Nested, parts_of};
 use std::alloc::Global;
 
 /// What the entailments of a statement ask, in their order, where the others may not read the variables of a set.
@@ -28,19 +30,34 @@ pub fn questions(
     requires range { IsStmInRange (length p.now.vars) (length p.now.locks) (view.kind kind.now) }
     ensures { IfOk result (λ made. made ≡ spec.of_statement (plain (view.program p.now)) (has hidden.now) (view.kind kind.now)) }
 {
+    let parts = parts_of(kind);
     let mut made = List::new(alloc);
-    match kind {
-        StmtKind::Skip | StmtKind::Lock(_) => {}
-        StmtKind::Assign(x, _, written, retypes) => {
-            add_assignment(p, hidden, *x, written, retypes.as_slice(), &mut made)?
-        }
-        StmtKind::Unlock(l) => add_unlock(p, *l, &mut made)?,
-        StmtKind::If(_, _, _, join) => add_branch(join, &mut made)?,
-        StmtKind::While(_, inv, _) => add_loop(inv, &mut made)?,
-        StmtKind::Note(state) => add_state(End::Here, state, &mut made)?,
-        StmtKind::Output(_) => made.push(Question::Printed)?,
+    match (parts.store, parts.returned, parts.printed, parts.state) {
+        (Some(store), _, _, _) => add_assignment(
+            p,
+            hidden,
+            store.variable,
+            store.written,
+            store.retypes,
+            &mut made,
+        )?,
+        (None, Some(l), _, _) => add_returned(p, l, &mut made)?,
+        (None, None, Some(_), _) => made.push(Question::Printed)?,
+        (None, None, None, Some(state)) => add_stated(parts.nested, state, &mut made)?,
+        (None, None, None, None) => {}
     }
     Ok(made)
+}
+
+/// Adds what is asked of what is stated, by the blocks of the statement that states it.
+fn add_stated(nested: Nested<'_>, state: &State, made: &mut List<Question>) -> Result<(), NoMemory>
+    ensures { OnOk result (made.new ≡ made.old ++ spec.of_stated (table.nested_of nested.entry) (view.state state.now)) }
+{
+    match nested {
+        Nested::None => add_state(End::Here, state, made),
+        Nested::Turn(_) => add_loop(state, made),
+        Nested::Either(_, _) => add_branch(state, made),
+    }
 }
 
 /// Adds what is asked of a branch: its guard, and what it states at the ends of its blocks.
@@ -62,9 +79,9 @@ fn add_loop(inv: &State, made: &mut List<Question>) -> Result<(), NoMemory>
 }
 
 /// Adds what is asked where a lock is given back: its invariant, and what it hides no longer.
-fn add_unlock(p: &Program, l: u32, made: &mut List<Question>) -> Result<(), NoMemory>
+fn add_returned(p: &Program, l: u32, made: &mut List<Question>) -> Result<(), NoMemory>
     requires { l < length p.now.locks }
-    ensures { OnOk result (made.new ≡ made.old ++ spec.of_unlock (plain (view.program p.now)) l) }
+    ensures { OnOk result (made.new ≡ made.old ++ spec.of_returned (plain (view.program p.now)) l) }
 {
     let lock = &p.locks.as_slice()[l as usize];
     add_invariant(l, &lock.inv, made)?;

@@ -18,7 +18,9 @@ use crate::type_changes::change_along;
 use crate::type_classes::{add_class, add_default, add_shared, add_start};
 use crate::type_origin::{By, Later, TypeChange, TypeOrigin, TypeSource};
 use crate::type_steps::{locks_over, origin_along};
-use crate::type_words::{add_stored, change_end, change_word, list_word, listed_text};
+use crate::type_words::{
+    add_stored, assignment_words, change_end, change_word, is_of_value, list_word, listed_text,
+};
 use cov_ast::{NameTable, NumberSet, Program, StmtKind};
 use cov_expr::{Blob, NoMemory};
 use statement_paths::{Step, hidden_after_steps};
@@ -242,7 +244,8 @@ fn add_history(
     let origin = origin_along(&known.controls, locks, z, steps);
     add_any_origin(p, names, bytes, steps, hidden, z, origin, text)?;
     let later = change_along(trace, &known.controls, locks, z, steps)?;
-    add_any_later(trace, names, bytes, steps, z, later, text)
+    add_any_later(trace, names, bytes, steps, z, later, text)?;
+    add_mend(p, z, origin, later, text)
 }
 
 /// Adds where the type of a variable comes from.
@@ -422,6 +425,62 @@ fn add_default_behind(
 {
     let hidden = hidden_after_steps(trace.alloc, trace.program, trace.thread, steps)?;
     add_default(trace.program, names, hidden.has(z), z, text)
+}
+
+/// Adds what sets another type where a later change is told, if a statement can.
+fn add_mend(
+    p: &Program,
+    z: u32,
+    origin: Option<TypeOrigin>,
+    later: Option<Later>,
+    text: &mut Blob,
+) -> Result<(), NoMemory>
+    ensures { OnOk result (text.new ≡ text.old ++ spec.mend_text (plain (view.program p.now)) z origin later) }
+{
+    match later {
+        Some(later) => add_mend_of(p, is_of_value(origin), z, later.change, text),
+        None => Ok(()),
+    }
+}
+
+/// Adds what sets another type than a change does.
+fn add_mend_of(
+    p: &Program,
+    of_value: bool,
+    z: u32,
+    change: TypeChange,
+    text: &mut Blob,
+) -> Result<(), NoMemory>
+    ensures { OnOk result (text.new ≡ text.old ++ spec.mend_of (plain (view.program p.now)) of_value z change) }
+{
+    match change {
+        TypeChange::ControlStored(_) => add_setters(p, of_value, z, text),
+        TypeChange::Returned(_) => Ok(()),
+    }
+}
+
+/// Adds that a `retype` sets another type of a variable, or an assignment.
+fn add_setters(p: &Program, of_value: bool, z: u32, text: &mut Blob) -> Result<(), NoMemory>
+    ensures { OnOk result (text.new ≡ text.old ++ spec.setters (plain (view.program p.now)) of_value z) }
+{
+    add_retype(p, z, text)?;
+    add_there(of_value, text)
+}
+
+/// Adds the `retype` of a variable.
+fn add_retype(p: &Program, z: u32, text: &mut Blob) -> Result<(), NoMemory>
+    ensures { OnOk result (text.new ≡ text.old ++ spec.retype_words (plain (view.program p.now)) z) }
+{
+    text.extend_from_slice(b"; another is set by `retype ")?;
+    add_variable_name(p, z, text)
+}
+
+/// Adds where it stands, and the assignment, where the type is that of its value.
+fn add_there(of_value: bool, text: &mut Blob) -> Result<(), NoMemory>
+    ensures { OnOk result (text.new ≡ text.old ++ spec.there_words of_value) }
+{
+    text.extend_from_slice(b" as ..` there")?;
+    text.extend_from_slice(assignment_words(of_value).as_bytes())
 }
 
 /// Adds what is done that may forget a type.

@@ -6,7 +6,7 @@ ghost use Rattle.cov_expr.specs.View.{term};
 ghost use Rattle.cov_print.specs.Spelling.{whole};
 ghost use Rattle.entail_origins.specs.TypeLines as spec;
 
-use crate::type_origin::{By, TypeChange};
+use crate::type_origin::{By, TypeChange, TypeOrigin, TypeSource};
 use cov_ast::{NameTable, StmtKind};
 use cov_expr::{Blob, Expr, NoMemory};
 use cov_print::add_expr;
@@ -81,5 +81,36 @@ pub fn change_end(is_known: bool, change: TypeChange) -> &'static str
         (false, TypeChange::Returned(_)) => {
             ", and it may mention what that protects, so that it may become "
         }
+    }
+}
+
+/// Whether a type is that of a value that is stored.
+pub fn is_of_value(origin: Option<TypeOrigin>) -> bool
+    ensures { result ≡ spec.is_of_value origin }
+{
+    match origin {
+        Some(origin) => is_stored(origin.source),
+        None => false,
+    }
+}
+
+/// Whether a value that is stored sets it.
+fn is_stored(source: TypeSource) -> bool
+    ensures { result ≡ spec.is_stored source }
+{
+    match source {
+        TypeSource::Stored => true,
+        TypeSource::Taken(_) | TypeSource::Listed(_) | TypeSource::Unlisted(_) => false,
+    }
+}
+
+/// The assignment, where the type is that of its value.
+pub fn assignment_words(of_value: bool) -> &'static str
+    ensures { result.now ≡ spec.assignment_words of_value }
+{
+    if of_value {
+        ", or `as ..` at the assignment"
+    } else {
+        ""
     }
 }
