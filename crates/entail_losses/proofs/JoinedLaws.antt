@@ -33,7 +33,7 @@ use Rattle.point_law.specs.After.{start}
 use Rattle.point_law.specs.Point.{Point, is_over_stable}
 use Rattle.point_law.specs.Terms.{each_variable}
 use Rattle.statement_paths.specs.LocksHeld.{held_after, held_along, held_at_end, held_past}
-use Rattle.statement_paths.specs.Paths.{Step, passed, yes, no, head, place_of, passed_all, to_first_end, to_second_end}
+use Rattle.statement_paths.specs.Paths.{Step, passed, place_of, passed_all, to_first_end, to_second_end}
 use Rattle.statement_paths.specs.VariableSets.{stable, stable_after_steps}
 use Rattle.statement_paths.proofs.PlainLaws.{after_the_first}
 

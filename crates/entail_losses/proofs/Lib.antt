@@ -1,4 +1,5 @@
 mod LeftOutExamples
+mod CollectedLaws
 pub mod FoundLaws
 pub mod KnownLaws
 mod ForgottenExamples

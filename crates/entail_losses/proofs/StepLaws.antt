@@ -9,9 +9,10 @@ use Rattle.cov_expr.specs.Term.{Term, const, var, neg, bin}
 use Rattle.cov_expr.specs.Trees.{same, has_term, mentions}
 use Rattle.cov_ast.specs.Declarations.{lock_at}
 use Rattle.cov_ast.specs.Plain.{Plain}
-use Rattle.cov_ast.specs.Syntax.{State, skip, assign, lock, unlock, branch, loop, note, output}
+use Rattle.cov_ast.specs.Syntax.{State, assign, lock, branch, loop, note}
 use Rattle.cov_ast.specs.Tables.{has}
 use Rattle.mode_state.specs.Sets.{is_stable}
+use Rattle.statement_parts.specs.Parts.{parts}
 use Rattle.statement_paths.specs.Paths.{Step, passed, yes, no, head}
 use Rattle.point_law.specs.After.{with_term_if, keeps_value}
 use Rattle.point_law.specs.Point.{Point, is_over_stable}
@@ -87,6 +88,17 @@ in_filter keep (e ∷ es) h passes k = by_case (λ m. in_filter keep es h passes
     by_case rest false is (inl first) = absurd (true≢false (sym passes ∙ sym (ap keep (same_is e h first)) ∙ is))
     by_case rest false is (inr later) = rest later
 
+-- what is known where a lock was given back, if one was, and these are held
+module _ (p : Plain) (t : ℕ) (held : List Bool) where
+  abbrev pub known_where_returned : Option ℕ → List Term → List Term
+  known_where_returned None es = es
+  known_where_returned (Some l) es = filter (is_over_stable p t held) es
+
+  stays_returned : (returned : Option ℕ) (es : List Term) (h : Term) → is_over_stable p t held h ≡ true → has_term es h ≡ true
+      → has_term (known_where_returned returned es) h ≡ true
+  stays_returned None es h stable k = k
+  stays_returned (Some l) es h stable k = in_filter (is_over_stable p t held) es h stable k
+
 -- Variables ----------------------------------------------------------------------------------------------------
 
 pub each_more : (f g : ℕ → Bool) → ((x : ℕ) → f x ≡ true → g x ≡ true) → (e : Term) → each_variable f e ≡ true → each_variable g e ≡ true
@@ -134,19 +146,17 @@ module _ (p : Plain) (t : ℕ) where
   -- what is over stable variables that a step doesn't touch stays known, where the step lists it in its state
   pub keeps : (s : Step) (a : Point) (e : Term) (kept : List Bool) → each_variable (has (untouched_by p true s kept)) e ≡ true
       → is_over_stable p t (after_step p t s a).held e ≡ true → Knows a e → Knows (after_step p t (step_with e s) a) e
-  keeps (passed at skip) a e kept over stable k = k
   keeps (passed at (assign x v q retypes)) a e kept over stable k =
       let other : mentions e x ≡ false = unmentioned (has (set kept x false)) x (gone kept x) e over in
       stays_with_if (keeps_value p t a.held x v) (filter (λ r. not (mentions r x)) a.preds) (bin Eq (var x) v) e
       (in_filter (λ r. not (mentions r x)) a.preds e (ap not other) k)
   keeps (passed at (lock l)) a e kept over stable k = stays_with_option a.preds (lock_at p l).inv e k
-  keeps (passed at (unlock l)) a e kept over stable k = in_filter (is_over_stable p t (set a.held l false)) a.preds e stable k
   keeps (passed at (branch g yes_block no_block join)) a e kept over stable k = in_distinct (join.preds ++ e ∷ []) e (at_end join.preds e)
   keeps (passed at (loop g inv b)) a e kept over stable k =
       stays_with_if (is_over_stable p t a.held (neg g)) (distinct_terms (inv.preds ++ e ∷ [])) (neg g) e
       (in_distinct (inv.preds ++ e ∷ []) e (at_end inv.preds e))
   keeps (passed at (note j)) a e kept over stable k = in_distinct (j.preds ++ e ∷ []) e (at_end j.preds e)
-  keeps (passed at (output v)) a e kept over stable k = k
+  keeps (passed at s) a e kept over stable k = stays_returned p t (after_step p t (passed at s) a).held (parts s).returned a.preds e stable k
   keeps (yes at g) a e kept over stable k = stays_with_if (is_over_stable p t a.held g) a.preds g e k
   keeps (no at g) a e kept over stable k = stays_with_if (is_over_stable p t a.held (neg g)) a.preds (neg g) e k
   keeps (head at inv) a e kept over stable k = in_distinct (inv.preds ++ e ∷ []) e (at_end inv.preds e)
@@ -171,10 +181,8 @@ module _ (p : Plain) (t : ℕ) where
   by_state source j g k = in_distinct j.preds g.term (among_each source j.preds g k)
 
   pub gives : (s : Step) (a : Point) (g : Given) → Contains (given_by p s) g → GivesAt s a g
-  gives (passed at skip) a g k = let inside = k.1 in absurd (omega arith)
   gives (passed at (assign x v q retypes)) a g k = subst (GivesAt (passed at (assign x v q retypes)) a) (only k) (by_assignment at x v q retypes a)
   gives (passed at (lock l)) a g k = λ other stable. by_lock l (lock_at p l).inv a.preds g k
-  gives (passed at (unlock l)) a g k = let inside = k.1 in absurd (omega arith)
   gives (passed at (branch e yes_block no_block join)) a g k = λ other stable. by_state by.Join join g k
   gives (passed at (loop e inv b)) a g k = from (Contains-append_cases (given by.LoopLeft (neg e) ∷ []) (each by.LoopState inv.preds) g k)
     where
@@ -182,7 +190,7 @@ module _ (p : Plain) (t : ℕ) where
       from (inl first) = subst (GivesAt (passed at (loop e inv b)) a) (only first) (λ other stable. is_with_if (is_over_stable p t a.held (neg e)) (distinct_terms inv.preds) (neg e) stable)
       from (inr later) = λ other stable. stays_with_if (is_over_stable p t a.held (neg e)) (distinct_terms inv.preds) (neg e) g.term (by_state by.LoopState inv g later)
   gives (passed at (note j)) a g k = λ other stable. by_state by.Noted j g k
-  gives (passed at (output v)) a g k = let inside = k.1 in absurd (omega arith)
+  gives (passed at _) a g k = let inside = k.1 in absurd (omega arith)
   gives (yes at e) a g k = subst (GivesAt (yes at e) a) (only k) (λ other stable. is_with_if (is_over_stable p t a.held e) a.preds e stable)
   gives (no at e) a g k = subst (GivesAt (no at e) a) (only k) (λ other stable. is_with_if (is_over_stable p t a.held (neg e)) a.preds (neg e) stable)
   gives (head at inv) a g k = λ other stable. by_state by.LoopState inv g k

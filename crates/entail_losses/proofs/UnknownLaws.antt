@@ -8,7 +8,7 @@ use Rattle.cov_expr.specs.Term.{Term, const, var, neg, bin}
 use Rattle.cov_expr.specs.Trees.{has_term, mentions, occurrences, same}
 use Rattle.cov_ast.specs.Declarations.{lists, lock_at}
 use Rattle.cov_ast.specs.Plain.{Plain}
-use Rattle.cov_ast.specs.Syntax.{Lock, State, Stm, skip, assign, lock, unlock, branch, loop, note, output}
+use Rattle.cov_ast.specs.Syntax.{Lock, State, Stm, assign, lock, branch, loop, note}
 use Rattle.cov_ast.specs.Tables.{first_outside, has}
 use Rattle.typing_points.specs.Points.{after_step, after_steps, point_after_steps}
 use Rattle.entail_origins.specs.declared.hypothesis_origin.HypothesisSource.{HypothesisSource}
@@ -17,16 +17,16 @@ use Rattle.entail_losses.specs.LeftOut.{state_at}
 use Rattle.entail_losses.specs.Unknowns as u
 use Rattle.entail_losses.specs.Unknowns.{Fact, Reason, unmentioned, own, no_equation, no_guard, unlisted, taken, known, forgotten, fact_at, equation, first_about, listed_or, reason}
 use Rattle.entail_losses.specs.WouldBeKnown.{AreAmong}
-use Rattle.entail_losses.specs.declared.left_out_states.StateAt.{StateAt}
 use Rattle.entail_losses.specs.declared.left_out_states.StateKind.{StateKind}
 use Rattle.entail_losses.specs.declared.left_out_states.StateKind.TheVariants.{Join, Inv, Note}
 use Rattle.entail_losses.proofs.KnownLaws.{held_step}
 use Rattle.entail_losses.proofs.StableLaws.{in_table}
-use Rattle.entail_losses.proofs.StepLaws.{each_more, in_distinct, in_filter, is_with, is_with_if, stays_with, stays_with_if}
+use Rattle.entail_losses.proofs.StepLaws.{each_more, in_distinct, in_filter, is_with, is_with_if, known_where_returned, stays_with, stays_with_if}
 use Rattle.mode_state.specs.Sets.{is_stable}
 use Rattle.point_law.specs.After.{keeps_value, start, with_term_if}
 use Rattle.point_law.specs.Point.{Point, is_over_stable}
 use Rattle.point_law.specs.Terms.{each_variable, distinct_terms, with_option, with_term}
+use Rattle.statement_parts.specs.Parts.{parts}
 use Rattle.statement_paths.specs.Paths.{Step, passed, yes, no, head}
 use Rattle.statement_paths.specs.VariableSets.{stable}
 
@@ -220,26 +220,25 @@ module _ (x : ℕ) where
         (λ m. subst (λ z. IsKnown (with_term_if (keeps_value p t held z e) kept (bin Eq (var z) e)) (u.after_own x (stable p t held) at e)) (sym (eqb-true y x m)) (assigned at e kept))
         (λ m. elsewhere at y e es r k)
 
-    -- a lock that is given back, where these are held then
-    unlocked : (at l : ℕ) (es : List Term) (r : Reason) → IsKnown es r → IsKnown (filter (is_over_stable p t held) es) (u.after_unlock (stable p t held) at l r)
-    unlocked at l es unmentioned k = tt
-    unlocked at l es (own at') k = tt
-    unlocked at l es (no_equation at' z) k = tt
-    unlocked at l es (no_guard at' z) k = tt
-    unlocked at l es (unlisted s) k = tt
-    unlocked at l es (taken at' m) k = tt
-    unlocked at l es (known f) k =
+    -- a lock that is given back, if one is, where these are held then
+    returned : (at : ℕ) (o : Option ℕ) (es : List Term) (r : Reason) → IsKnown es r → IsKnown (known_where_returned p t held o es) (u.after_return (stable p t held) at o r)
+    returned at None es r k = k
+    returned at (Some l) es unmentioned k = tt
+    returned at (Some l) es (own at') k = tt
+    returned at (Some l) es (no_equation at' z) k = tt
+    returned at (Some l) es (no_guard at' z) k = tt
+    returned at (Some l) es (unlisted s) k = tt
+    returned at (Some l) es (taken at' m) k = tt
+    returned at (Some l) es (known f) k =
         either (filter (is_over_stable p t held) es) (each_variable (has (stable p t held)) f.term) (known f) _
         (λ m. (in_filter (is_over_stable p t held) es f.term (stable_now f.term m) k.0, k.1)) (λ m. tt)
-    unlocked at l es (forgotten f loss) k = tt
+    returned at (Some l) es (forgotten f loss) k = tt
 
   module _ (p : Plain) (t : ℕ) where
     one_step : (s : Step) (a : Point) (r : Reason) → IsKnown a.preds r
         → IsKnown (after_step p t s a).preds (u.after_step x (stable p t (after_step p t s a).held) p s r)
-    one_step (passed at skip) a r k = k
     one_step (passed at (assign y e q retypes)) a r k = assignment p t a.held at y e a.preds r k
     one_step (passed at (lock l)) a r k = locked (lock_at p l) at l a.preds r k
-    one_step (passed at (unlock l)) a r k = unlocked p t (after_step p t (passed at (unlock l)) a).held at l a.preds r k
     one_step (passed at (branch e yes_block no_block join)) a r k =
         stated _ at join (u.behind_blocks x p Join at (branch e yes_block no_block join) r)
         (past_blocks p (distinct_terms join.preds) Join at (branch e yes_block no_block join) r)
@@ -247,7 +246,7 @@ module _ (x : ℕ) where
         guarded p t a.held at _ (neg e) (distinct_terms inv.preds) _
         (stated _ at inv (u.behind_blocks x p Inv at (loop e inv b) r) (past_blocks p (distinct_terms inv.preds) Inv at (loop e inv b) r))
     one_step (passed at (note j)) a r k = stated _ at j (u.behind_state Note at r) (behind (distinct_terms j.preds) Note at r)
-    one_step (passed at (output e)) a r k = k
+    one_step (passed at s) a r k = returned p t (after_step p t (passed at s) a).held at (parts s).returned a.preds r k
     one_step (yes at e) a r k = guarded p t a.held at _ e a.preds r k
     one_step (no at e) a r k = guarded p t a.held at _ (neg e) a.preds r k
     one_step (head at inv) a r k = stated _ at inv (u.behind_state Inv at r) (behind (distinct_terms inv.preds) Inv at r)

@@ -1,40 +1,53 @@
 -- Which statements say something of a variable: those that store to it, or may give a predicate that mentions it, and those that take a lock that it is under.
-use Rattle.std.specs.Prelude.{ℕ, ◌==◌, ◌||◌, List, Bool, false, Option, Some, None}
+use Rattle.std.specs.Prelude.{ℕ, ◌==◌, ◌||◌, List, [], ◌∷◌, Bool, false, Option, Some, None}
 use Rattle.std.specs.List.{list_any}
 use Rattle.cov_expr.specs.Term.{Term}
 use Rattle.cov_expr.specs.Trees.{mentions}
 use Rattle.cov_ast.specs.Declarations.{lists, lock_at}
 use Rattle.cov_ast.specs.Plain.{Plain}
-use Rattle.cov_ast.specs.Syntax.{Lock, Stm, skip, assign, lock, unlock, branch, loop, note, output, Block, done, more}
+use Rattle.cov_ast.specs.Syntax.{Lock, Stm, Block}
+use Rattle.statement_parts.specs.Parts.{collected, collected_in, Parts, preds_of, Store}
 
 -- whether one of some predicates mentions a variable
 abbrev pub is_mentioned : (es : List Term) → (x : ℕ) → Bool
 is_mentioned es x = list_any (λ e. mentions e x) es
 
--- whether an invariant does, if there is one
-abbrev pub is_in_invariant : Option Term → (x : ℕ) → Bool
-is_in_invariant None x = false
-is_in_invariant (Some e) x = mentions e x
+-- whether an expression does, if there is one
+abbrev pub is_in : Option Term → (x : ℕ) → Bool
+is_in None x = false
+is_in (Some e) x = mentions e x
 
 -- whether a lock lists it, or has such an invariant
 abbrev pub is_lock_about : Lock → (x : ℕ) → Bool
-is_lock_about k x = lists k x || is_in_invariant k.inv x
+is_lock_about k x = lists k x || is_in k.inv x
+
+-- whether a store is one to it, or of a value that mentions it
+abbrev pub is_store_about : Option Store → (x : ℕ) → Bool
+is_store_about None x = false
+is_store_about (Some k) x = k.variable == x || mentions k.value x
+
+-- the parts of a statement, and then of those in its blocks
+abbrev pub all_parts : Stm → List Parts
+all_parts s = collected (λ ps. ps ∷ []) s
+
+abbrev pub all_parts_in : Block → List Parts
+all_parts_in b = collected_in (λ ps. ps ∷ []) b
 
 -- of a program, of a variable
 module _ (p : Plain) (x : ℕ) where
-  abbrev mutual
-    -- a statement, also by those in its blocks
-    pub is_statement_about : Stm → Bool
-    is_statement_about skip = false
-    is_statement_about (assign y e q retypes) = y == x || mentions e x
-    is_statement_about (lock l) = is_lock_about (lock_at p l) x
-    is_statement_about (unlock l) = false
-    is_statement_about (branch e a b join) = mentions e x || is_block_about a || is_block_about b || is_mentioned join.preds x
-    is_statement_about (loop e inv b) = mentions e x || is_block_about b || is_mentioned inv.preds x
-    is_statement_about (note j) = is_mentioned j.preds x
-    is_statement_about (output e) = false
+  -- whether a lock that is taken is one about it
+  abbrev pub is_taken_about : (taken : Option ℕ) → Bool
+  is_taken_about None = false
+  is_taken_about (Some l) = is_lock_about (lock_at p l) x
 
-    -- one of a block
-    pub is_block_about : Block → Bool
-    is_block_about done = false
-    is_block_about (more at s proofs rest) = is_statement_about s || is_block_about rest
+  -- a statement by its own parts: what it stores, its guard, the lock that it takes, and what it states
+  abbrev pub is_own_about : Parts → Bool
+  is_own_about ps = is_store_about ps.store x || is_in ps.guard x || is_taken_about ps.taken || is_mentioned (preds_of ps.state) x
+
+  -- a statement, also by those in its blocks
+  abbrev pub is_statement_about : Stm → Bool
+  is_statement_about s = list_any is_own_about (all_parts s)
+
+  -- one of a block
+  abbrev pub is_block_about : Block → Bool
+  is_block_about b = list_any is_own_about (all_parts_in b)

@@ -7,8 +7,9 @@ use Rattle.cov_expr.specs.Term.{Term}
 use Rattle.cov_expr.specs.Trees.{has_term, is_closed}
 use Rattle.cov_expr.specs.View.{term}
 use Rattle.cov_ast.specs.Plain.{Plain}
-use Rattle.cov_ast.specs.Syntax.{Stm, skip, assign, lock, unlock, branch, loop, note, output}
+use Rattle.cov_ast.specs.Syntax.{Stm}
 use Rattle.cov_ast.specs.Tables.{has}
+use Rattle.statement_parts.specs.Parts.{either, Nested, none, parts, preds_of, turn}
 use Rattle.entail_losses.specs.Forgotten.{untouched_along}
 use Rattle.entail_losses.specs.LeftOut.{LeftOut, gives_nothing, is_known, last_state, state_at, states_of_steps}
 use Rattle.entail_losses.specs.WouldBeKnown.{first_state}
@@ -85,18 +86,15 @@ module _ (hypotheses : List Term) where
   with_unjoined second listed states (g ∷ gs) found = with_unjoined second listed states gs (with_one_unjoined second listed states g found)
 
   module _ (p : Plain) where
-    -- the same of a statement that is passed, behind which these variables are kept, and these states come
+    -- the same of a statement that is passed, behind which these variables are kept, and these states come, if it has two blocks
+    abbrev pub with_blocks : Nested → (kept : List Bool) → (behind : Option States) → (at : ℕ) → Stm → (found : List LeftOut) → List LeftOut
+    with_blocks none kept behind at s found = found
+    with_blocks (turn b) kept behind at s found = found
+    with_blocks (either a b) kept behind at s found =
+        with_unjoined (still_terms p kept (to_second_end at s)) (preds_of (parts s).state) (from_join at behind) (still_given p kept (to_first_end at s)) found
+
     abbrev pub with_branch : (kept : List Bool) → (behind : Option States) → (at : ℕ) → Stm → (found : List LeftOut) → List LeftOut
-    with_branch kept behind at (branch e a b join) found =
-        with_unjoined (still_terms p kept (to_second_end at (branch e a b join))) join.preds (from_join at behind)
-        (still_given p kept (to_first_end at (branch e a b join))) found
-    with_branch kept behind at skip found = found
-    with_branch kept behind at (assign x e q retypes) found = found
-    with_branch kept behind at (lock l) found = found
-    with_branch kept behind at (unlock l) found = found
-    with_branch kept behind at (loop e inv b) found = found
-    with_branch kept behind at (note j) found = found
-    with_branch kept behind at (output e) found = found
+    with_branch kept behind at s found = with_blocks (parts s).nested kept behind at s found
 
     abbrev pub with_joined_step : (kept : List Bool) → (behind : Option States) → Step → (found : List LeftOut) → List LeftOut
     with_joined_step kept behind (passed at s) found = with_branch kept behind at s found

@@ -3,7 +3,7 @@
 -- A state forgets each predicate that it doesn't list. One that a step in front of the state gives, whose variables are stable at the point and
 -- since that step, and to which no statement behind that step stores, also in a block, would be a hypothesis there, had the states listed it. Whether the
 -- ends of the blocks that are passed let it be listed isn't looked at.
-use Rattle.std.specs.Prelude.{ℕ, ◌&&◌, ◌||◌, nat_lt, List, [], ◌∷◌, ◌++◌, length, map, set, Bool, true, false, not, if◌then◌else◌, Option, Some, None}
+use Rattle.std.specs.Prelude.{ℕ, ◌&&◌, ◌||◌, nat_lt, List, [], ◌∷◌, ◌++◌, length, map, set, Bool, true, false, not, if◌then◌else◌, Option, Some, None, option_map}
 use Rattle.std.specs.Option.{option_or}
 use Rattle.cov_expr.specs.declared.expr.Op.TheVariants.{Eq, Both}
 use Rattle.cov_expr.specs.Term.{Term, const, var, neg, bin}
@@ -11,8 +11,9 @@ use Rattle.cov_expr.specs.Trees.{has_term, is_closed, mentions}
 use Rattle.cov_expr.specs.View.{term}
 use Rattle.cov_ast.specs.Declarations.{lock_at}
 use Rattle.cov_ast.specs.Plain.{Plain}
-use Rattle.cov_ast.specs.Syntax.{Lock, Stm, skip, assign, lock, unlock, branch, loop, note, output, Block, done, more}
+use Rattle.cov_ast.specs.Syntax.{Lock, Stm, Block}
 use Rattle.cov_ast.specs.Tables.{has}
+use Rattle.statement_parts.specs.Parts.{collected, collected_in, either, Nested, none, Parts, parts, Store, turn}
 use Rattle.entail_origins.specs.Origins.{Given, at_place, given_by}
 use Rattle.entail_origins.specs.declared.hypothesis_origin.Origin.{Origin}
 use Rattle.entail_origins.specs.declared.hypothesis_origin.HypothesisSource.{HypothesisSource}
@@ -33,36 +34,37 @@ abbrev pub without_all : List Bool → List ℕ → List Bool
 without_all marks [] = marks
 without_all marks (x ∷ xs) = without_all (set marks x false) xs
 
--- a set without the variables of a lock
-abbrev pub without_listed : Lock → List Bool → List Bool
-without_listed l marks = without_all (without_all marks l.nowrite) l.hide
+-- the variable of a store, where stores count
+abbrev pub stored_by : (stores : Bool) → Option Store → List ℕ
+stored_by stores None = []
+stored_by stores (Some k) = if stores then k.variable ∷ [] else []
 
--- a set without the variable of a store, where stores count
-abbrev pub without_stored : (stores : Bool) → (x : ℕ) → List Bool → List Bool
-without_stored stores x marks = if stores then set marks x false else marks
+-- the variables that a lock lists
+abbrev pub listed : Lock → List ℕ
+listed l = l.nowrite ++ l.hide
+
+-- those under a lock, if there is one
+abbrev pub all_under : Plain → Option ℕ → List ℕ
+all_under p None = []
+all_under p (Some l) = listed (lock_at p l)
 
 -- of a program, where stores count beside locks, or don't
 module _ (p : Plain) (stores : Bool) where
-  abbrev mutual
-    -- What a statement that is passed leaves of a set of variables: a store touches its variable, and a lock that is taken or given back all
-    -- that are under it, also in a block.
-    pub untouched_past : Stm → List Bool → List Bool
-    untouched_past skip marks = marks
-    untouched_past (assign x e q retypes) marks = without_stored stores x marks
-    untouched_past (lock l) marks = without_listed (lock_at p l) marks
-    untouched_past (unlock l) marks = without_listed (lock_at p l) marks
-    untouched_past (branch e a b join) marks = untouched_in b (untouched_in a marks)
-    untouched_past (loop e inv b) marks = untouched_in b marks
-    untouched_past (note j) marks = marks
-    untouched_past (output e) marks = marks
+  -- What a statement touches by its own parts: a store its variable, and a lock that is taken or given back all that are under it.
+  abbrev pub own_touched : Parts → List ℕ
+  own_touched ps = stored_by stores ps.store ++ (all_under p ps.taken ++ all_under p ps.returned)
 
-    -- the same of the statements of a block
-    pub untouched_in : Block → List Bool → List Bool
-    untouched_in done marks = marks
-    untouched_in (more at s proofs rest) marks = untouched_in rest (untouched_past s marks)
+  -- what a statement that is passed touches, also in its blocks
+  abbrev pub touched : Stm → List ℕ
+  touched s = collected own_touched s
 
+  -- the same of the statements of a block
+  abbrev pub touched_in : Block → List ℕ
+  touched_in b = collected_in own_touched b
+
+  -- what a step leaves of a set of variables
   abbrev pub untouched_by : Step → List Bool → List Bool
-  untouched_by (passed at s) marks = untouched_past s marks
+  untouched_by (passed at s) marks = without_all marks (touched s)
   untouched_by (yes at e) marks = marks
   untouched_by (no at e) marks = marks
   untouched_by (head at inv) marks = marks
@@ -72,16 +74,15 @@ module _ (p : Plain) (stores : Bool) where
 abbrev pub state_at : StateKind → (at : ℕ) → StateAt
 state_at kind at = record { kind = kind; at = at }
 
+-- of what a state is, by the blocks of the statement that has it
+abbrev pub kind_of_state : Nested → StateKind
+kind_of_state none = Note
+kind_of_state (turn b) = Inv
+kind_of_state (either a b) = Join
+
 -- the state of a statement that is passed, if it has one
 abbrev pub state_of_statement : (at : ℕ) → Stm → Option StateAt
-state_of_statement at skip = None
-state_of_statement at (assign x e q retypes) = None
-state_of_statement at (lock l) = None
-state_of_statement at (unlock l) = None
-state_of_statement at (branch e a b join) = Some (state_at Join at)
-state_of_statement at (loop e inv b) = Some (state_at Inv at)
-state_of_statement at (note j) = Some (state_at Note at)
-state_of_statement at (output e) = None
+state_of_statement at s = option_map (λ j. state_at (kind_of_state (parts s).nested) at) (parts s).state
 
 -- the state of a step, if it has one
 abbrev pub state_of_step : Step → Option StateAt

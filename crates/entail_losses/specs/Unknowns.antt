@@ -11,18 +11,18 @@ use Rattle.cov_expr.specs.Trees.{mentions, occurrences, vars}
 use Rattle.cov_ast.specs.Declarations.{lists, lock_at}
 use Rattle.cov_ast.specs.LocksAlong.{no_locks}
 use Rattle.cov_ast.specs.Plain.{Plain}
-use Rattle.cov_ast.specs.Syntax.{Lock, State, Stm, skip, assign, lock, unlock, branch, loop, note, output}
+use Rattle.cov_ast.specs.Syntax.{Lock, State, Stm}
 use Rattle.cov_ast.specs.Tables.{first_outside, has}
 use Rattle.entail_origins.specs.GivenViews.{given_term}
-use Rattle.entail_origins.specs.Origins.{at_place}
+use Rattle.entail_origins.specs.Origins.{at_place, state_source}
 use Rattle.entail_origins.specs.declared.hypothesis_origin.Origin.{Origin}
 use Rattle.entail_origins.specs.declared.hypothesis_origin.HypothesisSource.{HypothesisSource}
 use Rattle.entail_origins.specs.declared.hypothesis_origin.HypothesisSource.TheVariants as source
 use Rattle.entail_losses.specs.About.{is_statement_about, is_mentioned}
-use Rattle.entail_losses.specs.LeftOut.{state_at}
+use Rattle.entail_losses.specs.LeftOut.{kind_of_state, state_at}
 use Rattle.entail_losses.specs.declared.left_out_states.StateAt.{StateAt}
 use Rattle.entail_losses.specs.declared.left_out_states.StateKind.{StateKind}
-use Rattle.entail_losses.specs.declared.left_out_states.StateKind.TheVariants.{Join, Inv, Note}
+use Rattle.entail_losses.specs.declared.left_out_states.StateKind.TheVariants.{Inv}
 use Rattle.entail_losses.specs.declared.unknown_reasons.Fact as declared_fact
 use Rattle.entail_losses.specs.declared.unknown_reasons.Loss.{Loss}
 use Rattle.entail_losses.specs.declared.unknown_reasons.Loss.TheVariants.{Stored, Returned}
@@ -30,6 +30,7 @@ use Rattle.entail_losses.specs.declared.unknown_reasons.Reason as declared
 use Rattle.entail_losses.specs.declared.unknown_reasons.Reason.TheVariants as by
 use Rattle.entail_losses.specs.declared.unknown_variables.TheConstants.{MOST_TOLD}
 use Rattle.point_law.specs.Terms.{each_variable}
+use Rattle.statement_parts.specs.Parts.{either, left_guard, Nested, none, parts, Store, turn}
 use Rattle.statement_paths.specs.LocksHeld.{held_after}
 use Rattle.statement_paths.specs.Paths.{Step, passed, yes, no, head}
 use Rattle.statement_paths.specs.VariableSets as sets
@@ -89,10 +90,11 @@ abbrev pub after_store : (at x : ℕ) → (so_far : Reason) → Reason
 after_store at x (known f) = if mentions f.term x then forgotten f (Stored at x) else known f
 after_store at x so_far = so_far
 
--- behind the return of a lock what isn't over these variables is, which are stable then
-abbrev pub after_unlock : (stable : List Bool) → (at l : ℕ) → (so_far : Reason) → Reason
-after_unlock stable at l (known f) = if each_variable (has stable) f.term then known f else forgotten f (Returned at l)
-after_unlock stable at l so_far = so_far
+-- behind the return of a lock, if one is given back, what isn't over these variables is, which are stable then
+abbrev pub after_return : (stable : List Bool) → (at : ℕ) → (returned : Option ℕ) → (so_far : Reason) → Reason
+after_return stable at None so_far = so_far
+after_return stable at (Some l) (known f) = if each_variable (has stable) f.term then known f else forgotten f (Returned at l)
+after_return stable at (Some l) so_far = so_far
 
 -- the first of some predicates that mentions it
 abbrev pub first_about : (x : ℕ) → List Term → Option Term
@@ -113,6 +115,12 @@ module _ (x : ℕ) where
   abbrev pub behind_blocks : Plain → StateKind → (at : ℕ) → Stm → (so_far : Reason) → Reason
   behind_blocks p kind at s so_far = if is_statement_about p x s then unlisted (state_at kind at) else behind_state kind at so_far
 
+  -- behind a statement whose state lists nothing of it, by its blocks
+  abbrev pub unless_listed : Plain → Nested → (at : ℕ) → Stm → (so_far : Reason) → Reason
+  unless_listed p none at s so_far = behind_state (kind_of_state none) at so_far
+  unless_listed p (turn b) at s so_far = behind_blocks p (kind_of_state (turn b)) at s so_far
+  unless_listed p (either a b) at s so_far = behind_blocks p (kind_of_state (either a b)) at s so_far
+
   -- whether a guard that mentions it was looked at where it wasn't stable
   abbrev pub is_tested_before : (so_far : Reason) → Bool
   is_tested_before (no_guard at y) = y == x
@@ -128,6 +136,11 @@ module _ (x : ℕ) where
 
   abbrev pub after_lock : Lock → (at l : ℕ) → (so_far : Reason) → Reason
   after_lock k at l so_far = by_invariant k.inv at l (if_listed k at l so_far)
+
+  -- a lock that is taken, if one is
+  abbrev pub after_taken : Plain → (at : ℕ) → (taken : Option ℕ) → (so_far : Reason) → Reason
+  after_taken p at None so_far = so_far
+  after_taken p at (Some l) so_far = after_lock (lock_at p l) at l so_far
 
   -- where these are stable behind the step, and in front of it too, unless it takes a lock or gives one back
   module _ (stable : List Bool) where
@@ -155,20 +168,28 @@ module _ (x : ℕ) where
     after_guard at source e so_far =
         if mentions e x then by_stability (first_outside stable (occurrences e)) (fact_at at source e) (λ y. unless_known so_far (no_guard at (unstable_first y))) else so_far
 
-    -- a loop that is passed: what it states, and that its guard doesn't hold
-    abbrev pub after_loop : (at : ℕ) → (guard : Term) → State → (otherwise : Reason) → Reason
-    after_loop at e inv otherwise = after_guard at source.LoopLeft (neg e) (after_state source.LoopState at inv otherwise)
+    -- a guard that doesn't hold behind a loop
+    abbrev pub after_left : (at : ℕ) → (guard : Option Term) → (so_far : Reason) → Reason
+    after_left at None so_far = so_far
+    after_left at (Some e) so_far = after_guard at source.LoopLeft (neg e) so_far
+
+    -- a store, if there is one
+    abbrev pub after_any_store : (at : ℕ) → Option Store → (so_far : Reason) → Reason
+    after_any_store at None so_far = so_far
+    after_any_store at (Some k) so_far = after_assignment at k.variable k.value so_far
 
     module _ (p : Plain) where
+      -- a statement with these blocks, if it states something: of a loop, also that its guard doesn't hold
+      abbrev pub after_stated : Nested → (guard : Option Term) → (at : ℕ) → Stm → Option State → (so_far : Reason) → Reason
+      after_stated nested guard at s None so_far = so_far
+      after_stated nested guard at s (Some j) so_far =
+          after_left at (left_guard nested guard) (after_state (state_source nested) at j (unless_listed p nested at s so_far))
+
+      -- what is stored, taken and given back counts, and then what is stated
       abbrev pub after_statement : (at : ℕ) → Stm → (so_far : Reason) → Reason
-      after_statement at skip so_far = so_far
-      after_statement at (assign y e q retypes) so_far = after_assignment at y e so_far
-      after_statement at (lock l) so_far = after_lock (lock_at p l) at l so_far
-      after_statement at (unlock l) so_far = after_unlock stable at l so_far
-      after_statement at (branch e a b join) so_far = after_state source.Join at join (behind_blocks p Join at (branch e a b join) so_far)
-      after_statement at (loop e inv b) so_far = after_loop at e inv (behind_blocks p Inv at (loop e inv b) so_far)
-      after_statement at (note j) so_far = after_state source.Noted at j (behind_state Note at so_far)
-      after_statement at (output e) so_far = so_far
+      after_statement at s so_far =
+          after_stated (parts s).nested (parts s).guard at s (parts s).state
+          (after_return stable at (parts s).returned (after_taken p at (parts s).taken (after_any_store at (parts s).store so_far)))
 
       abbrev pub after_step : Step → (so_far : Reason) → Reason
       after_step (passed at s) so_far = after_statement at s so_far

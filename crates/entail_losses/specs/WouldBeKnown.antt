@@ -2,13 +2,14 @@
 --
 -- A branch, a loop and a note forget each predicate that their state doesn't list, and what it lists has to follow: of a note, and of a loop before
 -- its first turn, from what is known in front. So there one that is known may be listed. Whether it follows at the ends of blocks isn't looked at.
-use Rattle.std.specs.Prelude.{◌≡◌, ℕ, List, [], ◌∷◌, ◌++◌, false, IsTrue, Option, Some, None, map}
+use Rattle.std.specs.Prelude.{◌≡◌, ℕ, List, [], ◌∷◌, ◌++◌, false, IsTrue, Option, Some, None, map, option_map}
 use Rattle.std.specs.List.{Contains}
 use Rattle.std.specs.Option.{option_or}
 use Rattle.cov_expr.specs.Term.{Term}
 use Rattle.cov_expr.specs.Trees.{has_term}
 use Rattle.cov_ast.specs.Plain.{Plain}
-use Rattle.cov_ast.specs.Syntax.{State, Stm, skip, assign, lock, unlock, branch, loop, note, output}
+use Rattle.cov_ast.specs.Syntax.{State, Stm, branch, loop, note}
+use Rattle.statement_parts.specs.Parts.{either, Nested, none, parts, preds_of, turn}
 use Rattle.entail_origins.specs.Origins.{given, given_by}
 use Rattle.typing_points.specs.Points.{point_after_steps}
 use Rattle.statement_paths.specs.Paths.{Step, passed, yes, no, head, place_of}
@@ -20,16 +21,16 @@ use Rattle.entail_losses.specs.declared.left_out_states.StateAt.{StateAt}
 abbrev pub state_with : Term → State → State
 state_with e j = record j { preds = j.preds ++ e ∷ [] }
 
+-- A statement with these blocks and this guard, where this is stated in the place of what it states. One that states nothing stays as it is.
+abbrev pub restated : Nested → (guard : Option Term) → Option State → Stm → Stm
+restated none guard (Some j) s = note j
+restated (turn b) (Some g) (Some j) s = loop g j b
+restated (either a b) (Some g) (Some j) s = branch g a b j
+restated nested guard j s = s
+
 -- a branch with it in its join, a loop in its `inv`, a note in its state; the statements in blocks stay as they are
 abbrev pub stm_with : Term → Stm → Stm
-stm_with e skip = skip
-stm_with e (assign x v q retypes) = assign x v q retypes
-stm_with e (lock l) = lock l
-stm_with e (unlock l) = unlock l
-stm_with e (branch g a b join) = branch g a b (state_with e join)
-stm_with e (loop g inv b) = loop g (state_with e inv) b
-stm_with e (note j) = note (state_with e j)
-stm_with e (output v) = output v
+stm_with e s = restated (parts s).nested (parts s).guard (option_map (state_with e) (parts s).state) s
 
 abbrev pub step_with : Term → Step → Step
 step_with e (passed at s) = passed at (stm_with e s)
@@ -50,14 +51,7 @@ first_state (s ∷ ss) = option_or (state_of_step s) (first_state ss)
 
 -- the predicates that a statement lists in its state
 abbrev pub predicates_of_statement : Stm → List Term
-predicates_of_statement skip = []
-predicates_of_statement (assign x v q retypes) = []
-predicates_of_statement (lock l) = []
-predicates_of_statement (unlock l) = []
-predicates_of_statement (branch g a b join) = join.preds
-predicates_of_statement (loop g inv b) = inv.preds
-predicates_of_statement (note j) = j.preds
-predicates_of_statement (output v) = []
+predicates_of_statement s = preds_of (parts s).state
 
 abbrev pub predicates_of_step : Step → List Term
 predicates_of_step (passed at s) = predicates_of_statement s

@@ -3,10 +3,12 @@
 ghost use Rattle.std.specs.Prelude.{◌≡◌, Some};
 ghost use Rattle.std.specs.Option.{option_or};
 ghost use Rattle.cov_ast.specs.View as view;
+ghost use Rattle.statement_parts.specs.Parts.{nested_of};
 ghost use Rattle.statement_paths.specs.Paths as paths;
 ghost use Rattle.entail_losses.specs.LeftOut as spec;
 
 use cov_ast::StmtKind;
+use statement_parts::{Nested, parts_of};
 use statement_paths::Step;
 
 /// Of what a state is.
@@ -85,11 +87,21 @@ fn state_of_step(step: &Step<'_>) -> Option<StateAt>
 fn state_of_statement(at: u32, kind: &StmtKind) -> Option<StateAt>
     ensures { result ≡ spec.state_of_statement at (view.kind kind.now) }
 {
-    match kind {
-        StmtKind::If(_, _, _, _) => state_at(StateKind::Join, at),
-        StmtKind::While(_, _, _) => state_at(StateKind::Inv, at),
-        StmtKind::Note(_) => state_at(StateKind::Note, at),
-        _ => None,
+    let parts = parts_of(kind);
+    match parts.state {
+        Some(_) => state_at(kind_of_state(parts.nested), at),
+        None => None,
+    }
+}
+
+/// Of what a state is, by the blocks of the statement that has it.
+pub fn kind_of_state(nested: Nested<'_>) -> StateKind
+    ensures { result ≡ spec.kind_of_state (nested_of nested.entry) }
+{
+    match nested {
+        Nested::None => StateKind::Note,
+        Nested::Turn(_) => StateKind::Inv,
+        Nested::Either(_, _) => StateKind::Join,
     }
 }
 

@@ -1,14 +1,16 @@
 //! Whether statements say something of a variable.
 
-ghost use Rattle.std.specs.Prelude.{◌≡◌};
-ghost use Rattle.cov_ast.specs.Declarations.{lock_at};
+ghost use Rattle.std.specs.Prelude.{◌≡◌, option_map};
 ghost use Rattle.cov_ast.specs.Plain.{plain};
 ghost use Rattle.cov_ast.specs.View as view;
+ghost use Rattle.cov_expr.specs.View.{term};
+ghost use Rattle.statement_parts.specs.Parts as table;
 ghost use Rattle.entail_losses.specs.About as spec;
 
 use crate::unknown_variables::is_mentioned;
-use cov_ast::{LockDecl, Program, Stmt, StmtKind};
-use cov_expr::mentions;
+use cov_ast::{LockDecl, Program, State, Stmt, StmtKind};
+use cov_expr::{Expr, mentions};
+use statement_parts::{Parts, Store, parts_of};
 
 /// Whether a statement says something of a variable: it stores to it, may give a predicate that mentions it, or takes a lock that it is under, also in its blocks.
 /// Each statement of them is looked at once.
@@ -16,21 +18,14 @@ use cov_expr::mentions;
 pub fn is_statement_about(p: &Program, x: u32, kind: &StmtKind) -> bool
     ensures { result ≡ spec.is_statement_about (plain (view.program p.now)) x (view.kind kind.now) }
 {
+    if is_own_about(p, x, &parts_of(kind)) {
+        return true;
+    }
     match kind {
-        StmtKind::Assign(y, value, _, _) => *y == x || mentions(value, x),
-        StmtKind::Lock(l) => is_number_about(p, x, *l),
-        StmtKind::If(guard, a, b, join) => {
-            mentions(guard, x)
-                || is_block_about(p, x, a.as_slice())
-                || is_block_about(p, x, b.as_slice())
-                || is_mentioned(join.preds.as_slice(), x)
+        StmtKind::If(_, a, b, _) => {
+            is_block_about(p, x, a.as_slice()) || is_block_about(p, x, b.as_slice())
         }
-        StmtKind::While(guard, inv, b) => {
-            mentions(guard, x)
-                || is_block_about(p, x, b.as_slice())
-                || is_mentioned(inv.preds.as_slice(), x)
-        }
-        StmtKind::Note(note) => is_mentioned(note.preds.as_slice(), x),
+        StmtKind::While(_, _, b) => is_block_about(p, x, b.as_slice()),
         _ => false,
     }
 }
@@ -48,12 +43,55 @@ fn is_block_about(p: &Program, x: u32, body: &[Stmt]) -> bool
     false
 }
 
-/// Whether the lock of a number lists a variable, or has an invariant that mentions it.
-fn is_number_about(p: &Program, x: u32, l: u32) -> bool
-    ensures { result ≡ spec.is_lock_about (lock_at (plain (view.program p.now)) l) x }
+/// Whether a statement says something of a variable by its own parts.
+fn is_own_about(p: &Program, x: u32, parts: &Parts<'_>) -> bool
+    ensures { result ≡ spec.is_own_about (plain (view.program p.now)) x (table.parts_of parts.now) }
 {
-    match p.locks.as_slice().get(l as usize) {
-        Some(lock) => is_lock_about(lock, x),
+    is_store_about(parts.store, x)
+        || is_in(parts.guard, x)
+        || is_taken_about(p, x, parts.taken)
+        || is_stated_about(parts.state, x)
+}
+
+/// Whether a store is one to a variable, or of a value that mentions it.
+fn is_store_about(store: Option<Store<'_>>, x: u32) -> bool
+    ensures { result ≡ spec.is_store_about (option_map table.store_of store.entry) x }
+{
+    match store {
+        Some(store) => store.variable == x || mentions(store.value, x),
+        None => false,
+    }
+}
+
+/// Whether an expression mentions a variable, if there is one.
+fn is_in(e: Option<&Expr>, x: u32) -> bool
+    ensures { result ≡ spec.is_in (option_map (λ e. term e.now) e.entry) x }
+{
+    match e {
+        Some(e) => mentions(e, x),
+        None => false,
+    }
+}
+
+/// Whether a lock that is taken lists a variable, or has an invariant that mentions it.
+fn is_taken_about(p: &Program, x: u32, taken: Option<u32>) -> bool
+    ensures { result ≡ spec.is_taken_about (plain (view.program p.now)) x taken }
+{
+    match taken {
+        Some(l) => match p.locks.as_slice().get(l as usize) {
+            Some(lock) => is_lock_about(lock, x),
+            None => false,
+        },
+        None => false,
+    }
+}
+
+/// Whether a state lists a predicate that mentions a variable, if there is one.
+fn is_stated_about(state: Option<&State>, x: u32) -> bool
+    ensures { result ≡ spec.is_mentioned (table.preds_of (option_map (λ j. view.state j.now) state.entry)) x }
+{
+    match state {
+        Some(state) => is_mentioned(state.preds.as_slice(), x),
         None => false,
     }
 }
@@ -62,11 +100,5 @@ fn is_number_about(p: &Program, x: u32, l: u32) -> bool
 fn is_lock_about(lock: &LockDecl, x: u32) -> bool
     ensures { result ≡ spec.is_lock_about (view.lock lock.now) x }
 {
-    if lock.lists(x) {
-        return true;
-    }
-    match &lock.inv {
-        Some(e) => mentions(e, x),
-        None => false,
-    }
+    lock.lists(x) || is_in(lock.inv.as_ref(), x)
 }

@@ -11,17 +11,18 @@ ghost use Rattle.cov_ast.specs.WellFormed.{IsWellFormed};
 ghost use Rattle.entail_losses.specs.Unknowns as spec;
 ghost use Rattle.entail_origins.specs.GivenViews.{given_term};
 ghost use Rattle.point_law.specs.Terms.{each_variable};
-ghost use Rattle.statement_paths.specs.LocksHeld.{held_after};
+ghost use Rattle.statement_parts.specs.Parts as table;
 ghost use Rattle.statement_paths.specs.Paths as paths;
 
 use crate::left_out_found::is_over;
-use crate::left_out_states::{StateAt, StateKind};
+use crate::left_out_states::{StateAt, StateKind, kind_of_state};
 use crate::unknown_about::is_statement_about;
 use cov_ast::{NumberSet, Program, State, StmtKind, first_outside};
 use cov_expr::{Expr, NoMemory, mentions};
-use entail_origins::{GivenTerm, HypothesisSource, Origin};
+use entail_origins::{GivenTerm, HypothesisSource, Origin, state_source};
 use mode_state::ModeState;
-use statement_paths::{Step, pass_block, stable_set};
+use statement_parts::{Nested, Parts, Store, parts_of};
+use statement_paths::{Step, follow_step, stable_set};
 use std::alloc::Global;
 
 /// A predicate, with what gives it.
@@ -84,25 +85,6 @@ pub fn reason_of<'p>(
     Ok(so_far)
 }
 
-/// Takes and gives back the locks that are taken and given back in a step.
-fn follow_step(step: &Step<'_>, modes: &mut ModeState)
-    ensures { modes.new ≡ record modes.old { held = held_after (paths.step step.now) (modes.old).held } }
-{
-    match step {
-        Step::Passed(stmt) => match &stmt.kind {
-            StmtKind::Lock(l) => modes.take(*l),
-            StmtKind::Unlock(l) => modes.give(*l),
-            StmtKind::If(_, a, _, _) => pass_block(a.as_slice(), modes),
-            StmtKind::Skip
-            | StmtKind::Assign(_, _, _, _)
-            | StmtKind::While(_, _, _)
-            | StmtKind::Note(_)
-            | StmtKind::Output(_) => {}
-        },
-        Step::Yes(_, _) | Step::No(_, _) | Step::Head(_, _) => {}
-    }
-}
-
 /// What a step makes of what was told so far, where these variables are stable behind it.
 fn after_step<'p>(
     p: &'p Program,
@@ -151,23 +133,76 @@ fn after_statement<'p>(
 ) -> Reason<'p>
     ensures { spec.seen result ≡ spec.after_statement x stable.now (plain (view.program p.now)) at (view.kind kind.now) (spec.seen so_far.entry) }
 {
-    match kind {
-        StmtKind::Skip | StmtKind::Output(_) => so_far,
-        StmtKind::Assign(y, value, _, _) => after_assignment(x, stable, at, *y, value, so_far),
-        StmtKind::Lock(l) => after_lock(p, x, at, *l, so_far),
-        StmtKind::Unlock(l) => after_unlock(stable, at, *l, so_far),
-        StmtKind::If(_, _, _, join) => {
-            let otherwise = behind_blocks(p, x, StateKind::Join, at, kind, so_far);
-            after_state(x, HypothesisSource::Join, at, join, otherwise)
-        }
-        StmtKind::While(guard, inv, _) => {
-            let otherwise = behind_blocks(p, x, StateKind::Inv, at, kind, so_far);
-            after_loop(x, stable, at, guard, inv, otherwise)
-        }
-        StmtKind::Note(note) => {
-            let otherwise = behind_state(StateKind::Note, at, so_far);
-            after_state(x, HypothesisSource::Noted, at, note, otherwise)
-        }
+    let parts = parts_of(kind);
+    let stored = after_any_store(x, stable, at, parts.store, so_far);
+    let taken = after_taken(p, x, at, parts.taken, stored);
+    let returned = after_return(stable, at, parts.returned, taken);
+    after_stated(p, x, stable, at, kind, &parts, returned)
+}
+
+/// The same of what a statement states, if it states something: of a loop, also that its guard doesn't hold.
+fn after_stated<'p>(
+    p: &Program,
+    x: u32,
+    stable: &NumberSet,
+    at: u32,
+    kind: &StmtKind,
+    parts: &Parts<'p>,
+    so_far: Reason<'p>,
+) -> Reason<'p>
+    ensures { let ps = table.parts_of parts.now in
+        spec.seen result ≡ spec.after_stated x stable.now (plain (view.program p.now)) ps.nested ps.guard at (view.kind kind.now) ps.state (spec.seen so_far.entry) }
+{
+    let Some(state) = parts.state else {
+        return so_far;
+    };
+    let otherwise = unless_listed(p, x, parts.nested, at, kind, so_far);
+    let stated = after_state(x, state_source(parts.nested), at, state, otherwise);
+    match parts.left_guard() {
+        Some(guard) => after_guard(
+            x,
+            stable,
+            at,
+            HypothesisSource::LoopLeft,
+            GivenTerm::Negation(guard),
+            guard,
+            stated,
+        ),
+        None => stated,
+    }
+}
+
+/// What is told behind a statement whose state lists nothing of a variable.
+fn unless_listed<'p>(
+    p: &Program,
+    x: u32,
+    nested: Nested<'_>,
+    at: u32,
+    stmt: &StmtKind,
+    so_far: Reason<'p>,
+) -> Reason<'p>
+    ensures { spec.seen result ≡ spec.unless_listed x (plain (view.program p.now)) (table.nested_of nested.entry) at (view.kind stmt.now) (spec.seen so_far.entry) }
+{
+    let kind = kind_of_state(nested);
+    match nested {
+        Nested::None => behind_state(kind, at, so_far),
+        Nested::Turn(_) | Nested::Either(_, _) => behind_blocks(p, x, kind, at, stmt, so_far),
+    }
+}
+
+/// The same of a store, if there is one.
+fn after_any_store<'p>(
+    x: u32,
+    stable: &NumberSet,
+    at: u32,
+    store: Option<Store<'p>>,
+    so_far: Reason<'p>,
+) -> Reason<'p>
+    ensures { spec.seen result ≡ spec.after_any_store x stable.now at (option_map table.store_of store.entry) (spec.seen so_far.entry) }
+{
+    match store {
+        Some(store) => after_assignment(x, stable, at, store.variable, store.value, so_far),
+        None => so_far,
     }
 }
 
@@ -266,10 +301,18 @@ fn after_store(at: u32, y: u32, so_far: Reason<'_>) -> Reason<'_>
     }
 }
 
-/// What the return of a lock makes of what was told so far.
-fn after_unlock<'p>(stable: &NumberSet, at: u32, l: u32, so_far: Reason<'p>) -> Reason<'p>
-    ensures { spec.seen result ≡ spec.after_unlock stable.now at l (spec.seen so_far.entry) }
+/// What the return of a lock makes of what was told so far, if one is given back.
+fn after_return<'p>(
+    stable: &NumberSet,
+    at: u32,
+    returned: Option<u32>,
+    so_far: Reason<'p>,
+) -> Reason<'p>
+    ensures { spec.seen result ≡ spec.after_return stable.now at returned (spec.seen so_far.entry) }
 {
+    let Some(l) = returned else {
+        return so_far;
+    };
     match so_far {
         Reason::Known(fact) => {
             if is_term_over(stable, fact.term) {
@@ -356,29 +399,6 @@ fn unless_known<'p>(so_far: Reason<'p>, other: Reason<'p>) -> Reason<'p>
     }
 }
 
-/// What a loop that is passed tells: what it states, and that its guard doesn't hold.
-fn after_loop<'p>(
-    x: u32,
-    stable: &NumberSet,
-    at: u32,
-    guard: &'p Expr,
-    inv: &'p State,
-    otherwise: Reason<'p>,
-) -> Reason<'p>
-    ensures { spec.seen result ≡ spec.after_loop x stable.now at (term guard.now) (view.state inv.now) (spec.seen otherwise.entry) }
-{
-    let stated = after_state(x, HypothesisSource::LoopState, at, inv, otherwise);
-    after_guard(
-        x,
-        stable,
-        at,
-        HypothesisSource::LoopLeft,
-        GivenTerm::Negation(guard),
-        guard,
-        stated,
-    )
-}
-
 /// What a state tells, with what is told where it lists nothing of a variable.
 fn after_state<'p>(
     x: u32,
@@ -439,6 +459,22 @@ fn first_about(x: u32, preds: &[Expr]) -> Option<&Expr>
         }
     }
     None
+}
+
+/// What a lock that is taken makes of what was told so far, if one is.
+fn after_taken<'p>(
+    p: &'p Program,
+    x: u32,
+    at: u32,
+    taken: Option<u32>,
+    so_far: Reason<'p>,
+) -> Reason<'p>
+    ensures { spec.seen result ≡ spec.after_taken x (plain (view.program p.now)) at taken (spec.seen so_far.entry) }
+{
+    match taken {
+        Some(l) => after_lock(p, x, at, l, so_far),
+        None => so_far,
+    }
 }
 
 /// What a lock that is taken makes of what was told so far.
