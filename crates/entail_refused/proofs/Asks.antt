@@ -7,7 +7,7 @@ use Rattle.cov_expr.specs.Trees.{vars}
 use Rattle.cov_ast.specs.Declarations.{is_control}
 use Rattle.cov_ast.specs.Obligations.{Obligation}
 use Rattle.cov_ast.specs.Plain.{Plain}
-use Rattle.cov_ast.specs.Syntax.{Proof, Stm, skip, assign, lock, unlock, branch, loop, note, output, Block, done, more}
+use Rattle.cov_ast.specs.Syntax.{Proof, Stm, assign, lock, branch, loop, note, output, Block, done, more}
 use Rattle.cov_ast.specs.declared.refusal.Detail.{Detail}
 use Rattle.cov_ast.specs.declared.refusal.Detail.TheVariants.{Number}
 use Rattle.cov_ast.specs.declared.refusal.Rule.TheVariants.{V2, V5}
@@ -16,10 +16,11 @@ use Rattle.point_law.specs.After.{after_assign, meet, noted, with_guard}
 use Rattle.point_law.specs.Point.{Point, is_tracked}
 use Rattle.typing_law.specs.Blocks.{after_block, after_stm, value_type}
 use Rattle.typing_law.specs.Counts.{entailment_count, is_entailment}
-use Rattle.typing_law.specs.Entailments.{Entailment, assign_entailments, guard_follows, is_proved, state_follows, unlock_entailments}
+use Rattle.typing_law.specs.Entailments.{Entailment, assign_entailments, guard_follows, is_proved, state_follows}
 use Rattle.typing_law.specs.ThreadEntailments.{PlacedEntailment, block_entailments, placed_from, placed_proofs, proofs_within, stm_entailments}
 use Rattle.typing_law.specs.ThreadObligations.{block_obligations, few_preds, flat, guard_obligations, narrow, numbers, of_var, one_unstable, over_controls, proved, reads, same_locks, small_terms, state_obligations, stm_parts, type_obligations}
 use Rattle.typing_law.proofs.Counting.{count_cons, count_guard, count_numbers, count_reads, count_stable, count_state, count_types}
+use Rattle.entail_origins.specs.OwnEntailments.{own_entailments}
 use Rattle.entail_refused.proofs.GivenProofs.{AreGiven, given_left, given_right}
 
 -- of which thread something is asked, where, by which detail, and whether it holds
@@ -88,7 +89,6 @@ module _ (given : ℕ → List Proof) (t : ℕ) where
     mutual
       pub stm_step : (s : Stm) (at : ℕ) (proofs : List Proof) (a : Point) → given at ≡ proofs → AreGiven given (proofs_within s)
           → GoInStep (flat (stm_parts p t s at proofs a)) (stm_entailments p t s at a)
-      stm_step skip at proofs a here inside = asks_behind (numbers p t at 0 proofs) [] (count_numbers p t at 0 proofs)
       stm_step (assign x e q retypes) at proofs a here inside =
           let gs = assign_entailments p t a x e q retypes in
           let last = proved p t at proofs 1 gs ++ (numbers p t at (length gs) proofs ++ []) in
@@ -103,9 +103,6 @@ module _ (given : ℕ → List Proof) (t : ℕ) where
           ∙ asks_behind stable (types ++ sized) (count_stable p t at a.held (is_control p x) e)
           ∙ asks_behind types sized (count_types p t at test a.held [] retypes) ∙ step_last p at proofs here 1 (length gs) gs
       stm_step (lock l) at proofs a here inside = refl
-      stm_step (unlock l) at proofs a here inside =
-          let gs = unlock_entailments p t a l in
-          step_last p at proofs here 1 (length gs) gs
       stm_step (branch e yes_block no_block join) at proofs a here inside =
           let yes_start = with_guard p t a e in
           let no_start = with_guard p t a (neg e) in
@@ -160,6 +157,7 @@ module _ (given : ℕ → List Proof) (t : ℕ) where
           let last = proved p t at proofs 1 gs ++ (numbers p t at (length gs) proofs ++ []) in
           asks_behind (guard_obligations p t at a.held e) (small_terms p t at gs (a ∷ []) ++ last) (count_guard p t at a.held e)
           ∙ step_last p at proofs here 1 (length gs) gs
+      stm_step s at proofs a here inside = let gs = own_entailments p t s a in step_last p at proofs here 1 (length gs) gs
 
       pub block_step : (b : Block) (a : Point) → AreGiven given (placed_proofs b) → GoInStep (block_obligations p t b a) (block_entailments p t b a)
       block_step done a h = refl

@@ -5,13 +5,14 @@ use Rattle.std.proofs.lemmas.Bool.{and_parts, cases_Bool, cases_lt, false_from_n
 use Rattle.std.proofs.lemmas.List.Folds.{list_any-append}
 use Rattle.cov_expr.specs.Term.{neg}
 use Rattle.cov_ast.specs.Plain.{Plain}
-use Rattle.cov_ast.specs.Syntax.{Stm, skip, assign, lock, unlock, branch, loop, note, output, Block, done, more}
+use Rattle.cov_ast.specs.Syntax.{Stm, branch, loop, Block, done, more}
 use Rattle.cov_ast.specs.WellFormed.{are_distinct, places, places_within}
 use Rattle.point_law.specs.After.{meet, with_guard}
 use Rattle.point_law.specs.Point.{Point}
 use Rattle.typing_law.specs.Blocks.{after_block, after_stm}
-use Rattle.typing_law.specs.Entailments.{Entailment, assign_entailments, guard_follows, state_follows, unlock_entailments}
+use Rattle.typing_law.specs.Entailments.{Entailment, guard_follows, state_follows}
 use Rattle.typing_law.specs.ThreadEntailments.{PlacedEntailment, block_entailments, entailment_among, placed_from, stm_entailments}
+use Rattle.entail_origins.specs.OwnEntailments.{own_entailments}
 
 -- Lists of places ------------------------------------------------------------------------------------------------------
 
@@ -199,10 +200,6 @@ stand-append xs gs hs h k = λ x n e. absent-append gs hs x n (h x n e) (k x n e
 module _ (p : Plain) (t : ℕ) where
   mutual
     stm_stands : (s : Stm) (at : ℕ) (a : Point) → StandAt (at ∷ places_within s) (stm_entailments p t s at a)
-    stm_stands skip at a = λ x n e. refl
-    stm_stands (assign x e q retypes) at a = stand_alone at 1 (assign_entailments p t a x e q retypes)
-    stm_stands (lock l) at a = λ x n e. refl
-    stm_stands (unlock l) at a = stand_alone at 1 (unlock_entailments p t a l)
     stm_stands (branch e yes_block no_block join) at a =
         let yes_start = with_guard p t a e in
         let no_start = with_guard p t a (neg e) in
@@ -228,8 +225,7 @@ module _ (p : Plain) (t : ℕ) where
         stand-append (at ∷ places b) (placed_from at 1 gs) (inside ++ last) (stand_first at 1 gs (places b))
         (stand-append (at ∷ places b) inside last (stand_right (at ∷ []) (places b) inside (block_stands b start))
         (stand_first at (suc (length gs)) hs (places b)))
-    stm_stands (note j) at a = stand_alone at 1 (state_follows a j)
-    stm_stands (output e) at a = stand_alone at 1 (guard_follows p t a e ∷ [])
+    stm_stands s at a = stand_alone at 1 (own_entailments p t s a)
 
     block_stands : (b : Block) (a : Point) → StandAt (places b) (block_entailments p t b a)
     block_stands done a = λ x n e. refl
@@ -241,10 +237,6 @@ module _ (p : Plain) (t : ℕ) where
 
   mutual
     stm_once : (s : Stm) (at : ℕ) (a : Point) → Differ (at ∷ places_within s) → AreOnce (stm_entailments p t s at a)
-    stm_once skip at a d = tt
-    stm_once (assign x e q retypes) at a d = once_placed at 1 (assign_entailments p t a x e q retypes)
-    stm_once (lock l) at a d = tt
-    stm_once (unlock l) at a d = once_placed at 1 (unlock_entailments p t a l)
     stm_once (branch e yes_block no_block join) at a d =
         let yes_start = with_guard p t a e in
         let no_start = with_guard p t a (neg e) in
@@ -285,8 +277,7 @@ module _ (p : Plain) (t : ℕ) where
         once-append first (inside ++ last) (once_placed at 1 gs)
         (once-append inside last (block_once b start (parted (at ∷ []) (places b) d).right) (once_placed at (suc (length gs)) hs) (apart_turned last inside last_inside))
         (apart-append first inside last first_inside (apart_numbers at gs hs))
-    stm_once (note j) at a d = once_placed at 1 (state_follows a j)
-    stm_once (output e) at a d = once_placed at 1 (guard_follows p t a e ∷ [])
+    stm_once s at a d = once_placed at 1 (own_entailments p t s a)
 
     pub block_once : (b : Block) (a : Point) → Differ (places b) → AreOnce (block_entailments p t b a)
     block_once done a d = tt

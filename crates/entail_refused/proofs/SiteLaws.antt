@@ -1,21 +1,18 @@
 -- The hypotheses of an entailment are those of the point at its site, and its goal is that of the question there.
-use Rattle.std.proofs.Common.{◌≡◌, ◌⊎◌, ℕ, zero, suc, ◌+◌, ◌<◌, ◌==◌, ◌&&◌, ◌||◌, not, List, [], ◌∷◌, ◌++◌, length, map, Bool, true, false, refl, sym, ap, subst, take, drop, get_or, ◌∙◌, inl, inr, arith, append_assoc, append-nil, Option, Some, None, option_map, option_to_list, if◌then◌else◌}
-use Rattle.std.specs.Prelude.{filter, slice_get, unwrap_or}
+use Rattle.std.proofs.Common.{◌≡◌, ◌⊎◌, ℕ, zero, suc, ◌+◌, ◌<◌, ◌==◌, ◌&&◌, List, [], ◌∷◌, ◌++◌, length, Bool, true, false, refl, sym, ap, subst, take, ◌∙◌, inl, inr, arith, append_assoc, append-nil, Option, Some, None, option_map, if◌then◌else◌}
+use Rattle.std.specs.Prelude.{slice_get, unwrap_or}
 use Rattle.std.specs.Option.{option_or}
 use Rattle.std.specs.List.{AllZip}
 use Rattle.std.proofs.lemmas.Bool.{and_parts, eqb-true, eq-eqb}
 use Rattle.cov_expr.specs.Term.{Term, neg}
-use Rattle.cov_expr.specs.Trees as T
-use Rattle.cov_ast.specs.Declarations.{class_of, is_control, lock_at}
 use Rattle.cov_ast.specs.Plain.{Plain, plain}
-use Rattle.cov_ast.specs.Syntax.{State, Stm, skip, assign, lock, unlock, branch, loop, note, output, Block, done, more, Proof, Program}
+use Rattle.cov_ast.specs.Syntax.{State, Stm, branch, loop, Block, done, more, Proof, Program}
 use Rattle.cov_ast.specs.WellFormed.{IsWellFormed, places, places_within}
 use Rattle.mode_compat.specs.Compatible.{no_thread, numbered}
-use Rattle.mode_state.specs.Sets.{is_hidden}
 use Rattle.statement_paths.specs.Paths.{passed, yes, no, head, Way, here, with_steps_in_front, way_to, way_within}
-use Rattle.typing_law.specs.Blocks.{after_stm, after_block, value_type}
+use Rattle.typing_law.specs.Blocks.{after_stm, after_block}
 use Rattle.typing_law.specs.Counts.{entailment_count}
-use Rattle.typing_law.specs.Entailments.{Entailment, assign_entailments, controlled_follows, controlled_values, freed_value, from_one_more, from_preds, guard_follows, retype_follows, shown_controlled, shown_value, state_follows, type_follows, unlock_entailments, written_type}
+use Rattle.typing_law.specs.Entailments.{Entailment, guard_follows, state_follows}
 use Rattle.typing_law.specs.ThreadEntailments.{PlacedEntailment, placed_from, stm_entailments, block_entailments, entailment_among, all_entailments, reached, thread_entailments}
 use Rattle.typing_law.specs.ThreadObligations.{thread_obligations}
 use Rattle.point_law.specs.After.{meet, start, with_guard}
@@ -23,21 +20,15 @@ use Rattle.point_law.specs.Point.{Point}
 use Rattle.cov_ast.specs.LocksAlong.{no_locks}
 use Rattle.statement_paths.specs.LocksHeld.{held_along}
 use Rattle.entail_origins.specs.OwnEntailments.{own_entailments}
-use Rattle.entail_origins.specs.Questions.{asked_among, asked_of_way, of_controlled, of_preds, of_shown, of_state, of_unlock, of_written, questions}
+use Rattle.entail_origins.specs.Questions.{asked_among, asked_of_way, questions}
 use Rattle.entail_origins.specs.declared.kinds.Asked.{Asked}
-use Rattle.entail_origins.specs.declared.kinds.End.{End}
-use Rattle.entail_origins.specs.declared.kinds.End.TheVariants as ends
-use Rattle.entail_origins.specs.declared.kinds.Question.{Question}
-use Rattle.entail_origins.specs.declared.kinds.Question.TheVariants as q
+use Rattle.entail_origins.proofs.QuestionsInStep.{IsAsked, OfPoint, in_step}
 use Rattle.entail_origins.proofs.EachAsked.{Differ, In, There, apart, differ, differ_left, differ_right, in_left, in_right, no_way, no_way_from, no_way_within, stands_in, way_from}
 use Rattle.statement_paths.proofs.HeldAtPoints.{after_held}
 use Rattle.typing_points.specs.Points.{after_steps, point_after_steps}
-use Rattle.entail_origins.proofs.GoalLaws.{as_asked}
-use Rattle.entail_origins.specs.GoalTypes.{asked_point, goal_of}
-use Rattle.entail_refused.proofs.SitePoints.{past_block, to_the_point}
-use Rattle.entail_refused.specs.Remarked.{asks_more}
-use Rattle.entail_refused.specs.SiteHypotheses.{AreOf, IsOfSite}
-use Rattle.entail_refused.specs.Sites.{Site, site_at, site_of_way, steps_to_end, steps_to_point}
+use Rattle.entail_refused.proofs.SitePoints.{to_the_point}
+use Rattle.entail_refused.specs.SiteHypotheses.{IsOfSite}
+use Rattle.entail_refused.specs.Sites.{Site, site_at, site_of_way, steps_to_point}
 
 -- Two lists, place by place --------------------------------------------------------------------------------------
 
@@ -55,27 +46,6 @@ item_later (z ∷ xs) ys i zero x e h = absurd (omega (arith, e))
 item_later (z ∷ xs) ys i (suc j) x e h = item_later xs ys i j x (omega (arith, e)) h
 
 module _ {A B : Type 0} (R : A → B → Type 0) where
-  zip_append : (xs : List A) (ys : List B) (us : List A) (vs : List B) → AllZip R xs ys → AllZip R us vs → AllZip R (xs ++ us) (ys ++ vs)
-  zip_append [] [] us vs h k = k
-  zip_append [] (y ∷ ys) us vs h k = absurd h
-  zip_append (x ∷ xs) [] us vs h k = absurd h
-  zip_append (x ∷ xs) (y ∷ ys) us vs h k = (h.0, zip_append xs ys us vs h.1 k)
-
-  zip_mapped : {C : Type 0} (f : C → A) (g : C → B) → ((x : C) → R (f x) (g x)) → (xs : List C) → AllZip R (map f xs) (map g xs)
-  zip_mapped f g h [] = tt
-  zip_mapped f g h (x ∷ xs) = (h x, zip_mapped f g h xs)
-
-  zip_of_same : {C : Type 0} (f : A → C) (g : B → C) → ((x : A) (y : B) → g y ≡ f x → R x y) → (xs : List A) (ys : List B) → map g ys ≡ map f xs → AllZip R xs ys
-  zip_of_same f g h [] [] k = tt
-  zip_of_same {C = C} f g h [] (y ∷ ys) k = let c : ◌≡◌ {A = List C} (g y ∷ map g ys) [] = k in cc
-  zip_of_same {C = C} f g h (x ∷ xs) [] k = let c : ◌≡◌ {A = List C} [] (f x ∷ map f xs) = k in cc
-  zip_of_same f g h (x ∷ xs) (y ∷ ys) k =
-      (h x y (ap (λ us. get_or us 0 (f x)) k), zip_of_same f g h xs ys (ap (drop 1) k))
-
-  zip_chosen : (b : Bool) (xs : List A) (ys : List B) → AllZip R xs ys → AllZip R (if b then xs else []) (if b then ys else [])
-  zip_chosen true xs ys h = h
-  zip_chosen false xs ys h = tt
-
   -- what stands at a place of the first list
   abbrev Beside : (xs : List A) → ℕ → B → Type 0
   Beside xs i y = (x : A) × (slice_get xs i ≡ Some x) × R x y
@@ -86,120 +56,6 @@ module _ {A B : Type 0} (R : A → B → Type 0) where
   beside (x ∷ xs) [] i y h k = absurd h
   beside (x ∷ xs) (z ∷ ys) zero y h k = (x, refl, subst (R x) (same_item z y k) h.0)
   beside (x ∷ xs) (z ∷ ys) (suc i) y h k = beside xs ys i y h.1 k
-
-zip_both : {A B : Type 0} (R S : A → B → Type 0) (xs : List A) (ys : List B) → AllZip R xs ys → AllZip S xs ys → AllZip (λ x y. R x y × S x y) xs ys
-zip_both R S [] [] h k = tt
-zip_both R S [] (y ∷ ys) h k = absurd h
-zip_both R S (x ∷ xs) [] h k = absurd h
-zip_both R S (x ∷ xs) (y ∷ ys) h k = ((h.0, k.0), zip_both R S xs ys h.1 k.1)
-
--- Of a statement -------------------------------------------------------------------------------------------------
-
-module _ (p : Plain) (t : ℕ) where
-  -- What a question asks of a statement, at a point: from what it is to follow, and its goal.
-  abbrev OfPoint : Question → Stm → Point → Entailment → Type 0
-  OfPoint question s b g = AreOf (asks_more question) b.preds g.hyps × (g.goal ≡ goal_of p t question s b)
-
-  -- It follows from what is known at the point to which the steps of the question lead.
-  abbrev Follows : (at : ℕ) → Stm → Point → Question → Entailment → Type 0
-  Follows at s a question g = AreOf (asks_more question) (after_steps p t (steps_to_point question at s) a).preds g.hyps
-
-  -- Its goal is that of the question at this point.
-  abbrev HasGoal : (at : ℕ) → Stm → Point → Question → Entailment → Type 0
-  HasGoal at s a question g = g.goal ≡ goal_of p t question s (after_steps p t (steps_to_point question at s) a)
-
-  -- where the steps to an end lead to a point
-  abbrev LeadsTo : (at : ℕ) → Stm → Point → End → Point → Type 0
-  LeadsTo at s a end b = after_steps p t (steps_to_end end at s) a ≡ b
-
-  of_each_pred : (at : ℕ) (s : Stm) (a : Point) (end : End) (b : Point) → LeadsTo at s a end b → (n : ℕ) (rs : List Term)
-      → AllZip (Follows at s a) (of_preds end n rs) (map (from_preds b.preds) rs)
-  of_each_pred at s a end b is n [] = tt
-  of_each_pred at s a end b is n (r ∷ rs) = (sym (ap (λ c. c.preds) is), of_each_pred at s a end b is (n + 1) rs)
-
-  of_each_state : (at : ℕ) (s : Stm) (a : Point) (end : End) (b : Point) → LeadsTo at s a end b → (j : State)
-      → AllZip (Follows at s a) (of_state end j) (state_follows b j)
-  of_each_state at s a end b is j =
-      zip_append (Follows at s a) (of_preds end 1 j.preds) (map (from_preds b.preds) j.preds) (map (λ r. q.TypeOf end r.0) j.types) (map (type_follows b) j.types)
-      (of_each_pred at s a end b is 1 j.preds)
-      (zip_mapped (Follows at s a) (λ r. q.TypeOf end r.0) (type_follows b) (λ r. (r.1, ap (λ c. c.preds ++ r.1 ∷ []) (sym is))) j.types)
-
-  module _ (at : ℕ) (s : Stm) (a : Point) where
-    of_each_written : (e : Term) (w : Option Term) → AllZip (Follows at s a) (of_written w) (written_type p t a e w)
-    of_each_written e None = tt
-    of_each_written e (Some r) = ((r, refl), tt)
-
-    of_each_shown : (x : ℕ) (r : Term) → AllZip (Follows at s a) (of_shown p (is_hidden p t a.held) x) (shown_value p t a x r)
-    of_each_shown x r =
-        zip_chosen (Follows at s a) (is_control p x || not (is_hidden p t a.held x)) (q.Shown x ∷ []) (from_one_more a.preds (class_of p x) r ∷ [])
-        ((class_of p x, refl), tt)
-
-    of_each_controlled : (x : ℕ) (e : Term) → AllZip (Follows at s a) (of_controlled p (is_hidden p t a.held) x) (controlled_values p t a x e)
-    of_each_controlled x e =
-        zip_chosen (Follows at s a) (is_control p x) (map q.Controlled (shown_controlled p t a x)) (map (controlled_follows p t a x e) (shown_controlled p t a x))
-        (zip_mapped (Follows at s a) q.Controlled (controlled_follows p t a x e) (λ y. (T.subst (class_of p y) x e, refl)) (shown_controlled p t a x))
-
-    of_each_assignment : (x : ℕ) (e : Term) (w : Option Term) (retypes : List (ℕ × Term))
-        → AllZip (Follows at s a) (questions p t a.held (assign x e w retypes)) (assign_entailments p t a x e w retypes)
-    of_each_assignment x e w retypes =
-        let R = Follows at s a in
-        let r = value_type p t a w e in
-        let asked1 = of_written w in
-        let asked2 = of_shown p (is_hidden p t a.held) x in
-        let asked3 = of_controlled p (is_hidden p t a.held) x in
-        let follows1 = written_type p t a e w in
-        let follows2 = shown_value p t a x r in
-        let follows3 = controlled_values p t a x e in
-        zip_append R (asked1 ++ asked2 ++ asked3) (follows1 ++ follows2 ++ follows3) (map (λ z. q.Retyped z.0) retypes) (map (retype_follows p t a x e) retypes)
-        (zip_append R (asked1 ++ asked2) (follows1 ++ follows2) asked3 follows3
-        (zip_append R asked1 follows1 asked2 follows2 (of_each_written e w) (of_each_shown x r)) (of_each_controlled x e))
-        (zip_mapped R (λ z. q.Retyped z.0) (retype_follows p t a x e) (λ z. (T.subst z.1 x e, refl)) retypes)
-
-    of_each_unlock : (l : ℕ) → AllZip (Follows at s a) (of_unlock p l) (unlock_entailments p t a l)
-    of_each_unlock l =
-        let R = Follows at s a in
-        let inv = option_to_list (lock_at p l).inv in
-        let freed = filter (λ x. not (is_control p x)) (lock_at p l).hide in
-        zip_append R (map (λ r. q.Invariant l) inv) (map (from_preds a.preds) inv) (map q.Freed freed) (map (freed_value p t a) freed)
-        (zip_mapped R (λ r. q.Invariant l) (from_preds a.preds) (λ r. refl) inv)
-        (zip_mapped R q.Freed (freed_value p t a) (λ x. (class_of p x, refl)) freed)
-
-  follows : (at : ℕ) (s : Stm) (a : Point) → AllZip (Follows at s a) (questions p t a.held s) (own_entailments p t s a)
-  follows at skip a = tt
-  follows at (assign x e w retypes) a = of_each_assignment at (assign x e w retypes) a x e w retypes
-  follows at (lock l) a = tt
-  follows at (unlock l) a = of_each_unlock at (unlock l) a l
-  follows at (branch e yes_block no_block join) a =
-      let s = branch e yes_block no_block join in
-      let first = after_block p t yes_block (with_guard p t a e) in
-      let second = after_block p t no_block (with_guard p t a (neg e)) in (
-        refl,
-        zip_append (Follows at s a) (of_state ends.FirstBlock join) (state_follows first join) (of_state ends.SecondBlock join) (state_follows second join)
-            (of_each_state at s a ends.FirstBlock first (past_block p t yes_block (with_guard p t a e)) join)
-            (of_each_state at s a ends.SecondBlock second (past_block p t no_block (with_guard p t a (neg e))) join),
-      )
-  follows at (loop e inv b) a =
-      let s = loop e inv b in
-      let start = with_guard p t (meet p t a inv) e in
-      let end = after_block p t b start in
-      zip_append (Follows at s a) (of_state ends.Entry inv) (state_follows a inv) (q.HeadGuard ∷ of_state ends.Body inv) (guard_follows p t (meet p t a inv) e ∷ state_follows end inv)
-      (of_each_state at s a ends.Entry a refl inv)
-      (refl, of_each_state at s a ends.Body end (past_block p t b start) inv)
-  follows at (note j) a = of_each_state at (note j) a ends.Here a refl j
-  follows at (output e) a = (refl, tt)
-
-  goals_as_asked : (at : ℕ) (s : Stm) (a : Point) → AllZip (HasGoal at s a) (questions p t a.held s) (own_entailments p t s a)
-  goals_as_asked at s a =
-      zip_of_same (HasGoal at s a) (λ question. goal_of p t question s (asked_point p t question s a)) (λ g. g.goal)
-      (λ question g same. same ∙ ap (goal_of p t question s) (sym (to_the_point p t question at s a)))
-      (questions p t a.held s) (own_entailments p t s a) (as_asked p t s a)
-
-  -- both
-  abbrev IsAsked : (at : ℕ) → Stm → Point → Question → Entailment → Type 0
-  IsAsked at s a question g = OfPoint question s (after_steps p t (steps_to_point question at s) a) g
-
-  each_asked : (at : ℕ) (s : Stm) (a : Point) → AllZip (IsAsked at s a) (questions p t a.held s) (own_entailments p t s a)
-  each_asked at s a = zip_both (Follows at s a) (HasGoal at s a) (questions p t a.held s) (own_entailments p t s a) (follows at s a) (goals_as_asked at s a)
 
 -- By place and number ----------------------------------------------------------------------------------------------
 
@@ -253,7 +109,7 @@ module _ (place number : ℕ) where
     -- of the statement at the end of a way from a point
     abbrev OfQuestion : Point → Way → PlacedEntailment → Option Asked → Type 0
     OfQuestion a w g None = ⊥
-    OfQuestion a w g (Some k) = OfPoint p t k.question w.stm (after_steps p t (w.steps ++ steps_to_point k.question place w.stm) a) g.entailment
+    OfQuestion a w g (Some k) = OfPoint p t w.stm (after_steps p t (w.steps ++ steps_to_point k.question place w.stm) a) k.question g.entailment
 
     abbrev OfWay : Point → Option Way → PlacedEntailment → Type 0
     OfWay a None g = ⊥
@@ -290,16 +146,17 @@ module _ (place number : ℕ) where
     Here at s proofs a g = OfWay a (way_from place number p t at s proofs) g
 
     asked_of : (at : ℕ) (s : Stm) (proofs : List Proof) (a : Point) (g : PlacedEntailment) (i : ℕ) → number ≡ suc i
-        → Beside (IsAsked p t place s a) (questions p t a.held s) i g.entailment → OfQuestion a (here s proofs) g (asked_among (questions p t a.held s) number)
+        → Beside (IsAsked p t s a) (questions p t a.held s) i g.entailment → OfQuestion a (here s proofs) g (asked_among (questions p t a.held s) number)
     asked_of at s proofs a g i is found =
         subst (λ n. OfQuestion a (here s proofs) g (asked_among (questions p t a.held s) n)) (sym is)
-        (subst (λ o. OfQuestion a (here s proofs) g (option_map (λ x. record { question = x; of = length (questions p t a.held s) }) o)) (sym found.1) found.2)
+        (subst (λ o. OfQuestion a (here s proofs) g (option_map (λ x. record { question = x; of = length (questions p t a.held s) }) o)) (sym found.1)
+        (subst (λ b. OfPoint p t s b found.0 g.entailment) (sym (to_the_point p t found.0 place s a)) found.2))
 
     own : (at : ℕ) (s : Stm) (proofs : List Proof) (a : Point) (g : PlacedEntailment) → at ≡ place → (i : ℕ) → number ≡ suc i
         → slice_get (own_entailments p t s a) i ≡ Some g.entailment → Here at s proofs a g
     own at s proofs a g is i numbered there =
         subst (λ b. OfWay a (if b then Some (here s proofs) else way_within at s place) g) (sym (eq-eqb at place is))
-        (asked_of at s proofs a g i numbered (beside (IsAsked p t place s a) (questions p t a.held s) (own_entailments p t s a) i g.entailment (each_asked p t place s a) there))
+        (asked_of at s proofs a g i numbered (beside (IsAsked p t s a) (questions p t a.held s) (own_entailments p t s a) i g.entailment (in_step p t s a) there))
 
     -- of some of its own, with others in front and behind
     own_part : (at : ℕ) (s : Stm) (proofs : List Proof) (a : Point) (g : PlacedEntailment) (front gs back : List Entailment) (n : ℕ) → n ≡ suc (length front)
@@ -334,14 +191,6 @@ module _ (place number : ℕ) where
 
     mutual
       sited_at : (s : Stm) (proofs : List Proof) (at : ℕ) (a : Point) (g : PlacedEntailment) → Differ (at ∷ places_within s) → Found (stm_entailments p t s at a) g → Here at s proofs a g
-      sited_at skip proofs at a g d h = let c : ◌≡◌ {A = Option PlacedEntailment} None (Some g) = h in cc
-      sited_at (assign x e w retypes) proofs at a g d h =
-          let gs = assign_entailments p t a x e w retypes in
-          own_part at (assign x e w retypes) proofs a g [] gs [] 1 refl (append-nil gs) h
-      sited_at (lock l) proofs at a g d h = let c : ◌≡◌ {A = Option PlacedEntailment} None (Some g) = h in cc
-      sited_at (unlock l) proofs at a g d h =
-          let gs = unlock_entailments p t a l in
-          own_part at (unlock l) proofs a g [] gs [] 1 refl (append-nil gs) h
       sited_at (branch e yes_block no_block join) proofs at a g d h =
           let s = branch e yes_block no_block join in
           let start = with_guard p t a e in
@@ -377,8 +226,7 @@ module _ (place number : ℕ) where
           further_in at s proofs a g (λ is. d.0 (subst (λ z. In z (places b)) (sym is) stand))
           (into_loop a at e inv (way_to b place) g (sited_in b start g d.1 k)))
           (λ k. own_part at s proofs a g gs hs [] (suc (length gs)) refl (ap (λ es. gs ++ es) (append-nil hs) ∙ append_assoc before (guard ∷ []) hs) k)
-      sited_at (note j) proofs at a g d h = own_part at (note j) proofs a g [] (state_follows a j) [] 1 refl (append-nil (state_follows a j)) h
-      sited_at (output e) proofs at a g d h = own_part at (output e) proofs a g [] (guard_follows p t a e ∷ []) [] 1 refl refl h
+      sited_at s proofs at a g d h = let gs = own_entailments p t s a in own_part at s proofs a g [] gs [] 1 refl (append-nil gs) h
 
       sited_in : (b : Block) (a : Point) (g : PlacedEntailment) → Differ (places b) → Found (block_entailments p t b a) g → OfWay a (way_to b place) g
       sited_in done a g d h = let c : ◌≡◌ {A = Option PlacedEntailment} None (Some g) = h in cc
@@ -397,7 +245,7 @@ module _ (place number : ℕ) where
     -- The site -----------------------------------------------------------------------------------------------------
 
     abbrev HasSite : Option Way → Option Asked → PlacedEntailment → Type 0
-    HasSite w k g = (site : Site) × (site_of_way place w k ≡ Some site) × OfPoint p t site.question site.stm (point_after_steps p t site.steps) g.entailment
+    HasSite w k g = (site : Site) × (site_of_way place w k ≡ Some site) × OfPoint p t site.stm (point_after_steps p t site.steps) site.question g.entailment
 
     of_asked : (w : Way) (k : Option Asked) (g : PlacedEntailment) → OfQuestion (start p t) w g k → HasSite (Some w) k g
     of_asked w None g h = absurd h

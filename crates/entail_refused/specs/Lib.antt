@@ -1,6 +1,7 @@
 pub mod Sites
 pub mod Further
 pub mod Asked
+pub mod AskedBy
 pub mod GivenElsewhere
 pub mod Remarked
 pub mod Readers
@@ -9,4 +10,5 @@ pub mod SiteHypotheses
 pub mod GivenCertificates
 pub mod OtherRefusals
 pub mod Suggested
+pub mod Unstored
 pub mod Inside

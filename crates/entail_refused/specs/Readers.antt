@@ -1,7 +1,7 @@
 -- Why something is asked of a variable that others may read: the thread assumes that no other writes it, and not that none reads it.
 use Rattle.std.specs.Prelude.{ℕ, List, [], ◌++◌, Bool, not, ◌&&◌, codes, if◌then◌else◌}
 use Rattle.cov_expr.specs.Trees.{has_number}
-use Rattle.cov_ast.specs.Declarations.{name_of}
+use Rattle.cov_ast.specs.Declarations.{name_of, is_control}
 use Rattle.cov_ast.specs.Plain.{plain}
 use Rattle.cov_ast.specs.Syntax.{Modes, Program}
 use Rattle.entail_origins.specs.declared.kinds.Question.{Question}
@@ -25,11 +25,15 @@ module _ (p : Program) (t : ℕ) where
   abbrev pub line_unless_hidden : (x : ℕ) → List ℕ
   line_unless_hidden x = if is_unhidden (numbered p t).modes x then line_on p x else []
 
+  -- of a control it is asked where others may not read it too
+  abbrev pub line_unless_control : (x : ℕ) → List ℕ
+  line_unless_control x = if is_control (plain p) x then [] else line_unless_hidden x
+
   -- of what is asked where a variable is low behind an assignment
   abbrev pub reader_line : Question → List ℕ
   reader_line q.Written = []
-  reader_line (q.Shown x) = line_unless_hidden x
-  reader_line (q.Controlled x) = line_unless_hidden x
+  reader_line (q.Shown x) = line_unless_control x
+  reader_line (q.Controlled y) = line_unless_hidden y
   reader_line (q.Retyped z) = []
   reader_line (q.Invariant l) = []
   reader_line (q.Freed x) = []

@@ -1,25 +1,11 @@
 -- What is remarked on the hypotheses of an entailment for which a program is refused: where each comes from.
-use Rattle.std.specs.Prelude.{ℕ, ◌-◌, List, [], length, take, Bool, true, false, if◌then◌else◌, Option, Some, None}
+use Rattle.std.specs.Prelude.{ℕ, ◌-◌, List, [], length, take, if◌then◌else◌, Option, Some, None}
 use Rattle.cov_expr.specs.Term.{Term}
 use Rattle.cov_ast.specs.Plain.{Plain}
 use Rattle.entail_origins.specs.declared.kinds.Question.{Question}
-use Rattle.entail_origins.specs.declared.kinds.Question.TheVariants as q
+use Rattle.entail_origins.specs.AskedHypotheses.{asks_more}
 use Rattle.entail_origins.specs.Remarks.{remarks}
 use Rattle.entail_refused.specs.Sites.{Site}
-
--- whether an entailment follows from one expression more than the predicates, which is its last hypothesis
-abbrev pub asks_more : Question → Bool
-asks_more q.Written = true
-asks_more (q.Shown x) = true
-asks_more (q.Controlled y) = true
-asks_more (q.Retyped z) = true
-asks_more (q.Invariant l) = false
-asks_more (q.Freed x) = true
-asks_more q.Guard = false
-asks_more q.HeadGuard = false
-asks_more q.Printed = false
-asks_more (q.Predicate end i) = false
-asks_more (q.TypeOf end z) = true
 
 -- the hypotheses that are known: all but the one that is asked with the goal, which is the last
 abbrev pub known_of : Question → (hypotheses : List Term) → List Term

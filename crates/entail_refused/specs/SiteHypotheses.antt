@@ -3,20 +3,14 @@
 --
 -- So what is told of that point, as where its hypotheses and the types of its goal come from and what was left out on the way, is told of the
 -- hypotheses and the goal of the entailment.
-use Rattle.std.specs.Prelude.{◌≡◌, ℕ, List, [], ◌∷◌, ◌++◌, Bool, true, false, Some}
+use Rattle.std.specs.Prelude.{◌≡◌, ℕ, Some}
 use Rattle.cov_ast.specs.Plain.{plain}
 use Rattle.cov_ast.specs.Syntax.{Program}
-use Rattle.cov_expr.specs.Term.{Term}
 use Rattle.typing_points.specs.Points.{point_after_steps}
+use Rattle.entail_origins.specs.AskedHypotheses.{AreOf, asks_more}
 use Rattle.entail_origins.specs.GoalTypes.{goal_of}
 use Rattle.typing_law.specs.ThreadEntailments.{PlacedEntailment}
-use Rattle.entail_refused.specs.Remarked.{asks_more}
 use Rattle.entail_refused.specs.Sites.{Site, site_of}
-
--- The hypotheses are these predicates, with one expression more behind them, which isn't named here, or without one.
-abbrev pub AreOf : (more : Bool) → (preds hyps : List Term) → Type 0
-AreOf true preds hyps = (e : Term) × (hyps ≡ preds ++ e ∷ [])
-AreOf false preds hyps = hyps ≡ preds
 
 -- An entailment of a thread, with this number at this place, has a site. Its hypotheses are the predicates of the point behind the steps to
 -- it, with one expression more just where the question has one, and its goal is that of the question, of the statement there, at that point.

@@ -3,12 +3,14 @@
 ghost use Rattle.std.specs.Prelude.{◌≡◌, ◌++◌, ◌-◌, length, map, take, OnOk};
 ghost use Rattle.cov_expr.specs.View.{term};
 ghost use Rattle.cov_ast.specs.View as view;
+ghost use Rattle.statement_parts.specs.Parts.{nested_of};
 ghost use Rattle.entail_refused.specs.Further as spec;
 
 use cov_ast::StmtKind;
 use cov_expr::{Blob, Expr, NoMemory};
 use entail_origins::Question;
 use entail_text::add_dropped;
+use statement_parts::{Nested, parts_of};
 use std::alloc::Global;
 
 /// Adds which hypotheses the state of a statement drops, where something of that state is asked.
@@ -53,14 +55,26 @@ fn add_dropped_by(
 ) -> Result<(), NoMemory>
     ensures { OnOk result (text.new ≡ text.old ++ spec.dropped_by (spec.word_and_predicates (view.kind kind.now)) (map term hypotheses.now)) }
 {
-    match kind {
-        StmtKind::If(_, _, _, join) => {
-            add_dropped(alloc, b"join", join.preds.as_slice(), hypotheses, text)
-        }
-        StmtKind::While(_, inv, _) => {
-            add_dropped(alloc, b"inv", inv.preds.as_slice(), hypotheses, text)
-        }
-        StmtKind::Note(j) => add_dropped(alloc, b"note", j.preds.as_slice(), hypotheses, text),
-        _ => Ok(()),
+    let parts = parts_of(kind);
+    match parts.state {
+        Some(state) => add_dropped(
+            alloc,
+            state_word(parts.nested).as_bytes(),
+            state.preds.as_slice(),
+            hypotheses,
+            text,
+        ),
+        None => Ok(()),
+    }
+}
+
+/// The word for the state of a statement with these blocks.
+fn state_word(nested: Nested<'_>) -> &'static str
+    ensures { result.now ≡ spec.state_word (nested_of nested.entry) }
+{
+    match nested {
+        Nested::None => "note",
+        Nested::Turn(_) => "inv",
+        Nested::Either(_, _) => "join",
     }
 }

@@ -9,10 +9,12 @@ ghost use Rattle.entail_refused.specs.Further as spec;
 ghost use Rattle.entail_refused.specs.Sites as sites;
 ghost use Rattle.entail_refused.specs.Sites.{IsSiteInRange};
 
+use crate::asked_by::add_asked_by;
 use crate::dropped::add_dropped_at;
 use crate::readers::add_reader_line;
 use crate::remarked::known_of;
 use crate::site::Site;
+use crate::unstored::add_unstored_line;
 use cov_ast::Program;
 use cov_expr::{Blob, NoMemory};
 use entail_losses::{Unshown, add_losses};
@@ -21,8 +23,8 @@ use entail_text::Finding;
 use std::alloc::Global;
 use typing_law::Entail;
 
-/// Adds where the types come from that make up the goal of an entailment of a thread, which hypotheses the state drops that is asked of, and
-/// which of the predicates that were lost on the way would help. Nothing is added where a certificate is found for it, or where it isn't known where it is asked. `bytes` are the text of the program.
+/// Adds which declaration asks for an entailment of a thread and who may read, where the types come from that make up its goal, which hypotheses the state drops that is asked of,
+/// which of the predicates that were lost on the way would help, and to which variables nothing stores. Nothing is added where a certificate is found for it, or where it isn't known where it is asked. `bytes` are the text of the program.
 pub fn add_further(
     alloc: Global,
     p: &Program,
@@ -89,8 +91,10 @@ fn add_further_at(
         known: known_of(site.question, hyps),
         goal: &e.goal,
     };
+    add_asked_by(p, bytes, site.question, text)?;
     add_reader_line(p, t, site.question, text)?;
     add_type_lines(alloc, p, t, bytes, steps, site.question, site.kind, text)?;
     add_dropped_at(alloc, site.question, site.kind, hyps, text)?;
-    add_losses(alloc, p, t, bytes, steps, unshown, text)
+    add_losses(alloc, p, t, bytes, steps, unshown, text)?;
+    add_unstored_line(alloc, p, site.question, site.kind, &e.goal, text)
 }

@@ -2,8 +2,8 @@
 //!
 //! - [`add_asked`]: of the entailment for which a program is refused what it asks, its goal, its hypotheses, each with
 //!   where it comes from (`entail_origins`), and its certificate (`entail_text`); then what is found for it (there too), a certificate or a memory that breaks it; and
-//!   where no certificate is, where the types come from that make up the goal (`entail_origins`), which hypotheses the state drops that is asked of, and which of what was lost on the
-//!   way would help (`entail_losses`).
+//!   where no certificate is, which declaration asks (`specs/AskedBy.antt`) and who may read (`specs/Readers.antt`), where the types come from that make up the goal (`entail_origins`), which hypotheses
+//!   the state drops that is asked of, which of what was lost on the way would help (`entail_losses`), and to which variables nothing stores (`specs/Unstored.antt`).
 //! - [`other_refusals`]: of its thread and of the threads behind it, the first refusal of each by a rule that isn't about certificates, and then the other entailments that have no
 //!   valid certificate, as refusals.
 //! - [`sort_refusals`]: refusals by whether a certificate is found for what was asked, each such with the certificate (`specs/Suggested.antt`).
@@ -18,6 +18,7 @@
 //! `specs/GivenElsewhere.antt` which certificates of other entailments are told of, and `specs/OtherRefusals.antt` which others of the thread, and of those behind it, are refused.
 #![tactic(auto)]
 
+mod asked_by;
 mod dropped;
 mod entailment;
 mod further;
@@ -29,6 +30,7 @@ mod remarked;
 mod site;
 mod site_laws;
 mod suggested;
+mod unstored;
 
 pub use entailment::add_asked;
 pub use laws::{refusal_is_told, refused_entailment_is_listed};

@@ -7,6 +7,7 @@ ghost use Rattle.entail_refused.specs.Readers as spec;
 use cov_ast::{Modes, Program};
 use cov_expr::{Blob, NoMemory, has_number};
 use entail_origins::Question;
+use policy_class::is_control;
 use text_parts::add_variable_name;
 
 /// Adds that others may read the variable of which something is asked where it is low, where the thread assumes that no other writes it, and not that none reads it.
@@ -20,7 +21,8 @@ pub fn add_reader_line(
     ensures { OnOk result (text.new ≡ text.old ++ spec.reader_line (view.program p.now) t question) }
 {
     match question {
-        Question::Shown(x) | Question::Controlled(x) => add_unless_hidden(p, t, x, text),
+        Question::Shown(x) => add_unless_control(p, t, x, text),
+        Question::Controlled(y) => add_unless_hidden(p, t, y, text),
         Question::Written
         | Question::Retyped(_)
         | Question::Invariant(_)
@@ -30,6 +32,18 @@ pub fn add_reader_line(
         | Question::Printed
         | Question::Predicate(_, _)
         | Question::TypeOf(_, _) => Ok(()),
+    }
+}
+
+/// Adds that of a variable that is stored to, of which it is asked wherever it is low where it is a control.
+fn add_unless_control(p: &Program, t: u32, x: u32, text: &mut Blob) -> Result<(), NoMemory>
+    requires { t < length p.now.threads }
+    ensures { OnOk result (text.new ≡ text.old ++ spec.line_unless_control (view.program p.now) t x) }
+{
+    if is_control(p, x) {
+        Ok(())
+    } else {
+        add_unless_hidden(p, t, x, text)
     }
 }
 

@@ -4,6 +4,7 @@ ghost use Rattle.std.specs.Prelude.{◌≡◌, IfOk, map, option_map};
 ghost use Rattle.cov_expr.specs.View.{term};
 ghost use Rattle.cov_ast.specs.Plain.{plain};
 ghost use Rattle.cov_ast.specs.View as view;
+ghost use Rattle.entail_origins.specs.AskedHypotheses.{asks_more};
 ghost use Rattle.entail_refused.specs.Remarked as spec;
 ghost use Rattle.entail_refused.specs.Sites as sites;
 
@@ -64,7 +65,7 @@ pub fn known_of(question: Question, hypotheses: &[Expr]) -> &[Expr]
 
 /// Whether an entailment follows from one expression more than the predicates, which is its last hypothesis.
 fn asks_more(question: Question) -> bool
-    ensures { result ≡ spec.asks_more question }
+    ensures { result ≡ asks_more question }
 {
     match question {
         Question::Written
