@@ -6,7 +6,7 @@ use Rattle.std.proofs.lemmas.Bool.{cases_eq, eq-eqb, ne_eqb}
 use Rattle.std.proofs.lemmas.List.{append-nil, get_or-set_other, get_or-set_same, length-set}
 use Rattle.cov_ast.specs.Declarations.{lock_at, no_lock}
 use Rattle.cov_ast.specs.Plain.{plain, plain_block, Plain}
-use Rattle.cov_ast.specs.Syntax.{Stm, skip, assign, lock, unlock, branch, loop, note, output, Block, done, more, Lock, Program}
+use Rattle.cov_ast.specs.Syntax.{Stm, branch, Block, done, more, Lock, Program}
 use Rattle.cov_ast.specs.Tables.{has}
 use Rattle.statement_paths.specs.LocksHeld.{held_at_end, held_past}
 use Rattle.statement_paths.proofs.PlainLaws.{after_the_first}
@@ -29,14 +29,8 @@ by_both (Some c) first held = refl
 -- as many locks stay
 mutual
   same_length : (s : Stm) (held : List Bool) → length (held_past s held) ≡ length held
-  same_length skip held = refl
-  same_length (assign x e q retypes) held = refl
-  same_length (lock l) held = length-set held l true
-  same_length (unlock l) held = length-set held l false
   same_length (branch e a b join) held = same_length_block a held
-  same_length (loop e inv b) held = refl
-  same_length (note j) held = refl
-  same_length (output e) held = refl
+  same_length _ held = first_of (assumption, search length-set)
 
   same_length_block : (b : Block) (held : List Bool) → length (held_at_end b held) ≡ length held
   same_length_block done held = refl
@@ -56,14 +50,8 @@ module _ (l : ℕ) where
 
   mutual
     held_past_is : (s : Stm) (at : ℕ) (held : List Bool) → l < length held → has (held_past s held) l ≡ held_by (change_by l at s) (has held l)
-    held_past_is skip at held inside = refl
-    held_past_is (assign x e q retypes) at held inside = refl
-    held_past_is (lock k) at held inside = turned held k at true inside
-    held_past_is (unlock k) at held inside = turned held k at false inside
     held_past_is (branch e a b join) at held inside = held_at_end_is a held inside
-    held_past_is (loop e inv b) at held inside = refl
-    held_past_is (note j) at held inside = refl
-    held_past_is (output e) at held inside = refl
+    held_past_is _ at held inside = first_of (assumption, search turned)
 
     held_at_end_is : (b : Block) (held : List Bool) → l < length held → has (held_at_end b held) l ≡ held_by (last_change l b) (has held l)
     held_at_end_is done held inside = refl

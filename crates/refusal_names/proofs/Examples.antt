@@ -85,7 +85,7 @@ locked_part : unstable_part (alone (s.assign 0 (var 1) None [])) (codes "b") ≡
 locked_part = simp (decimal_digit 3 (lit< tt))
 
 -- V4: a type behind `as`, one of `retype`, and none
-no_control : refusal_names (behind_lock (s.assign 2 (var 1) (Some (var 1)) [])) V4 (Some 0) 90 ≡ codes "  the type `b` has the variable b, which is no control\n"
+no_control : refusal_names (behind_lock (s.assign 2 (var 1) (Some (var 1)) [])) V4 (Some 0) 90 ≡ codes "  the type `b` has the variable b, which is no control: no class mentions it\n"
 no_control = refl
 
 unstable_control : refusal_names (alone (s.assign 2 (var 1) (Some (const 0)) ((1, var 0) ∷ []))) V4 (Some 0) 90
@@ -134,10 +134,10 @@ numbers proofs n =
 given_twice : numbers (proof_of 1 ∷ proof_of 2 ∷ proof_of 1 ∷ []) 1 ≡ codes "  1 is given more than once\n"
 given_twice = simp (decimal_digit 1 (lit< tt))
 
-past_the_count : numbers (proof_of 1 ∷ proof_of 2 ∷ []) 2 ≡ codes "  the statement has 1 entailment\n"
+past_the_count : numbers (proof_of 1 ∷ proof_of 2 ∷ []) 2 ≡ codes "  the statement has 1 entailment: where it lists a predicate or a type more or less, numbers move\n"
 past_the_count = refl
 
-no_number : numbers (proof_of 0 ∷ proof_of 0 ∷ []) 0 ≡ codes "  the statement has 1 entailment\n"
+no_number : numbers (proof_of 0 ∷ proof_of 0 ∷ []) 0 ≡ codes "  the statement has 1 entailment: where it lists a predicate or a type more or less, numbers move\n"
 no_number = refl
 
 given_once : numbers (proof_of 1 ∷ proof_of 2 ∷ []) 1 ≡ []
@@ -147,7 +147,7 @@ no_entailments : spec.refusal_names (with_body (s.more 90 s.skip (proof_of 1 ∷
 no_entailments = refl
 
 two_entailments : spec.refusal_names (with_body (s.more 90 (s.note (record { preds = const 1 ∷ const 2 ∷ []; types = [] })) (proof_of 3 ∷ []) s.done)) [] V13 (Some 0) 90 (Number 3)
-    ≡ codes "  the statement has 2 entailments\n"
+    ≡ codes "  the statement has 2 entailments: where it lists a predicate or a type more or less, numbers move\n"
 two_entailments = simp (decimal_digit 2 (lit< tt))
 
 -- V14: b and then c are given types, where l, m or nothing is held

@@ -9,9 +9,9 @@ use Rattle.cov_expr.specs.Term.{Term, bin, neg, var}
 use Rattle.cov_expr.specs.Trees.{has_term, mentions}
 use Rattle.cov_ast.specs.Declarations.{invariant_of, invariant_term, lock_at}
 use Rattle.cov_ast.specs.Plain.{plain}
-use Rattle.cov_ast.specs.Syntax.{assign, branch, lock, loop, note, output, skip, unlock, Program, Stm}
+use Rattle.cov_ast.specs.Syntax.{assign, branch, lock, loop, note, Program, Stm}
 use Rattle.typing_points.specs.Points.{after_step, after_steps}
-use Rattle.point_law.specs.After.{after_unlock, keeps_value, start, with_term_if}
+use Rattle.point_law.specs.After.{keeps_value, start, with_term_if}
 use Rattle.point_law.specs.Point.{is_over_stable, Point}
 use Rattle.point_law.specs.Terms.{distinct_terms, is_small, with_option, with_term, with_terms}
 use Rattle.statement_paths.specs.Paths.{head, no, passed, yes, Step}
@@ -77,16 +77,14 @@ small_negation at e h = not_made _ (neg e) (is_large (neg e)) refl h
 module _ (p : Program) (t : ℕ) (invariants : (l : ℕ) → is_small (invariant_of (plain p) l) ≡ true) where
   past : (at : ℕ) (s : Stm) (a : Point) → is_given_small (passed at s) ≡ true → made_after_statement at s ≡ None → are_small a.preds ≡ true
       → are_small (after_stm (plain p) t s a).preds ≡ true
-  past at skip a given made h = h
   past at (assign x e q retypes) a given made h =
       small_if (keeps_value (plain p) t a.held x e) (filter (λ r. not (mentions r x)) a.preds) (bin Eq (var x) e) (small_filter (λ r. not (mentions r x)) a.preds h)
       (small_equation at x e made)
   past at (lock l) a given made h = small_option a.preds (lock_at (plain p) l).inv h (invariants l)
-  past at (unlock l) a given made h = small_filter (is_over_stable (plain p) t (after_unlock (plain p) t a l).held) a.preds h
   past at (branch e yes_block no_block join) a given made h = small_distinct join.preds given
   past at (loop e inv b) a given made h = small_if (is_over_stable (plain p) t a.held (neg e)) (distinct_terms inv.preds) (neg e) (small_distinct inv.preds given) (small_negation at e made)
   past at (note j) a given made h = small_distinct j.preds given
-  past at (output e) a given made h = h
+  past at _ a given made h = first_of (assumption, search small_filter)
 
   behind_step : (s : Step) (a : Point) → is_given_small s ≡ true → made_by s ≡ None → are_small a.preds ≡ true → are_small (after_step (plain p) t s a).preds ≡ true
   behind_step (passed at s) a given made h = past at s a given made h

@@ -15,12 +15,16 @@ repeated_text n = codes "  " ++ decimal n ++ codes " is given more than once\n"
 abbrev pub repeated_line : List Proof → (n : ℕ) → List ℕ
 repeated_line proofs n = if nat_le 2 (times_given proofs n) then repeated_text n else []
 
+-- why a number may be that of none
+abbrev pub moved_words : List ℕ
+moved_words = codes ": where it lists a predicate or a type more or less, numbers move\n"
+
 -- how many entailments there are
 abbrev pub many_words : (count : ℕ) → List ℕ
-many_words count = decimal count ++ codes " entailments\n"
+many_words count = decimal count ++ (codes " entailments" ++ moved_words)
 
 abbrev pub count_words : (count : ℕ) → List ℕ
-count_words count = if count == 0 then codes "no entailments\n" else if count == 1 then codes "1 entailment\n" else many_words count
+count_words count = if count == 0 then codes "no entailments\n" else if count == 1 then codes "1 entailment" ++ moved_words else many_words count
 
 abbrev pub count_text : (count : ℕ) → List ℕ
 count_text count = codes "  the statement has " ++ count_words count

@@ -1,8 +1,9 @@
 -- V8: by which statements of blocks the locks at their ends differ: those that take a lock or give it back last.
 use Rattle.std.specs.Prelude.{ℕ, suc, ◌==◌, List, [], ◌∷◌, ◌++◌, Bool, true, false, if◌then◌else◌, Option, Some, None, codes, decimal}
 use Rattle.std.specs.Option.{option_or}
-use Rattle.cov_ast.specs.Syntax.{Lock, Stm, skip, assign, lock, unlock, branch, loop, note, output, Block, done, more}
+use Rattle.cov_ast.specs.Syntax.{Lock, Proof, Stm, Block}
 use Rattle.cov_ast.specs.Tables.{has}
+use Rattle.statement_parts.specs.Parts.{Inside, made, made_inside, of_either, of_none, of_turn, parts}
 use Rattle.text_parts.specs.Lines.{line}
 use Rattle.typing_law.specs.ThreadObligations.{agree}
 
@@ -12,24 +13,31 @@ use Rattle.typing_law.specs.ThreadObligations.{agree}
 abbrev pub change_where : Bool → (at : ℕ) → (takes : Bool) → Option (ℕ × Bool)
 change_where same at takes = if same then Some (at, takes) else None
 
-abbrev mutual
-  -- The last statement of a block that takes a lock or gives it back, by its place, with whether it takes the lock. Of a branch in the block the
-  -- first block counts, since the locks at its end are those behind the branch; of a loop none does, since behind it the same locks are held
-  -- as in front.
-  pub last_change : (wanted : ℕ) → Block → Option (ℕ × Bool)
-  last_change wanted done = None
-  last_change wanted (more at s proofs rest) = option_or (last_change wanted rest) (change_by wanted at s)
+-- the change at the end of the first of two blocks
+abbrev pub change_inside : Inside (Option (ℕ × Bool)) → Option (ℕ × Bool)
+change_inside of_none = None
+change_inside (of_turn e inv b) = None
+change_inside (of_either e join a b) = a
 
-  -- the same of a statement
-  pub change_by : (wanted : ℕ) → (at : ℕ) → Stm → Option (ℕ × Bool)
-  change_by wanted at skip = None
-  change_by wanted at (assign x e q retypes) = None
-  change_by wanted at (lock l) = change_where (l == wanted) at true
-  change_by wanted at (unlock l) = change_where (l == wanted) at false
-  change_by wanted at (branch e a b join) = last_change wanted a
-  change_by wanted at (loop e inv b) = None
-  change_by wanted at (note j) = None
-  change_by wanted at (output e) = None
+-- by a statement at a place: where it takes a lock or gives one back, and else in its blocks
+abbrev pub change_of : (wanted : ℕ) → (at : ℕ) → (taken returned : Option ℕ) → Inside (Option (ℕ × Bool)) → Option (ℕ × Bool)
+change_of wanted at (Some l) returned inside = change_where (l == wanted) at true
+change_of wanted at None (Some l) inside = change_where (l == wanted) at false
+change_of wanted at None None inside = change_inside inside
+
+-- by a statement in front of others: the change by those counts, if there is one
+abbrev pub change_or : (wanted : ℕ) → (at : ℕ) → Stm → List Proof → Inside (Option (ℕ × Bool)) → (rest : Option (ℕ × Bool)) → Option (ℕ × Bool)
+change_or wanted at s proofs inside rest = option_or rest (change_of wanted at (parts s).taken (parts s).returned inside)
+
+-- The last statement of a block that takes a lock or gives it back, by its place, with whether it takes the lock. Of a branch in the block the
+-- first block counts, since the locks at its end are those behind the branch; of a loop none does, since behind it the same locks are held
+-- as in front.
+abbrev pub last_change : (wanted : ℕ) → Block → Option (ℕ × Bool)
+last_change wanted b = made None (change_or wanted) b
+
+-- the same of a statement
+abbrev pub change_by : (wanted : ℕ) → (at : ℕ) → Stm → Option (ℕ × Bool)
+change_by wanted at s = change_of wanted at (parts s).taken (parts s).returned (made_inside None (change_or wanted) s)
 
 -- The lines ----------------------------------------------------------------------------------------------------
 

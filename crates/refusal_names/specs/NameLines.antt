@@ -56,7 +56,7 @@ abbrev pub part_word : (is_control : Bool) → List ℕ
 part_word is_control = if is_control then codes "control " else codes "variable "
 
 abbrev pub part_fault : (is_control : Bool) → List ℕ
-part_fault is_control = if is_control then codes ", which isn't stable here\n" else codes ", which is no control\n"
+part_fault is_control = if is_control then codes ", which isn't stable here\n" else codes ", which is no control: no class mentions it\n"
 
 abbrev pub type_text : Names → (controls : List Bool) → Term → (x : ℕ) → List ℕ
 type_text names controls q x =

@@ -7,12 +7,12 @@ ghost use Rattle.refusal_names.specs.ForbiddenAccess as spec;
 ghost use Rattle.refusal_names.specs.NameLines.{held_text};
 
 use crate::ends::add_held;
-use crate::guarantees::add_line_of;
 use crate::reads::add_variable;
 use cov_ast::{Detail, LockDecl, NameTable, ThreadDecl};
 use cov_expr::{Blob, Name, NoMemory, has_number};
 use mode_state::ModeState;
 use std::alloc::Global;
+use text_parts::add_line_of;
 
 /// Adds why a thread may not read, or write, the variable that a refusal shows, by the locks that it holds.
 pub fn add_access(

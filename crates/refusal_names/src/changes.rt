@@ -6,10 +6,11 @@ ghost use Rattle.cov_ast.specs.View as view;
 ghost use Rattle.refusal_names.specs.LockChanges as spec;
 ghost use Rattle.typing_law.specs.ThreadObligations as rules;
 
-use crate::guarantees::add_line_of;
 use cov_ast::{LockDecl, Stmt, StmtKind};
 use cov_expr::{Blob, Name, NoMemory};
 use mode_state::ModeState;
+use statement_parts::parts_of;
+use text_parts::add_line_of;
 
 /// What changes a lock: the place of a statement, and whether it takes the lock.
 type Change = (u32, bool);
@@ -175,15 +176,16 @@ fn last_change(wanted: u32, body: &[Stmt]) -> Option<Change>
 fn change_by(wanted: u32, at: u32, kind: &StmtKind) -> Option<Change>
     ensures { result ≡ spec.change_by wanted at (view.kind kind.now) }
 {
+    let parts = parts_of(kind);
+    if let Some(l) = parts.taken {
+        return where_same(l, wanted, at, true);
+    }
+    if let Some(l) = parts.returned {
+        return where_same(l, wanted, at, false);
+    }
     match kind {
-        StmtKind::Lock(l) => where_same(*l, wanted, at, true),
-        StmtKind::Unlock(l) => where_same(*l, wanted, at, false),
         StmtKind::If(_, a, _, _) => last_change(wanted, a.as_slice()),
-        StmtKind::Skip
-        | StmtKind::Assign(_, _, _, _)
-        | StmtKind::While(_, _, _)
-        | StmtKind::Note(_)
-        | StmtKind::Output(_) => None,
+        _ => None,
     }
 }
 

@@ -46,7 +46,8 @@ fn add_count(count: usize, text: &mut Blob) -> Result<(), NoMemory>
     if count == 0 {
         text.extend_from_slice(b"no entailments\n")
     } else if count == 1 {
-        text.extend_from_slice(b"1 entailment\n")
+        text.extend_from_slice(b"1 entailment")?;
+        add_moved(text)
     } else {
         add_many(count, text)
     }
@@ -57,7 +58,15 @@ fn add_many(count: usize, text: &mut Blob) -> Result<(), NoMemory>
     ensures { OnOk result (text.new ≡ text.old ++ spec.many_words count) }
 {
     add_number(count, text)?;
-    text.extend_from_slice(b" entailments\n")
+    text.extend_from_slice(b" entailments")?;
+    add_moved(text)
+}
+
+/// Adds why a number may be that of none.
+fn add_moved(text: &mut Blob) -> Result<(), NoMemory>
+    ensures { OnOk result (text.new ≡ text.old ++ spec.moved_words) }
+{
+    text.extend_from_slice(b": where it lists a predicate or a type more or less, numbers move\n")
 }
 
 /// Adds that a number is given more than once.

@@ -1,17 +1,16 @@
 //! The line of W9: the thread that lacks a guarantee.
 
-ghost use Rattle.std.specs.Prelude.{◌≡◌, ◌++◌, OnOk, decimal, map, option_map};
+ghost use Rattle.std.specs.Prelude.{◌≡◌, ◌++◌, OnOk, map, option_map};
 ghost use Rattle.std.specs.Str.{bytes_eq};
 ghost use Rattle.cov_ast.specs.View as view;
 ghost use Rattle.cov_ast.specs.WellFormed.{IsWellFormed};
 ghost use Rattle.refusal_names.specs.MissingGuarantees as spec;
-ghost use Rattle.text_parts.specs.Lines.{line};
 
 use crate::reads::add_variable;
 use cov_ast::{Modes, NameTable, Program, ThreadDecl};
 use cov_expr::{Blob, Name, NoMemory, has_number};
 use std::alloc::Global;
-use text_parts::{add_number, position, variable_names};
+use text_parts::{add_line_of, variable_names};
 
 /// Adds where the thread stands that doesn't guarantee what another assumes of a variable, and which guarantee it lacks, by their names.
 pub fn add_guarantee(
@@ -141,13 +140,6 @@ fn add_stands(bytes: &[u8], t: &ThreadDecl, text: &mut Blob) -> Result<(), NoMem
     text.extend_from_slice(t.name.text())?;
     text.extend_from_slice(b" stands in line ")?;
     add_line_of(bytes, t.at, text)
-}
-
-/// Adds the line of a place, in decimal.
-pub fn add_line_of(bytes: &[u8], place: u32, text: &mut Blob) -> Result<(), NoMemory>
-    ensures { OnOk result (text.new ≡ text.old ++ decimal (line bytes.now place)) }
-{
-    add_number(position(bytes, place as usize).line, text)
 }
 
 /// Adds which guarantee a thread needs.

@@ -8,12 +8,12 @@ ghost use Rattle.cov_ast.specs.View as view;
 ghost use Rattle.refusal_names.specs.LargeTerms as spec;
 ghost use Rattle.statement_paths.specs.Paths.{step};
 
-use crate::guarantees::add_line_of;
 use crate::reads::add_variable;
 use cov_ast::{Class, NameTable, NumberSet, Retype, Stmt, StmtKind, VarDecl};
 use cov_expr::{Blob, Expr, MOST_NODES, NoMemory, mentions, nodes_at_most};
 use statement_parts::parts_of;
 use statement_paths::Step;
+use text_parts::add_line_of;
 use typing_rules::subst_nodes_left;
 
 /// What is made on the way: its place, and words for it.

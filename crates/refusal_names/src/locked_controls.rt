@@ -6,11 +6,10 @@ ghost use Rattle.cov_ast.specs.View as view;
 ghost use Rattle.cov_ast.specs.WellFormed.{IsWellFormed};
 ghost use Rattle.refusal_names.specs.LockedControls as spec;
 
-use crate::guarantees::add_line_of;
 use cov_ast::{LockDecl, Program};
 use cov_expr::{Blob, Name, NoMemory, has_number};
 use std::alloc::Global;
-use text_parts::variable_names;
+use text_parts::{add_line_of, variable_names};
 
 /// Adds under which lock the control of a variable is, by their names, and what is mostly done; nothing where it is under none.
 pub fn add_locked_control(

@@ -196,6 +196,6 @@ fn part_fault(control: bool) -> &'static [u8]
     if control {
         b", which isn't stable here\n"
     } else {
-        b", which is no control\n"
+        b", which is no control: no class mentions it\n"
     }
 }
