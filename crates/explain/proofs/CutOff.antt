@@ -1,5 +1,5 @@
 -- A statement that is warned of as never reached stands at a place that no run of its thread comes to, where the places of the thread's statements differ.
-use Rattle.std.proofs.Common.{◌≡◌, ◌≢◌, ℕ, ◌<◌, ◌≤◌, ◌==◌, ◌&&◌, ◌||◌, List, [], ◌∷◌, ◌++◌, length, get_or, Bool, true, false, not, Some, refl, sym, ap, subst, ◌∙◌, arith, ◌⊎◌, ⊎_elim, inl, inr, Contains}
+use Rattle.std.proofs.Common.{◌≡◌, ◌≢◌, ℕ, ◌<◌, ◌≤◌, ◌==◌, ◌&&◌, ◌||◌, List, [], ◌∷◌, ◌++◌, length, get_or, Bool, true, false, not, Option, Some, None, refl, sym, ap, subst, ◌∙◌, arith, ◌⊎◌, ⊎_elim, inl, inr, Contains}
 use Rattle.std.specs.List.{list_any}
 use Rattle.std.proofs.Math.ListN.{get_or-map}
 use Rattle.std.proofs.lemmas.Bool.{and_parts, or_parts, not-true, eqb-true, eq-eqb, cases_lt}
@@ -7,18 +7,18 @@ use Rattle.std.proofs.lemmas.List.{get_or_past}
 use Rattle.std.proofs.lemmas.List.Elements.{Contains-append_cases, Contains-push_cases}
 use Rattle.std.proofs.lemmas.List.Folds.{list_any-append}
 use Rattle.cov_ast.specs.Declarations.{no_modes, no_thread, thread_at}
-use Rattle.cov_ast.specs.Plain.{Cmds, plain_stm, plain_block, plain_thread, plain}
+use Rattle.cov_ast.specs.Plain.{Cmd, Cmds, plain_stm, plain_block, plain_thread, plain}
 use Rattle.cov_ast.specs.Syntax.{Stm, Block, done, more, Thread, Program}
 use Rattle.cov_ast.specs.Syntax as s
 use Rattle.cov_ast.specs.WellFormed.{IsWellFormed, are_distinct, places, places_within}
 use Rattle.flow_model.specs.Source.{items_of, items_then, first_place, begin, after}
-use Rattle.explain.specs.Inside.StatementWalks.{stm_front, cuts_off, stm_unreached, block_unreached}
+use Rattle.explain.specs.Inside.StatementWalks.{left_of, stm_front, cuts_off, stm_unreached, block_unreached}
 use Rattle.explain.specs.NeverReached.{is_closed_true, of_front, of_thread}
 use Rattle.explain.specs.Unused.{is_closed_false, warned}
 use Rattle.explain.specs.declared.warning.Warning.{Warning}
 use Rattle.explain.specs.declared.warning.Cause.TheVariants as c
-use Rattle.explain.proofs.Missed.{unless, MissesAll, all_cut, thread_misses}
-use Rattle.explain.proofs.UnreachedLaws.{block_is}
+use Rattle.explain.proofs.Missed.{unless, Misses, MissesAll, all_cut, thread_misses}
+use Rattle.explain.proofs.UnreachedLaws.{stm_is}
 
 -- Places that differ -------------------------------------------------------------------------------------------
 
@@ -88,40 +88,26 @@ module _ (x : ℕ) where
 
   -- Statements without annotations, in front of others -------------------------------------------------------------
 
+  abbrev IsMissed : Option Cmd → Type 0
+  IsMissed None = Unit {0}
+  IsMissed (Some c) = Misses x c
+
   abbrev InBlocks : Stm → Type 0
-  InBlocks s.skip = Unit {0}
-  InBlocks (s.assign y e q retypes) = Unit {0}
-  InBlocks (s.lock l) = Unit {0}
-  InBlocks (s.unlock l) = Unit {0}
-  InBlocks (s.branch e a b join) = MissesAll x (is_closed_false e) (plain_block a) × MissesAll x (is_closed_true e) (plain_block b)
-  InBlocks (s.loop e inv b) = MissesAll x (is_closed_false e) (plain_block b)
-  InBlocks (s.note j) = Unit {0}
-  InBlocks (s.output e) = Unit {0}
+  InBlocks q = IsMissed (left_of q)
 
   put_front : (q : Stm) (at : ℕ) (u : Bool) (r : Cmds) → x ≢ at → InBlocks q → MissesAll x (cuts_off u q) r → MissesAll x u (plain_stm q at r)
-  put_front s.skip at u r d m h = unless u (d, (tt, h))
-  put_front (s.assign y e q retypes) at u r d m h = unless u (d, (tt, h))
-  put_front (s.lock l) at u r d m h = unless u (d, (tt, h))
-  put_front (s.unlock l) at u r d m h = unless u (d, (tt, h))
-  put_front (s.branch e a b join) at u r d m h = unless u (d, (m, h))
-  put_front (s.loop e inv b) at u r d m h = unless u (d, (m, h))
   put_front (s.note j) at u r d m h = h
-  put_front (s.output e) at u r d m h = unless u (d, (tt, h))
+  put_front _ at u r d m h = unless u (d, (m, h))
 
   -- What isn't among the places is missed ----------------------------------------------------------------------------
 
   mutual
     absent_within : (q : Stm) → among (places_within q) x ≡ false → InBlocks q
-    absent_within s.skip h = tt
-    absent_within (s.assign y e q retypes) h = tt
-    absent_within (s.lock l) h = tt
-    absent_within (s.unlock l) h = tt
     absent_within (s.branch e a b join) h =
         let parts = or_parts (among (places a) x) (among (places b) x) (sym (list_any-append (◌==◌ x) (places a) (places b)) ∙ h) in
         (absent a (is_closed_false e) parts.0, absent b (is_closed_true e) parts.1)
     absent_within (s.loop e inv b) h = absent b (is_closed_false e) h
-    absent_within (s.note j) h = tt
-    absent_within (s.output e) h = tt
+    absent_within _ h = tt
 
     absent : (b : Block) (u : Bool) → among (places b) x ≡ false → MissesAll x u (plain_block b)
     absent done u h = tt
@@ -141,43 +127,28 @@ module _ (x : ℕ) where
       by (inr e) = subst (λ y. (x == y) ≡ true) (sym (ap (λ w. w.place) e)) same_place
 
   stm_front_at : (q : Stm) (u : Bool) (at : ℕ) → Contains (stm_front u q at) here → (x == at) ≡ true
-  stm_front_at s.skip u at h = front_at u at h
-  stm_front_at (s.assign y e q retypes) u at h = front_at u at h
-  stm_front_at (s.lock l) u at h = front_at u at h
-  stm_front_at (s.unlock l) u at h = front_at u at h
-  stm_front_at (s.branch e a b join) u at h = front_at u at h
-  stm_front_at (s.loop e inv b) u at h = front_at u at h
   stm_front_at (s.note j) u at h = absurd (empty h)
-  stm_front_at (s.output e) u at h = front_at u at h
+  stm_front_at _ u at h = front_at u at h
 
   front_none : (q : Stm) (at : ℕ) → stm_front false q at ≡ []
-  front_none s.skip at = refl
-  front_none (s.assign y e q retypes) at = refl
-  front_none (s.lock l) at = refl
-  front_none (s.unlock l) at = refl
-  front_none (s.branch e a b join) at = refl
-  front_none (s.loop e inv b) at = refl
   front_none (s.note j) at = refl
-  front_none (s.output e) at = refl
+  front_none _ at = refl
 
   mutual
     found_within : (q : Stm) → Contains (stm_unreached q) here → among (places_within q) x ≡ true
-    found_within s.skip h = absurd (empty h)
-    found_within (s.assign y e q retypes) h = absurd (empty h)
-    found_within (s.lock l) h = absurd (empty h)
-    found_within (s.unlock l) h = absurd (empty h)
     found_within (s.branch e a b join) h =
         among_append (places a) (places b)
         (⊎_elim (λ k. or_first (among (places a) x) (among (places b) x) (found a (is_closed_false e) k))
         (λ k. or_second (among (places a) x) (among (places b) x) (found b (is_closed_true e) k))
         (Contains-append_cases (block_unreached (is_closed_false e) a) (block_unreached (is_closed_true e) b) here h))
     found_within (s.loop e inv b) h = found b (is_closed_false e) h
-    found_within (s.note j) h = absurd (empty h)
-    found_within (s.output e) h = absurd (empty h)
+    found_within _ h = absurd (empty h)
 
     found : (b : Block) (u : Bool) → Contains (block_unreached u b) here → among (places b) x ≡ true
     found done u h = absurd (empty h)
     found (more at q proofs b) u h =
+        let parts : Contains (stm_front u q at ++ stm_unreached q ++ block_unreached (cuts_off u q) b) here =
+        subst (λ ws. Contains ws here) (stm_is q at u (plain_block b)) h in
         ⊎_elim
         (λ k. ⊎_elim (λ f. or_first (x == at) (among (places_within q ++ places b) x) (stm_front_at q u at f))
         (λ f. or_second (x == at) (among (places_within q ++ places b) x)
@@ -185,16 +156,12 @@ module _ (x : ℕ) where
         (Contains-append_cases (stm_front u q at) (stm_unreached q) here k))
         (λ k. or_second (x == at) (among (places_within q ++ places b) x)
         (among_append (places_within q) (places b) (or_second (among (places_within q) x) (among (places b) x) (found b (cuts_off u q) k))))
-        (Contains-append_cases (stm_front u q at ++ stm_unreached q) (block_unreached (cuts_off u q) b) here h)
+        (Contains-append_cases (stm_front u q at ++ stm_unreached q) (block_unreached (cuts_off u q) b) here parts)
 
   -- What is warned of is missed ---------------------------------------------------------------------------------------
 
   mutual
     cut_within : (q : Stm) → differ (places_within q) ≡ true → Contains (stm_unreached q) here → InBlocks q
-    cut_within s.skip d h = tt
-    cut_within (s.assign y e q retypes) d h = tt
-    cut_within (s.lock l) d h = tt
-    cut_within (s.unlock l) d h = tt
     cut_within (s.branch e a b join) d h =
         let parts = two_parts x (places a) (places b) d in
         ⊎_elim (λ k. (cut a (is_closed_false e) parts.0 k, absent b (is_closed_true e) (parts.1.1 (found a (is_closed_false e) k))))
@@ -204,8 +171,7 @@ module _ (x : ℕ) where
         ))
         (Contains-append_cases (block_unreached (is_closed_false e) a) (block_unreached (is_closed_true e) b) here h)
     cut_within (s.loop e inv b) d h = cut b (is_closed_false e) d h
-    cut_within (s.note j) d h = tt
-    cut_within (s.output e) d h = tt
+    cut_within _ d h = tt
 
     cut : (b : Block) (u : Bool) → differ (places b) ≡ true → Contains (block_unreached u b) here → MissesAll x u (plain_block b)
     cut done u d h = tt
@@ -214,7 +180,8 @@ module _ (x : ℕ) where
         let later = and_parts (not (among (places_within q ++ places b) at)) (differ (places_within q ++ places b)) d in
         let parts = two_parts x (places_within q) (places b) later.1 in
         let own : Contains (stm_unreached q ++ block_unreached (cuts_off false q) b) here =
-        subst (λ ws. Contains (ws ++ stm_unreached q ++ block_unreached (cuts_off false q) b) here) (front_none q at) h in
+        subst (λ ws. Contains (ws ++ stm_unreached q ++ block_unreached (cuts_off false q) b) here) (front_none q at)
+        (subst (λ ws. Contains ws here) (stm_is q at false (plain_block b)) h) in
         ⊎_elim (λ k. let place = found_within q k in
         put_front q at false (plain_block b)
         (first_differs x at (places_within q ++ places b) d (among_append (places_within q) (places b) (or_first (among (places_within q) x) (among (places b) x) place)))
@@ -249,7 +216,7 @@ never_stands p fine t place h m schedule =
     body = (get_or p.threads t outside).body
 
     told : Contains (block_unreached false body) (warned place c.NeverReached)
-    told = subst (λ ws. Contains ws (warned place c.NeverReached)) (ap of_thread (thread_is p t) ∙ sym (block_is body false)) h
+    told = subst (λ ws. Contains ws (warned place c.NeverReached)) (ap of_thread (thread_is p t)) h
 
     missed : MissesAll place false (plain_block body)
     missed = cut place body false (differ_at p t fine) told

@@ -1,8 +1,7 @@
--- Marks of several lists, and what the statements of the code read and write.
-use Rattle.std.proofs.Common.{◌≡◌, ℕ, ◌+◌, ◌<◌, List, ◌∷◌, ◌++◌, map, flat_map, Bool, length, get_or, drop, ap, sym, ◌∙◌}
+-- What the statements and the threads of the code read and write, one after another.
+use Rattle.std.proofs.Common.{◌≡◌, ℕ, ◌+◌, ◌<◌, List, ◌∷◌, ◌++◌, map, flat_map, length, get_or, drop, ap, sym, ◌∙◌}
 use Rattle.std.proofs.lemmas.List.{at_drop_more}
 use Rattle.cov_ast.specs.Syntax.{Thread}
-use Rattle.cov_ast.specs.Tables.{with_all}
 use Rattle.cov_ast.specs.View as view
 use Rattle.cov_ast.specs.declared.state.State.{State}
 use Rattle.cov_ast.specs.declared.decl.ThreadDecl.{ThreadDecl}
@@ -10,26 +9,15 @@ use Rattle.cov_ast.specs.declared.stmt.Stmt.{Stmt}
 use Rattle.cov_ast.specs.declared.stmt.StmtKind.{StmtKind, StmtKind-F, fold-roll-StmtKind}
 use Rattle.cov_ast.specs.declared.stmt.StmtKind.TheFolds.{fold_out-Stmt}
 use Rattle.cov_ast.specs.declared.stmt.StmtKind.TheVariants as kinds
-use Rattle.cov_ast.proofs.TableLaws.{with_all_append}
 use Rattle.cov_expr.specs.Trees.{occurrences}
 use Rattle.cov_expr.specs.View.{term}
 use Rattle.cov_expr.specs.declared.expr.Expr.{Expr}
-use Rattle.explain.specs.Inside.StatementWalks.{stm_reads, block_reads, stm_writes, block_writes}
-
--- the marks of a list of two parts
-pub marked_of : (old mid new : List Bool) (all xs ys : List ℕ) → all ≡ xs ++ ys → mid ≡ with_all old xs → new ≡ with_all mid ys → new ≡ with_all old all
-marked_of old mid new all xs ys parts first second =
-    second ∙ ap (λ m. with_all m ys) first ∙ sym (with_all_append old xs ys) ∙ ap (with_all old) (sym parts)
+use Rattle.explain.specs.Inside.StatementWalks.{stm_reads, block_reads}
 
 pub branch_reads : (k : StmtKind) (e : Expr) (a b : List Stmt) (j : State) → k ≡ kinds.If e a b j
     → stm_reads (view.kind k) ≡ occurrences (term e) ++ (block_reads (view.block a) ++ block_reads (view.block b))
 branch_reads k e a b j is =
     ap stm_reads (ap view.kind (is ∙ sym (kinds.rolls-If e a b j)) ∙ fold-roll-StmtKind _ _ view.kind_step view.stmt_step (StmtKind-F.If e a b j))
-
-pub branch_writes : (k : StmtKind) (e : Expr) (a b : List Stmt) (j : State) → k ≡ kinds.If e a b j
-    → stm_writes (view.kind k) ≡ block_writes (view.block a) ++ block_writes (view.block b)
-branch_writes k e a b j is =
-    ap stm_writes (ap view.kind (is ∙ sym (kinds.rolls-If e a b j)) ∙ fold-roll-StmtKind _ _ view.kind_step view.stmt_step (StmtKind-F.If e a b j))
 
 pub loop_reads : (k : StmtKind) (e : Expr) (j : State) (b : List Stmt) → k ≡ kinds.While e j b
     → stm_reads (view.kind k) ≡ occurrences (term e) ++ block_reads (view.block b)
@@ -43,20 +31,9 @@ module _ (ss : List Stmt) (i : ℕ) (s : Stmt) (inside : i < length ss) (is : s 
       at_drop_more (λ xs. block_reads (view.block xs)) ss i s inside ∙ ap (λ y. block_reads (view.block (y ∷ drop (i + 1) ss))) (sym is)
       ∙ ap (λ y. stm_reads y.stm ++ block_reads (view.block (drop (i + 1) ss))) (fold_out-Stmt _ _ view.kind_step view.stmt_step s)
 
-  pub writes_next : block_writes (view.block (drop i ss)) ≡ stm_writes (view.kind s.kind) ++ block_writes (view.block (drop (i + 1) ss))
-  writes_next =
-      at_drop_more (λ xs. block_writes (view.block xs)) ss i s inside ∙ ap (λ y. block_writes (view.block (y ∷ drop (i + 1) ss))) (sym is)
-      ∙ ap (λ y. stm_writes y.stm ++ block_writes (view.block (drop (i + 1) ss))) (fold_out-Stmt _ _ view.kind_step view.stmt_step s)
-
 -- what is listed of the next thread, and of the rest
 pub thread_next : (f : Thread → List ℕ) (ts : List ThreadDecl) (i : ℕ) (t : ThreadDecl) → i < length ts → t ≡ get_or ts i t
     → flat_map f (map view.thread (drop i ts)) ≡ f (view.thread t) ++ flat_map f (map view.thread (drop (i + 1) ts))
 thread_next f ts i t inside is =
     at_drop_more (λ us. flat_map f (map view.thread us)) ts i t inside
     ∙ ap (λ u. flat_map f (map view.thread (u ∷ drop (i + 1) ts))) (sym is)
-
--- marks of a list that is cut
-pub marks_go_on : (start now next : List Bool) (all xs ys zs : List ℕ) → with_all now zs ≡ with_all start all → zs ≡ xs ++ ys → next ≡ with_all now xs
-    → with_all next ys ≡ with_all start all
-marks_go_on start now next all xs ys zs so_far cut more =
-    ap (λ m. with_all m ys) more ∙ sym (with_all_append now xs ys) ∙ ap (with_all now) (sym cut) ∙ so_far

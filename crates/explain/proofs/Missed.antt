@@ -6,9 +6,10 @@ use Rattle.std.proofs.lemmas.List.{get_or_past}
 use Rattle.cov_expr.specs.Term.{Term, value, is_set}
 use Rattle.cov_expr.specs.Trees.{is_closed}
 use Rattle.cov_expr.proofs.Values.{value-closed}
-use Rattle.cov_ast.specs.Plain.{Cmd, skip, assign, lock, unlock, branch, loop, output, Cmds, none, next, ◌then_all◌}
-use Rattle.flow_model.specs.Source.{Item, run, put, test, emit, Holders, Outputs, Local, Run, holder, is_held_by, items_then, after_lock, after_unlock, after_cmd, turn, items_of, first_place, step, run_from}
+use Rattle.cov_ast.specs.Plain.{Cmd, branch, loop, Cmds, none, next, ◌then_all◌}
+use Rattle.flow_model.specs.Source.{Item, run, put, test, emit, Holders, Outputs, Local, Run, items_then, after_cmd, turn, items_of, first_place, step, run_from}
 use Rattle.explain.specs.NeverReached.{is_closed_true, is_endless}
+use Rattle.statement_parts.specs.PlainParts.{either, Inside, made, made_inside, nothing, turns}
 use Rattle.explain.specs.Unused.{is_closed_false}
 
 -- Guards -------------------------------------------------------------------------------------------------------
@@ -53,20 +54,24 @@ ends_cut u none = u
 ends_cut u (next at c rest) = if u then true else ends_cut (is_endless c) rest
 
 module _ (x : ℕ) where
-  abbrev mutual
-    pub Misses : Cmd → Type 0
-    Misses skip = Unit {0}
-    Misses (assign y e) = Unit {0}
-    Misses (lock l) = Unit {0}
-    Misses (unlock l) = Unit {0}
-    Misses (branch e a b) = MissesAll (is_closed_false e) a × MissesAll (is_closed_true e) b
-    Misses (loop e b) = MissesAll (is_closed_false e) b
-    Misses (output e) = Unit {0}
+  -- of the blocks inside a statement, by what is asked of each where it is cut off, or isn't
+  abbrev MissesInside : Inside ((is_cut_off : Bool) → Type 0) → Type 0
+  MissesInside nothing = Unit {0}
+  MissesInside (turns e b) = b (is_closed_false e)
+  MissesInside (either e a b) = a (is_closed_false e) × b (is_closed_true e)
 
-    -- no statement of a block, which is cut off or isn't, stands at the place
-    pub MissesAll : (u : Bool) → Cmds → Type 0
-    MissesAll u none = Unit {0}
-    MissesAll u (next at c rest) = Unless u ((x ≢ at) × (Misses c × MissesAll (is_endless c) rest))
+  abbrev MissesNone : (u : Bool) → Type 0
+  MissesNone u = Unit {0}
+
+  abbrev MissesFirst : (at : ℕ) → Cmd → Inside (Bool → Type 0) → (rest : Bool → Type 0) → (u : Bool) → Type 0
+  MissesFirst at c inside rest u = Unless u ((x ≢ at) × (MissesInside inside × rest (is_endless c)))
+
+  abbrev pub Misses : Cmd → Type 0
+  Misses c = MissesInside (made_inside MissesNone MissesFirst c)
+
+  -- no statement of a block, which is cut off or isn't, stands at the place
+  abbrev pub MissesAll : (u : Bool) → Cmds → Type 0
+  MissesAll u b = made MissesNone MissesFirst b u
 
   -- the same of what remains of a thread: an item in front of others
   abbrev pub ItemAhead : Item → (behind : Bool → Type 0) → Type 0
@@ -153,21 +158,10 @@ module _ (x : ℕ) where
 
   cmd_step : (t : ℕ) (m : List ℕ) (h : Holders) (o : Outputs) (at : ℕ) (c : Cmd) (rest : List Item) → ItemMissed (run at c) rest
       → ItemsMissed false (after_cmd t m h o at c rest).items
-  cmd_step t m h o at skip rest k = k.1.1
-  cmd_step t m h o at (assign y e) rest k = (k.0, k.1.1)
-  cmd_step t m h o at (lock l) rest k = by (holder h l)
-    where
-      by : (u : Option ℕ) → ItemsMissed false (after_lock t m h o at l rest u).items
-      by None = k.1.1
-      by (Some u) = k
-  cmd_step t m h o at (unlock l) rest k = by (is_held_by (holder h l) t)
-    where
-      by : (b : Bool) → ItemsMissed false (after_unlock m h o at l rest b).items
-      by true = k.1.1
-      by false = k
   cmd_step t m h o at (branch e a b) rest k = (k.0, branch_test (value e m) m e a b rest refl k.1.0.0 k.1.0.1 k.1.1 (is_set (value e m)) refl)
   cmd_step t m h o at (loop e b) rest k = (k.0, loop_test (value e m) m at e b rest refl k.0 k.1.0 k.1.1 (is_set (value e m)) refl)
-  cmd_step t m h o at (output e) rest k = (k.0, k.1.1)
+  -- of others the rest is left, behind a store or an output that is pending, or the statement again, in front of which the thread stays
+  cmd_step t m h o at _ rest k = first_of (assumption, grind arith)
 
   turn_misses : (t : ℕ) (m : List ℕ) (h : Holders) (o : Outputs) (is : List Item) → ItemsMissed false is → ItemsMissed false (turn t m h o is).items
   turn_misses t m h o [] k = tt

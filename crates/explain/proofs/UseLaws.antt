@@ -11,14 +11,11 @@ use Rattle.explain.specs.StatementUses.{read_in, written_in, has_reader, has_wri
 
 mutual
   stm_read : (c : Stm) (at : ℕ) (xs : List ℕ) (r : Cmds) → xs ≡ read_in r → stm_reads c ++ xs ≡ read_in (plain_stm c at r)
-  stm_read s.skip at xs r h = h
   stm_read (s.assign x e q retypes) at xs r h = ap (λ ys. occurrences e ++ ys) h
-  stm_read (s.lock l) at xs r h = h
-  stm_read (s.unlock l) at xs r h = h
   stm_read (s.branch e a d join) at xs r h = ap₂ (λ x y. x ++ y) (ap₂ (λ x y. occurrences e ++ (x ++ y)) (block_read a) (block_read d)) h
   stm_read (s.loop e inv d) at xs r h = ap₂ (λ x y. (occurrences e ++ x) ++ y) (block_read d) h
-  stm_read (s.note j) at xs r h = h
   stm_read (s.output e) at xs r h = ap (λ ys. occurrences e ++ ys) h
+  stm_read _ at xs r h = h
 
   block_read : (b : Block) → block_reads b ≡ read_in (plain_block b)
   block_read done = refl
@@ -26,14 +23,10 @@ mutual
 
 mutual
   stm_written : (c : Stm) (at : ℕ) (xs : List ℕ) (r : Cmds) → xs ≡ written_in r → stm_writes c ++ xs ≡ written_in (plain_stm c at r)
-  stm_written s.skip at xs r h = h
   stm_written (s.assign x e q retypes) at xs r h = ap (λ ys. x ∷ ys) h
-  stm_written (s.lock l) at xs r h = h
-  stm_written (s.unlock l) at xs r h = h
   stm_written (s.branch e a d join) at xs r h = ap₂ (λ x y. x ++ y) (ap₂ (λ x y. x ++ y) (block_written a) (block_written d)) h
   stm_written (s.loop e inv d) at xs r h = ap₂ (λ x y. x ++ y) (block_written d) h
-  stm_written (s.note j) at xs r h = h
-  stm_written (s.output e) at xs r h = h
+  stm_written _ at xs r h = h
 
   block_written : (b : Block) → block_writes b ≡ written_in (plain_block b)
   block_written done = refl

@@ -1,39 +1,37 @@
 -- What the statements of a program read and write, and what the headers of threads keep for them. Annotations, as types, invariants, notes and certificates,
 -- are no statements.
-use Rattle.std.specs.Prelude.{ℕ, List, [], ◌∷◌, ◌++◌, flat_map, Bool}
+use Rattle.std.specs.Prelude.{ℕ, List, [], ◌++◌, flat_map, Bool, Option, Some, None, option_to_list}
+use Rattle.cov_expr.specs.Term.{Term}
 use Rattle.cov_expr.specs.Trees.{has_number, occurrences}
-use Rattle.cov_ast.specs.Plain.{Cmd, skip, assign, lock, unlock, branch, loop, output, Cmds, none, next, Plain}
+use Rattle.cov_ast.specs.Plain.{Cmd, Cmds, Plain}
+use Rattle.statement_parts.specs.PlainParts.{collected, collected_in, Parts}
 
-abbrev mutual
-  -- the variables that a statement evaluates, in the value that it assigns, in its guard, in what it puts out, and in its blocks:
-  -- every occurrence, in the order of the text
-  pub read_by : Cmd → List ℕ
-  read_by skip = []
-  read_by (assign x e) = occurrences e
-  read_by (lock l) = []
-  read_by (unlock l) = []
-  read_by (branch e a b) = occurrences e ++ (read_in a ++ read_in b)
-  read_by (loop e b) = occurrences e ++ read_in b
-  read_by (output e) = occurrences e
+-- the variables of an expression, if there is one: every occurrence
+abbrev pub occurrences_in : Option Term → List ℕ
+occurrences_in None = []
+occurrences_in (Some e) = occurrences e
 
-  pub read_in : Cmds → List ℕ
-  read_in none = []
-  read_in (next at c b) = read_by c ++ read_in b
+-- the variables that a statement itself evaluates, in the value that it assigns, in its guard or in what it puts out
+abbrev pub own_reads : Parts → List ℕ
+own_reads ps = occurrences_in ps.evaluated
 
-abbrev mutual
-  -- the variables that a statement and those in its blocks assign, in the order of the text
-  pub written_by : Cmd → List ℕ
-  written_by skip = []
-  written_by (assign x e) = x ∷ []
-  written_by (lock l) = []
-  written_by (unlock l) = []
-  written_by (branch e a b) = written_in a ++ written_in b
-  written_by (loop e b) = written_in b
-  written_by (output e) = []
+-- the variable that it assigns, if it does
+abbrev pub own_writes : Parts → List ℕ
+own_writes ps = option_to_list ps.assigned
 
-  pub written_in : Cmds → List ℕ
-  written_in none = []
-  written_in (next at c b) = written_by c ++ written_in b
+-- the variables that a statement and those in its blocks evaluate: every occurrence, in the order of the text
+abbrev pub read_by : Cmd → List ℕ
+read_by c = collected own_reads c
+
+abbrev pub read_in : Cmds → List ℕ
+read_in b = collected_in own_reads b
+
+-- the variables that a statement and those in its blocks assign, in the order of the text
+abbrev pub written_by : Cmd → List ℕ
+written_by c = collected own_writes c
+
+abbrev pub written_in : Cmds → List ℕ
+written_in b = collected_in own_writes b
 
 -- whether a statement of some thread reads the variable, or a thread assumes from its start that no other reads it
 abbrev pub has_reader : Plain → (x : ℕ) → Bool

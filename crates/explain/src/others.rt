@@ -1,10 +1,9 @@
 //! What is told of the other entailments for which a thread, and those behind it, would be refused, and of the first refusal of each by a rule that isn't about certificates.
 
-ghost use Rattle.std.specs.Prelude.{◌≡◌, ◌++◌, OnOk, decimal, flat_map, take};
+ghost use Rattle.std.specs.Prelude.{◌≡◌, ◌++◌, OnOk, flat_map, take};
 ghost use Rattle.cov_ast.specs.View as view;
 ghost use Rattle.cov_ast.specs.WellFormed.{IsWellFormed};
 ghost use Rattle.explain.specs.OtherTellings as spec;
-ghost use Rattle.text_parts.specs.Lines.{line};
 
 use crate::explanation::{add_explanation, add_report, add_where};
 use call_judge::check::thread_name;
@@ -14,7 +13,7 @@ use cov_expr::{Blob, NoMemory};
 use entail_refused::{Found, add_asked, other_refusals, sort_refusals};
 use refusal_names::add_names;
 use std::alloc::Global;
-use text_parts::{add_number, position};
+use text_parts::{add_line_of, add_number};
 
 /// For how many others a certificate is sought. The search of each takes some time.
 const MOST_SOUGHT: usize = 32;
@@ -184,13 +183,6 @@ fn add_look_text(bytes: &[u8], place: u32, text: &mut Blob) -> Result<(), NoMemo
     text.extend_from_slice(
         b", for which no certificate is found: what is mended there may move the numbers of this one\n",
     )
-}
-
-/// Adds the number of the line of a place.
-fn add_line_of(bytes: &[u8], place: u32, text: &mut Blob) -> Result<(), NoMemory>
-    ensures { OnOk result (text.new ≡ text.old ++ decimal (line bytes.now place)) }
-{
-    add_number(position(bytes, place as usize).line, text)
 }
 
 /// Adds what is told of refusals for which a certificate is found, if there are any.

@@ -6,11 +6,12 @@ ghost use Rattle.cov_ast.specs.Tables.{table, with_all};
 ghost use Rattle.cov_ast.specs.View as view;
 ghost use Rattle.cov_expr.specs.Trees.{occurrences};
 ghost use Rattle.cov_expr.specs.View.{term};
-ghost use Rattle.explain.specs.Inside.StatementWalks.{block_reads, block_writes, stm_reads, stm_writes};
+ghost use Rattle.explain.specs.Inside.StatementWalks.{block_reads, block_writes, stm_reads};
 ghost use Rattle.explain.specs.StatementUses.{has_reader, has_writer};
 
 use cov_ast::{NumberSet, Program, Stmt, StmtKind, ThreadDecl};
 use cov_expr::{Expr, NoMemory};
+use statement_parts::add_assigned;
 use std::alloc::Global;
 
 /// The variables that have a reader, and those that have a writer.
@@ -20,7 +21,7 @@ pub struct UseSets {
     pub written: NumberSet,
 }
 
-/// What the statements of a program read and write, and what a thread assumes from its start that no other does. Each statement is looked at once.
+/// What the statements of a program read and write, and what a thread assumes from its start that no other does. Each statement is looked at twice.
 pub fn uses(alloc: Global, program: &Program) -> Result<UseSets, NoMemory>
     ensures read { IfOk result (λ made. made.read ≡ table (length program.now.vars) (has_reader (plain (view.program program.now)))) }
     ensures written { IfOk result (λ made. made.written ≡ table (length program.now.vars) (has_writer (plain (view.program program.now)))) }
@@ -50,40 +51,36 @@ fn add_threads(threads: &[ThreadDecl], read: &mut NumberSet, written: &mut Numbe
     ensures written { written.new ≡ with_all written.old (flat_map (λ t. block_writes t.body) (map view.thread threads.now)) }
 {
     for thread in threads {
-        add_block(thread.body.as_slice(), read, written);
+        add_block(thread.body.as_slice(), read);
+        add_assigned(thread.body.as_slice(), written);
     }
 }
 
-/// Adds what the statements of a block read and write.
+/// Adds what the statements of a block read.
 #[cycle(blocks)]
-fn add_block(body: &[Stmt], read: &mut NumberSet, written: &mut NumberSet)
-    ensures read { read.new ≡ with_all read.old (block_reads (view.block body.now)) }
-    ensures written { written.new ≡ with_all written.old (block_writes (view.block body.now)) }
+fn add_block(body: &[Stmt], read: &mut NumberSet)
+    ensures { read.new ≡ with_all read.old (block_reads (view.block body.now)) }
 {
     for stmt in body {
-        add_kind(&stmt.kind, read, written);
+        add_kind(&stmt.kind, read);
     }
 }
 
-/// Adds what a statement and those in its blocks read and write.
+/// Adds what a statement and those in its blocks read.
 #[cycle(blocks)]
-fn add_kind(kind: &StmtKind, read: &mut NumberSet, written: &mut NumberSet)
-    ensures read { read.new ≡ with_all read.old (stm_reads (view.kind kind.now)) }
-    ensures written { written.new ≡ with_all written.old (stm_writes (view.kind kind.now)) }
+fn add_kind(kind: &StmtKind, read: &mut NumberSet)
+    ensures { read.new ≡ with_all read.old (stm_reads (view.kind kind.now)) }
 {
     match kind {
-        StmtKind::Assign(x, e, _, _) => {
-            add_read(e, read);
-            written.put(*x, true);
-        }
+        StmtKind::Assign(_, e, _, _) => add_read(e, read),
         StmtKind::If(e, a, b, _) => {
             add_read(e, read);
-            add_block(a.as_slice(), read, written);
-            add_block(b.as_slice(), read, written);
+            add_block(a.as_slice(), read);
+            add_block(b.as_slice(), read);
         }
         StmtKind::While(e, _, b) => {
             add_read(e, read);
-            add_block(b.as_slice(), read, written);
+            add_block(b.as_slice(), read);
         }
         StmtKind::Output(e) => add_read(e, read),
         _ => {}
