@@ -11,7 +11,7 @@ use Rattle.cov_grammar.specs.Spells.{Within, Is}
 use Rattle.cov_grammar.proofs.Senses.{OfShape, close, spread}
 use Rattle.cov_ast.specs.Syntax as s
 use Rattle.cov_ast.specs.Syntax.{Cert, Proof}
-use Rattle.cov_text.specs.GivenTrees.{expr_of, pair_of, proof_of, state_of, state_or_none, stm_of, proofs_of, block_of, stms_of}
+use Rattle.cov_text.specs.GivenTrees.{expr_of, pair_of, proof_of, state_or_none, stm_of, proofs_of, block_of, stms_of}
 use Rattle.cov_print.specs.Unplaced.{unplaced_stm, unplaced_block}
 use Rattle.cov_print.proofs.Written as w
 use Rattle.cov_print.proofs.Keeps.{two}
@@ -23,13 +23,8 @@ use Rattle.annotate.proofs.SpeltCerts.{AreClean, clean_append, clean_left, clean
 -- the proofs of a statement with chosen certificates; `skip` and `lock` have no proofs
 abbrev pub proofs_with : s.Stm → List (ℕ × Cert) → List Proof → List Proof
 proofs_with s.skip cs qs = qs
-proofs_with (s.assign x e q retypes) cs qs = with_certs cs qs
 proofs_with (s.lock l) cs qs = qs
-proofs_with (s.unlock l) cs qs = with_certs cs qs
-proofs_with (s.branch e a b join) cs qs = with_certs cs qs
-proofs_with (s.loop e inv b) cs qs = with_certs cs qs
-proofs_with (s.note j) cs qs = with_certs cs qs
-proofs_with (s.output e) cs qs = with_certs cs qs
+proofs_with _ cs qs = with_certs cs qs
 
 module _ (chosen : (place : ℕ) → List (ℕ × Cert)) where
   abbrev pub stm_with : s.Stm → s.Stm
@@ -326,22 +321,26 @@ module _ (known : ℕ → Bool) (Quiet : Type 0) (chosen : (place : ℕ) → Lis
         (ch_act (λ x. t.loop x.0 x.1.0 x.1.1.0 x.1.1.1) seen (looks at) (λ x. (s.loop x.0 x.1.0 x.1.1.0, x.1.1.1)) (λ x. refl) (λ x. refl)
         (ch_seq (ch_same whole expr_of) (ch_seq (ch_same (opt (k.Inv ▸ state)) state_or_none) (ch_seq blocks put_in_proofs))))
 
+    -- a statement behind a word, with proofs behind its only part
+    part_changes : {A : Type 0} (j : Kind) (a : Shape A) (make : A × List (ℕ × Placed t.Cert) → t.Stm)
+        → ((x : A) (ps : List (ℕ × Placed t.Cert)) → seen (make (x, ps)) ≡ ((seen (make (x, []))).0, map proof_of ps))
+        → ((x : A) (ps : List (ℕ × Placed t.Cert)) → looks at (make (x, ps)) ≡ ((seen (make (x, []))).0, with_certs (chosen at) (map proof_of ps)))
+        → Changes known Quiet d (j ▸ act make (seq a proofs) ◂ k.Semicolon) seen (looks at)
+    part_changes j a make before after =
+        ch_key j
+        (ch_end k.Semicolon
+        (ch_act make seen (looks at) (λ x. ((seen (make (x.0, []))).0, x.1)) (λ x. before x.0 x.1) (λ x. after x.0 x.1) (ch_seq (ch_same a (λ x. x)) put_in_proofs)))
+
     statement_changes : Changes known Quiet d statement seen (looks at)
     unfolding statement
     statement_changes =
         ch_alt (ch_key k.Skip (ch_act (λ x. t.skip) seen (looks at) (λ x. (s.skip, [])) (λ x. refl) (λ x. refl) (ch_same (token k.Semicolon) (λ x. x))))
         (ch_alt assign_changes
         (ch_alt (ch_key k.Lock (ch_end k.Semicolon (ch_act t.lock seen (looks at) (λ x. (s.lock x, [])) (λ x. refl) (λ x. refl) (ch_same name (λ x. x)))))
-        (ch_alt
-        (ch_key k.Unlock
-        (ch_end k.Semicolon (ch_act (λ x. t.unlock x.0 x.1) seen (looks at) (λ x. (s.unlock x.0, x.1)) (λ x. refl) (λ x. refl) (ch_seq (ch_same name (λ x. x)) put_in_proofs))))
+        (ch_alt (part_changes _ name _ (λ x ps. refl) (λ x ps. refl))
         (ch_alt branch_changes
         (ch_alt loop_changes
-        (ch_alt
-        (ch_key k.Note
-        (ch_end k.Semicolon (ch_act (λ x. t.note x.0 x.1) seen (looks at) (λ x. (s.note x.0, x.1)) (λ x. refl) (λ x. refl) (ch_seq (ch_same state state_of) put_in_proofs))))
-        (ch_key k.Output
-        (ch_end k.Semicolon (ch_act (λ x. t.output x.0 x.1) seen (looks at) (λ x. (s.output x.0, x.1)) (λ x. refl) (λ x. refl) (ch_seq (ch_same whole expr_of) put_in_proofs))))))))))
+        (ch_alt (part_changes _ state _ (λ x ps. refl) (λ x ps. refl)) (part_changes _ whole _ (λ x ps. refl) (λ x ps. refl))))))))
 
   braces_change : (d : ℕ) → Changes known Quiet d (rule t.block) block_seen block_looks → Changes known Quiet d braces block_seen block_looks
   unfolding braces of_items

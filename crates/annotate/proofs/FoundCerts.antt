@@ -1,5 +1,5 @@
 -- Certificates that a search finds for a text that is read can stand in it: their numbers are words, and their variables have names.
-use Rattle.std.proofs.Common.{◌≡◌, inl, inr, ℕ, zero, suc, ◌+◌, ◌*◌, ◌<◌, ◌≤◌, nat_lt, List, [], ◌∷◌, ◌++◌, length, map, flat_map, get_or, Bool, true, false, if◌then◌else◌, Ok, option_map, refl, sym, ap, ◌∙◌, subst, arith, length-append, All, eq-eqb}
+use Rattle.std.proofs.Common.{◌≡◌, inl, inr, ℕ, zero, suc, ◌+◌, ◌*◌, ◌<◌, ◌≤◌, List, [], ◌∷◌, ◌++◌, length, map, flat_map, get_or, Bool, true, false, if◌then◌else◌, Ok, option_map, refl, sym, ap, ◌∙◌, subst, arith, length-append, All, eq-eqb}
 use Rattle.std.proofs.lemmas.Bool.{cases_lt}
 use Rattle.std.proofs.lemmas.List.{get_or_past, length-map}
 use Rattle.std.proofs.lemmas.List.Elements.{All-cons, All-contains, All-head, All-nil, All-tail}

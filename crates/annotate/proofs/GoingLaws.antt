@@ -1,10 +1,13 @@
 -- Uses of names that a walk over a text comes by.
-use Rattle.std.proofs.Common.{◌≡◌, ℕ, ◌==◌, if◌then◌else◌, ◌+◌, ◌<◌, ◌≤◌, flat_map, get_or, Result, Ok, Err, OnOk, List, [], ◌∷◌, ◌++◌, length, map, take, drop, refl, sym, ap, ◌∙◌, append_assoc, append-nil, length-append, drop-drop}
+use Rattle.std.proofs.Common.{◌≡◌, ℕ, ◌==◌, if◌then◌else◌, ◌+◌, ◌<◌, ◌≤◌, flat_map, get_or, Bor, Option, Some, None, option_map, Result, Ok, Err, OnOk, List, [], ◌∷◌, ◌++◌, length, map, take, drop, refl, sym, ap, ◌∙◌, append_assoc, append-nil, length-append, drop-drop}
+use Rattle.std.specs.Option.{option_copied}
 use Rattle.std.proofs.Math.Seq.{take-add}
 use Rattle.std.proofs.lemmas.List.{at_drop_more, drop_all, map-append}
 use Rattle.cov_expr.specs.Term.{var}
+use Rattle.cov_expr.specs.View.{term}
+use Rattle.cov_expr.specs.declared.expr.Expr.{Expr}
 use Rattle.cov_expr.specs.declared.expr.TheConstants.{HOLE}
-use Rattle.cov_ast.specs.Ready.{as_variable, Use, uses_in, uses_in_cert}
+use Rattle.cov_ast.specs.Ready.{as_variable, Use, uses_in, uses_in_cert, uses_in_option}
 use Rattle.cov_ast.specs.Syntax.{Cert}
 use Rattle.cov_ast.specs.declared.parsed.NameUse.{NameUse}
 use Rattle.annotate.specs.AnnotatedText.{becomes, stays, uses_at, uses_with, UsesPart}
@@ -101,6 +104,14 @@ pub none_kept : (made : List NameUse) → kept 1 (record { made = made; rest = [
 none_kept made = λ i. record { made = append-nil made i; rest = [] }
 
 pub ruleset none_left = (none_kept)
+
+-- an expression that is lent, if there is one
+pub lent_option : (o : Option (Bor Expr)) (p : Option Expr) → option_copied o ≡ p → uses_in_option (option_map term p) ≡ uses_in_option (option_map (λ f. term f.now) o)
+lent_option o p is = ap (λ q. uses_in_option (option_map term q)) (sym is) ∙ go o
+  where
+    go : (o : Option (Bor Expr)) → uses_in_option (option_map term (option_copied o)) ≡ uses_in_option (option_map (λ f. term f.now) o)
+    go None = refl
+    go (Some e) = refl
 
 -- those in a new certificate
 pub cert_added : (place : ℕ) (c : Cert) (h : Halfway) → gone (ways.Add place) (uses_in_cert c) h ≡ added (uses_at place c) h

@@ -1,5 +1,5 @@
 -- What has to follow at the statements of a well formed program has variables in range and words.
-use Rattle.std.proofs.Common.{inl, inr, ℕ, zero, suc, ◌<◌, ◌==◌, ◌&&◌, ◌||◌, not, List, [], ◌∷◌, ◌++◌, length, map, take, get_or, Bool, true, false, cond, if◌then◌else◌, Option, Some, None, sym, subst, arith}
+use Rattle.std.proofs.Common.{inl, inr, rules, ℕ, zero, suc, ◌<◌, ◌==◌, ◌||◌, not, List, [], ◌∷◌, ◌++◌, length, map, take, get_or, Bool, true, false, cond, if◌then◌else◌, Option, Some, None, sym, subst, arith}
 use Rattle.std.specs.Prelude.{filter, flat_map, option_map, option_to_list, unwrap_or}
 use Rattle.std.specs.Option.{option_or}
 use Rattle.std.proofs.lemmas.Bool.{cases_lt}
@@ -10,19 +10,19 @@ use Rattle.cov_expr.specs.Trees.{conjuncts, has_term, mentions, vars}
 use Rattle.cov_expr.specs.Trees as trees
 use Rattle.cov_expr.specs.Words.{HasVarsBelow, HasWords}
 use Rattle.cov_expr.specs.declared.expr.Op.TheVariants.{Both, Eq}
-use Rattle.cov_ast.specs.Declarations.{class_of, invariant_term, is_control, lock_at, no_lock, no_var, under}
+use Rattle.cov_ast.specs.Declarations.{class_of, invariant_term, is_control, lock_at, no_lock, no_var}
 use Rattle.cov_ast.specs.LocksAlong.{no_locks}
 use Rattle.cov_ast.specs.Plain.{Plain, class_term, plain}
-use Rattle.cov_ast.specs.Syntax.{State, Stm, skip, assign, lock, unlock, branch, loop, note, output, Block, done, more, Program}
+use Rattle.cov_ast.specs.Syntax.{State, Stm, skip, assign, lock, branch, loop, note, output, Block, done, more, Program}
 use Rattle.cov_ast.specs.WellFormed.{AreTypesInRange, BlockHasWords, IsBlockInRange, IsStateInRange, IsStmInRange, IsTypeInRange, IsWellFormed, StateHasWords, StmHasWords, TypeHasWords, TypesHaveWords}
 use Rattle.mode_compat.specs.Compatible.{no_thread, numbered}
 use Rattle.mode_state.specs.Sets.{is_hidden}
-use Rattle.point_law.specs.After.{after_assign, after_lock, after_unlock, assigned_type, forgotten_type, keeps_value, kept_type, listed_or, locked_type, meet, noted, retyped, start, start_type, unlocked_type, updated_from, with_guard, with_term_if}
+use Rattle.point_law.specs.After.{after_assign, assigned_type, forgotten_type, keeps_value, listed_or, meet, noted, retyped, start, start_type, updated_from, with_guard, with_term_if}
 use Rattle.point_law.specs.Point.{Point, conjuncts_of_types, default_type, is_over_stable, is_tracked, ty, ty_var, type_at, vars_of}
 use Rattle.point_law.specs.Terms.{is_one, joined, joined_from, listed, with_option, with_term, with_terms, without_ones}
 use Rattle.typing_law.specs.Blocks.{after_block, after_stm, value_type}
 use Rattle.typing_law.specs.Counts.{entailment_count}
-use Rattle.typing_law.specs.Entailments.{assign_entailments, controlled_follows, controlled_values, Entailment, freed_value, from_preds, guard_follows, retype_follows, shown_controlled, shown_value, state_follows, type_follows, unlock_entailments, written_type}
+use Rattle.typing_law.specs.Entailments.{assign_entailments, controlled_follows, controlled_values, Entailment, freed_value, from_preds, guard_follows, retype_follows, shown_controlled, shown_value, state_follows, type_follows, written_type}
 use Rattle.typing_law.specs.ThreadEntailments.{all_entailments, block_entailments, PlacedEntailment, placed_from, reached, stm_entailments, thread_entailments}
 use Rattle.typing_law.specs.ThreadObligations.{thread_obligations}
 use Rattle.annotate.proofs.CertsInRange.{all_in_range, append_in_range, AreInRangeOfWords, in_range_of, IsInRangeOfWords, subst_in_range}
@@ -125,6 +125,18 @@ module _ (n : ℕ) where
       found [] h = tt
       found (t ∷ ts) h = either (listed ts z) (if t.0 == z then Some t.1 else None) (found ts h.1) (pick IsOptionInRangeOfWords (t.0 == z) (Some t.1) None h.0 tt)
 
+  -- of two, one
+  in_either : (b : Bool) (q r : Term) → IsInRangeOfWords n q → IsInRangeOfWords n r → IsInRangeOfWords n (cond b q r)
+  in_either b q r h k = pick (IsInRangeOfWords n) b q r h k
+
+  option_in_either : (b : Bool) (o p : Option Term) → IsOptionInRangeOfWords o → IsOptionInRangeOfWords p → IsOptionInRangeOfWords (cond b o p)
+  option_in_either b o p h k = pick IsOptionInRangeOfWords b o p h k
+
+  mapped_in_range : (change : Term → Term) (o : Option Term) → ((q : Term) → IsInRangeOfWords n q → IsInRangeOfWords n (change q)) → IsOptionInRangeOfWords o
+      → IsOptionInRangeOfWords (option_map change o)
+  mapped_in_range change None h k = tt
+  mapped_in_range change (Some q) h k = h q k
+
   -- Types of variables
   updated_in_range : (change : ℕ → Option Term → Option Term) (x : ℕ) (qs : List (Option Term)) → ((x : ℕ) (q : Option Term) → IsOptionInRangeOfWords q → IsOptionInRangeOfWords (change x q))
       → Every IsOptionInRangeOfWords qs → Every IsOptionInRangeOfWords (updated_from x change qs)
@@ -133,11 +145,7 @@ module _ (n : ℕ) where
 
   retyped_in_range : (change : ℕ → Term → Term) (qs : List (Option Term)) → ((x : ℕ) (q : Term) → IsInRangeOfWords n q → IsInRangeOfWords n (change x q))
       → Every IsOptionInRangeOfWords qs → Every IsOptionInRangeOfWords (retyped change qs)
-  retyped_in_range change qs h k = updated_in_range (λ x q. option_map (change x) q) 0 qs (λ x q f. go x q f) k
-    where
-      go : (x : ℕ) (q : Option Term) → IsOptionInRangeOfWords q → IsOptionInRangeOfWords (option_map (change x) q)
-      go x None f = tt
-      go x (Some q) f = h x q f
+  retyped_in_range change qs h k = updated_in_range (λ x q. option_map (change x) q) 0 qs (λ x q f. mapped_in_range (change x) q (h x) f) k
 
   type_in_range : (qs : List (Option Term)) (x : ℕ) → Every IsOptionInRangeOfWords qs → IsInRangeOfWords n (unwrap_or (get_or qs x None) (const 0))
   type_in_range [] x h = zero_in_range
@@ -249,25 +257,6 @@ module _ (p : Program) (formed : IsWellFormed p) where
           (pick (IsInRangeOfWords n) (x == z) q g hq h)) f.1,
     )
 
-    locked_in_range : (a : Point) (l : ℕ) → IsPointInRangeOfWords a → IsPointInRangeOfWords (after_lock P t a l)
-    locked_in_range a l f = (
-      with_option_in_range n a.preds (lock_at P l).inv f.0 (invariant_in_range l),
-      updated_in_range n (locked_type P l) 0 a.types (λ x q h. pick (IsOptionInRangeOfWords n) (under P l x && not (is_control P x)) (Some (class_of P x)) q (class_in_range x) h) f.1,
-    )
-
-    unlocked_in_range : (a : Point) (l : ℕ) → IsPointInRangeOfWords a → IsPointInRangeOfWords (after_unlock P t a l)
-    unlocked_in_range a l f =
-        let held = (after_unlock P t a l).held in (
-          filter_in_range n (is_over_stable P t held) a.preds f.0,
-          updated_in_range n (unlocked_type P t held) 0 a.types (λ x q h.
-              pick (IsOptionInRangeOfWords n) (is_tracked P t held x) (option_map (kept_type P t held x) q) None (kept held x q h) tt) f.1,
-        )
-      where
-        kept : (held : List Bool) (x : ℕ) (q : Option Term) → IsOptionInRangeOfWords (length p.vars) q → IsOptionInRangeOfWords (length p.vars) (option_map (kept_type (plain p) t held x) q)
-        kept held x None h = tt
-        kept held x (Some q) h =
-            pick (IsInRangeOfWords (length p.vars)) (is_over_stable (plain p) t held q) q (default_type (plain p) t held x) h (default_in_range held x)
-
     -- Entailments of a statement
     abbrev AreEntailmentsInRangeOfWords : List Entailment → Type 0
     AreEntailmentsInRangeOfWords gs = Every (IsEntailmentInRangeOfWords n) gs
@@ -317,16 +306,12 @@ module _ (p : Program) (formed : IsWellFormed p) where
         (pick (λ gs. AreEntailmentsInRangeOfWords gs) (is_control P x) (map (controlled_follows P t a x e) (shown_controlled P t a x)) [] controlled tt))
         (retypes_in_range a x e rs f he hr)
 
-    unlock_in_range : (a : Point) (l : ℕ) → IsPointInRangeOfWords a → AreEntailmentsInRangeOfWords (unlock_entailments P t a l)
-    unlock_in_range a l f =
-        every_append (IsEntailmentInRangeOfWords n) (map (from_preds a.preds) (option_to_list (lock_at P l).inv))
-        (map (freed_value P t a) (filter (λ x. not (is_control P x)) (lock_at P l).hide)) (go (lock_at P l).inv (invariant_in_range l))
-        (every_map (IsEntailmentInRangeOfWords n) (freed_value P t a) (filter (λ x. not (is_control P x)) (lock_at P l).hide)
-        (λ x. more_in_range a (class_of P x) (type_at a x) f (class_in_range x) (type_at_in_range a x f)))
-      where
-        go : (o : Option Term) → IsOptionInRangeOfWords (length p.vars) o → Every (IsEntailmentInRangeOfWords (length p.vars)) (map (from_preds a.preds) (option_to_list o))
-        go None h = tt
-        go (Some e) h = ((f.0, h), tt)
+    option_follows : (a : Point) (o : Option Term) → IsPointInRangeOfWords a → IsOptionInRangeOfWords n o → AreEntailmentsInRangeOfWords (map (from_preds a.preds) (option_to_list o))
+    option_follows a None f h = tt
+    option_follows a (Some e) f h = ((f.0, h), tt)
+
+    classes_follow : (a : Point) (xs : List ℕ) → IsPointInRangeOfWords a → AreEntailmentsInRangeOfWords (map (freed_value P t a) xs)
+    classes_follow a xs f = every_map (IsEntailmentInRangeOfWords n) (freed_value P t a) xs (λ x. more_in_range a (class_of P x) (type_at a x) f (class_in_range x) (type_at_in_range a x f))
 
     -- Statements and blocks
     abbrev pub IsPlacedInRangeOfWords : PlacedEntailment → Type 0
@@ -338,19 +323,17 @@ module _ (p : Program) (formed : IsWellFormed p) where
 
     mutual
       after_stm_in_range : (c : Stm) (a : Point) → IsStmInRange n (length p.locks) c → StmHasWords c → IsPointInRangeOfWords a → IsPointInRangeOfWords (after_stm P t c a)
-      after_stm_in_range skip a r w f = f
       after_stm_in_range (assign x e o rs) a r w f =
           assigned_in_range a x e (value_type P t a o e) rs f r.0 (in_range_of n e r.1 w.0) (value_in_range a o e (option_in_range (length p.locks) o r.2 w.1) f)
           (pairs_in_range (length p.locks) rs r.3 w.2)
-      after_stm_in_range (lock l) a r w f = locked_in_range a l f
-      after_stm_in_range (unlock l) a r w f = unlocked_in_range a l f
       after_stm_in_range (branch e yes_block no_block join) a r w f =
           meet_in_range (after_block P t yes_block (with_guard P t a e)) join (after_block_in_range yes_block (with_guard P t a e) r.1 w.1 (guard_in_range a e f (in_range_of n e r.0 w.0)))
           (state_in_range (length p.locks) join r.3 w.3)
       after_stm_in_range (loop e inv b) a r w f =
           guard_in_range (meet P t a inv) (neg e) (meet_in_range a inv f (state_in_range (length p.locks) inv r.1 w.1)) (in_range_of n e r.0 w.0)
       after_stm_in_range (note j) a r w f = noted_in_range a j f (state_in_range (length p.locks) j r w)
-      after_stm_in_range (output e) a r w f = f
+      after_stm_in_range _ a r w f =
+          search (rules, f, filter_in_range n, with_option_in_range n, updated_in_range n, option_in_either n, mapped_in_range n, in_either n, invariant_in_range, class_in_range, default_in_range)
 
       after_block_in_range : (b : Block) (a : Point) → IsBlockInRange n (length p.locks) b → BlockHasWords b → IsPointInRangeOfWords a → IsPointInRangeOfWords (after_block P t b a)
       after_block_in_range done a r w f = f
@@ -363,7 +346,6 @@ module _ (p : Program) (formed : IsWellFormed p) where
           placed_in_range at 1 (assign_entailments P t a x e o rs) (assign_in_range a x e o rs f (in_range_of n e r.1 w.0) (option_in_range (length p.locks) o r.2 w.1)
           (pairs_in_range (length p.locks) rs r.3 w.2))
       stm_in_range (lock l) at a r w f = tt
-      stm_in_range (unlock l) at a r w f = placed_in_range at 1 (unlock_entailments P t a l) (unlock_in_range a l f)
       stm_in_range (branch e yes_block no_block join) at a r w f =
           let yes_start = with_guard P t a e in
           let no_start = with_guard P t a (neg e) in
@@ -399,8 +381,10 @@ module _ (p : Program) (formed : IsWellFormed p) where
           (guard_follows_in_range head e head_in_range)))
           (every_append IsPlacedInRangeOfWords inner last (block_in_range b body_start r.2 w.2 body_start_in_range)
           (placed_in_range at (suc (length gs)) hs (state_follows_in_range body_end inv (after_block_in_range b body_start r.2 w.2 body_start_in_range) s)))
-      stm_in_range (note j) at a r w f = placed_in_range at 1 (state_follows a j) (state_follows_in_range a j f (state_in_range (length p.locks) j r w))
       stm_in_range (output e) at a r w f = placed_in_range at 1 (guard_follows P t a e ∷ []) (guard_follows_in_range a e f)
+      stm_in_range _ at a r w f =
+          placed_in_range at 1 _
+          (search (rules, f, r, w, every_append (IsEntailmentInRangeOfWords n), option_follows, classes_follow, state_follows_in_range, state_in_range (length p.locks), invariant_in_range))
 
       block_in_range : (b : Block) (a : Point) → IsBlockInRange n (length p.locks) b → BlockHasWords b → IsPointInRangeOfWords a → Every IsPlacedInRangeOfWords (block_entailments P t b a)
       block_in_range done a r w f = tt

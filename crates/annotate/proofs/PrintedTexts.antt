@@ -1,5 +1,5 @@
 -- What is printed of a text with certificates put in is read as that text, places aside.
-use Rattle.std.proofs.Common.{◌≡◌, ◌⊎◌, ℕ, suc, ◌≤◌, List, [], ◌∷◌, ◌++◌, length, map, flat_map, Bool, true, false, codes, Ok, None, refl, sym, ap, ap₂, subst, ◌∙◌, arith}
+use Rattle.std.proofs.Common.{◌≡◌, ◌⊎◌, ℕ, suc, ◌≤◌, List, [], ◌∷◌, length, map, Bool, true, false, codes, Ok, None, refl, sym, ap, subst, ◌∙◌, arith}
 use Rattle.cov_expr.specs.declared.limits.TheConstants.{MOST_BYTES}
 use Rattle.cov_expr.specs.Names.{IsName}
 use Rattle.cov_expr.specs.declared.expr.TheConstants.{HOLE}
@@ -13,8 +13,7 @@ use Rattle.cov_grammar.specs.Spells.{Is}
 use Rattle.cov_grammar.proofs.Senses.{OfShape, gather}
 use Rattle.cov_ast.specs.Syntax as s
 use Rattle.cov_ast.specs.Syntax.{Cert}
-use Rattle.cov_ast.specs.Ready as ready
-use Rattle.cov_ast.specs.Ready.{HasUsesInOrder, Use, uses_in_block, uses_in_class, uses_in_declarations, uses_in_lock, uses_in_stm, uses_in_thread}
+use Rattle.cov_ast.specs.Ready.{HasUsesInOrder, uses_in_declarations}
 use Rattle.cov_ast.specs.declared.parsed.NameUse.{NameUse}
 use Rattle.cov_text.specs.Depth.{deep}
 use Rattle.cov_text.specs.Limits.{in_program}
@@ -25,7 +24,7 @@ use Rattle.cov_text.specs.GivenTrees.{block_of, lock_of, modes_of, name_of, pars
 use Rattle.cov_text.proofs.TextLaws.{lexes_so, words_are, names_are}
 use Rattle.cov_text.proofs.SilentLaws.{HasNoOutput, tree_version, tokens_silent}
 use Rattle.cov_print.specs.Spelling as spec
-use Rattle.cov_print.specs.Unplaced.{unplaced, unplaced_block, unplaced_lock, unplaced_stm, unplaced_thread, unplaced_use, unplaced_var}
+use Rattle.cov_print.specs.Unplaced.{unplaced, unplaced_block, unplaced_lock, unplaced_thread, unplaced_use, unplaced_var}
 use Rattle.cov_print.proofs.Written.{Word}
 use Rattle.cov_print.proofs.Keeps.{Are, AreGood, AllFit, Kept, leaves_of}
 use Rattle.cov_print.proofs.Readings.{known, Show}

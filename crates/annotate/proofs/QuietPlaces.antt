@@ -1,5 +1,5 @@
 -- Nothing is chosen for the places of `skip` and `lock`: no entailment is of such a statement, and the places of a thread differ.
-use Rattle.std.proofs.Common.{◌≡◌, ◌⊎◌, inl, inr, ℕ, zero, suc, ◌+◌, ◌==◌, not, List, [], ◌∷◌, ◌++◌, length, map, take, get_or, true, false, if◌then◌else◌, refl, sym, ap, subst, ◌∙◌, arith, IsTrue, true≢false, eq-eqb, ne_eqb, ⊎_elim}
+use Rattle.std.proofs.Common.{◌≡◌, ◌⊎◌, inl, inr, ℕ, zero, suc, ◌+◌, ◌==◌, not, List, [], ◌∷◌, ◌++◌, length, map, take, get_or, true, if◌then◌else◌, refl, sym, ap, subst, ◌∙◌, arith, IsTrue, true≢false, eq-eqb, ne_eqb, ⊎_elim}
 use Rattle.std.specs.List.{list_any}
 use Rattle.std.proofs.lemmas.Bool.{and_parts, not-true, or_left, or_right}
 use Rattle.cov_expr.specs.Term.{neg}

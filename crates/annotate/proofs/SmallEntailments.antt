@@ -1,5 +1,5 @@
 -- The entailments of a thread have few hypotheses and small numbers, as its body is small.
-use Rattle.std.proofs.Common.{ℕ, zero, suc, ◌+◌, ◌*◌, ◌≤◌, ◌&&◌, ◌||◌, not, List, [], ◌∷◌, ◌++◌, length, map, take, Bool, true, false, if◌then◌else◌, Option, Some, None, arith, length-append}
+use Rattle.std.proofs.Common.{rules, ℕ, zero, suc, ◌+◌, ◌*◌, ◌≤◌, ◌&&◌, ◌||◌, not, List, [], ◌∷◌, ◌++◌, length, map, take, Bool, true, false, if◌then◌else◌, Option, Some, None, arith, length-append}
 use Rattle.std.specs.Prelude.{filter, option_to_list, sum_by}
 use Rattle.std.proofs.lemmas.List.{length-map}
 use Rattle.std.proofs.lemmas.List.FromFn.{length-range_with_len}
@@ -9,14 +9,14 @@ use Rattle.cov_expr.specs.Trees.{has_term, mentions, nodes}
 use Rattle.cov_expr.specs.declared.expr.Op.TheVariants.{Eq}
 use Rattle.cov_ast.specs.Declarations.{class_of, is_control, lock_at}
 use Rattle.cov_ast.specs.Plain.{Plain}
-use Rattle.cov_ast.specs.Syntax.{State, Stm, skip, assign, lock, unlock, branch, loop, note, output, Block, done, more}
+use Rattle.cov_ast.specs.Syntax.{State, Stm, skip, assign, lock, branch, loop, note, output, Block, done, more}
 use Rattle.cov_ast.specs.WellFormed.{block_size, state_size, stm_size, types_size}
 use Rattle.mode_state.specs.Sets.{is_hidden}
-use Rattle.point_law.specs.After.{after_unlock, keeps_value, meet, with_guard, with_term_if}
+use Rattle.point_law.specs.After.{keeps_value, meet, with_guard, with_term_if}
 use Rattle.point_law.specs.Point.{is_over_stable, Point, vars_of}
 use Rattle.point_law.specs.Terms.{with_option, with_term, with_terms}
 use Rattle.typing_law.specs.Blocks.{after_block, after_stm, value_type}
-use Rattle.typing_law.specs.Entailments.{assign_entailments, controlled_follows, controlled_values, Entailment, freed_value, from_preds, guard_follows, retype_follows, shown_controlled, shown_value, state_follows, type_follows, unlock_entailments, written_type}
+use Rattle.typing_law.specs.Entailments.{assign_entailments, controlled_follows, controlled_values, Entailment, from_preds, guard_follows, retype_follows, shown_controlled, shown_value, state_follows, type_follows, written_type}
 use Rattle.typing_law.specs.ThreadEntailments.{block_entailments, PlacedEntailment, placed_from, stm_entailments}
 
 -- Lists --------------------------------------------------------------------------------------------------------
@@ -44,6 +44,12 @@ few_by : {X : Type 0} (f : X → ℕ) (xs : List X) → length xs ≤ sum_by (λ
 few_by f [] = omega arith
 few_by f (x ∷ xs) = omega (arith, few_by f xs, sum_by-cons (λ x. f x + 1) x xs)
 
+preds_by : (es : List Term) → length es ≤ sum_by (λ e. nodes e + 1) es
+preds_by es = few_by nodes es
+
+types_by : (ts : List (ℕ × Term)) → length ts ≤ sum_by (λ t. nodes t.1 + 1) ts
+types_by ts = few_by (λ t. nodes t.1) ts
+
 state_few : (j : State) → length j.preds + length j.types ≤ state_size j
 state_few j = omega (arith, few_by nodes j.preds, few_by (λ t. nodes t.1) j.types)
 
@@ -60,15 +66,13 @@ module _ (P : Plain) (u : ℕ) where
   meet_few a j = omega (arith, with_more [] j.preds, state_few j)
 
   after_few : (c : Stm) (a : Point) → held_few (after_stm P u c a) ≤ held_few a + 1 + stm_size c
-  after_few skip a = omega arith
   after_few (assign x e q retypes) a =
       omega (arith, with_one_if (keeps_value P u a.held x e) (filter (λ r. not (mentions r x)) a.preds) (bin Eq (var x) e), length-filter (λ r. not (mentions r x)) a.preds, count_by-le-length (λ r. not (mentions r x)) a.preds)
   after_few (lock l) a = omega (arith, with_any a.preds (lock_at P l).inv)
-  after_few (unlock l) a = omega (arith, length-filter (is_over_stable P u (after_unlock P u a l).held) a.preds, count_by-le-length (is_over_stable P u (after_unlock P u a l).held) a.preds)
   after_few (branch e yes_block no_block join) a = omega (arith, meet_few (after_block P u yes_block (with_guard P u a e)) join)
   after_few (loop e inv b) a = omega (arith, guard_few (meet P u a inv) (neg e), meet_few a inv)
   after_few (note j) a = omega (arith, with_more [] j.preds, state_few j)
-  after_few (output e) a = omega arith
+  after_few _ a = grind (arith, length-filter, count_by-le-length)
 
   block_few : (b : Block) (a : Point) → held_few (after_block P u b a) ≤ held_few a + block_size b
   block_few done a = omega arith
@@ -122,6 +126,12 @@ placed_small n m at k (g ∷ gs) h lt = (record { low = omega (arith, lt); few =
 module _ (P : Plain) (u hidden : ℕ) (few_hidden : (l : ℕ) → length (lock_at P l).hide ≤ hidden) where
   one_more : (a : Point) (e : Term) → length (a.preds ++ e ∷ []) ≤ held_few a + 1
   one_more a e = omega (arith, length-append a.preds (e ∷ []))
+
+  preds_few : (m : ℕ) (a : Point) → held_few a + 1 ≤ m → length a.preds ≤ m
+  preds_few m a h = omega (arith, h)
+
+  hyps_few : (m : ℕ) (a : Point) (e : Term) → held_few a + 1 ≤ m → length (a.preds ++ e ∷ []) ≤ m
+  hyps_few m a e h = omega (arith, h, one_more a e)
 
   state_follows_few : (m : ℕ) (a : Point) (j : State) → held_few a + 1 ≤ m → HaveFew m (state_follows a j)
   state_follows_few m a j h =
@@ -184,29 +194,9 @@ module _ (P : Plain) (u hidden : ℕ) (few_hidden : (l : ℕ) → length (lock_a
         few_by (λ r. nodes r.1) rs,
       )
 
-  unlock_few : (m : ℕ) (a : Point) (l : ℕ) → held_few a + 1 ≤ m → HaveFew m (unlock_entailments P u a l)
-  unlock_few m a l h =
-      let free = filter (λ x. not (is_control P x)) (lock_at P l).hide in
-      few_append m (map (from_preds a.preds) (option_to_list (lock_at P l).inv)) (map (freed_value P u a) free)
-      (few_map m (from_preds a.preds) (option_to_list (lock_at P l).inv) (λ x. omega (arith, h))) (few_map m (freed_value P u a) free (λ x. omega (arith, h, one_more a (class_of P x))))
-
   list_length : (o : Option Term) → length (option_to_list o) ≤ 1
   list_length None = omega arith
   list_length (Some e) = omega arith
-
-  unlock_length : (a : Point) (l : ℕ) → length (unlock_entailments P u a l) ≤ 1 + hidden
-  unlock_length a l =
-      let free = filter (λ x. not (is_control P x)) (lock_at P l).hide in
-      omega (
-        arith,
-        length-append (map (from_preds a.preds) (option_to_list (lock_at P l).inv)) (map (freed_value P u a) free),
-        length-map (option_to_list (lock_at P l).inv) (from_preds a.preds),
-        length-map free (freed_value P u a),
-        list_length (lock_at P l).inv,
-        length-filter (λ x. not (is_control P x)) (lock_at P l).hide,
-        count_by-le-length (λ x. not (is_control P x)) (lock_at P l).hide,
-        few_hidden l,
-      )
 
   module _ (n m : ℕ) (room : 2 * m + length P.vars + hidden + 3 ≤ n) where
     mutual
@@ -215,8 +205,6 @@ module _ (P : Plain) (u hidden : ℕ) (few_hidden : (l : ℕ) → length (lock_a
       stm_small (assign x e q rs) at a h =
           placed_small n (suc m) at 1 (assign_entailments P u a x e q rs) (assign_few (suc m) a x e q rs (omega (arith, h))) (omega (arith, h, room, assign_length a x e q rs))
       stm_small (lock l) at a h = tt
-      stm_small (unlock l) at a h =
-          placed_small n (suc m) at 1 (unlock_entailments P u a l) (unlock_few (suc m) a l (omega (arith, h))) (omega (arith, h, room, unlock_length a l))
       stm_small (branch e yes_block no_block join) at a h =
           let yes_start = with_guard P u a e in
           let no_start = with_guard P u a (neg e) in
@@ -254,9 +242,11 @@ module _ (P : Plain) (u hidden : ℕ) (few_hidden : (l : ℕ) → length (lock_a
           (small_append n (suc m) inner last (block_small b body_start (omega (arith, h, head_few, start_few)))
           (placed_small n (suc m) at (suc (length gs)) hs (state_follows_few (suc m) body_end inv (omega (arith, h, head_few, start_few, block_few P u b body_start)))
           (omega (arith, h, room, first_length, state_follows_length a inv, state_follows_length body_end inv))))
-      stm_small (note j) at a h =
-          placed_small n (suc m) at 1 (state_follows a j) (state_follows_few (suc m) a j (omega (arith, h))) (omega (arith, h, room, state_follows_length a j))
       stm_small (output e) at a h = placed_small n (suc m) at 1 (guard_follows P u a e ∷ []) (omega (arith, h), tt) (omega (arith, room))
+      stm_small _ at a h =
+          let most : held_few a + 1 ≤ suc m = omega (arith, h) in
+          placed_small n (suc m) at 1 _ (search (rules, few_append, few_map, preds_few, hyps_few, most))
+          (grind (arith, h, room, length-append, length-map, length-filter, count_by-le-length, list_length, few_hidden, preds_by, types_by))
 
       block_small : (b : Block) (a : Point) → held_few a + block_size b ≤ m → AreSmall n (suc m) (block_entailments P u b a)
       block_small done a h = tt

@@ -8,7 +8,7 @@ use Rattle.cov_expr.specs.Trees.{same}
 use Rattle.cov_ast.specs.Syntax.{Cert}
 use Rattle.cov_ast.specs.Syntax as by
 use Rattle.entail_cert.specs.Axioms.{numbered}
-use Rattle.entail_cert.specs.Valid.{filled, first_bad, in_child, is_negation, is_some_and, one, only_if, only_with, operands, operands_of, two}
+use Rattle.entail_cert.specs.Valid.{filled, first_bad, is_negation, is_some_and, one, only_if, only_with, operands, operands_of, two}
 use Rattle.cert_search.specs.Classes.{definition_in, hypothesis_named, is_in_class, is_lemma, is_of_another, is_step, is_within, opened, replacement}
 use Rattle.cert_search.proofs.Choices.{definition_sides}
 use Rattle.cert_search.proofs.Complete.{child_free, only_if_free, two_free}

@@ -1,5 +1,5 @@
 -- The spelling of the annotated text is read as that text, places aside.
-use Rattle.std.proofs.Common.{◌≡◌, ℕ, suc, ◌≤◌, ◌==◌, ◌||◌, List, [], ◌∷◌, ◌++◌, length, map, flat_map, Bool, true, false, codes, None, refl, sym, ap, ap₂, subst, ◌∙◌, if◌then◌else◌, All, IsTrue, true≢false, eq-eqb, eqb-true}
+use Rattle.std.proofs.Common.{◌≡◌, ℕ, suc, ◌≤◌, ◌==◌, ◌||◌, List, [], ◌∷◌, ◌++◌, length, map, flat_map, Bool, true, false, codes, None, refl, sym, ap, subst, ◌∙◌, if◌then◌else◌, All, IsTrue, true≢false, eq-eqb, eqb-true}
 use Rattle.std.proofs.lemmas.Bool.{or_left, or_right}
 use Rattle.std.proofs.lemmas.List.Elements.{All-head, All-tail}
 use Rattle.cov_expr.specs.declared.expr.TheConstants.{HOLE}
@@ -9,7 +9,6 @@ use Rattle.cov_grammar.specs.PlacedTrees as t
 use Rattle.cov_grammar.specs.PlacedTrees.{Program}
 use Rattle.cov_ast.specs.Obligations.{all_hold}
 use Rattle.cov_ast.specs.Ready.{Use, use_of, uses_in_block, uses_in_class, uses_in_declarations, uses_in_lock, uses_in_modes, uses_in_thread}
-use Rattle.cov_ast.specs.Syntax as s
 use Rattle.cov_ast.specs.Syntax.{Cert, Parsed}
 use Rattle.cov_ast.specs.WellFormed.{IsWellFormed}
 use Rattle.cov_ast.specs.declared.parsed.NameUse.{NameUse}
@@ -21,7 +20,7 @@ use Rattle.cov_text.specs.Uses.{uses_of}
 use Rattle.cov_text.proofs.NamesInOrder.{uses_in_order}
 use Rattle.cov_print.specs.ReadBack.{SpellsProgram}
 use Rattle.cov_print.specs.Spelling as spec
-use Rattle.cov_print.specs.Unplaced.{unplaced, unplaced_block, unplaced_lock, unplaced_stm, unplaced_thread, unplaced_use, unplaced_var}
+use Rattle.cov_print.specs.Unplaced.{unplaced, unplaced_use}
 use Rattle.cov_print.proofs.Declarations.{seen_program}
 use Rattle.cov_print.proofs.Named.{get_same, IsIn}
 use Rattle.cov_print.proofs.PrintLaws.{of_seen, spelling_unplaced}

@@ -12,12 +12,12 @@ use Rattle.cov_ast.specs.declared.stmt.Stmt.{Stmt}
 use Rattle.cov_ast.specs.declared.stmt.StmtKind.TheFolds.{fold_out-Stmt}
 use Rattle.annotate.specs.AnnotatedText.{part_of_cert, part_of_new, uses_at, parts_in_block, parts_in_stm, parts_in_threads, parts_of_proofs, stays, uses_with, UsesPart}
 use Rattle.annotate.specs.Inside.Choosing.{chosen_at, chosen_in, chosen_of, lent_choice}
-use Rattle.annotate.specs.Inside.Going.{added, gone, Halfway, kept, part_gone, parts_gone, parts_in_stmt}
+use Rattle.annotate.specs.Inside.Going.{added, gone, Halfway, part_gone, parts_gone, parts_in_stmt}
 use Rattle.annotate.specs.WithCertificates.{chosen_for, for_others}
 use Rattle.annotate.specs.declared.choices.Choice.{Choice}
 use Rattle.annotate.specs.declared.choices.ThreadChoices.{ThreadChoices}
 use Rattle.annotate.specs.declared.uses.Way.TheVariants as ways
-use Rattle.annotate.proofs.GoingLaws.{cert_added, gone_nothing, no_parts, one_kept, parts_append, parts_made, parts_next}
+use Rattle.annotate.proofs.GoingLaws.{cert_added, gone_nothing, no_parts, parts_append, parts_made, parts_next}
 
 -- parts of a list that is cut
 pub parts_go_on : (start now next : Halfway) (all ps qs rs : List UsesPart) → parts_gone rs now ≡ parts_gone all start → rs ≡ ps ++ qs → next ≡ parts_gone ps now
@@ -74,10 +74,6 @@ module _ {T E : Type 0} where
   pub stays_go : (r : Result T E) (us : List Use) (g h : Halfway) → OnOk r (h ≡ gone ways.Keep us g) → OnOk r (h ≡ parts_gone (stays us ∷ []) g)
   stays_go (Ok x) us g h first = first ∙ sym (stay us g)
   stays_go (Err e) us g h first = tt
-
-  pub one_stays : (r : Result T E) (u : Use) (g h : Halfway) → OnOk r (h ≡ kept 1 g) → OnOk r (h ≡ parts_gone (stays (u ∷ []) ∷ []) g)
-  one_stays (Ok x) u g h first = first ∙ sym (one_kept u g) ∙ sym (stay (u ∷ []) g)
-  one_stays (Err e) u g h first = tt
 
   pub parts_go : (r : Result T E) (ps qs : List UsesPart) (g h i : Halfway) → h ≡ parts_gone ps g → OnOk r (i ≡ parts_gone qs h) → OnOk r (i ≡ parts_gone (ps ++ qs) g)
   parts_go (Ok x) ps qs g h i first second = second ∙ ap (parts_gone qs) first ∙ sym (parts_append ps qs g)

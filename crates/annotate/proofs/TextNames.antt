@@ -3,7 +3,7 @@ use Rattle.std.proofs.Common.{◌≡◌, ℕ, ◌==◌, List, [], ◌∷◌, ◌
 use Rattle.cov_expr.specs.Term.{Term, const, var, neg, bin}
 use Rattle.cov_expr.specs.declared.expr.TheConstants.{HOLE}
 use Rattle.cov_expr.specs.declared.kind.Kind.TheVariants as k
-use Rattle.cov_ast.specs.Ready.{Use, as_lock, as_variable, uses_in, uses_in_block, uses_in_cert, uses_in_option, uses_in_proof, uses_in_state, uses_in_stm, uses_in_type}
+use Rattle.cov_ast.specs.Ready.{Use, as_variable, uses_in, uses_in_block, uses_in_cert, uses_in_option, uses_in_proof, uses_in_state, uses_in_stm, uses_in_type}
 use Rattle.cov_ast.specs.Syntax as s
 use Rattle.cov_ast.specs.Syntax.{Cert, Proof}
 use Rattle.cov_print.specs.Spelling.{is_word}
@@ -223,28 +223,19 @@ module _ (inside : ℕ → Bool) (hole_inside : inside HOLE ≡ true) (named : �
         behind (plain k.OpenBrace ∷ []) (w.block named (block_with chosen b) ++ plain k.CloseBrace ∷ []) (w.block named b ++ plain k.CloseBrace ∷ [])
         (before (w.block named (block_with chosen b)) (w.block named b) (plain k.CloseBrace ∷ []) e)
 
+    -- those of the proofs of a statement
+    uses_of_proofs : (c : s.Stm) (ps : List Proof) → UsesIn (uses_in_stm c ps) → UsesIn (flat_map uses_in_proof ps)
+    uses_of_proofs s.skip ps h = h
+    uses_of_proofs (s.assign x e q rs) ps h = uses_right (as_variable x ++ uses_in e ++ uses_in_option q ++ flat_map uses_in_type rs) (flat_map uses_in_proof ps) h
+    uses_of_proofs (s.branch e a b join) ps h = uses_right (uses_in e ++ uses_in_block a ++ uses_in_block b ++ uses_in_state join) (flat_map uses_in_proof ps) h
+    uses_of_proofs (s.loop e inv b) ps h = uses_right (uses_in e ++ uses_in_state inv ++ uses_in_block b) (flat_map uses_in_proof ps) h
+    uses_of_proofs (s.note j) ps h = uses_right (uses_in_state j) (flat_map uses_in_proof ps) h
+    uses_of_proofs (s.output e) ps h = uses_right (uses_in e) (flat_map uses_in_proof ps) h
+    uses_of_proofs _ ps h = h.1
+
     mutual
       stm_alike : (c : s.Stm) (cs : List (ℕ × Cert)) (ps : List Proof) → UsesIn (uses_in_stm c ps) → UsesIn (uses_in_stm (stm_with chosen c) (proofs_with c cs ps))
           → out (w.stm named (stm_with chosen c) (proofs_with c cs ps)) ≡ out (w.stm named c ps)
-      stm_alike s.skip cs ps h g = refl
-      stm_alike (s.assign x e q rs) cs ps h g =
-          let front = as_variable x ++ uses_in e ++ uses_in_option q ++ flat_map uses_in_type rs in
-          let us = w.by named (with_certs cs ps) in
-          let vs = w.by named ps in
-          let same = before us vs (plain k.Semicolon ∷ [])
-          (proofs_alike (with_certs cs ps) ps (uses_right front (flat_map uses_in_proof (with_certs cs ps)) g) (uses_right front (flat_map uses_in_proof ps) h)) in
-          behind (w.name x ∷ plain k.Assign ∷ []) (w.whole named e ++ (w.maybe named k.As q ++ (flat_map (w.retype named) rs ++ ended us)))
-          (w.whole named e ++ (w.maybe named k.As q ++ (flat_map (w.retype named) rs ++ ended vs)))
-          (behind (w.whole named e) (w.maybe named k.As q ++ (flat_map (w.retype named) rs ++ ended us)) (w.maybe named k.As q ++ (flat_map (w.retype named) rs ++ ended vs))
-          (behind (w.maybe named k.As q) (flat_map (w.retype named) rs ++ ended us) (flat_map (w.retype named) rs ++ ended vs)
-          (behind (flat_map (w.retype named) rs) (ended us) (ended vs) same)))
-      stm_alike (s.lock l) cs ps h g = refl
-      stm_alike (s.unlock l) cs ps h g =
-          let us = w.by named (with_certs cs ps) in
-          let vs = w.by named ps in
-          behind (plain k.Unlock ∷ w.name l ∷ []) (ended us) (ended vs)
-          (before us vs (plain k.Semicolon ∷ [])
-          (proofs_alike (with_certs cs ps) ps (uses_right (as_lock l) (flat_map uses_in_proof (with_certs cs ps)) g) (uses_right (as_lock l) (flat_map uses_in_proof ps) h)))
       stm_alike (s.branch e a b join) cs ps h g =
           let a' = block_with chosen a in
           let b' = block_with chosen b in
@@ -259,9 +250,7 @@ module _ (inside : ℕ → Bool) (hole_inside : inside HOLE ≡ true) (named : �
           let g3 = uses_left (uses_in e ++ uses_in_block a') (uses_in_block b') g2 in
           let first = in_braces a (block_alike a (uses_right (uses_in e) (uses_in_block a) h3) (uses_right (uses_in e) (uses_in_block a') g3)) in
           let other = in_braces b (block_alike b (uses_right (uses_in e ++ uses_in_block a) (uses_in_block b) h2) (uses_right (uses_in e ++ uses_in_block a') (uses_in_block b') g2)) in
-          let last = proofs_alike qs ps
-          (uses_right (uses_in e ++ uses_in_block a' ++ uses_in_block b' ++ uses_in_state join) (flat_map uses_in_proof qs) g)
-          (uses_right (uses_in e ++ uses_in_block a ++ uses_in_block b ++ uses_in_state join) (flat_map uses_in_proof ps) h) in
+          let last = proofs_alike qs ps (uses_of_proofs (s.branch e a' b' join) qs g) (uses_of_proofs (s.branch e a b join) ps h) in
           let j = w.stated named k.Join join in
           let end = behind (plain k.Else ∷ []) (w.braces named b' ++ (j ++ us)) (w.braces named b ++ (j ++ vs))
           (before (w.braces named b') (w.braces named b) (j ++ us) other ∙ behind (w.braces named b) (j ++ us) (j ++ vs) (behind j us vs last)) in
@@ -278,29 +267,17 @@ module _ (inside : ℕ → Bool) (hole_inside : inside HOLE ≡ true) (named : �
           let h1 = uses_left (uses_in e ++ uses_in_state inv ++ uses_in_block b) (flat_map uses_in_proof ps) h in
           let g1 = uses_left (uses_in e ++ uses_in_state inv ++ uses_in_block b') (flat_map uses_in_proof qs) g in
           let first = in_braces b (block_alike b (uses_right (uses_in e ++ uses_in_state inv) (uses_in_block b) h1) (uses_right (uses_in e ++ uses_in_state inv) (uses_in_block b') g1)) in
-          let last = proofs_alike qs ps (uses_right (uses_in e ++ uses_in_state inv ++ uses_in_block b') (flat_map uses_in_proof qs) g)
-          (uses_right (uses_in e ++ uses_in_state inv ++ uses_in_block b) (flat_map uses_in_proof ps) h) in
+          let last = proofs_alike qs ps (uses_of_proofs (s.loop e inv b') qs g) (uses_of_proofs (s.loop e inv b) ps h) in
           let j = w.stated named k.Inv inv in
           behind (plain k.While ∷ []) (w.whole named e ++ (j ++ (w.braces named b' ++ us))) (w.whole named e ++ (j ++ (w.braces named b ++ vs)))
           (behind (w.whole named e) (j ++ (w.braces named b' ++ us)) (j ++ (w.braces named b ++ vs))
           (behind j (w.braces named b' ++ us) (w.braces named b ++ vs)
           (before (w.braces named b') (w.braces named b) us first ∙ behind (w.braces named b) us vs last)))
-      stm_alike (s.note j) cs ps h g =
-          let us = w.by named (with_certs cs ps) in
-          let vs = w.by named ps in
-          let x = w.state named j in
-          behind (plain k.Note ∷ []) (ended (x ++ us)) (ended (x ++ vs))
-          (before (x ++ us) (x ++ vs) (plain k.Semicolon ∷ [])
-          (behind x us vs
-          (proofs_alike (with_certs cs ps) ps (uses_right (uses_in_state j) (flat_map uses_in_proof (with_certs cs ps)) g) (uses_right (uses_in_state j) (flat_map uses_in_proof ps) h))))
-      stm_alike (s.output e) cs ps h g =
-          let us = w.by named (with_certs cs ps) in
-          let vs = w.by named ps in
-          let x = w.whole named e in
-          behind (plain k.Output ∷ []) (ended (x ++ us)) (ended (x ++ vs))
-          (before (x ++ us) (x ++ vs) (plain k.Semicolon ∷ [])
-          (behind x us vs
-          (proofs_alike (with_certs cs ps) ps (uses_right (uses_in e) (flat_map uses_in_proof (with_certs cs ps)) g) (uses_right (uses_in e) (flat_map uses_in_proof ps) h))))
+      stm_alike s.skip cs ps h g = refl
+      stm_alike (s.lock l) cs ps h g = refl
+      stm_alike c cs ps h g =
+          let same = proofs_alike (proofs_with c cs ps) ps (uses_of_proofs (stm_with chosen c) (proofs_with c cs ps) g) (uses_of_proofs c ps h) in
+          simp (leaves_of_append, outside_append, same) refl
 
       pub block_alike : (b : s.Block) → UsesIn (uses_in_block b) → UsesIn (uses_in_block (block_with chosen b)) → out (w.block named (block_with chosen b)) ≡ out (w.block named b)
       block_alike s.done h g = refl

@@ -7,13 +7,14 @@ use Rattle.std.proofs.lemmas.Bool.{eqb-true}
 use Rattle.std.proofs.lemmas.Grind.{flat_map-append}
 use Rattle.std.proofs.lemmas.List.{append-nil, append_assoc, drop-map, map-append, take-map}
 use Rattle.std.proofs.lemmas.List.Elements.{All-cons, All-contains, All-contains_itself, All-drop, All-head, All-map, All-nil, All-tail, All-weaker, Contains-append_cases, Contains-append_left, Contains-append_right, Contains-push_cases}
-use Rattle.cov_ast.specs.Ready.{HasUsesInOrder, Use, as_variable, use_of, uses_in, uses_in_block, uses_in_cert, uses_in_class, uses_in_lock, uses_in_modes, uses_in_option, uses_in_proof, uses_in_state, uses_in_stm, uses_in_thread, uses_in_type}
+use Rattle.cov_ast.specs.Ready.{HasUsesInOrder, Use, use_of, uses_in, uses_in_block, uses_in_cert, uses_in_class, uses_in_lock, uses_in_modes, uses_in_proof, uses_in_state, uses_in_stm, uses_in_thread}
 use Rattle.cov_ast.specs.Syntax.{Cert, Proof, Stm, Block, done, more, Thread, Parsed}
 use Rattle.cov_ast.specs.Syntax as s
 use Rattle.cov_ast.specs.WellFormed.{places, places_within}
 use Rattle.cov_ast.specs.declared.parsed.NameUse.{NameUse}
+use Rattle.statement_parts.specs.Parts.{parts}
 use Rattle.mode_compat.specs.Compatible.{no_thread}
-use Rattle.annotate.specs.AnnotatedText.{AreKeptOrNew, becomes, IsUseOfChosen, part_of_cert, part_of_new, parts_in, parts_in_block, parts_in_stm, parts_in_threads, parts_of_proofs, put_in_text, stays, uses_at, uses_with, UsesPart}
+use Rattle.annotate.specs.AnnotatedText.{AreKeptOrNew, becomes, IsUseOfChosen, own_uses, part_of_cert, part_of_new, parts_in, parts_in_block, parts_in_stm, parts_in_threads, parts_of_proofs, put_in_text, stays, uses_at, uses_with, UsesPart}
 use Rattle.annotate.specs.WithCertificates.{chosen_for, for_others, proof_of, put_in, put_in_threads, with_certs, with_proofs, with_proofs_stm}
 use Rattle.annotate.proofs.PutLaws.{AllChosen, chosen_is, for_others_same, others_have}
 
@@ -86,9 +87,6 @@ module _ (kind : UsesPart → List Use) (stays_is : (us : List Use) → kind (st
   -- in front of the uses of proofs
   mutual
     stm_uses : (c : Stm) (qs : List Proof) → flat_map kind (parts_in_stm chosen c) ++ flat_map uses_in_proof qs ≡ uses_in_stm (with_proofs_stm (λ _. made) c) qs
-    stm_uses s.skip qs = refl
-    stm_uses (s.assign x e q retypes) qs = ap (λ us. us ++ flat_map uses_in_proof qs)
-        (one (uses_in_stm (s.assign x e q retypes) []) ∙ append-nil (as_variable x ++ uses_in e ++ uses_in_option q ++ flat_map uses_in_type retypes))
     stm_uses (s.branch e a b join) qs =
         ap (λ us. us ++ flat_map uses_in_proof qs)
         ((λ i. stays_is (uses_in e) i ++ flat_map-append kind (parts_in_block chosen a) (parts_in_block chosen b ++ stays (uses_in_state join) ∷ []) i)
@@ -96,9 +94,7 @@ module _ (kind : UsesPart → List Use) (stays_is : (us : List Use) → kind (st
         ∙ (λ i. uses_in e ++ (uses_in_block (with_proofs (λ _. made) a) ++ (block_uses b i ++ (stays_is (uses_in_state join) i ++ []))))
         ∙ regrouped (uses_in e) (uses_in_block (with_proofs (λ _. made) a)) (uses_in_block (with_proofs (λ _. made) b)) (uses_in_state join))
     stm_uses (s.loop e inv b) qs = λ i. stays_is (uses_in e ++ uses_in_state inv) i ++ block_uses b i ++ flat_map uses_in_proof qs
-    stm_uses (s.note j) qs = ap (λ us. us ++ flat_map uses_in_proof qs) (one (uses_in_state j))
-    stm_uses (s.output e) qs = ap (λ us. us ++ flat_map uses_in_proof qs) (one (uses_in e))
-    stm_uses c qs = ap (λ us. us ++ flat_map uses_in_proof qs) (one (uses_in_stm c []))
+    stm_uses c qs = ap (λ us. us ++ flat_map uses_in_proof qs) (one (own_uses (parts c)))
 
     block_uses : (b : Block) → flat_map kind (parts_in_block chosen b) ≡ uses_in_block (with_proofs (λ _. made) b)
     block_uses done = refl
@@ -266,7 +262,6 @@ module _ (IsNew : NameUse → Type 0) where
   module _ (chosen : (place : ℕ) → List (ℕ × Cert)) (inside : (place : ℕ) → AllChosen (IsNewAt place) (chosen place)) where
     mutual
       stm_makes : (c : Stm) → AllMakeNew (parts_in_stm chosen c)
-      stm_makes s.skip = tt
       stm_makes (s.branch e a b join) = (tt, make_append (parts_in_block chosen a) _ (block_makes a) (make_append (parts_in_block chosen b) _ (block_makes b) (tt, tt)))
       stm_makes (s.loop e inv b) = (tt, block_makes b)
       stm_makes _ = (tt, tt)

@@ -1,11 +1,12 @@
 -- The text of the annotated program: chosen certificates in the numbers of names, and every use of a name in the order of the text.
 use Rattle.std.specs.Prelude.{◌≡◌, ◌⊎◌, ℕ, suc, ◌≤◌, List, [], ◌∷◌, ◌++◌, length, map, take, drop, get_or, flat_map, IsTrue, Option, Some, None, All, Contains}
+use Rattle.cov_expr.specs.Term.{Term}
 use Rattle.cov_expr.specs.declared.expr.TheConstants.{HOLE}
 use Rattle.cov_ast.specs.NameTables.{number_of}
-use Rattle.cov_ast.specs.Ready.{HasUsesInOrder, IsReady, Use, use_of, uses_in, uses_in_cert, uses_in_class, uses_in_lock, uses_in_modes, uses_in_state, uses_in_stm}
-use Rattle.cov_ast.specs.Syntax.{Cert, Proof, Stm, Block, done, more, Thread, Parsed}
-use Rattle.cov_ast.specs.Syntax as s
+use Rattle.cov_ast.specs.Ready.{HasUsesInOrder, IsReady, Use, as_lock, as_variable, use_of, uses_in, uses_in_cert, uses_in_class, uses_in_lock, uses_in_modes, uses_in_option, uses_in_state, uses_in_type}
+use Rattle.cov_ast.specs.Syntax.{State, Cert, Proof, Stm, Block, Thread, Parsed}
 use Rattle.cov_ast.specs.declared.parsed.NameUse.{NameUse}
+use Rattle.statement_parts.specs.Parts.{folded, folded_in, Inside, of_either, of_none, of_turn, Parts, Store}
 use Rattle.policy_class.specs.Resolved.{is_among, resolved, resolved_cert, var_names}
 use Rattle.annotate.specs.Annotated.{choices}
 use Rattle.annotate.specs.WithCertificates.{chosen_for, for_others, put_in_threads}
@@ -63,23 +64,49 @@ abbrev pub parts_of_proofs : (place : ℕ) → List (ℕ × Cert) → List Proof
 parts_of_proofs place chosen [] = map (part_of_new place) chosen
 parts_of_proofs place chosen (q ∷ qs) = part_of_cert place q.cert (chosen_for chosen q.number) ∷ parts_of_proofs place (for_others q.number chosen) qs
 
+-- the uses in an assignment: of its variable, in the value, in the type that is written, and in those that are listed
+abbrev pub uses_in_store : Store → List Use
+uses_in_store v = as_variable v.variable ++ uses_in v.value ++ uses_in_option v.written ++ flat_map uses_in_type v.retypes
+
+-- those in what is stated
+abbrev pub uses_stated : Option State → List Use
+uses_stated None = []
+uses_stated (Some j) = uses_in_state j
+
+-- The uses in a statement without blocks: it stores, it takes or gives back a lock, it puts out, or it states. Proofs are left out.
+module _ (others : List Use) where
+  abbrev pub stored_or : Option Store → List Use
+  stored_or None = others
+  stored_or (Some v) = uses_in_store v
+
+  abbrev pub lock_or : Option ℕ → List Use
+  lock_or None = others
+  lock_or (Some l) = as_lock l
+
+  abbrev pub printed_or : Option Term → List Use
+  printed_or None = others
+  printed_or (Some e) = uses_in e
+
+abbrev pub own_uses : Parts → List Use
+own_uses ps = stored_or (lock_or (lock_or (printed_or (uses_stated ps.state) ps.printed) ps.returned) ps.taken) ps.store
+
+-- A statement without its proofs, by what is in its blocks. A loop states in front of its block, and a branch behind both.
+abbrev pub parts_around : Parts → Inside (List UsesPart) → List UsesPart
+parts_around ps of_none = stays (own_uses ps) ∷ []
+parts_around ps (of_turn e inv b) = stays (uses_in_option ps.guard ++ uses_stated ps.state) ∷ b
+parts_around ps (of_either e join a b) = stays (uses_in_option ps.guard) ∷ (a ++ (b ++ stays (uses_stated ps.state) ∷ []))
+
 -- with what is chosen for each place
 module _ (chosen : (place : ℕ) → List (ℕ × Cert)) where
-  abbrev mutual
-    -- a statement without its proofs
-    pub parts_in_stm : Stm → List UsesPart
-    parts_in_stm s.skip = []
-    parts_in_stm (s.assign x e q retypes) = stays (uses_in_stm (s.assign x e q retypes) []) ∷ []
-    parts_in_stm (s.lock l) = stays (uses_in_stm (s.lock l) []) ∷ []
-    parts_in_stm (s.unlock l) = stays (uses_in_stm (s.unlock l) []) ∷ []
-    parts_in_stm (s.branch e a b join) = stays (uses_in e) ∷ (parts_in_block a ++ (parts_in_block b ++ stays (uses_in_state join) ∷ []))
-    parts_in_stm (s.loop e inv b) = stays (uses_in e ++ uses_in_state inv) ∷ parts_in_block b
-    parts_in_stm (s.note j) = stays (uses_in_state j) ∷ []
-    parts_in_stm (s.output e) = stays (uses_in e) ∷ []
+  -- a statement with its proofs, in front of others
+  abbrev pub parts_before : (place : ℕ) → List Proof → (first others : List UsesPart) → List UsesPart
+  parts_before at proofs first others = first ++ (parts_of_proofs at (chosen at) proofs ++ others)
 
-    pub parts_in_block : Block → List UsesPart
-    parts_in_block done = []
-    parts_in_block (more at c proofs b) = parts_in_stm c ++ (parts_of_proofs at (chosen at) proofs ++ parts_in_block b)
+  abbrev pub parts_in_stm : Stm → List UsesPart
+  parts_in_stm c = folded parts_around parts_before [] c
+
+  abbrev pub parts_in_block : Block → List UsesPart
+  parts_in_block b = folded_in parts_around parts_before [] b
 
 -- threads, numbered from a number on
 abbrev pub parts_in_threads : (chosen : (t place : ℕ) → List (ℕ × Cert)) → (t : ℕ) → List Thread → List UsesPart

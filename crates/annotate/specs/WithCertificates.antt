@@ -1,8 +1,8 @@
 -- Certificates put into a program: for each place of a statement, certificates that are chosen for numbers of its entailments. Nothing else changes.
 use Rattle.std.specs.Prelude.{ℕ, suc, ◌<◌, ◌==◌, List, [], ◌∷◌, map, filter, Bool, not, if◌then◌else◌, Option, Some, None, unwrap_or}
 use Rattle.std.specs.List.{list_any}
-use Rattle.cov_ast.specs.Syntax.{Cert, Proof, Stm, Block, done, more, Thread, Program}
-use Rattle.cov_ast.specs.Syntax as s
+use Rattle.cov_ast.specs.Syntax.{Cert, Proof, Stm, Block, Thread, Program}
+use Rattle.statement_parts.specs.Mapped.{mapped, mapped_in, same_parts}
 
 -- Proofs of a statement ----------------------------------------------------------------------------------------
 
@@ -44,20 +44,11 @@ AreRisingAbove m (n ∷ ns) = (m < n) × AreRisingAbove n ns
 
 -- the same statements with other proofs, which are made of each statement, its place and the proofs that it has
 module _ (made : Stm → (place : ℕ) → List Proof → List Proof) where
-  abbrev mutual
-    pub with_proofs_stm : Stm → Stm
-    with_proofs_stm s.skip = s.skip
-    with_proofs_stm (s.assign x e q retypes) = s.assign x e q retypes
-    with_proofs_stm (s.lock l) = s.lock l
-    with_proofs_stm (s.unlock l) = s.unlock l
-    with_proofs_stm (s.branch e a b join) = s.branch e (with_proofs a) (with_proofs b) join
-    with_proofs_stm (s.loop e inv b) = s.loop e inv (with_proofs b)
-    with_proofs_stm (s.note j) = s.note j
-    with_proofs_stm (s.output e) = s.output e
+  abbrev pub with_proofs_stm : Stm → Stm
+  with_proofs_stm c = mapped (record same_parts { proofs = made }) c
 
-    pub with_proofs : Block → Block
-    with_proofs done = done
-    with_proofs (more at c proofs b) = more at (with_proofs_stm c) (made c at proofs) (with_proofs b)
+  abbrev pub with_proofs : Block → Block
+  with_proofs b = mapped_in (record same_parts { proofs = made }) b
 
 module _ (chosen : (place : ℕ) → List (ℕ × Cert)) where
   abbrev pub put_in_stm : Stm → Stm

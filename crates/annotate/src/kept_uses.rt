@@ -1,16 +1,18 @@
 //! The uses of names in parts of a text that stay.
 
-ghost use Rattle.std.specs.Prelude.{◌≡◌, ◌++◌, [], flat_map, map, option_map, OnOk};
+ghost use Rattle.std.specs.Prelude.{◌≡◌, ◌++◌, flat_map, map, OnOk};
 ghost use Rattle.cov_expr.specs.View.{term};
-ghost use Rattle.cov_ast.specs.Ready.{as_variable, uses_in, uses_in_class, uses_in_lock, uses_in_modes, uses_in_state, uses_in_stm, uses_in_type};
-ghost use Rattle.cov_ast.specs.Syntax as syntax;
+ghost use Rattle.cov_ast.specs.Ready.{as_variable, uses_in, uses_in_class, uses_in_lock, uses_in_modes, uses_in_state, uses_in_type};
 ghost use Rattle.cov_ast.specs.View as view;
-ghost use Rattle.annotate.specs.Inside.Going.{Goes};
+ghost use Rattle.statement_parts.specs.Parts as table;
+ghost use Rattle.annotate.specs.AnnotatedText.{parts_around, uses_in_store};
+ghost use Rattle.annotate.specs.Inside.Going.{Goes, Makes};
 ghost use Rattle.annotate.specs.declared.uses.Way.TheVariants.{Keep};
 
 use crate::uses::{Uses, Way};
 use cov_ast::{Class, LockDecl, Modes, Retype, State, VarDecl};
 use cov_expr::{Expr, NoMemory};
+use statement_parts::{Parts, Store};
 
 impl Uses<'_> {
     /// Uses of variables.
@@ -51,21 +53,34 @@ impl Uses<'_> {
         Ok(())
     }
 
-    /// The uses in an assignment.
-    pub fn keep_assignment(
-        &mut self,
-        x: u32,
-        e: &Expr,
-        class: &Option<Expr>,
-        retypes: &[Retype],
-    ) -> Result<(), NoMemory>
-        ensures { OnOk result (Goes Keep
-            (uses_in_stm (syntax.assign x (term e.now) (option_map term class.now) (map view.retype retypes.now)) []) self.old self.new) }
+    /// The uses in the parts of a statement without blocks, of which it has one, or none.
+    #[tactic(auto, using(crate::proofs::GoingLaws::gone_nothing, crate::proofs::GoingLaws::one_use, crate::proofs::StatementUses::stay))]
+    pub fn keep_parts(&mut self, parts: &Parts<'_>) -> Result<(), NoMemory>
+        ensures { OnOk result (Makes (parts_around (table.parts_of parts.now) table.of_none) self.old self.new) }
     {
-        self.variable(Way::Keep, x)?;
-        self.expr(Way::Keep, e)?;
-        self.option(Way::Keep, class)?;
-        self.keep_retypes(retypes)
+        if let Some(store) = &parts.store {
+            return self.keep_store(store);
+        }
+        if parts.taken.is_some() || parts.returned.is_some() {
+            return self.keep();
+        }
+        if let Some(e) = parts.printed {
+            return self.expr(Way::Keep, e);
+        }
+        match parts.state {
+            Some(state) => self.keep_state(state),
+            None => Ok(()),
+        }
+    }
+
+    /// The uses in what is stored.
+    fn keep_store(&mut self, store: &Store<'_>) -> Result<(), NoMemory>
+        ensures { OnOk result (Goes Keep (uses_in_store (table.store_of store.now)) self.old self.new) }
+    {
+        self.variable(Way::Keep, store.variable)?;
+        self.expr(Way::Keep, store.value)?;
+        self.option(Way::Keep, store.written)?;
+        self.keep_retypes(store.retypes)
     }
 
     /// The uses in what a join, a loop or a note states.
@@ -119,7 +134,7 @@ impl Uses<'_> {
     {
         self.keep_variables(lock.nowrite.as_slice())?;
         self.keep_variables(lock.hide.as_slice())?;
-        self.option(Way::Keep, &lock.inv)
+        self.option(Way::Keep, lock.inv.as_ref())
     }
 
     /// The uses in the modes of a thread.

@@ -14,6 +14,7 @@ use crate::placing::{chosen_for, for_others, lent_choices};
 use crate::uses::{Uses, Way};
 use cov_ast::{NameUse, Parsed, Proof, Stmt, StmtKind, ThreadDecl};
 use cov_expr::{List, NoMemory};
+use statement_parts::parts_of;
 use std::alloc::Global;
 
 /// The uses of names of a text into which certificates are put that are chosen for its threads. Each statement, and each use, is come by once.
@@ -112,12 +113,6 @@ impl Uses<'_> {
         ensures { OnOk result (Makes (parts_in_stm (chosen_at chosen.now) (view.kind kind.now)) self.old self.new) }
     {
         match kind {
-            StmtKind::Skip => Ok(()),
-            StmtKind::Assign(x, e, class, retypes) => {
-                self.keep_assignment(*x, e, class, retypes.as_slice())
-            }
-            StmtKind::Lock(_) => self.keep(),
-            StmtKind::Unlock(_) => self.keep(),
             StmtKind::If(e, a, b, join) => {
                 self.expr(Way::Keep, e)?;
                 self.add_block(alloc, chosen, a.as_slice())?;
@@ -128,8 +123,7 @@ impl Uses<'_> {
                 self.keep_guard(e, inv)?;
                 self.add_block(alloc, chosen, body.as_slice())
             }
-            StmtKind::Note(state) => self.keep_state(state),
-            StmtKind::Output(e) => self.expr(Way::Keep, e),
+            _ => self.keep_parts(&parts_of(kind)),
         }
     }
 

@@ -103,8 +103,8 @@ impl Uses<'_> {
     }
 
     /// The uses in an expression, if there is one.
-    pub fn option(&mut self, way: Way, e: &Option<Expr>) -> Result<(), NoMemory>
-        ensures { OnOk result (Goes way (uses_in_option (option_map term e.now)) self.old self.new) }
+    pub fn option(&mut self, way: Way, e: Option<&Expr>) -> Result<(), NoMemory>
+        ensures { OnOk result (Goes way (uses_in_option (option_map (λ f. term f.now) e.entry)) self.old self.new) }
     {
         match e {
             Some(e) => self.expr(way, e),

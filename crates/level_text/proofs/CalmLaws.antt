@@ -27,7 +27,7 @@ use Rattle.policy_class.specs.Resolved.{resolved_term}
 use Rattle.level_text.specs.TextFaults.{is_level_behind, variables_behind}
 
 abbrev loud : List Kind
-loud = k.Level ∷ k.Colon ∷ k.Comma ∷ k.Else ∷ k.Var ∷ k.Thread ∷ k.Lock ∷ k.Unlock ∷ []
+loud = k.Level ∷ k.Colon ∷ k.Comma ∷ k.Else ∷ k.Var ∷ k.Thread ∷ k.Lock ∷ []
 
 abbrev is_expr : Rule → Bool
 is_expr expr = true
@@ -91,41 +91,41 @@ expr_calm (suc d) v ts h = shape_calm (Within d) (expr_calm d) (body expr) refl 
 
 -- Names of calm tokens ----------------------------------------------------------------------------------------------
 
-no_level : (a b c d e f g h : Bool) → (a || (b || (c || (d || (e || (f || (g || (h || false)))))))) ≡ false → (a || (b || (c || (d || false)))) ≡ false
-no_level true b c d e f g h x = cc
-no_level false true c d e f g h x = cc
-no_level false false true d e f g h x = cc
-no_level false false false true e f g h x = cc
-no_level false false false false e f g h x = refl
+no_level : (a b c d e f g : Bool) → (a || (b || (c || (d || (e || (f || (g || false))))))) ≡ false → (a || (b || (c || (d || false)))) ≡ false
+no_level true b c d e f g x = cc
+no_level false true c d e f g x = cc
+no_level false false true d e f g x = cc
+no_level false false false true e f g x = cc
+no_level false false false false e f g x = refl
 
-no_declared : (a b c d e f g h : Bool) → (a || (b || (c || (d || (e || (f || (g || (h || false)))))))) ≡ false → ((e || f) || g) ≡ false
-no_declared true b c d e f g h x = cc
-no_declared false true c d e f g h x = cc
-no_declared false false true d e f g h x = cc
-no_declared false false false true e f g h x = cc
-no_declared false false false false true f g h x = cc
-no_declared false false false false false true g h x = cc
-no_declared false false false false false false true h x = cc
-no_declared false false false false false false false h x = refl
+no_declared : (a b c d e f g : Bool) → (a || (b || (c || (d || (e || (f || (g || false))))))) ≡ false → ((e || f) || g) ≡ false
+no_declared true b c d e f g x = cc
+no_declared false true c d e f g x = cc
+no_declared false false true d e f g x = cc
+no_declared false false false true e f g x = cc
+no_declared false false false false true f g x = cc
+no_declared false false false false false true g x = cc
+no_declared false false false false false false true x = cc
+no_declared false false false false false false false x = refl
 
-no_thread : (a b c d e f g h : Bool) → (a || (b || (c || (d || (e || (f || (g || (h || false)))))))) ≡ false → f ≡ false
-no_thread true b c d e f g h x = cc
-no_thread false true c d e f g h x = cc
-no_thread false false true d e f g h x = cc
-no_thread false false false true e f g h x = cc
-no_thread false false false false true f g h x = cc
-no_thread false false false false false true g h x = cc
-no_thread false false false false false false g h x = refl
+no_thread : (a b c d e f g : Bool) → (a || (b || (c || (d || (e || (f || (g || false))))))) ≡ false → f ≡ false
+no_thread true b c d e f g x = cc
+no_thread false true c d e f g x = cc
+no_thread false false true d e f g x = cc
+no_thread false false false true e f g x = cc
+no_thread false false false false true f g x = cc
+no_thread false false false false false true g x = cc
+no_thread false false false false false false g x = refl
 
 module _ (j : Kind) (h : has loud j ≡ false) where
   calm_level : is_level_behind j ≡ false
-  calm_level = no_level (kind_is k.Level j) (kind_is k.Colon j) (kind_is k.Comma j) (kind_is k.Else j) (kind_is k.Var j) (kind_is k.Thread j) (kind_is k.Lock j) (kind_is k.Unlock j) h
+  calm_level = no_level (kind_is k.Level j) (kind_is k.Colon j) (kind_is k.Comma j) (kind_is k.Else j) (kind_is k.Var j) (kind_is k.Thread j) (kind_is k.Lock j) h
 
   calm_declares : declares false j ≡ false
-  calm_declares = no_declared (kind_is k.Level j) (kind_is k.Colon j) (kind_is k.Comma j) (kind_is k.Else j) (kind_is k.Var j) (kind_is k.Thread j) (kind_is k.Lock j) (kind_is k.Unlock j) h
+  calm_declares = no_declared (kind_is k.Level j) (kind_is k.Colon j) (kind_is k.Comma j) (kind_is k.Else j) (kind_is k.Var j) (kind_is k.Thread j) (kind_is k.Lock j) h
 
   calm_thread : kind_is k.Thread j ≡ false
-  calm_thread = no_thread (kind_is k.Level j) (kind_is k.Colon j) (kind_is k.Comma j) (kind_is k.Else j) (kind_is k.Var j) (kind_is k.Thread j) (kind_is k.Lock j) (kind_is k.Unlock j) h
+  calm_thread = no_thread (kind_is k.Level j) (kind_is k.Colon j) (kind_is k.Comma j) (kind_is k.Else j) (kind_is k.Var j) (kind_is k.Thread j) (kind_is k.Lock j) h
 
 abbrev pub numbers : List Named → List ℕ
 numbers xs = map (λ x. x.0) xs

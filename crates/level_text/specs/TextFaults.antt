@@ -11,8 +11,9 @@ use Rattle.cov_expr.specs.declared.kind.Kind.TheVariants as k
 use Rattle.cov_ast.specs.NameTables.{number_of, with_name}
 use Rattle.cov_ast.specs.Plain.{class_term}
 use Rattle.cov_ast.specs.Declarations.{invariant_term, lists, have_assumed, have_guaranteed}
-use Rattle.cov_ast.specs.Syntax.{Stm, Block, done, more, Thread, Parsed}
+use Rattle.cov_ast.specs.Syntax.{Stm, Block, Thread, Parsed}
 use Rattle.cov_ast.specs.Syntax as s
+use Rattle.statement_parts.specs.Parts.{evaluated, folded, folded_in, Inside, listed_types, of_either, of_none, of_turn, Parts, Store}
 use Rattle.cov_grammar.specs.declared.token.Token.{Token}
 use Rattle.cov_grammar.specs.LookAhead.{kind_is, has}
 use Rattle.cov_grammar.specs.PlacedTrees.{Placed, Named}
@@ -124,20 +125,29 @@ module _ (m : ℕ) where
   abbrev pub in_types : List (ℕ × Term) → Bool
   in_types ts = list_any (λ t. t.0 == m) ts
 
-  abbrev mutual
-    pub in_stm : Stm → Bool
-    in_stm s.skip = false
-    in_stm (s.assign x e q retypes) = x == m || mentions e m || in_types retypes
-    in_stm (s.lock l) = false
-    in_stm (s.unlock l) = false
-    in_stm (s.branch e a b join) = mentions e m || in_block a || in_block b || in_types join.types
-    in_stm (s.loop e inv b) = mentions e m || in_types inv.types || in_block b
-    in_stm (s.note j) = in_types j.types
-    in_stm (s.output e) = mentions e m
+  abbrev pub in_store : Option Store → Bool
+  in_store None = false
+  in_store (Some v) = v.variable == m
 
-    pub in_block : Block → Bool
-    in_block done = false
-    in_block (more place c proofs b) = in_stm c || in_block b
+  abbrev pub in_expression : Option Term → Bool
+  in_expression None = false
+  in_expression (Some e) = mentions e m
+
+  -- in a statement itself: as the variable that is stored, in what is evaluated, or as the variable of a type
+  abbrev pub in_parts : Parts → Bool
+  in_parts ps = in_store ps.store || in_expression (evaluated ps) || in_types (listed_types ps.store ps.state)
+
+  -- or in one of its blocks
+  abbrev pub in_blocks : Inside Bool → Bool
+  in_blocks of_none = false
+  in_blocks (of_turn e inv b) = b
+  in_blocks (of_either e join a b) = a || b
+
+  abbrev pub in_stm : Stm → Bool
+  in_stm c = folded (λ ps bs. in_parts ps || in_blocks bs) (λ place proofs first rest. first || rest) false c
+
+  abbrev pub in_block : Block → Bool
+  in_block b = folded_in (λ ps bs. in_parts ps || in_blocks bs) (λ place proofs first rest. first || rest) false b
 
   abbrev pub in_thread : Thread → Bool
   in_thread t = have_assumed t.modes m || have_guaranteed t.modes m || in_block t.body

@@ -103,9 +103,9 @@ fn in_kind(kind: &StmtKind, m: u32) -> bool
         }
         StmtKind::If(e, a, b, join) => {
             mentions(e, m)
+                || in_types(join.types.as_slice(), m)
                 || in_block(a.as_slice(), m)
                 || in_block(b.as_slice(), m)
-                || in_types(join.types.as_slice(), m)
         }
         StmtKind::While(e, inv, b) => {
             mentions(e, m) || in_types(inv.types.as_slice(), m) || in_block(b.as_slice(), m)

@@ -1,6 +1,6 @@
 -- What observers are shown of a program has the same counts for each: classes for two observers mention the same variables, and
 -- annotations have the same parts.
-use Rattle.std.proofs.Common.{◌≡◌, ℕ, zero, suc, ◌+◌, List, [], ◌∷◌, ◌++◌, length, map, get_or, set, Bool, true, false, not, ◌&&◌, ◌||◌, if◌then◌else◌, cond, Option, Some, None, refl, sym, ap, ap₂, ◌∙◌, arith, length-append}
+use Rattle.std.proofs.Common.{rules, ◌≡◌, ℕ, zero, suc, ◌+◌, List, [], ◌∷◌, ◌++◌, length, map, get_or, Bool, true, false, not, ◌&&◌, ◌||◌, if◌then◌else◌, cond, Option, Some, None, refl, sym, ap, ap₂, ◌∙◌, arith, length-append}
 use Rattle.std.proofs.lemmas.List.{length-map}
 use Rattle.std.specs.Prelude.{filter, option_map, option_to_list, sum_by}
 use Rattle.std.specs.List.{list_any, range_with_len}
@@ -22,9 +22,10 @@ use Rattle.point_law.specs.After.{start, with_guard, meet}
 use Rattle.typing_law.specs.Blocks.{after_stm, after_block, value_type}
 use Rattle.typing_law.specs.Counts.{entailment_count}
 use Rattle.typing_law.specs.Counts as thread
-use Rattle.typing_law.specs.Entailments.{Entailment, written_type, shown_value, shown_controlled, controlled_follows, controlled_values, retype_follows, assign_entailments, freed_value, unlock_entailments, state_follows, guard_follows, from_preds, from_one_more, type_follows}
+use Rattle.typing_law.specs.Entailments.{Entailment, written_type, shown_value, shown_controlled, controlled_follows, controlled_values, retype_follows, assign_entailments, state_follows, guard_follows, from_preds, from_one_more, type_follows}
+use Rattle.typing_law.specs.ThreadEntailments.{placed_from}
 use Rattle.typing_law.specs.ThreadObligations.{flat, stm_parts, block_obligations, thread_obligations, end_obligation, end_point}
-use Rattle.typing_law.proofs.Counting.{count_append, count_skip, count_assign, count_unlock, count_note, count_output, count_branch, count_loop, count_more}
+use Rattle.typing_law.proofs.Counting.{count_append, count_branch, count_loop, count_more, placed_length, stm_counted}
 use Rattle.typing_law.specs.Verdicts.{counts}
 use Rattle.level_text.specs.Lattice as lattice
 use Rattle.level_text.specs.Lattice.{Levels, LevelClass}
@@ -41,6 +42,12 @@ long_if b c xs ys e h =
 
 long_mapped : {X Y Z : Type 0} (f : X → Z) (g : Y → Z) (xs : List X) (ys : List Y) → length xs ≡ length ys → length (map f xs) ≡ length (map g ys)
 long_mapped f g xs ys h = length-map xs f ∙ h ∙ sym (length-map ys g)
+
+long_appended : {X : Type 0} (us vs ws xs : List X) → length us ≡ length ws → length vs ≡ length xs → length (us ++ vs) ≡ length (ws ++ xs)
+long_appended us vs ws xs h k = length-append us vs ∙ ap₂ (λ m n. m + n) h k ∙ sym (length-append ws xs)
+
+long_placed : (at : ℕ) (gs hs : List Entailment) → length gs ≡ length hs → length (placed_from at 1 gs) ≡ length (placed_from at 1 hs)
+long_placed at gs hs h = placed_length at 1 gs ∙ h ∙ sym (placed_length at 1 hs)
 
 get_or_mapped : {X : Type 0} (f : X → X) (d : X) → f d ≡ d → (xs : List X) (i : ℕ) → get_or (map f xs) i d ≡ f (get_or xs i d)
 get_or_mapped f d e [] i = sym e
@@ -109,14 +116,14 @@ module _ (p q : Plain) (t : ℕ) (alike : AreAlike p q t) (m n : List (Option �
   lock_same : (l : ℕ) → lock_at p l ≡ lock_at q l
   lock_same l = ap (λ ls. get_or ls l declarations.no_lock) alike.locks
 
-  long_unlock : (a c : Point) (l : ℕ) → length (unlock_entailments p t a l) ≡ length (unlock_entailments q t c l)
-  long_unlock a c l =
-      length-append (map (from_preds a.preds) (option_to_list (lock_at p l).inv)) (map (freed_value p t a) (filter (λ x. not (is_control p x)) (lock_at p l).hide))
-      ∙ ap₂ (λ u v. u + v)
-      (long_mapped (from_preds a.preds) (from_preds c.preds) (option_to_list (lock_at p l).inv) (option_to_list (lock_at q l).inv) (ap (λ k. length (option_to_list k.inv)) (lock_same l)))
-      (long_mapped (freed_value p t a) (freed_value q t c) (filter (λ x. not (is_control p x)) (lock_at p l).hide) (filter (λ x. not (is_control q x)) (lock_at q l).hide)
-      (ap length (filter_agree (λ x. not (is_control p x)) (λ x. not (is_control q x)) (λ x. ap not (alike.controls x)) (lock_at p l).hide ∙ ap (λ k. filter (λ x. not (is_control q x)) k.hide) (lock_same l))))
-      ∙ sym (length-append (map (from_preds c.preds) (option_to_list (lock_at q l).inv)) (map (freed_value q t c) (filter (λ x. not (is_control q x)) (lock_at q l).hide)))
+  -- what a lock stands for and hides
+  long_invariant : (l : ℕ) → length (option_to_list (lock_at p l).inv) ≡ length (option_to_list (lock_at q l).inv)
+  long_invariant l = ap (λ k. length (option_to_list k.inv)) (lock_same l)
+
+  long_hidden : (l : ℕ) → length (filter (λ x. not (is_control p x)) (lock_at p l).hide) ≡ length (filter (λ x. not (is_control q x)) (lock_at q l).hide)
+  long_hidden l =
+      ap length (filter_agree (λ x. not (is_control p x)) (λ x. not (is_control q x)) (λ x. ap not (alike.controls x)) (lock_at p l).hide)
+      ∙ ap (λ k. length (filter (λ x. not (is_control q x)) k.hide)) (lock_same l)
 
   long_two : (a b c d : Point) (j : State) → length (state_follows a (marked_state m j) ++ state_follows b (marked_state m j)) ≡ length (state_follows c (marked_state n j) ++ state_follows d (marked_state n j))
   long_two a b c d j =
@@ -139,15 +146,6 @@ module _ (p q : Plain) (t : ℕ) (alike : AreAlike p q t) (m n : List (Option �
 
   mutual
     stm_same : (x : Stm) (at : ℕ) (ps : List Proof) (a c : Point) → a.held ≡ c.held → SameStm x at ps a c
-    stm_same s.skip at ps a c h = (count_skip p t at (map (marked_proof m) ps) a ∙ sym (count_skip q t at (map (marked_proof n) ps) c), h)
-    stm_same (s.assign x e y rs) at ps a c h = (
-      count_assign p t at (map (marked_proof m) ps) a x e (option_map (marked_term m) y) (map (marked_type m) rs) ∙ long_assign a c h x e y rs
-          ∙ sym (count_assign q t at (map (marked_proof n) ps) c x e (option_map (marked_term n) y) (map (marked_type n) rs)),
-      h,
-    )
-    stm_same (s.lock l) at ps a c h = (refl, ap (λ held. set held l true) h)
-    stm_same (s.unlock l) at ps a c h =
-        (count_unlock p t at (map (marked_proof m) ps) a l ∙ long_unlock a c l ∙ sym (count_unlock q t at (map (marked_proof n) ps) c l), ap (λ held. set held l false) h)
     stm_same (s.branch e x y j) at ps a c h =
         let yes = block_same x (with_guard p t a e) (with_guard q t c e) h in
         let no = block_same y (with_guard p t a (neg e)) (with_guard q t c (neg e)) h in
@@ -168,9 +166,11 @@ module _ (p q : Plain) (t : ℕ) (alike : AreAlike p q t) (m n : List (Option �
               ∙ sym (count_loop q t at (map (marked_proof n) ps) c e (marked_state n j) (marked_block n b)),
           h,
         )
-    stm_same (s.note j) at ps a c h =
-        (count_note p t at (map (marked_proof m) ps) a (marked_state m j) ∙ long_state a c j ∙ sym (count_note q t at (map (marked_proof n) ps) c (marked_state n j)), h)
-    stm_same (s.output e) at ps a c h = (count_output p t at (map (marked_proof m) ps) a e ∙ sym (count_output q t at (map (marked_proof n) ps) c e), h)
+    stm_same x at ps a c h = (
+      stm_counted p t (marked_stm m x) at (map (marked_proof m) ps) a ∙ search (rules, h, long_placed at, long_appended, long_mapped, long_state, long_assign, long_invariant, long_hidden)
+          ∙ sym (stm_counted q t (marked_stm n x) at (map (marked_proof n) ps) c),
+      cc,
+    )
 
     block_same : (b : Block) (a c : Point) → a.held ≡ c.held → SameBlock b a c
     block_same done a c h = (refl, h)

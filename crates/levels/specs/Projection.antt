@@ -3,9 +3,10 @@ use Rattle.std.specs.Prelude.{ℕ, suc, ◌==◌, List, [], ◌∷◌, map, get_
 use Rattle.std.specs.Str.{bytes_eq}
 use Rattle.cov_expr.specs.Term.{Term, const, var, neg, bin, flag}
 use Rattle.cov_expr.specs.declared.expr.Op.TheVariants.{Both, Either}
-use Rattle.cov_ast.specs.Syntax.{Class, low, high, Var, State, Cert, Proof, Stm, Block, done, more, Thread, Program}
+use Rattle.cov_ast.specs.Syntax.{Class, low, high, Var, State, Cert, Proof, Stm, Block, Thread, Program}
 use Rattle.cov_ast.specs.Syntax as s
 use Rattle.cov_ast.specs.Tables.{has}
+use Rattle.statement_parts.specs.Mapped.{mapped, mapped_in, Mapping, same_parts}
 use Rattle.level_text.specs.Lattice.{Levels, LevelClass, at_level, either_level}
 use Rattle.levels.specs.Order.{seen_by}
 
@@ -65,20 +66,20 @@ module _ (marks : List (Option ℕ)) where
   abbrev pub marked_proof : Proof → Proof
   marked_proof p = record { number = p.number; cert = marked_cert p.cert }
 
-  abbrev mutual
-    pub marked_stm : Stm → Stm
-    marked_stm s.skip = s.skip
-    marked_stm (s.assign x e q retypes) = s.assign x e (option_map marked_term q) (map marked_type retypes)
-    marked_stm (s.lock l) = s.lock l
-    marked_stm (s.unlock l) = s.unlock l
-    marked_stm (s.branch e a b join) = s.branch e (marked_block a) (marked_block b) (marked_state join)
-    marked_stm (s.loop e inv b) = s.loop e (marked_state inv) (marked_block b)
-    marked_stm (s.note j) = s.note (marked_state j)
-    marked_stm (s.output e) = s.output e
+  -- what becomes of the parts of statements
+  abbrev pub with_marks : Mapping
+  with_marks = record same_parts {
+    written = option_map marked_term;
+    types = map marked_type;
+    state = marked_state;
+    proofs = λ c at proofs. map marked_proof proofs;
+  }
 
-    pub marked_block : Block → Block
-    marked_block done = done
-    marked_block (more at c proofs b) = more at (marked_stm c) (map marked_proof proofs) (marked_block b)
+  abbrev pub marked_stm : Stm → Stm
+  marked_stm c = mapped with_marks c
+
+  abbrev pub marked_block : Block → Block
+  marked_block b = mapped_in with_marks b
 
   abbrev pub marked_thread : Thread → Thread
   marked_thread t = record { name = t.name; at = t.at; modes = t.modes; body = marked_block t.body; end = t.end }

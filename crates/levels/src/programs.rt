@@ -20,6 +20,7 @@ use cov_ast::{NumberSet, Program, Retype, State, Stmt, StmtKind, ThreadDecl, pla
 use cov_expr::{Expr, List, NoMemory, copy};
 use level_text::Levels;
 use std::alloc::Global;
+use tree_copies::copy_kind;
 
 /// A program as an observer is shown it who sees these levels.
 pub fn shown(alloc: Global, seen: &NumberSet, l: &Levels, p: &Program) -> Result<Program, NoMemory>
@@ -114,12 +115,9 @@ fn marked_kind(alloc: Global, marks: &[Option<u32>], kind: &StmtKind) -> Result<
     ensures { IfOk result (λ made. view.kind made ≡ spec.marked_stm marks.now (view.kind kind.now)) }
 {
     match kind {
-        StmtKind::Skip => Ok(StmtKind::Skip),
         StmtKind::Assign(x, e, class, retypes) => {
             assigned(alloc, marks, *x, e, class, retypes.as_slice())
         }
-        StmtKind::Lock(k) => Ok(StmtKind::Lock(*k)),
-        StmtKind::Unlock(k) => Ok(StmtKind::Unlock(*k)),
         StmtKind::If(e, a, b, join) => {
             let yes = marked_block(alloc, marks, a.as_slice())?;
             let no = marked_block(alloc, marks, b.as_slice())?;
@@ -131,6 +129,7 @@ fn marked_kind(alloc: Global, marks: &[Option<u32>], kind: &StmtKind) -> Result<
         }
         StmtKind::Note(state) => Ok(StmtKind::Note(marked_state(alloc, marks, state)?)),
         StmtKind::Output(e) => Ok(StmtKind::Output(copy(alloc, e)?)),
+        _ => copy_kind(alloc, kind),
     }
 }
 

@@ -1,5 +1,5 @@
 -- The lines on a program and after each replaced thread, one after another.
-use Rattle.std.proofs.Common.{◌≡◌, ℕ, ◌+◌, ◌-◌, ◌<◌, ◌≤◌, List, [], ◌∷◌, ◌++◌, drop, length, map, get_or, set, refl, sym, ◌∙◌, ap, subst, arith, append_assoc, Option, Some, Result, Ok, Err, IsErrAnd, IsTrue, All}
+use Rattle.std.proofs.Common.{◌≡◌, ℕ, ◌+◌, ◌-◌, ◌<◌, ◌≤◌, List, [], ◌∷◌, ◌++◌, drop, length, map, set, refl, sym, ◌∙◌, ap, subst, arith, append_assoc, Option, Some, Result, Ok, Err, IsErrAnd, IsTrue, All}
 use Rattle.std.specs.Prelude.{OnErr, remove, slice_get}
 use Rattle.std.proofs.lemmas.List.{get_or-map, length-map, map-set, set-get_or}
 use Rattle.std.proofs.lemmas.List.Elements.{All-get_or}
@@ -12,7 +12,7 @@ use Rattle.mode_compat.specs.Compatible.{no_thread, numbered, threads_of}
 use Rattle.mode_compat.specs.Declared.{declaration_obligations}
 use Rattle.policy_class.specs.Resolved.{is_among}
 use Rattle.thread_swap.specs.Judges.{Judging, Passes, Said, risen}
-use Rattle.thread_swap.specs.Replacements.{AreAlike, IsNamed, IsReplacement, thread_named, thread_names}
+use Rattle.thread_swap.specs.Replacements.{AreAlike, IsNamed, IsReplacement, thread_named}
 use Rattle.thread_swap.specs.SwapLines.{all_checked, line_on, lines_behind, opened, put_in, rise}
 use Rattle.thread_swap.specs.Swaps.{all_said, due, judged_together, settled, settled_by, unless_refused, verdict_on}
 use Rattle.thread_swap.specs.declared.line.Line.{Line}

@@ -1,21 +1,19 @@
 -- What is refused of a thread shows its number, and a detail of the kind that goes with the rule.
-use Rattle.std.proofs.Common.{◌≡◌, ℕ, suc, ◌+◌, List, [], ◌∷◌, ◌++◌, length, map, Bool, true, false, ◌&&◌, cond, IsTrue, refl, sym, ◌∙◌, ap, Option, Some, None}
+use Rattle.std.proofs.Common.{◌≡◌, ℕ, suc, List, [], ◌∷◌, ◌++◌, map, rules, Bool, true, false, cond, IsTrue, refl, sym, ◌∙◌, ap, Option, Some, None}
 use Rattle.std.specs.Prelude.{is_none}
-use Rattle.cov_expr.specs.Term.{Term, neg}
+use Rattle.cov_expr.specs.Term.{Term}
 use Rattle.cov_expr.specs.Trees.{vars}
-use Rattle.cov_ast.specs.Declarations.{is_control}
 use Rattle.cov_ast.specs.Obligations.{Obligation, first_false}
 use Rattle.cov_ast.specs.Plain.{Plain, plain}
-use Rattle.cov_ast.specs.Syntax.{State, Proof, Stm, skip, assign, lock, unlock, branch, loop, note, output, Block, done, more, Program}
+use Rattle.cov_ast.specs.Syntax.{State, Proof, Stm, branch, loop, Block, done, more, Program}
 use Rattle.cov_ast.specs.declared.refusal.Refusal.{Refusal}
-use Rattle.cov_ast.specs.declared.refusal.Rule.TheVariants.{V5, V11}
-use Rattle.mode_state.specs.Sets.{is_stable}
+use Rattle.cov_ast.specs.declared.refusal.Rule.TheVariants.{V11}
 use Rattle.mode_compat.specs.Compatible.{numbered}
 use Rattle.point_law.specs.Point.{Point, is_tracked}
-use Rattle.point_law.specs.After.{start, with_guard, meet}
-use Rattle.typing_law.specs.Blocks.{after_stm, after_block}
-use Rattle.typing_law.specs.Entailments.{Entailment, guard_follows, state_follows, assign_entailments, unlock_entailments}
-use Rattle.typing_law.specs.ThreadObligations.{flat, of_var, over_stable, reads, one_unstable, narrow, guard_obligations, type_obligations, state_obligations, proved, numbers, stm_parts, block_obligations, first_held, lock_detail, end_obligation, end_point, thread_obligations}
+use Rattle.point_law.specs.After.{start}
+use Rattle.typing_law.specs.Blocks.{after_stm}
+use Rattle.typing_law.specs.Entailments.{Entailment}
+use Rattle.typing_law.specs.ThreadObligations.{flat, over_stable, reads, one_unstable, narrow, guard_obligations, type_obligations, state_obligations, proved, numbers, stm_parts, block_obligations, first_held, lock_detail, end_obligation, end_point, thread_obligations}
 use Rattle.thread_swap.specs.Judges.{goes_with}
 
 -- of a thread: its number, and where it doesn't hold, what goes with its rule
@@ -89,119 +87,11 @@ module _ (p : Plain) (t at : ℕ) where
 module _ (p : Plain) (t : ℕ) where
   mutual
     parts_shown : (s : Stm) (at : ℕ) (proofs : List Proof) (a : Point) → AllShown t (stm_parts p t s at proofs a)
-    parts_shown skip at proofs a = (numbers_shown p t at 0 proofs, tt)
-    parts_shown (assign x e q retypes) at proofs a =
-        let gs = assign_entailments p t a x e q retypes in (
-          reads_shown p t at a.held e,
-          (
-            ((refl, λ h. refl), tt),
-            (
-              ((refl, λ h. refl), tt),
-              (
-                ((refl, λ h. refl), tt),
-                (
-                  ((refl, λ h. refl), tt),
-                  (
-                    if_shown t (is_control p x) (map (of_var p t at V5 (is_stable p t a.held)) (vars e)) (map_shown t _ (vars e) (λ y. (refl, λ h. refl))),
-                    (
-                      types_shown p t at (λ z. is_control p x && is_tracked p t a.held z) a.held [] retypes,
-                      (
-                        ((refl, λ h. refl), tt),
-                        (
-                          ((refl, λ h. refl), tt),
-                          (
-                            proved_shown p t at proofs 1 gs,
-                            (numbers_shown p t at (length gs) proofs, tt),
-                          ),
-                        ),
-                      ),
-                    ),
-                  ),
-                ),
-              ),
-            ),
-          ),
-        )
-    parts_shown (lock l) at proofs a = (((refl, λ h. refl), tt), (((refl, λ h. refl), tt), (((refl, λ h. refl), tt), tt)))
-    parts_shown (unlock l) at proofs a =
-        let gs = unlock_entailments p t a l in
-        (((refl, λ h. refl), tt), (((refl, λ h. refl), tt), (proved_shown p t at proofs 1 gs, (numbers_shown p t at (length gs) proofs, tt))))
     parts_shown (branch e yes_block no_block j) at proofs a =
-        let yes_start = with_guard p t a e in
-        let no_start = with_guard p t a (neg e) in
-        let yes_end = after_block p t yes_block yes_start in
-        let no_end = after_block p t no_block no_start in
-        let gs = guard_follows p t a e ∷ [] in
-        let hs = state_follows yes_end j ++ state_follows no_end j in (
-          guard_shown p t at a.held e,
-          (
-            ((refl, λ h. refl), tt),
-            (
-              ((refl, λ h. refl), tt),
-              (
-                proved_shown p t at proofs 1 gs,
-                (
-                  block_shown yes_block yes_start,
-                  (
-                    block_shown no_block no_start,
-                    (
-                      ((refl, λ h. refl), tt),
-                      (
-                        state_shown p t at yes_end.held j,
-                        (
-                          ((refl, λ h. refl), tt),
-                          (
-                            proved_shown p t at proofs (suc (length gs)) hs,
-                            (numbers_shown p t at (length gs + length hs) proofs, tt),
-                          ),
-                        ),
-                      ),
-                    ),
-                  ),
-                ),
-              ),
-            ),
-          ),
-        )
-    parts_shown (loop e j b) at proofs a =
-        let head = meet p t a j in
-        let body_start = with_guard p t head e in
-        let body_end = after_block p t b body_start in
-        let gs = state_follows a j ++ guard_follows p t head e ∷ [] in
-        let hs = state_follows body_end j in (
-          state_shown p t at a.held j,
-          (
-            guard_shown p t at a.held e,
-            (
-              ((refl, λ h. refl), tt),
-              (
-                ((refl, λ h. refl), tt),
-                (
-                  proved_shown p t at proofs 1 gs,
-                  (
-                    block_shown b body_start,
-                    (
-                      ((refl, λ h. refl), tt),
-                      (
-                        ((refl, λ h. refl), tt),
-                        (
-                          proved_shown p t at proofs (suc (length gs)) hs,
-                          (numbers_shown p t at (length gs + length hs) proofs, tt),
-                        ),
-                      ),
-                    ),
-                  ),
-                ),
-              ),
-            ),
-          ),
-        )
-    parts_shown (note j) at proofs a =
-        let gs = state_follows a j in
-        (state_shown p t at a.held j, (((refl, λ h. refl), tt), (proved_shown p t at proofs 1 gs, (numbers_shown p t at (length gs) proofs, tt))))
-    parts_shown (output e) at proofs a =
-        let gs = guard_follows p t a e ∷ [] in
-        (guard_shown p t at a.held e, (((refl, λ h. refl), tt), (proved_shown p t at proofs 1 gs, (numbers_shown p t at (length gs) proofs, tt))))
+        search (rules, guard_shown p t at, state_shown p t at, proved_shown p t at, numbers_shown p t at, block_shown yes_block, block_shown no_block)
+    parts_shown (loop e j b) at proofs a = search (rules, guard_shown p t at, state_shown p t at, proved_shown p t at, numbers_shown p t at, block_shown b)
+    parts_shown _ at proofs a =
+        search (rules, reads_shown p t at, guard_shown p t at, types_shown p t at, state_shown p t at, proved_shown p t at, numbers_shown p t at, if_shown t, map_shown t)
 
     block_shown : (b : Block) (a : Point) → AreShown t (block_obligations p t b a)
     block_shown done a = tt

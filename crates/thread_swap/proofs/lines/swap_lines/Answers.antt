@@ -1,10 +1,9 @@
-use Rattle.std.proofs.Common.{◌≡◌, ◌<◌, ◌≤◌, ◌+◌, ◌++◌, ◌∷◌, [], ◌∙◌, ap, map, subst, arith, sym, length}
-use Rattle.std.specs.Prelude.{remove}
+use Rattle.std.proofs.Common.{◌≡◌, ◌<◌, ◌≤◌, ◌+◌, ap, map, subst, arith, sym, length}
 use Rattle.cov_ast.specs.View as view
 use Rattle.cov_ast.specs.WellFormed.{IsWellFormed}
 use Rattle.thread_swap.specs.Replacements.{AreAlike}
-use Rattle.thread_swap.specs.SwapLines.{all_checked, line_on, lines_behind, opened, put_in, swap_lines}
-use Rattle.thread_swap.specs.Swaps.{due, settled}
+use Rattle.thread_swap.specs.SwapLines.{all_checked, opened, put_in, swap_lines}
+use Rattle.thread_swap.specs.Swaps.{due}
 use Rattle.thread_swap.proofs.BoundLaws.{left_more}
 use Rattle.thread_swap.proofs.LineLaws.{count_more, lines_kept, named_alike, next_replacement, next_within, on_failed, put_alike}
 use Rattle.thread_swap.proofs.SwapLaws.{passes_more}

@@ -1,10 +1,9 @@
-use Rattle.std.proofs.Common.{refl, sym}
+use Rattle.std.proofs.Common.{refl}
 use Rattle.cov_ast.specs.View as view
 use Rattle.annotate.specs.AnnotatedText.{parts_in_block}
 use Rattle.annotate.specs.Inside.Choosing.{chosen_at}
-use Rattle.annotate.proofs.GoingLaws.{no_parts}
-use Rattle.annotate.proofs.KindViews.{kind-Assign, kind-If, kind-Lock, kind-Note, kind-Output, kind-Skip, kind-Unlock, kind-While}
-use Rattle.annotate.proofs.StatementUses.{block_next, branch_goes, loop_goes, one_stays, parts_end, parts_go, parts_go_on, stays_go, stmt_parts}
+use Rattle.annotate.proofs.KindViews.{kind-If, kind-While}
+use Rattle.annotate.proofs.StatementUses.{block_next, branch_goes, loop_goes, parts_end, parts_go, parts_go_on, stmt_parts}
 use Rattle.annotate.proofs.uses.Uses.+blocks.Goals as goal
 
 pub add_block-loop-stmt-preserved : goal.add_block-loop-stmt-preserved
@@ -16,33 +15,15 @@ pub add_block-returns : goal.add_block-returns
 add_block-returns t c =
     parts_end (λ ss. parts_in_block (chosen_at c.args.chosen.now) (view.block ss)) c.args.body.now c.loop-stmt.stmt-index _ _ refl c.loop-stmt-test.false c.loop-stmt.invariant
 
-pub add_kind-returns-in-Skip : goal.add_kind-returns-in-Skip
-add_kind-returns-in-Skip t c = rw (c.in-Skip.is, kind-Skip) (sym (no_parts _))
-
-pub add_kind-returns-in-Assign : goal.add_kind-returns-in-Assign
-add_kind-returns-in-Assign t c = rw (c.in-Assign.is, kind-Assign, ← c.as_slice.ensures) (stays_go c.keep_assignment.result _ _ _ c.keep_assignment.ensures)
-
-pub add_kind-returns-in-Lock : goal.add_kind-returns-in-Lock
-add_kind-returns-in-Lock t c = rw (c.in-Lock.is, kind-Lock) (one_stays c.keep.result _ _ _ c.keep.ensures)
-
-pub add_kind-returns-in-Unlock : goal.add_kind-returns-in-Unlock
-add_kind-returns-in-Unlock t c = rw (c.in-Unlock.is, kind-Unlock) (one_stays c.keep-in-Unlock.result _ _ _ c.keep-in-Unlock.ensures)
-
 pub add_kind-returns-in_ok-add_block-in-If-2 : goal.add_kind-returns-in_ok-add_block-in-If-2
 add_kind-returns-in_ok-add_block-in-If-2 t c =
-    rw (c.in-If.is, kind-If, ← c.as_slice-in-If.ensures, ← c.as_slice-in-If-2.ensures)
+    rw (c.in-If.is, kind-If, ← c.as_slice.ensures, ← c.as_slice-in-If.ensures)
     (branch_goes c.keep_state.result _ _ _ _ _ _ _ _ _ c.in_ok-expr-in-If.ensures c.in_ok-add_block-in-If.ensures c.in_ok-add_block-in-If-2.ensures c.keep_state.ensures)
 
 pub add_kind-returns-in_ok-keep_guard-in-While : goal.add_kind-returns-in_ok-keep_guard-in-While
 add_kind-returns-in_ok-keep_guard-in-While t c =
     rw (c.in-While.is, kind-While, ← c.as_slice-in-While.ensures)
     (loop_goes c.add_block-in-While.result _ _ _ _ _ c.in_ok-keep_guard-in-While.ensures c.add_block-in-While.ensures)
-
-pub add_kind-returns-in-Note : goal.add_kind-returns-in-Note
-add_kind-returns-in-Note t c = rw (c.in-Note.is, kind-Note) (stays_go c.keep_state-in-Note.result _ _ _ c.keep_state-in-Note.ensures)
-
-pub add_kind-returns-in-Output : goal.add_kind-returns-in-Output
-add_kind-returns-in-Output t c = rw (c.in-Output.is, kind-Output) (stays_go c.expr-in-Output.result _ _ _ c.expr-in-Output.ensures)
 
 pub add_stmt-returns : goal.add_stmt-returns
 add_stmt-returns t c =
