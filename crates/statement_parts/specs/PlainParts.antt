@@ -1,5 +1,5 @@
--- The table of parts of plain statements, which have no annotations: of each kind what it assigns, evaluates and has inside. What is said of statements by
--- these is a line over the table, with no row for each kind.
+-- The table of parts of plain statements, which have no annotations: of each kind what it assigns, evaluates, puts out, takes, gives back and has inside.
+-- What is said of statements by these is a line over the table, with no row for each kind.
 use Rattle.std.specs.Prelude.{ℕ, List, [], ◌++◌, Option, Some, None}
 use Rattle.cov_expr.specs.Term.{Term}
 use Rattle.cov_ast.specs.Plain.{Cmd, skip, assign, lock, unlock, branch, loop, output, Cmds, none, next}
@@ -11,22 +11,26 @@ pub data Inside {ℓ} (A : Type ℓ) : Type ℓ where
   turns : (guard : Term) → A → Inside A
   either : (guard : Term) → (first second : A) → Inside A
 
+-- `evaluated` is the value that is assigned, the guard, or what is put out, which `printed` is too. `taken` and `returned` are locks.
 pub record Parts : Type 0 where
   pub assigned : Option ℕ
   pub evaluated : Option Term
+  pub printed : Option Term
+  pub taken : Option ℕ
+  pub returned : Option ℕ
   pub inside : Inside Cmds
 
 abbrev pub no_parts : Parts
-no_parts = record { assigned = None; evaluated = None; inside = nothing }
+no_parts = record { assigned = None; evaluated = None; printed = None; taken = None; returned = None; inside = nothing }
 
 abbrev pub parts : Cmd → Parts
 parts skip = no_parts
 parts (assign x e) = record no_parts { assigned = Some x; evaluated = Some e }
-parts (lock l) = no_parts
-parts (unlock l) = no_parts
+parts (lock l) = record no_parts { taken = Some l }
+parts (unlock l) = record no_parts { returned = Some l }
 parts (branch e a b) = record no_parts { evaluated = Some e; inside = either e a b }
 parts (loop e b) = record no_parts { evaluated = Some e; inside = turns e b }
-parts (output e) = record no_parts { evaluated = Some e }
+parts (output e) = record no_parts { evaluated = Some e; printed = Some e }
 
 -- the first block, and the last one, if there are any
 abbrev pub first_block : Inside Cmds → Cmds
