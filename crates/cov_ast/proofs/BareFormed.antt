@@ -72,10 +72,6 @@ part_distinct (x ∷ xs) (y ∷ ys) (inr h) k = part_distinct (x ∷ xs) ys h (r
 mutual
   stm_places : (s : Stm) (at : ℕ) (rest whole : Block) → IsPart (places rest) (places whole)
       → IsPart (places (with_statement at (bare_kind s) rest)) (at ∷ places_within s ++ places whole)
-  stm_places annotated.skip at rest whole h = inl (refl, h)
-  stm_places (annotated.assign x e q retypes) at rest whole h = inl (refl, h)
-  stm_places (annotated.lock l) at rest whole h = inl (refl, h)
-  stm_places (annotated.unlock l) at rest whole h = inl (refl, h)
   stm_places (annotated.branch e a b state) at rest whole h =
       inl (
         refl,
@@ -85,7 +81,7 @@ mutual
   stm_places (annotated.loop e state b) at rest whole h =
       inl (refl, part_append (places (bare_block b)) (places b) (places rest) (places whole) (block_places b) h)
   stm_places (annotated.note state) at rest whole h = part_later (places rest) at (places whole) h
-  stm_places (annotated.output e) at rest whole h = inl (refl, h)
+  stm_places _ at rest whole h = inl (refl, h)
 
   block_places : (b : Block) → IsPart (places (bare_block b)) (places b)
   block_places done = tt
@@ -96,14 +92,9 @@ mutual
 mutual
   stm_smaller : (s : Stm) (at : ℕ) (rest whole : Block) → block_size rest ≤ block_size whole
       → block_size (with_statement at (bare_kind s) rest) ≤ 1 + stm_size s + block_size whole
-  stm_smaller annotated.skip at rest whole h = omega (arith, h)
-  stm_smaller (annotated.assign x e q retypes) at rest whole h = omega (arith, h)
-  stm_smaller (annotated.lock l) at rest whole h = omega (arith, h)
-  stm_smaller (annotated.unlock l) at rest whole h = omega (arith, h)
   stm_smaller (annotated.branch e a b state) at rest whole h = omega (arith, h, block_smaller a, block_smaller b)
   stm_smaller (annotated.loop e state b) at rest whole h = omega (arith, h, block_smaller b)
-  stm_smaller (annotated.note state) at rest whole h = omega (arith, h)
-  stm_smaller (annotated.output e) at rest whole h = omega (arith, h)
+  stm_smaller _ at rest whole h = omega (arith, h)
 
   block_smaller : (b : Block) → block_size (bare_block b) ≤ block_size b
   block_smaller done = omega arith
@@ -126,17 +117,14 @@ module _ (vars locks : ℕ) where
 
   mutual
     stm_ids : (s : Stm) (at : ℕ) (rest : Block) → IsStmInRange vars locks s → IsBlockInRange vars locks rest → IsBlockInRange vars locks (with_statement at (bare_kind s) rest)
-    stm_ids annotated.skip at rest h k = bare_next at annotated.skip rest h k
     stm_ids (annotated.assign x e q retypes) at rest h k =
         bare_next at (annotated.assign x e None []) rest (h.0, h.1, tt, All-nil (λ (t : ℕ × Term). (t.0 < vars) × IsExprInRange vars locks t.1)) k
-    stm_ids (annotated.lock l) at rest h k = bare_next at (annotated.lock l) rest h k
-    stm_ids (annotated.unlock l) at rest h k = bare_next at (annotated.unlock l) rest h k
     stm_ids (annotated.branch e a b state) at rest h k =
         bare_next at (annotated.branch e (bare_block a) (bare_block b) no_state) rest (h.0, block_ids a h.1, block_ids b h.2, no_state_in_range) k
     stm_ids (annotated.loop e state b) at rest h k =
         bare_next at (annotated.loop e no_state (bare_block b)) rest (h.0, no_state_in_range, block_ids b h.2) k
     stm_ids (annotated.note state) at rest h k = k
-    stm_ids (annotated.output e) at rest h k = bare_next at (annotated.output e) rest h k
+    stm_ids s at rest h k = bare_next at s rest h k
 
     block_ids : (b : Block) → IsBlockInRange vars locks b → IsBlockInRange vars locks (bare_block b)
     block_ids done h = tt
@@ -155,17 +143,14 @@ next_of_words at s rest h k = (h, All-nil (λ (p : Proof). CertHasWords p.cert),
 
 mutual
   stm_words : (s : Stm) (at : ℕ) (rest : Block) → StmHasWords s → BlockHasWords rest → BlockHasWords (with_statement at (bare_kind s) rest)
-  stm_words annotated.skip at rest h k = next_of_words at annotated.skip rest h k
   stm_words (annotated.assign x e q retypes) at rest h k =
       next_of_words at (annotated.assign x e None []) rest (h.0, tt, All-nil (λ (t : ℕ × Term). HasWords t.1)) k
-  stm_words (annotated.lock l) at rest h k = next_of_words at (annotated.lock l) rest h k
-  stm_words (annotated.unlock l) at rest h k = next_of_words at (annotated.unlock l) rest h k
   stm_words (annotated.branch e a b state) at rest h k =
       next_of_words at (annotated.branch e (bare_block a) (bare_block b) no_state) rest (h.0, block_words a h.1, block_words b h.2, no_state_of_words) k
   stm_words (annotated.loop e state b) at rest h k =
       next_of_words at (annotated.loop e no_state (bare_block b)) rest (h.0, no_state_of_words, block_words b h.2) k
   stm_words (annotated.note state) at rest h k = k
-  stm_words (annotated.output e) at rest h k = next_of_words at (annotated.output e) rest h k
+  stm_words s at rest h k = next_of_words at s rest h k
 
   block_words : (b : Block) → BlockHasWords b → BlockHasWords (bare_block b)
   block_words done h = tt
@@ -175,14 +160,11 @@ mutual
 
 mutual
   stm_silent : (s : Stm) (at : ℕ) (rest : Block) → IsSilentStm s → IsSilent rest → IsSilent (with_statement at (bare_kind s) rest)
-  stm_silent annotated.skip at rest h k = (h, k)
-  stm_silent (annotated.assign x e q retypes) at rest h k = (h, k)
-  stm_silent (annotated.lock l) at rest h k = (h, k)
-  stm_silent (annotated.unlock l) at rest h k = (h, k)
   stm_silent (annotated.branch e a b state) at rest h k = ((block_silent a h.0, block_silent b h.1), k)
   stm_silent (annotated.loop e state b) at rest h k = (block_silent b h, k)
   stm_silent (annotated.note state) at rest h k = k
   stm_silent (annotated.output e) at rest h k = absurd h
+  stm_silent _ at rest h k = (h, k)
 
   block_silent : (b : Block) → IsSilent b → IsSilent (bare_block b)
   block_silent done h = tt

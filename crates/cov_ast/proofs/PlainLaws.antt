@@ -6,14 +6,9 @@ use Rattle.cov_ast.specs.Plain.{next, branch, loop, plain_stm, plain_block, plai
 
 mutual
   stm_bare : (s : Stm) (at : ℕ) (rest : Block) → plain_block (with_statement at (bare_kind s) rest) ≡ plain_stm s at (plain_block rest)
-  stm_bare annotated.skip at rest = refl
-  stm_bare (annotated.assign x e q retypes) at rest = refl
-  stm_bare (annotated.lock l) at rest = refl
-  stm_bare (annotated.unlock l) at rest = refl
   stm_bare (annotated.branch e a b state) at rest = ap₂ (λ c d. next at (branch e c d) (plain_block rest)) (block_bare a) (block_bare b)
   stm_bare (annotated.loop e state b) at rest = ap (λ c. next at (loop e c) (plain_block rest)) (block_bare b)
-  stm_bare (annotated.note state) at rest = refl
-  stm_bare (annotated.output e) at rest = refl
+  stm_bare _ at rest = refl
 
   block_bare : (b : Block) → plain_block (bare_block b) ≡ plain_block b
   block_bare done = refl

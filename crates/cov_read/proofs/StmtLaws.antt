@@ -9,12 +9,13 @@ use Rattle.cov_grammar.specs.Grammar.{body, proof, proofs, types, state, retype,
 use Rattle.cov_grammar.specs.Reading.{reading}
 use Rattle.cov_grammar.proofs.Repeats.{Item}
 use Rattle.cov_grammar.proofs.Turns.{rule_is}
+use Rattle.cov_read.specs.declared.stmts.TheConstants.{FIRST_OF_STATEMENTS}
 
 pub rule_block : (ts : List Token) → reading (rule t.block) ts ≡ reading braces ts
 unfolding body
 rule_block ts = rule_is t.block ts
 
-pub statement_item : Item (placed statement) (k.Skip ∷ k.Name ∷ k.Lock ∷ k.Unlock ∷ k.If ∷ k.While ∷ k.Note ∷ k.Output ∷ [])
+pub statement_item : Item (placed statement) FIRST_OF_STATEMENTS
 unfolding kind_is proof proofs types state retype assigned branched looped statement
 statement_item = record { fine = refl; full = refl; first = refl }
 

@@ -22,6 +22,18 @@ use cov_expr::List;
 use cov_grammar::{Kind, Stop, TokenReader};
 use std::alloc::Global;
 
+/// The kinds of tokens that a statement begins with.
+const FIRST_OF_STATEMENTS: [Kind; 8] = [
+    Kind::Skip,
+    Kind::Name,
+    Kind::Lock,
+    Kind::Unlock,
+    Kind::If,
+    Kind::While,
+    Kind::Note,
+    Kind::Output,
+];
+
 /// An expression behind a word, if the word is next.
 pub fn read_whole_behind(
     reader: &mut TokenReader<'_>,
@@ -210,16 +222,7 @@ fn read_body(reader: &mut TokenReader<'_>, alloc: Global) -> Result<List<PlacedS
     ensures shorter { length reader.new ≤ length reader.old }
 {
     let mut list = List::new(alloc);
-    'items: while reader.at_any(&[
-        Kind::Skip,
-        Kind::Name,
-        Kind::Lock,
-        Kind::Unlock,
-        Kind::If,
-        Kind::While,
-        Kind::Note,
-        Kind::Output,
-    ]) {
+    'items: while reader.at_any(&FIRST_OF_STATEMENTS) {
         let next = read_stmt(reader, alloc)?;
         list.push(next)?;
     }

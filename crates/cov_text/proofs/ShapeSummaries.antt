@@ -10,10 +10,10 @@ use Rattle.cov_grammar.specs.declared.token.Token.{Token}
 use Rattle.cov_grammar.specs.LookAhead.{kind_is}
 use Rattle.cov_grammar.specs.Shapes.{Shape, token, seq, alt, opt, many, act, placed, place, Each, Sense, Spells}
 use Rattle.cov_grammar.specs.Grammar.{◌▸◌, ◌◂◌, separated, listed, none_or, sign, name, named}
-use Rattle.cov_grammar.proofs.Basics.{left_false, right_false}
+use Rattle.cov_grammar.proofs.Basics.{left_false}
 use Rattle.cov_ast.specs.Ready.{Use}
 use Rattle.cov_text.specs.Uses.{declares, is_lock}
-use Rattle.cov_text.proofs.UseLaws.{IsSilent, IsPlain, plain_silent}
+use Rattle.cov_text.proofs.UseLaws.{IsSilent, IsPlain, plain_silent, plain_no_thread}
 use Rattle.cov_text.proofs.Summaries.{Summary, nothing, join, more, at, Kept, HasSummary, AreFine, fine_left, fine_right, summary_nothing, summary_kept, summary_join, summary_behind, summary_first, summary_closed, summary_single, variable, lock, declared, summary_variable, summary_declared, summary_lock}
 
 -- Lists of summaries ------------------------------------------------------------------------------------------
@@ -186,7 +186,7 @@ module _ (b : Bool) (n : ℕ) (inside : Sense) where
   }
 
   pub behind_law : {S : Kind → Type 0} {A : Type 0} {a : Shape A} {g : A → Summary} (j : Kind) → IsPlain j → IsSummary IsSilent a g → IsSummary S (j ▸ a) (λ v. more (g v))
-  behind_law j p t = from_law j (left_false (kind_is k.Name j) _ p) (left_false (kind_is k.Thread j) _ (right_false (kind_is k.Var j) _ (right_false (kind_is k.Name j) _ p))) (plain_silent j p) t
+  behind_law j p t = from_law j (left_false (kind_is k.Name j) _ p) (plain_no_thread j p) (plain_silent j p) t
 
   pub closed_law : {From : Kind → Type 0} {A : Type 0} {a : Shape A} {g : A → Summary} (j : Kind) → IsPlain j → IsSummary From a g → IsSummary From (a ◂ j) (λ v. more (g v))
   closed_law {From} {g = g} j p t = record {
@@ -205,7 +205,7 @@ module _ (b : Bool) (n : ℕ) (inside : Sense) where
   token_law {S} j p = record {
     of =
         λ v ts fine s. subst (HasSummary b S (more nothing)) (sym s.1)
-        (summary_behind b S IsSilent nothing v [] (ap (kind_is k.Name) s.0 ∙ left_false (kind_is k.Name j) _ p) (ap (kind_is k.Thread) s.0 ∙ left_false (kind_is k.Thread j) _ (right_false (kind_is k.Var j) _ (right_false (kind_is k.Name j) _ p)))
+        (summary_behind b S IsSilent nothing v [] (ap (kind_is k.Name) s.0 ∙ left_false (kind_is k.Name j) _ p) (ap (kind_is k.Thread) s.0 ∙ plain_no_thread j p)
         (plain_silent v.kind (subst IsPlain (sym s.0) p)) (summary_nothing b));
   }
 

@@ -9,7 +9,7 @@ use Rattle.cov_grammar.specs.LookAhead.{kind_is, has}
 use Rattle.cov_grammar.specs.PlacedTrees.{Placed, Stm, Block, stms, Thread, Program, block}
 use Rattle.cov_grammar.specs.PlacedTrees as t
 use Rattle.cov_grammar.specs.Shapes.{Shape, rule, seq, alt, opt, many, act, placed, Each, Sense, Spells}
-use Rattle.cov_grammar.specs.Grammar.{◌▸◌, ◌◂◌, sign, name, proofs, state, assigned, branched, looped, statement, braces, var_decl, lock_decl, thread_decl, version, version_of, program, body}
+use Rattle.cov_grammar.specs.Grammar.{◌▸◌, ◌◂◌, sign, name, assigned, branched, looped, statement, braces, var_decl, lock_decl, thread_decl, version, version_of, program, body}
 use Rattle.cov_grammar.specs.Spells.{Is, Within}
 use Rattle.cov_grammar.proofs.Basics.{kind_itself, kind_one}
 use Rattle.cov_grammar.proofs.Senses.{full_at}
@@ -116,14 +116,9 @@ module _ (inside : Sense) where
   quiet_assign : IsQuiet (act (λ x. t.assign x.0 x.1.0 x.1.1.0 x.1.1.1.0 x.1.1.1.1) (seq name assigned)) IsQuietStm
   quiet_assign = of_act (λ x. t.assign x.0 x.1.0 x.1.1.0 x.1.1.1.0 x.1.1.1.1) IsQuietStm any (λ x h. tt)
 
-  quiet_lock : IsQuiet (k.Lock ▸ act t.lock name ◂ k.Semicolon) IsQuietStm
-  quiet_lock = behind k.Lock (closed k.Semicolon (of_act t.lock IsQuietStm any (λ x h. tt)))
-
-  quiet_unlock : IsQuiet (k.Unlock ▸ act (λ x. t.unlock x.0 x.1) (seq name proofs) ◂ k.Semicolon) IsQuietStm
-  quiet_unlock = behind k.Unlock (closed k.Semicolon (of_act (λ x. t.unlock x.0 x.1) IsQuietStm any (λ x h. tt)))
-
-  quiet_note : IsQuiet (k.Note ▸ act (λ x. t.note x.0 x.1) (seq state proofs) ◂ k.Semicolon) IsQuietStm
-  quiet_note = behind k.Note (closed k.Semicolon (of_act (λ x. t.note x.0 x.1) IsQuietStm any (λ x h. tt)))
+  -- a statement of one line behind its word, which has no blocks
+  quiet_line : {A : Type 0} {j : Kind} {a : Shape A} {f : A → Stm} → ((v : A) → IsQuietStm (f v)) → IsQuiet (j ▸ act f a ◂ k.Semicolon) IsQuietStm
+  quiet_line {j = j} {f = f} e = behind j (closed k.Semicolon (of_act f IsQuietStm any (λ x h. e x)))
 
   module _ (tb : IsQuiet (rule block) IsQuietBlock) where
     quiet_branched : IsQuiet branched IsQuietStm
@@ -139,11 +134,11 @@ module _ (inside : Sense) where
     quiet_statement =
         of_alt quiet_skip
         (of_alt quiet_assign
-        (of_alt quiet_lock
-        (of_alt quiet_unlock
+        (of_alt (quiet_line (λ x. tt))
+        (of_alt (quiet_line (λ x. tt))
         (of_alt (behind k.If quiet_branched)
         (of_alt (behind k.While quiet_looped)
-        (of_alt quiet_note put_out))))))
+        (of_alt (quiet_line (λ x. tt)) put_out))))))
 
     quiet_braces : IsQuiet braces IsQuietBlock
     unfolding braces

@@ -13,7 +13,7 @@ use Rattle.cov_grammar.specs.LookAhead.{kind_is}
 use Rattle.cov_grammar.specs.PlacedTrees.{Placed, Proofs, Retypes, State, Stm, Block, stms, expr, template, cert, block}
 use Rattle.cov_grammar.specs.PlacedTrees as t
 use Rattle.cov_grammar.specs.Shapes.{Shape, rule, seq, opt, many, act, Sense}
-use Rattle.cov_grammar.specs.Grammar.{◌▸◌, ◌◂◌, sign, name, whole, proofs, state, retype, assigned, branched, looped, statement, braces, body}
+use Rattle.cov_grammar.specs.Grammar.{◌▸◌, ◌◂◌, sign, name, whole, proofs, retype, assigned, branched, looped, statement, braces, body}
 use Rattle.cov_grammar.specs.Spells.{Within}
 use Rattle.cov_ast.specs.Ready.{Use, as_variable, uses_in, uses_in_type, uses_in_option, uses_in_state, uses_in_proof, uses_in_stm, uses_in_block}
 use Rattle.cov_ast.specs.WellFormed.{IsCertInRange, IsTypeInRange, IsStateInRange, IsStmInRange, IsBlockInRange, type_size, state_size, stm_size, block_size, places, places_within}
@@ -131,41 +131,34 @@ module _ (n : ℕ) (inside : Sense) where
           ids = ((ids.0, ids.1.0, ids.1.1.0, ids.1.1.1.0), ids.1.1.1.1);
         })
 
-    lock_summary : IsSummaryAt true n inside IsSilent (k.Lock ▸ act t.lock name ◂ k.Semicolon) (λ v. more (of_stm n v))
-    unfolding kind_is
-    lock_summary =
-        behind (λ j. (declares true j ≡ false) × (is_lock j ≡ true)) k.Lock refl refl (refl, refl)
-        (closed (act_law true n inside t.lock (of_stm n) (lock_name_law true n inside) (λ l ids. record { uses = refl; size = omega arith; places = refl; ids = (ids, All-nil (λ p. IsCertInRange n n p.cert)) })))
+    -- a statement of one line behind its word
+    line_summary : {A : Type 0} {j : Kind} {a : Shape A} {f : A → Stm} {g : A → Summary} (From : Kind → Type 0) → kind_is k.Name j ≡ false
+        → kind_is k.Thread j ≡ false → From j → IsSummary true n inside From a g → ((v : A) → (g v).ids → Kept (g v) (of_stm n (f v)))
+        → IsSummaryAt true n inside IsSilent (j ▸ act f a ◂ k.Semicolon) (λ v. more (of_stm n v))
+    line_summary {j = j} {f = f} From p q r t kept = behind From j p q r (closed (act_law true n inside f (of_stm n) t kept))
 
-    unlock_summary : IsSummaryAt true n inside IsSilent (k.Unlock ▸ act (λ x. t.unlock x.0 x.1) (seq name proofs) ◂ k.Semicolon) (λ v. more (of_stm n v))
-    unfolding kind_is
-    unlock_summary =
-        behind (λ j. (declares true j ≡ false) × (is_lock j ≡ true)) k.Unlock refl refl (refl, refl)
-        (closed (act_law true n inside (λ x. t.unlock x.0 x.1) (of_stm n) (seq_law true n inside (lock_name_law true n inside) the_proofs) (λ x ids. record { uses = refl; size = omega arith; places = refl; ids = ids })))
-
-    note_summary : IsSummaryAt true n inside IsSilent (k.Note ▸ act (λ x. t.note x.0 x.1) (seq state proofs) ◂ k.Semicolon) (λ v. more (of_stm n v))
-    unfolding kind_is
-    note_summary =
-        behind IsSilent k.Note refl refl refl
-        (closed (act_law true n inside (λ x. t.note x.0 x.1) (of_stm n) (seq_law true n inside (state_summary true n inside te) the_proofs) (λ x ids. record { uses = refl; size = omega arith; places = refl; ids = ids })))
-
-    output_summary : IsSummaryAt true n inside IsSilent (k.Output ▸ act (λ x. t.output x.0 x.1) (seq whole proofs) ◂ k.Semicolon) (λ v. more (of_stm n v))
-    unfolding kind_is
-    output_summary =
-        behind IsSilent k.Output refl refl refl
-        (closed (act_law true n inside (λ x. t.output x.0 x.1) (of_stm n) (seq_law true n inside the_whole the_proofs) (λ x ids. record { uses = refl; size = omega arith; places = refl; ids = ids })))
+    -- behind such a word stands the name of a lock
+    abbrev IsOfLock : Kind → Type 0
+    IsOfLock j = (declares true j ≡ false) × (is_lock j ≡ true)
 
     statement_summary : IsSummaryAt true n inside IsSilent statement (λ v. more (of_stm n v))
     unfolding statement kind_is
     statement_summary =
         at_alt true n inside skip_summary
         (at_alt true n inside assign_summary
-        (at_alt true n inside lock_summary
-        (at_alt true n inside unlock_summary
+        (at_alt true n inside
+        (line_summary IsOfLock refl refl (refl, refl) (lock_name_law true n inside)
+        (λ l ids. record { uses = refl; size = omega arith; places = refl; ids = (ids, All-nil (λ p. IsCertInRange n n p.cert)) }))
+        (at_alt true n inside
+        (line_summary IsOfLock refl refl (refl, refl) (seq_law true n inside (lock_name_law true n inside) the_proofs)
+        (λ x ids. record { uses = refl; size = omega arith; places = refl; ids = ids }))
         (at_alt true n inside (behind IsSilent k.If refl refl refl branched_summary)
         (at_alt true n inside (behind IsSilent k.While refl refl refl looped_summary)
-        (at_alt true n inside note_summary
-        output_summary))))))
+        (at_alt true n inside
+        (line_summary IsSilent refl refl refl (seq_law true n inside (state_summary true n inside te) the_proofs)
+        (λ x ids. record { uses = refl; size = omega arith; places = refl; ids = ids }))
+        (line_summary IsSilent refl refl refl (seq_law true n inside the_whole the_proofs)
+        (λ x ids. record { uses = refl; size = omega arith; places = refl; ids = ids }))))))))
 
     pub braces_summary : IsPlainSummary braces (of_block n)
     unfolding braces kind_is

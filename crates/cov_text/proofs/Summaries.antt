@@ -5,10 +5,10 @@ use Rattle.cov_expr.specs.declared.kind.Kind.{Kind}
 use Rattle.cov_expr.specs.declared.kind.Kind.TheVariants as k
 use Rattle.cov_grammar.specs.declared.token.Token.{Token}
 use Rattle.cov_grammar.specs.LookAhead.{kind_is}
-use Rattle.cov_grammar.proofs.Basics.{left_false, right_false}
+use Rattle.cov_grammar.proofs.Basics.{left_false}
 use Rattle.cov_ast.specs.Ready.{Use, as_variable, as_lock}
 use Rattle.cov_text.specs.Uses.{declares, is_lock}
-use Rattle.cov_text.proofs.UseLaws.{uses_from, IsSilent, IsPlain, plain_silent, uses_at_sign, uses_at_variable, uses_at_declared, uses_at_lock}
+use Rattle.cov_text.proofs.UseLaws.{uses_from, IsSilent, IsPlain, plain_silent, plain_no_thread, uses_at_sign, uses_at_variable, uses_at_declared, uses_at_lock}
 
 -- Places -------------------------------------------------------------------------------------------------------
 
@@ -159,7 +159,7 @@ module _ (b : Bool) where
           t.kind,
           plain_silent t.kind p,
           ap (uses_from b before) (append_assoc us (t ∷ []) rest) ∙ x.2
-              ∙ ap (λ l. m.uses ++ l) (uses_at_sign b x.0 t rest (left_false (kind_is k.Name t.kind) _ p) (left_false (kind_is k.Thread t.kind) _ (right_false (kind_is k.Var t.kind) _ (right_false (kind_is k.Name t.kind) _ p)))),
+              ∙ ap (λ l. m.uses ++ l) (uses_at_sign b x.0 t rest (left_false (kind_is k.Name t.kind) _ p) (plain_no_thread t.kind p)),
         );
     size = omega (arith, g.size, length-append us (t ∷ []));
     places = λ low high w. let x = places_split low high us (t ∷ []) w in

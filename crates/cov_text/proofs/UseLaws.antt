@@ -4,8 +4,8 @@ use Rattle.std.proofs.Math.Bool.{or-true, or-false}
 use Rattle.cov_expr.specs.declared.kind.Kind.{Kind}
 use Rattle.cov_expr.specs.declared.kind.Kind.TheVariants as k
 use Rattle.cov_grammar.specs.declared.token.Token.{Token}
-use Rattle.cov_grammar.specs.LookAhead.{kind_is, has}
-use Rattle.cov_grammar.proofs.Basics.{kind_itself, right_false}
+use Rattle.cov_grammar.specs.LookAhead.{kind_is}
+use Rattle.cov_grammar.proofs.Basics.{kind_itself, left_false, right_false}
 use Rattle.cov_ast.specs.Ready.{Use, as_variable, as_lock}
 use Rattle.cov_ast.specs.Ready as ready
 use Rattle.cov_text.specs.Uses.{declares, is_lock, uses_behind}
@@ -15,19 +15,22 @@ use Rattle.cov_text.specs.Uses.{declares, is_lock, uses_behind}
 abbrev pub uses_from : (in_thread : Bool) → (before : Kind) → List Token → List Use
 uses_from in_thread before ts = map ready.use_of (uses_behind in_thread before ts)
 
-abbrev loud : List Kind
-loud = k.Var ∷ k.Thread ∷ k.Lock ∷ k.Unlock ∷ []
-
--- a name behind such a token is that of a variable
+-- a name behind such a token is that of a variable: it isn't declared there, and no lock
 abbrev pub IsSilent : Kind → Type 0
-IsSilent before = has loud before ≡ false
+IsSilent before = (declares false before || is_lock before) ≡ false
 
 -- such a token is no name, and silent
 abbrev pub IsPlain : Kind → Type 0
-IsPlain j = has (k.Name ∷ loud) j ≡ false
+IsPlain j = (kind_is k.Name j || (declares false j || is_lock j)) ≡ false
 
 pub plain_silent : (j : Kind) → IsPlain j → IsSilent j
-plain_silent j p = right_false (kind_is k.Name j) (has loud j) p
+plain_silent j p = right_false (kind_is k.Name j) (declares false j || is_lock j) p
+
+pub plain_no_thread : (j : Kind) → IsPlain j → kind_is k.Thread j ≡ false
+plain_no_thread j p =
+    right_false (kind_is k.Var j) (kind_is k.Thread j)
+    (left_false (kind_is k.Var j || kind_is k.Thread j) (kind_is k.Lock j)
+    (left_false (declares false j) (is_lock j) (right_false (kind_is k.Name j) (declares false j || is_lock j) p)))
 
 abbrev token_uses : (b name thread lock declared : Bool) → Token → (Bool → List Use) → List Use
 token_uses b name thread lock declared t rest =
@@ -49,19 +52,11 @@ uses_at_token b before t ts name thread lock declared n h l d =
     ∙ ap (λ x. token_uses b name thread x (declares b before) t (λ c. uses_from c t.kind ts)) l
     ∙ ap (λ x. token_uses b name thread lock x t (λ c. uses_from c t.kind ts)) d
 
-no_declare : (v t l u b : Bool) → (v || (t || (l || (u || false)))) ≡ false → ((v || t) || (if b then false else l)) ≡ false
-no_declare true t l u b h = h
-no_declare false true l u b h = h
-no_declare false false true u b h = cc
-no_declare false false false u true h = refl
-no_declare false false false u false h = refl
-
-no_lock : (v t l u : Bool) → (v || (t || (l || (u || false)))) ≡ false → (l || u) ≡ false
-no_lock true t l u h = cc
-no_lock false true l u h = cc
-no_lock false false true u h = cc
-no_lock false false false true h = cc
-no_lock false false false false h = refl
+-- what isn't declared in front of all threads isn't declared in them either
+no_declare : (x l b : Bool) → (x || l) ≡ false → (x || (if b then false else l)) ≡ false
+no_declare true l b h = h
+no_declare false l true h = refl
+no_declare false l false h = h
 
 -- a token that is no name and begins no thread
 pub uses_at_sign : (b : Bool) (before : Kind) (t : Token) (ts : List Token) → kind_is k.Name t.kind ≡ false → kind_is k.Thread t.kind ≡ false → uses_from b before (t ∷ ts) ≡ uses_from b t.kind ts
@@ -87,8 +82,8 @@ no_thread t e = ap (kind_is k.Thread) e
 pub uses_at_variable : (b : Bool) (before : Kind) (t : Token) (ts : List Token) → IsSilent before → t.kind ≡ k.Name → uses_from b before (t ∷ ts) ≡ as_variable t.value ++ uses_from b k.Name ts
 uses_at_variable b before t ts s e =
     uses_at_token b before t ts true false false false (name_is t e) (no_thread t e)
-    (no_lock (kind_is k.Var before) (kind_is k.Thread before) (kind_is k.Lock before) (kind_is k.Unlock before) s)
-    (no_declare (kind_is k.Var before) (kind_is k.Thread before) (kind_is k.Lock before) (kind_is k.Unlock before) b s)
+    (right_false (declares false before) (is_lock before) s)
+    (no_declare (kind_is k.Var before || kind_is k.Thread before) (kind_is k.Lock before) b (left_false (declares false before) (is_lock before) s))
     ∙ ap (λ c. as_variable t.value ++ uses_from c t.kind ts) (or-false b) ∙ ap (λ j. as_variable t.value ++ uses_from b j ts) e
 
 pub uses_at_declared : (b : Bool) (before : Kind) (t : Token) (ts : List Token) → declares b before ≡ true → t.kind ≡ k.Name → uses_from b before (t ∷ ts) ≡ uses_from b k.Name ts

@@ -11,7 +11,7 @@ use Rattle.cov_grammar.specs.declared.token.Token.{Token}
 use Rattle.cov_grammar.specs.PlacedTrees.{Placed, Class, Var, Lock, Cert, Proofs, Retypes, State, Stm, Block, Thread, Program, stms, expr, template, cert, block}
 use Rattle.cov_grammar.specs.PlacedTrees as t
 use Rattle.cov_grammar.specs.Shapes.{Shape, rule, seq, opt, many, act, placed, Sense}
-use Rattle.cov_grammar.specs.Grammar.{◌▸◌, sign, name, whole, part, in_brackets, arguments, last_certs, more_certs, certificate, proof, proofs, types, state, retype, assigned, branched, looped, statement, braces, low_or, class, var_decl, lock_decl, thread_decl, version_of, program, body}
+use Rattle.cov_grammar.specs.Grammar.{◌▸◌, ◌◂◌, sign, name, whole, part, in_brackets, arguments, last_certs, more_certs, certificate, proof, proofs, types, state, retype, assigned, branched, looped, statement, braces, low_or, class, var_decl, lock_decl, thread_decl, version_of, program, body}
 use Rattle.cov_grammar.specs.Spells.{Is, Within}
 use Rattle.cov_ast.specs.Syntax as syntax
 use Rattle.cov_ast.specs.Plain.{class_term}
@@ -275,6 +275,11 @@ module _ (to_var to_lock : ℕ → ℕ) where
             (seq_law inside whole_words (seq_law inside (state_option_words k.Inv) (seq_law inside tb the_proofs)))
             (λ x h. ((h.0, of_state_option x.1.0 h.1.0, h.1.1.0), of_proofs x.1.1.1 h.1.1.1))
 
+        -- a statement of one line behind its word
+        line_words : {A : Type 0} {j : Kind} {a : Shape A} {f : A → Stm} {P : A → Type 0} → Gives inside a P → ((v : A) → P v → IsStmOfWords (f v))
+            → Gives inside (j ▸ act f a ◂ k.Semicolon) IsStmOfWords
+        line_words {j = j} {f = f} t e = behind_law inside j (closed_law inside k.Semicolon (act_law inside f IsStmOfWords t e))
+
         statement_words : Gives inside statement IsStmOfWords
         unfolding statement
         statement_words =
@@ -285,18 +290,12 @@ module _ (to_var to_lock : ℕ → ℕ) where
               (h.1.0, of_option x.1.1.0 h.1.1.0, types_words x.1.1.1.0 (all_types x.1.1.1.0 h.1.1.1.0)),
               of_proofs x.1.1.1.1 h.1.1.1.1,
             )))
-            (alt_law inside
-            (behind_law inside k.Lock (closed_law inside k.Semicolon (act_law inside t.lock IsStmOfWords (any_law inside) (λ x h. (tt, no_proofs)))))
-            (alt_law inside
-            (behind_law inside k.Unlock (closed_law inside k.Semicolon
-            (act_law inside (λ x. t.unlock x.0 x.1) IsStmOfWords (seq_law inside (any_law inside) the_proofs) (λ x h. (tt, of_proofs x.1 h.1)))))
+            (alt_law inside (line_words (any_law inside) (λ x h. (tt, no_proofs)))
+            (alt_law inside (line_words (seq_law inside (any_law inside) the_proofs) (λ x h. (tt, of_proofs x.1 h.1)))
             (alt_law inside (behind_law inside k.If branched_words)
             (alt_law inside (behind_law inside k.While looped_words)
-            (alt_law inside
-            (behind_law inside k.Note (closed_law inside k.Semicolon
-            (act_law inside (λ x. t.note x.0 x.1) IsStmOfWords (seq_law inside state_words the_proofs) (λ x h. (h.0, of_proofs x.1 h.1)))))
-            (behind_law inside k.Output (closed_law inside k.Semicolon
-            (act_law inside (λ x. t.output x.0 x.1) IsStmOfWords (seq_law inside whole_words the_proofs) (λ x h. (h.0, of_proofs x.1 h.1)))))))))))
+            (alt_law inside (line_words (seq_law inside state_words the_proofs) (λ x h. (h.0, of_proofs x.1 h.1)))
+            (line_words (seq_law inside whole_words the_proofs) (λ x h. (h.0, of_proofs x.1 h.1)))))))))
 
         braces_words : Gives inside braces IsBlockOfWords
         unfolding braces
