@@ -390,6 +390,15 @@ made_kept known a f make view made c ws ts seen m = record {
   spelt = λ g ns are. let n = m.spelt g ns are in (make n.0, (n.0, refl, n.1), seen n.0 ∙ ap made n.2);
 }
 
+alike_kept : {A B C D : Type 0} (known : ℕ → Bool) (a : Shape A) (f : A → C) (make : A → B) (view : B → D) (x : A) (ws : List Word) (ts : List Token)
+    → ((y z : A) → f y ≡ f z → view (make y) ≡ view (make z)) → Kept known a f (f x) ws ts → Kept known (act make a) view (view (make x)) ws ts
+alike_kept known a f make view x ws ts alike m = record {
+  same = m.same;
+  fit = m.fit;
+  silent = m.silent;
+  spelt = λ g ns are. let n = m.spelt g ns are in (make n.0, (n.0, refl, n.1), alike n.0 x n.2);
+}
+
 module _ {known : ℕ → Bool} {S : Sense} where
   -- seen in another way
   pub keeps_seen : {A B C : Type 0} {a : Shape A} {view : A → B} {write : A → List Word} (looks : A → C) (made : B → C) → ((x : A) → looks x ≡ made (view x)) → Keeps known S a view write → Keeps known S a looks write
@@ -422,10 +431,11 @@ module _ {known : ℕ → Bool} {S : Sense} where
         (made_kept known a f make view made (f u.0) (write u.0) m.1 seen (h.kept u.0 m.1 u.2)));
   }
 
-  -- the same in front of another
-  pub keeps_words : {A B C D : Type 0} {a : Shape A} {f : A → C} {write : A → List Word} (j c : Kind) (make : A → B) (view : B → D) (words : B → List Word) (made : C → D)
-      → Quiet j → Quiet c → ((x : A) → view (make x) ≡ made (f x)) → ((x : A) → words (make x) ≡ plain j ∷ (write x ++ plain c ∷ [])) → Keeps known S a f write → Keeps known S (j ▸ (act make a ◂ c)) view words
-  keeps_words {a = a} {f = f} {write = write} j c make view words made quiet silent seen wrote h = record {
+  -- the same in front of another, where what is made of parts that look alike looks alike
+  pub keeps_line : {A B C D : Type 0} {j c : Kind} {a : Shape A} {make : A → B} {f : A → C} {write : A → List Word} {view : B → D} {words : B → List Word}
+      → Quiet j → Quiet c → ((x y : A) → f x ≡ f y → view (make x) ≡ view (make y)) → ((x : A) → words (make x) ≡ plain j ∷ (write x ++ plain c ∷ []))
+      → Keeps known S a f write → Keeps known S (j ▸ (act make a ◂ c)) view words
+  keeps_line {j = j} {c = c} {a = a} {make = make} {f = f} {write = write} {view = view} {words = words} quiet silent alike wrote h = record {
     kept = λ v ts s.
         let e = s.1 in
         let m = s.2 in
@@ -433,8 +443,8 @@ module _ {known : ℕ → Bool} {S : Sense} where
         let r = n.2 in
         let u = r.2 in
         let i = u.1 ∙ n.1 ∙ e in
-        recast known (j ▸ (act make a ◂ c)) view (made (f u.0)) (view v) (plain j ∷ (write u.0 ++ plain c ∷ [])) (words v) ts (sym (seen u.0) ∙ ap view i) (sym (wrote u.0) ∙ ap words i)
-        (keyed known j (act make a ◂ c) view (made (f u.0)) (write u.0 ++ plain c ∷ []) s.0.0 m.1 ts quiet (m.4 ∙ ap (λ l. l ++ m.1) m.2.1) m.2.0
-        (closed known c (act make a) view (made (f u.0)) (write u.0) n.0.1 r.0 m.1 silent (r.4 ∙ ap (λ l. r.0 ++ l) r.3.1) r.3.0
-        (made_kept known a f make view made (f u.0) (write u.0) r.0 seen (h.kept u.0 r.0 u.2))));
+        recast known (j ▸ (act make a ◂ c)) view (view (make u.0)) (view v) (plain j ∷ (write u.0 ++ plain c ∷ [])) (words v) ts (ap view i) (sym (wrote u.0) ∙ ap words i)
+        (keyed known j (act make a ◂ c) view (view (make u.0)) (write u.0 ++ plain c ∷ []) s.0.0 m.1 ts quiet (m.4 ∙ ap (λ l. l ++ m.1) m.2.1) m.2.0
+        (closed known c (act make a) view (view (make u.0)) (write u.0) n.0.1 r.0 m.1 silent (r.4 ∙ ap (λ l. r.0 ++ l) r.3.1) r.3.0
+        (alike_kept known a f make view u.0 (write u.0) r.0 alike (h.kept u.0 r.0 u.2))));
   }

@@ -1,21 +1,24 @@
--- Names, holes, numbers and marks in front of a text.
+-- Keywords, names, holes, numbers and marks in front of a text.
 use Rattle.std.proofs.Common.{◌≡◌, ℕ, zero, suc, ◌+◌, ◌%◌, ◌^◌, ◌<◌, ◌≤◌, ◌==◌, nat_lt, nat_le, List, [], ◌∷◌, ◌++◌, length, take, Bool, true, false, not, ◌&&◌, ◌||◌, if◌then◌else◌, codes, Ok, Err, refl, sym, ap, subst, ◌∙◌, arith, decimal, true≢false, IsTrue}
 use Rattle.std.proofs.lemmas.Bool.{and_parts, leb-true, le-leb, ne_eqb}
 use Rattle.std.proofs.lemmas.Fmt.{decimal_by_steps, decimal_is_IsNumeral}
 use Rattle.std.proofs.lemmas.List.Folds.{list_all-append}
 use Rattle.std.specs.List.{list_all}
+use Rattle.std.specs.Prelude.{Option, Some, None, is_some, unwrap_or}
 use Rattle.std.specs.Str.{bytes_eq}
 use Rattle.cov_lex.specs.Signs.{is_blank}
 use Rattle.cov_expr.specs.Bytes.{is_lower, is_digit, is_word}
 use Rattle.cov_expr.specs.Names.{is_word_text, IsName}
-use Rattle.cov_expr.specs.Spellings.{is_keyword}
+use Rattle.cov_expr.specs.Spellings.{begins_with_letter, is_keyword}
 use Rattle.cov_lex.specs.declared.token.TokenKind.TheVariants.{Keyword, Name, Number, Sign}
 use Rattle.cov_lex.specs.Lexing.{Part}
 use Rattle.cov_lex.specs.declared.fault.LexFault.TheVariants.{NameTooLong}
 use Rattle.cov_expr.specs.Term.{Term, const, var, neg, bin}
 use Rattle.cov_lex.specs.Lexing.{piece_at, word_of, number_of}
 use Rattle.cov_lex.proofs.Fronts.{Stops, run_of}
+use Rattle.cov_expr.specs.declared.kind.Kind.{Kind}
 use Rattle.cov_expr.specs.declared.kind.Kind.TheVariants as k
+use Rattle.cov_expr.specs.declared.limits.TheConstants.{MOST_NAME_BYTES}
 use Rattle.cov_expr.specs.Spellings.{spellings}
 use Rattle.cov_expr.specs.Spellings as spelled
 use Rattle.cov_lex.specs.Signs.{signs, doubles, singles}
@@ -72,6 +75,63 @@ number_piece b bs more at whole stop =
     no_lower : (x y : Bool) → nat_le 97 b ≡ x → (x && y) ≡ false
     no_lower false y e = refl
     no_lower true y e = let r = digit_bounds b (and_parts (is_digit b) (list_all is_digit bs) whole).0 in let no : ⊥ = omega (arith, r.1, leb-true 97 b e) in absurd no
+
+-- the kind of a word of the table of spellings
+abbrev pub keyword_of : List ℕ → Option Kind
+keyword_of [] = None
+keyword_of (b ∷ bs) = if is_lower b && list_all is_word (b ∷ bs) && not (nat_lt MOST_NAME_BYTES (length (b ∷ bs))) then spelled.kind_of (b ∷ bs) else None
+
+keyword_is : (bytes : List ℕ) (j : Kind) → begins_with_letter bytes ≡ true → spelled.kind_of bytes ≡ Some j → is_keyword bytes ≡ true
+unfolding is_keyword
+keyword_is bytes j low is = ap (λ b. b && is_some (spelled.kind_of bytes)) low ∙ ap is_some is
+
+-- a keyword in front of what doesn't go on it
+pub word_ : {all : List (List ℕ)} {more : List ℕ} {vs : List Word} {j : Kind} (bytes : List ℕ) → keyword_of bytes ≡ Some j
+    → Reads all more vs → Stops is_word more → Reads all (bytes ++ more) (plain j ∷ vs)
+word_ [] is h stop = cc
+word_ {all} {more} {vs} {j} (b ∷ bs) is h stop = by (is_lower b) (list_all is_word (b ∷ bs)) (nat_lt MOST_NAME_BYTES (length (b ∷ bs))) refl refl refl is
+  where
+    by : (x y z : Bool) → is_lower b ≡ x → list_all is_word (b ∷ bs) ≡ y → nat_lt MOST_NAME_BYTES (length (b ∷ bs)) ≡ z
+        → (if x && y && not z then spelled.kind_of (b ∷ bs) else None) ≡ Some j → Reads all ((b ∷ bs) ++ more) (plain j ∷ vs)
+    by true true false low whole short i =
+        token (b ∷ bs) (plain j) Keyword (omega arith)
+        (λ fit at.
+        word_piece b bs more at low whole stop
+        ∙ ap (λ q. if q then Err (NameTooLong at) else Ok (Part (if is_keyword (b ∷ bs) then Keyword else Name) (length (b ∷ bs)))) short
+        ∙ ap (λ q. Ok (Part (if q then Keyword else Name) (length (b ∷ bs)))) (keyword_is (b ∷ bs) j low i))
+        (λ fit. (tt, ap (λ q. unwrap_or q k.Name) i)) h
+    by true true true low whole short i = cc
+    by true false z low whole short i = cc
+    by false y z low whole short i = cc
+
+-- the bytes of a word at the front of a text, and what stands behind them
+abbrev pub word_at : List ℕ → List ℕ
+word_at [] = []
+word_at (b ∷ bs) = if is_word b then b ∷ word_at bs else []
+
+abbrev pub behind_word : List ℕ → List ℕ
+behind_word [] = []
+behind_word (b ∷ bs) = if is_word b then behind_word bs else b ∷ bs
+
+in_two : (text : List ℕ) → word_at text ++ behind_word text ≡ text
+in_two [] = refl
+in_two (b ∷ bs) = by (is_word b) (in_two bs)
+  where
+    by : (x : Bool) → word_at bs ++ behind_word bs ≡ bs → (if x then b ∷ word_at bs else []) ++ (if x then behind_word bs else b ∷ bs) ≡ b ∷ bs
+    by true e = ap (◌∷◌ b) e
+    by false e = refl
+
+word_stops : (text : List ℕ) → Stops is_word (behind_word text)
+word_stops [] = tt
+word_stops (b ∷ bs) = by (is_word b) refl (word_stops bs)
+  where
+    by : (x : Bool) → is_word b ≡ x → Stops is_word (behind_word bs) → Stops is_word (if x then behind_word bs else b ∷ bs)
+    by true e h = h
+    by false e h = e
+
+-- a text that begins with a keyword, by what stands behind that
+pub lead_ : {all : List (List ℕ)} {text : List ℕ} {vs : List Word} {j : Kind} → keyword_of (word_at text) ≡ Some j → Reads all (behind_word text) vs → Reads all text (plain j ∷ vs)
+lead_ {all} {text} {vs} {j} is h = subst (λ t. Reads all t (plain j ∷ vs)) (in_two text) (word_ (word_at text) is h (word_stops text))
 
 digit_of : (d : ℕ) → d < 10 → is_digit (48 + d) ≡ true
 digit_of d h = rw (le-leb 48 (48 + d) (omega arith), le-leb (48 + d) 57 (omega arith))

@@ -242,6 +242,13 @@ module _ (known : ℕ → Bool) where
       same_words (ap (λ l. plain k.By ∷ plain k.OpenBrace ∷ l) (append_assoc (w.commas (w.proof known) (x ∷ xs)) (plain k.CloseBrace ∷ []) vs))
       (other_ 0 k.By refl (open_ 0 k.OpenBrace refl (omega (arith, p)) (commas_calm (proofs_calm (n + 1) (omega (arith, p))) (x ∷ xs) f (close_ k.CloseBrace refl h))))
 
+  -- and a semicolon behind them
+  closed_calm : (ps : List s.Proof) (n : ℕ) → n ≤ 64 → list_all proof_fine ps ≡ true → {vs : List Word} → Calm n 0 vs
+      → Calm n 0 ((w.by known ps ++ plain k.Semicolon ∷ []) ++ vs)
+  unfolding kind_is
+  closed_calm ps n p f {vs} h =
+      same_words (append_assoc (w.by known ps) (plain k.Semicolon ∷ []) vs) (by_calm ps n p f (other_ 0 k.Semicolon refl h))
+
   typed_calm : (n : ℕ) → n ≤ 136 → EachCalm n pair_fine (w.typed known)
   unfolding kind_is
   typed_calm n p = record { each = λ x f {vs} h. name_ 0 x.0 (other_ 0 k.Colon refl (whole_calm x.1 n p f h)) }
@@ -301,9 +308,6 @@ module _ (known : ℕ → Bool) where
         same_words (ap (λ l. w.name x ∷ plain k.Assign ∷ l) (of_parts (w.whole known e) (w.maybe known k.As q) (flat_map (w.retype known) rs) (w.by known ps) (plain k.Semicolon ∷ []) vs))
         (name_ 0 x (other_ 0 k.Assign refl (whole_calm e n (omega (arith, m)) a.0
         (maybe_calm k.As refl q n (omega (arith, m)) b.0 (lines_calm (retype_calm n (omega (arith, m))) rs c.0 (by_calm ps n m c.1 (other_ 0 k.Semicolon refl h)))))))
-    stm_calm (s.lock x) ps n room p m f h = other_ 0 k.Lock refl (name_ 0 x (other_ 0 k.Semicolon refl h))
-    stm_calm (s.unlock x) ps n room p m f {vs} h =
-        same_words (ap (λ l. plain k.Unlock ∷ w.name x ∷ l) (append_assoc (w.by known ps) (plain k.Semicolon ∷ []) vs)) (other_ 0 k.Unlock refl (name_ 0 x (by_calm ps n m f (other_ 0 k.Semicolon refl h))))
     stm_calm (s.branch e a b j) ps n room p m f {vs} h =
         let ub = unplaced_block a in
         let vb = unplaced_block b in
@@ -338,6 +342,7 @@ module _ (known : ℕ → Bool) where
         let a = and_parts (term_fine e) (list_all proof_fine ps) f in
         same_words (ap (λ t. plain k.Output ∷ t) (of_3 (w.whole known e) (w.by known ps) (plain k.Semicolon ∷ []) vs))
         (other_ 0 k.Output refl (whole_calm e n (omega (arith, m)) a.0 (by_calm ps n m a.1 (other_ 0 k.Semicolon refl h))))
+    stm_calm _ ps n room p m f h = other_ 0 _ refl (name_ 0 _ (search (f, m, h, other_, closed_calm)))
 
     block_calm : (b : s.Block) (n room : ℕ) → n + room ≤ 65 → n ≤ 64 → block_fine room (unplaced_block b) ≡ true → {vs : List Word} → Calm n 0 vs → Calm n 0 (w.block known b ++ vs)
     block_calm s.done n room p m f h = h

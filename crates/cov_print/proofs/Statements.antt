@@ -15,7 +15,7 @@ use Rattle.cov_text.specs.GivenTrees.{expr_of, cert_of, proof_of, pair_of, state
 use Rattle.cov_print.specs.Unplaced.{unplaced_stm, unplaced_block}
 use Rattle.cov_print.proofs.Written as w
 use Rattle.cov_print.proofs.Written.{Word, plain, commas}
-use Rattle.cov_print.proofs.Keeps.{Kept, Keeps, recast, keeps_seq, keeps_act, keeps_alt, keeps_key, keeps_end, keeps_name, keeps_number, keeps_placed, keeps_opt, keeps_many, keeps_separated, keeps_so, keeps_listed, keeps_some, keeps_seen, keeps_token, keeps_word, keeps_words, separated_never, key_never, end_never, commas_map, flat_map_map}
+use Rattle.cov_print.proofs.Keeps.{Kept, Keeps, recast, keeps_seq, keeps_act, keeps_alt, keeps_key, keeps_end, keeps_name, keeps_number, keeps_placed, keeps_opt, keeps_many, keeps_separated, keeps_so, keeps_listed, keeps_some, keeps_seen, keeps_token, keeps_word, keeps_line, separated_never, key_never, end_never, commas_map, flat_map_map}
 use Rattle.cov_print.proofs.Operands.{expr_keeps}
 use Rattle.cov_print.proofs.Certs.{cert_keeps}
 
@@ -129,12 +129,12 @@ module _ (known : ℕ → Bool) (S : Sense) (exprs : Keeps known S (rule t.expr)
       statement_keeps =
           keeps_alt (keeps_word k.Skip (λ x. t.skip) seen words (λ x. (s.skip, [])) (λ v. refl) (λ x. refl) (λ x. refl) (keeps_token k.Semicolon (tt {0}) (λ v. refl)))
           (keeps_alt assign_keeps
-          (keeps_alt (keeps_words k.Lock k.Semicolon t.lock seen words (λ x. (s.lock x, [])) (λ v. refl) (λ v. refl) (λ x. refl) (λ x. refl) keeps_name)
-          (keeps_alt (keeps_words k.Unlock k.Semicolon (λ x. t.unlock x.0 x.1) seen words (λ x. (s.unlock x.0, x.1)) (λ v. refl) (λ v. refl) (λ x. refl) (λ x. refl) (keeps_seq keeps_name proofs_keep))
+          (keeps_alt (keeps_line (λ v. refl) (λ v. refl) (λ x y e. cc) (λ x. refl) keeps_name)
+          (keeps_alt (keeps_line (λ v. refl) (λ v. refl) (λ x y e. cc (ap (λ p. p.0) e, ap (λ p. p.1) e)) (λ x. refl) (keeps_seq keeps_name proofs_keep))
           (keeps_alt branch_keeps
           (keeps_alt loop_keeps
-          (keeps_alt (keeps_words k.Note k.Semicolon (λ x. t.note x.0 x.1) seen words (λ x. (s.note x.0, x.1)) (λ v. refl) (λ v. refl) (λ x. refl) (λ x. refl) (keeps_seq state_keeps proofs_keep))
-          (keeps_words k.Output k.Semicolon (λ x. t.output x.0 x.1) seen words (λ x. (s.output x.0, x.1)) (λ v. refl) (λ v. refl) (λ x. refl) (λ x. refl) (keeps_seq whole_keeps proofs_keep))))))))
+          (keeps_alt (keeps_line (λ v. refl) (λ v. refl) (λ x y e. cc (ap (λ p. p.0) e, ap (λ p. p.1) e)) (λ x. refl) (keeps_seq state_keeps proofs_keep))
+          (keeps_line (λ v. refl) (λ v. refl) (λ x y e. cc (ap (λ p. p.0) e, ap (λ p. p.1) e)) (λ x. refl) (keeps_seq whole_keeps proofs_keep))))))))
 
       -- Blocks -------------------------------------------------------------------------------------------------
 

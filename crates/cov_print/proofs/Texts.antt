@@ -6,13 +6,15 @@ use Rattle.cov_expr.specs.declared.expr.Op.{Op}
 use Rattle.cov_expr.specs.declared.expr.Op.TheVariants as ops
 use Rattle.cov_lex.proofs.Fronts.{Stops}
 use Rattle.cov_expr.specs.declared.kind.Kind.TheVariants as k
+use Rattle.cov_expr.specs.Spellings.{spellings}
+use Rattle.cov_expr.specs.Spellings as spelled
 use Rattle.cov_ast.specs.Syntax as s
 use Rattle.cov_print.specs.Spelling as spec
 use Rattle.cov_print.proofs.Written as w
 use Rattle.cov_print.proofs.Written.{Word, plain}
 use Rattle.cov_print.proofs.Readings as r
 use Rattle.cov_print.proofs.Readings.{known, Reads}
-use Rattle.cov_print.proofs.Leaves.{AreNames, number_, name_, variable_, mark_, operand_starts}
+use Rattle.cov_print.proofs.Leaves.{AreNames, word_, lead_, number_, name_, variable_, mark_, operand_starts}
 
 -- A text with the tokens of these words may stand behind a word or a number.
 pub record Ready (all : List (List ℕ)) (text : List ℕ) (ws : List Word) : Type 0 where
@@ -107,54 +109,61 @@ module _ (all : List (List ℕ)) (valid : AreNames all) where
   bracketed_ e h = r.open_bracket_ (whole_ e (after (r.close_bracket_ h) refl))
 
   pub cert_ : (c : s.Cert) {more : List ℕ} {vs : List Word} → Ready all more vs → Reads all (spec.cert all c ++ more) (w.cert (known all) c ++ vs)
-  cert_ s.auto h = r.auto_ h.is h.stop
-  cert_ s.calc h = r.calc_ h.is h.stop
-  cert_ s.reflexive h = r.refl_ h.is h.stop
-  cert_ s.ring h = r.ring_ h.is h.stop
-  cert_ s.range h = r.range_ h.is h.stop
-  cert_ (s.hyp i) h = r.hyp_ (r.blank (number_ i h.is h.stop)) refl
-  cert_ (s.clash i) h = r.clash_ (r.blank (number_ i h.is h.stop)) refl
+  unfolding spelled.kind_of spellings
+  cert_ s.auto h = word_ (codes "auto") refl h.is h.stop
+  cert_ s.calc h = word_ (codes "calc") refl h.is h.stop
+  cert_ s.reflexive h = word_ (codes "refl") refl h.is h.stop
+  cert_ s.ring h = word_ (codes "ring") refl h.is h.stop
+  cert_ s.range h = word_ (codes "range") refl h.is h.stop
+  cert_ (s.hyp i) h = lead_ refl (r.blank (number_ i h.is h.stop))
+  cert_ (s.clash i) h = lead_ refl (r.blank (number_ i h.is h.stop))
   cert_ (s.absurdity i j) {more} {vs} h =
-      moved (ap (λ l. codes "absurd " ++ l) (of_3 (decimal i) (codes " ") (decimal j) more)) refl (r.absurd_ (r.blank (number_ i (r.blank (number_ j h.is h.stop)) refl)) refl)
+      moved (ap (λ l. codes "absurd " ++ l) (of_3 (decimal i) (codes " ") (decimal j) more)) refl
+      (lead_ refl (r.blank (number_ i (r.blank (number_ j h.is h.stop)) refl)))
   cert_ (s.and c d) {more} {vs} h =
       let y = part_ d h (cert_ d h) (cert_ d (closing h)) in
       let x = part_ c y (cert_ c y) (cert_ c (closing y)) in
-      moved (ap (λ l. codes "and" ++ l) (append_assoc (inner_text c) (inner_text d) more)) (ap (λ l. plain k.And ∷ l) (append_assoc (inner_words c) (inner_words d) vs)) (r.and_ x.is x.stop)
-  cert_ (s.left c) h = let x = part_ c h (cert_ c h) (cert_ c (closing h)) in r.left_ x.is x.stop
-  cert_ (s.right c) h = let x = part_ c h (cert_ c h) (cert_ c (closing h)) in r.right_ x.is x.stop
+      moved (ap (λ l. codes "and" ++ l) (append_assoc (inner_text c) (inner_text d) more)) (ap (λ l. plain k.And ∷ l) (append_assoc (inner_words c) (inner_words d) vs))
+      (word_ (codes "and") refl x.is x.stop)
+  cert_ (s.left c) h = let x = part_ c h (cert_ c h) (cert_ c (closing h)) in word_ (codes "left") refl x.is x.stop
+  cert_ (s.right c) h = let x = part_ c h (cert_ c h) (cert_ c (closing h)) in word_ (codes "right") refl x.is x.stop
   cert_ (s.unpack i c) {more} {vs} h =
       let x = part_ c h (cert_ c h) (cert_ c (closing h)) in
-      moved (ap (λ l. codes "use " ++ l) (append_assoc (decimal i) (inner_text c) more)) refl (r.use_ (r.blank (number_ i x.is x.stop)) refl)
+      moved (ap (λ l. codes "use " ++ l) (append_assoc (decimal i) (inner_text c) more)) refl (lead_ refl (r.blank (number_ i x.is x.stop)))
   cert_ (s.cases i c d) {more} {vs} h =
       let y = part_ d h (cert_ d h) (cert_ d (closing h)) in
       let x = part_ c y (cert_ c y) (cert_ c (closing y)) in
       moved (ap (λ l. codes "cases " ++ l) (of_3 (decimal i) (inner_text c) (inner_text d) more)) (ap (λ l. plain k.Cases ∷ w.number i ∷ l) (append_assoc (inner_words c) (inner_words d) vs))
-      (r.cases_ (r.blank (number_ i x.is x.stop)) refl)
+      (lead_ refl (r.blank (number_ i x.is x.stop)))
   cert_ (s.split e c d) {more} {vs} h =
       let y = part_ d h (cert_ d h) (cert_ d (closing h)) in
       let x = part_ c y (cert_ c y) (cert_ c (closing y)) in
       moved (ap (λ l. codes "split [" ++ l) (of_4 (spec.whole all e) (codes "]") (inner_text c) (inner_text d) more))
-      (ap (λ l. plain k.Split ∷ plain k.OpenBracket ∷ l) (of_2_2 (w.whole (known all) e) (plain k.CloseBracket ∷ []) (inner_words c) (inner_words d) vs)) (r.split_ (r.blank (bracketed_ e x.is)) refl)
+      (ap (λ l. plain k.Split ∷ plain k.OpenBracket ∷ l) (of_2_2 (w.whole (known all) e) (plain k.CloseBracket ∷ []) (inner_words c) (inner_words d) vs))
+      (lead_ refl (r.blank (bracketed_ e x.is)))
   cert_ (s.have e c d) {more} {vs} h =
       let y = part_ d h (cert_ d h) (cert_ d (closing h)) in
       let x = part_ c y (cert_ c y) (cert_ c (closing y)) in
       moved (ap (λ l. codes "have [" ++ l) (of_4 (spec.whole all e) (codes "]") (inner_text c) (inner_text d) more))
-      (ap (λ l. plain k.Have ∷ plain k.OpenBracket ∷ l) (of_2_2 (w.whole (known all) e) (plain k.CloseBracket ∷ []) (inner_words c) (inner_words d) vs)) (r.have_ (r.blank (bracketed_ e x.is)) refl)
-  cert_ (s.negation c) h = let x = part_ c h (cert_ c h) (cert_ c (closing h)) in r.not_ x.is x.stop
-  cert_ (s.contra c) h = let x = part_ c h (cert_ c h) (cert_ c (closing h)) in r.contra_ x.is x.stop
+      (ap (λ l. plain k.Have ∷ plain k.OpenBracket ∷ l) (of_2_2 (w.whole (known all) e) (plain k.CloseBracket ∷ []) (inner_words c) (inner_words d) vs))
+      (lead_ refl (r.blank (bracketed_ e x.is)))
+  cert_ (s.negation c) h = let x = part_ c h (cert_ c h) (cert_ c (closing h)) in word_ (codes "not") refl x.is x.stop
+  cert_ (s.contra c) h = let x = part_ c h (cert_ c h) (cert_ c (closing h)) in word_ (codes "contra") refl x.is x.stop
   cert_ (s.fwd i e c) {more} {vs} h =
       let x = part_ c h (cert_ c h) (cert_ c (closing h)) in
       moved (ap (λ l. codes "fwd " ++ l) (of_5 (decimal i) (codes " [") (spec.whole all e) (codes "]") (inner_text c) more))
-      (ap (λ l. plain k.Fwd ∷ w.number i ∷ plain k.OpenBracket ∷ l) (of_3 (w.whole (known all) e) (plain k.CloseBracket ∷ []) (inner_words c) vs)) (r.fwd_ (r.blank (number_ i (r.blank (bracketed_ e x.is)) refl)) refl)
+      (ap (λ l. plain k.Fwd ∷ w.number i ∷ plain k.OpenBracket ∷ l) (of_3 (w.whole (known all) e) (plain k.CloseBracket ∷ []) (inner_words c) vs))
+      (lead_ refl (r.blank (number_ i (r.blank (bracketed_ e x.is)) refl)))
   cert_ (s.rev i e c) {more} {vs} h =
       let x = part_ c h (cert_ c h) (cert_ c (closing h)) in
       moved (ap (λ l. codes "rev " ++ l) (of_5 (decimal i) (codes " [") (spec.whole all e) (codes "]") (inner_text c) more))
-      (ap (λ l. plain k.Rev ∷ w.number i ∷ plain k.OpenBracket ∷ l) (of_3 (w.whole (known all) e) (plain k.CloseBracket ∷ []) (inner_words c) vs)) (r.rev_ (r.blank (number_ i (r.blank (bracketed_ e x.is)) refl)) refl)
+      (ap (λ l. plain k.Rev ∷ w.number i ∷ plain k.OpenBracket ∷ l) (of_3 (w.whole (known all) e) (plain k.CloseBracket ∷ []) (inner_words c) vs))
+      (lead_ refl (r.blank (number_ i (r.blank (bracketed_ e x.is)) refl)))
   cert_ (s.instance i es c) {more} {vs} h =
       let x = part_ c h (cert_ c h) (cert_ c (closing h)) in
       moved (ap (λ l. codes "axiom " ++ l) (of_5 (decimal i) (codes " (") (spec.listed (spec.whole all) es) (codes ")") (inner_text c) more))
       (ap (λ l. plain k.Axiom ∷ w.number i ∷ plain k.OpenParen ∷ l) (of_3 (w.commas (w.whole (known all)) es) (plain k.CloseParen ∷ []) (inner_words c) vs))
-      (r.axiom_ (r.blank (number_ i (r.blank (r.open_paren_ (listed_ exprs_ es (closing x)))) refl)) refl)
+      (lead_ refl (r.blank (number_ i (r.blank (r.open_paren_ (listed_ exprs_ es (closing x)))) refl)))
 
   -- Proofs and states ------------------------------------------------------------------------------------------
 
@@ -163,9 +172,10 @@ module _ (all : List (List ℕ)) (valid : AreNames all) where
 
   -- the proofs of a statement, in front of a semicolon or a line feed
   pub by_ : (ps : List s.Proof) {more : List ℕ} {vs : List Word} → Ready all more vs → Ready all (spec.by all ps ++ more) (w.by (known all) ps ++ vs)
+  unfolding spelled.kind_of spellings
   by_ [] h = h
   by_ (p ∷ ps) h =
-      simp append_assoc (simp append_assoc at (after (r.blank (r.by_ (r.blank (r.open_brace_ (r.blank (listed_ proof_ (p ∷ ps) (after (r.blank (r.close_brace_ h.is)) refl))))) refl)) refl))
+      simp append_assoc (simp append_assoc at (after (r.blank (word_ (codes "by") refl (r.blank (r.open_brace_ (r.blank (listed_ proof_ (p ∷ ps) (after (r.blank (r.close_brace_ h.is)) refl))))) refl)) refl))
 
   typed_ : Writes all (spec.typed all) (w.typed (known all))
   typed_ = record { each = λ t {more} {vs} h. simp append_assoc (name_ all valid t.0 (r.colon_ (r.blank (whole_ t.1 h))) refl) }

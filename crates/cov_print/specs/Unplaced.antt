@@ -2,21 +2,17 @@
 use Rattle.std.specs.Prelude.{map}
 use Rattle.cov_ast.specs.Syntax as s
 use Rattle.cov_ast.specs.declared.parsed.NameUse.{NameUse}
+use Rattle.statement_parts.specs.Mapped.{mapped, mapped_in, Mapping, same_parts}
 
-abbrev mutual
-  pub unplaced_stm : s.Stm → s.Stm
-  unplaced_stm s.skip = s.skip
-  unplaced_stm (s.assign x e q retypes) = s.assign x e q retypes
-  unplaced_stm (s.lock l) = s.lock l
-  unplaced_stm (s.unlock l) = s.unlock l
-  unplaced_stm (s.branch e a b join) = s.branch e (unplaced_block a) (unplaced_block b) join
-  unplaced_stm (s.loop e inv b) = s.loop e inv (unplaced_block b)
-  unplaced_stm (s.note j) = s.note j
-  unplaced_stm (s.output e) = s.output e
+-- what each part of a statement becomes: the places alone go
+abbrev pub without_places : Mapping
+without_places = record same_parts { place = λ at. 0 }
 
-  pub unplaced_block : s.Block → s.Block
-  unplaced_block s.done = s.done
-  unplaced_block (s.more at stmt proofs rest) = s.more 0 (unplaced_stm stmt) proofs (unplaced_block rest)
+abbrev pub unplaced_stm : s.Stm → s.Stm
+unplaced_stm c = mapped without_places c
+
+abbrev pub unplaced_block : s.Block → s.Block
+unplaced_block b = mapped_in without_places b
 
 abbrev pub unplaced_var : s.Var → s.Var
 unplaced_var v = record { name = v.name; at = 0; class = v.class }

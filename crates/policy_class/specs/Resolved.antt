@@ -5,13 +5,14 @@ use Rattle.std.specs.List.{list_any, position_or_len}
 use Rattle.std.specs.Str.{bytes_eq}
 use Rattle.cov_expr.specs.Term.{Term, const, var, neg, bin}
 use Rattle.cov_expr.specs.declared.expr.TheConstants.{HOLE}
-use Rattle.cov_ast.specs.Syntax.{Class, low, high, when, Var, Lock, Modes, State, Cert, Proof, Stm, Block, done, more, Thread, Program, Parsed}
+use Rattle.cov_ast.specs.Syntax.{Class, low, high, when, Var, Lock, Modes, State, Cert, Proof, Stm, Block, Thread, Program, Parsed}
 use Rattle.cov_ast.specs.Syntax as s
 use Rattle.cov_ast.specs.Obligations.{Obligation, declared_obligation}
 use Rattle.cov_ast.specs.declared.parsed.NameUse.{NameUse}
 use Rattle.cov_ast.specs.declared.refusal.Rule.TheVariants.{W1, W2}
 use Rattle.cov_ast.specs.declared.refusal.Detail.TheVariants.{One}
 use Rattle.cov_ast.specs.declared.refusal.CheckFault.{CheckFault}
+use Rattle.statement_parts.specs.Mapped.{mapped, mapped_in, Mapping, same_parts}
 
 -- Names --------------------------------------------------------------------------------------------------------
 
@@ -114,20 +115,23 @@ module _ (to_var to_lock : ℕ → ℕ) where
   abbrev pub resolved_proof : Proof → Proof
   resolved_proof p = record { number = p.number; cert = resolved_cert p.cert }
 
-  abbrev mutual
-    pub resolved_stm : Stm → Stm
-    resolved_stm s.skip = s.skip
-    resolved_stm (s.assign x e q retypes) = s.assign (resolved_var x) (resolved_term e) (option_map resolved_term q) (map resolved_type retypes)
-    resolved_stm (s.lock l) = s.lock (to_lock l)
-    resolved_stm (s.unlock l) = s.unlock (to_lock l)
-    resolved_stm (s.branch e a b join) = s.branch (resolved_term e) (resolved_block a) (resolved_block b) (resolved_state join)
-    resolved_stm (s.loop e inv b) = s.loop (resolved_term e) (resolved_state inv) (resolved_block b)
-    resolved_stm (s.note j) = s.note (resolved_state j)
-    resolved_stm (s.output e) = s.output (resolved_term e)
+  -- what each part of a statement becomes
+  abbrev pub resolving : Mapping
+  resolving = record same_parts {
+    variable = resolved_var;
+    lock_number = to_lock;
+    expression = resolved_term;
+    written = option_map resolved_term;
+    types = map resolved_type;
+    state = resolved_state;
+    proofs = λ c at proofs. map resolved_proof proofs;
+  }
 
-    pub resolved_block : Block → Block
-    resolved_block done = done
-    resolved_block (more at c proofs b) = more at (resolved_stm c) (map resolved_proof proofs) (resolved_block b)
+  abbrev pub resolved_stm : Stm → Stm
+  resolved_stm c = mapped resolving c
+
+  abbrev pub resolved_block : Block → Block
+  resolved_block b = mapped_in resolving b
 
   abbrev pub resolved_class : Class → Class
   resolved_class low = low
