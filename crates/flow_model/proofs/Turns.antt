@@ -1,10 +1,10 @@
 -- A turn of a thread keeps lengths and words.
-use Rattle.std.proofs.Common.{◌≡◌, ℕ, zero, suc, List, [], ◌∷◌, ◌++◌, length, set, true, false, if◌then◌else◌, Some, None, refl, length-set}
+use Rattle.std.proofs.Common.{◌≡◌, ℕ, zero, suc, List, [], ◌∷◌, ◌++◌, length, set, true, false, if◌then◌else◌, length-set, arith}
 use Rattle.cov_expr.specs.Term.{is_set}
 use Rattle.cov_expr.specs.Words.{IsWord, AreWords}
 use Rattle.cov_expr.proofs.Values.{value_word}
-use Rattle.cov_ast.specs.Plain.{skip, assign, lock, unlock, branch, loop, output, Cmds, none, next, ◌then_all◌}
-use Rattle.flow_model.specs.Source.{Item, run, put, test, emit, Holders, holder, Outputs, Local, turn, after_lock, after_unlock, items_then, is_held_by}
+use Rattle.cov_ast.specs.Plain.{assign, branch, loop, output, Cmds, none, next, ◌then_all◌}
+use Rattle.flow_model.specs.Source.{Item, run, put, test, emit, Holders, Outputs, Local, turn, items_then}
 use Rattle.flow_model.proofs.WordBodies.{CmdHasWords, CmdsHaveWords}
 
 pub set_words : (m : List ℕ) (x w : ℕ) → AreWords m → IsWord w → AreWords (set m x w)
@@ -15,17 +15,10 @@ set_words (v ∷ m) (suc x) w h k = (h.0, set_words m x w h.1 k)
 -- Lengths ------------------------------------------------------------------------------------------------------
 
 pub long_memory : (t : ℕ) (m : List ℕ) (h : Holders) (o : Outputs) (is : List Item) → length (turn t m h o is).memory ≡ length m
-long_memory t m h o (run at (lock l) ∷ is) = elim (holder h l) as (λ f. length (after_lock t m h o at l is f).memory ≡ length m) [ None ↦ refl | Some u ↦ refl ]
-long_memory t m h o (run at (unlock l) ∷ is) = elim (is_held_by (holder h l) t) as (λ f. length (after_unlock m h o at l is f).memory ≡ length m) [ true ↦ refl | false ↦ refl ]
-long_memory t m h o (put at x w ∷ is) = length-set m x w
-long_memory t m h o _ = refl
+long_memory t m h o is = grind (arith, length-set)
 
 pub long_holders : (t : ℕ) (m : List ℕ) (h : Holders) (o : Outputs) (is : List Item) → length (turn t m h o is).holders ≡ length h
-long_holders t m h o (run at (lock l) ∷ is) =
-    elim (holder h l) as (λ f. length (after_lock t m h o at l is f).holders ≡ length h) [ None ↦ length-set h l (Some t) | Some u ↦ refl ]
-long_holders t m h o (run at (unlock l) ∷ is) =
-    elim (is_held_by (holder h l) t) as (λ f. length (after_unlock m h o at l is f).holders ≡ length h) [ true ↦ length-set h l None | false ↦ refl ]
-long_holders t m h o _ = refl
+long_holders t m h o is = grind (arith, length-set)
 
 -- Words --------------------------------------------------------------------------------------------------------
 
@@ -55,13 +48,7 @@ abbrev pub TurnHasWords : Local → Type 0
 TurnHasWords r = AreWords r.memory × AreWords r.outputs × ItemsHaveWords r.items
 
 pub turn_words : (t : ℕ) (m : List ℕ) (h : Holders) (o : Outputs) (is : List Item) → AreWords m → AreWords o → ItemsHaveWords is → TurnHasWords (turn t m h o is)
-turn_words t m h o [] w p k = (w, p, k)
-turn_words t m h o (run at skip ∷ is) w p k = (w, p, k.1)
 turn_words t m h o (run at (assign x e) ∷ is) w p k = (w, p, (value_word e m k.0 w, k.1))
-turn_words t m h o (run at (lock l) ∷ is) w p k =
-    elim (holder h l) as (λ f. TurnHasWords (after_lock t m h o at l is f)) [ None ↦ (w, p, k.1) | Some u ↦ (w, p, k) ]
-turn_words t m h o (run at (unlock l) ∷ is) w p k =
-    elim (is_held_by (holder h l) t) as (λ f. TurnHasWords (after_unlock m h o at l is f)) [ true ↦ (w, p, k.1) | false ↦ (w, p, k) ]
 turn_words t m h o (run at (branch e a b) ∷ is) w p k = (w, p, ((k.0.1, k.0.2), k.1))
 turn_words t m h o (run at (loop e b) ∷ is) w p k = (w, p, ((then_words b (next at (loop e b) none) k.0.1 (k.0, tt), tt), k.1))
 turn_words t m h o (run at (output e) ∷ is) w p k = (w, p, (value_word e m k.0 w, k.1))
@@ -69,3 +56,4 @@ turn_words t m h o (put at x v ∷ is) w p k = (set_words m x v w k.0, p, k.1)
 turn_words t m h o (test at v a b ∷ is) w p k =
     (w, p, elim (is_set v) as (λ f. ItemsHaveWords (items_then (if f then a else b) is)) [ true ↦ items_words a is k.0.0 k.1 | false ↦ items_words b is k.0.1 k.1 ])
 turn_words t m h o (emit at v ∷ is) w p k = (w, more_words o v p k.0, k.1)
+turn_words t m h o _ w p k = grind arith

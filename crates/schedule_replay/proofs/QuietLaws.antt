@@ -1,12 +1,11 @@
 -- Steps that leave what threads share as it is.
-use Rattle.std.proofs.Common.{◌≡◌, ◌≢◌, ◌⊎◌, inl, inr, ℕ, List, [], ◌∷◌, map, Bool, true, false, not, Option, Some, None, is_some, if◌then◌else◌, refl, sym, ap, ◌∙◌, subst, arith}
+use Rattle.std.proofs.Common.{◌≡◌, ◌≢◌, ◌⊎◌, inl, inr, ℕ, List, [], ◌∷◌, map, true, false, refl, sym, ap, ◌∙◌, subst, arith}
 use Rattle.std.proofs.lemmas.List.{set-get_or, get_or-set_other}
-use Rattle.cov_ast.specs.Plain.{Plain, skip, lock, unlock}
+use Rattle.cov_ast.specs.Plain.{Plain, skip}
 use Rattle.cov_ast.specs.declared.decl.Program.{Program}
 use Rattle.flow_model.specs.Agreement.{AreAlike, IsAlikeAt, MemoriesAgree, StatesAgree, shape}
 use Rattle.flow_model.specs.Runs.{has_moved}
-use Rattle.flow_model.specs.Source.{Item, run, put, emit, Holders, Outputs, local, Run, turn, step, put_back, items_of, holder, is_held_by, after_lock, after_unlock, step_says}
-use Rattle.flow_model.specs.declared.machine.Stepped.TheVariants as stepped
+use Rattle.flow_model.specs.Source.{Item, run, emit, Holders, Outputs, local, Run, turn, step, put_back, items_of, step_says}
 use Rattle.source_machine.specs.SourceMachine.{change_of}
 use Rattle.schedule_replay.specs.Inside.{is_quiet, stores}
 use Rattle.schedule_replay.specs.Machines.{GrowsByOne, IsQuiet, source_semantics}
@@ -17,22 +16,8 @@ same_or_not u t = grind arith
 
 -- Steps that don't go on ---------------------------------------------------------------------------------------
 
-module _ (t : ℕ) (m : List ℕ) (h : Holders) (o : Outputs) where
-  lock_still : (at l : ℕ) (rest : List Item) (k : Option ℕ) → has_moved (if is_some k then stepped.Stayed else stepped.Moved) ≡ false
-      → after_lock t m h o at l rest k ≡ local m h o (run at (lock l) ∷ rest)
-  lock_still at l rest None e = absurd cc
-  lock_still at l rest (Some u) e = refl
-
-  unlock_still : (at l : ℕ) (rest : List Item) (b : Bool) → has_moved (if not b then stepped.Stayed else stepped.Moved) ≡ false
-      → after_unlock m h o at l rest b ≡ local m h o (run at (unlock l) ∷ rest)
-  unlock_still at l rest true e = absurd cc
-  unlock_still at l rest false e = refl
-
-  turn_still : (is : List Item) → has_moved (step_says t h is) ≡ false → turn t m h o is ≡ local m h o is
-  turn_still [] e = refl
-  turn_still (run at (lock l) ∷ rest) e = lock_still at l rest (holder h l) e
-  turn_still (run at (unlock l) ∷ rest) e = unlock_still at l rest (is_held_by (holder h l) t) e
-  turn_still _ e = absurd cc
+turn_still : (t : ℕ) (m : List ℕ) (h : Holders) (o : Outputs) (is : List Item) → has_moved (step_says t h is) ≡ false → turn t m h o is ≡ local m h o is
+turn_still t m h o is e = grind arith
 
 -- A step that doesn't go on changes nothing.
 pub step_still : (r : Run) (t : ℕ) → has_moved (step_says t r.holders (items_of r t)) ≡ false → step r t ≡ r
@@ -43,11 +28,7 @@ step_still r t e =
 -- Steps that change nothing but what remains of a thread -------------------------------------------------------
 
 turn_quiet : (t : ℕ) (m : List ℕ) (h : Holders) (o : Outputs) (is : List Item) → is_quiet (change_of is) ≡ true → turn t m h o is ≡ local m h o (turn t m h o is).items
-turn_quiet t m h o (run at (lock l) ∷ rest) e = absurd cc
-turn_quiet t m h o (run at (unlock l) ∷ rest) e = absurd cc
-turn_quiet t m h o (put at x word ∷ rest) e = absurd cc
-turn_quiet t m h o (emit at word ∷ rest) e = absurd cc
-turn_quiet t m h o _ e = refl
+turn_quiet t m h o is e = grind arith
 
 change_shape : (is : List Item) → change_of (map shape is) ≡ change_of is
 change_shape (run at skip ∷ rest) = refl
@@ -88,19 +69,8 @@ source_is_quiet program r t quiet p other agree alike = quiet_agree p r other t 
 
 -- Steps that don't store ---------------------------------------------------------------------------------------
 
-lock_memory : (t : ℕ) (m : List ℕ) (h : Holders) (o : Outputs) (at l : ℕ) (rest : List Item) (k : Option ℕ) → (after_lock t m h o at l rest k).memory ≡ m
-lock_memory t m h o at l rest None = refl
-lock_memory t m h o at l rest (Some u) = refl
-
-unlock_memory : (m : List ℕ) (h : Holders) (o : Outputs) (at l : ℕ) (rest : List Item) (b : Bool) → (after_unlock m h o at l rest b).memory ≡ m
-unlock_memory m h o at l rest true = refl
-unlock_memory m h o at l rest false = refl
-
 turn_memory : (t : ℕ) (m : List ℕ) (h : Holders) (o : Outputs) (is : List Item) → stores (change_of is) ≡ false → (turn t m h o is).memory ≡ m
-turn_memory t m h o (run at (lock l) ∷ rest) e = lock_memory t m h o at l rest (holder h l)
-turn_memory t m h o (run at (unlock l) ∷ rest) e = unlock_memory m h o at l rest (is_held_by (holder h l) t)
-turn_memory t m h o (put at x word ∷ rest) e = absurd cc
-turn_memory t m h o _ e = refl
+turn_memory t m h o is e = grind arith
 
 -- A step that doesn't store leaves the memory.
 pub step_memory : (r : Run) (t : ℕ) → stores (change_of (items_of r t)) ≡ false → (step r t).memory ≡ r.memory
@@ -108,19 +78,12 @@ step_memory r t e = turn_memory t r.memory r.holders r.outputs (items_of r t) e
 
 -- Outputs ------------------------------------------------------------------------------------------------------
 
-lock_grows : (t : ℕ) (m : List ℕ) (h : Holders) (o : Outputs) (at l : ℕ) (rest : List Item) (k : Option ℕ) → GrowsByOne o (after_lock t m h o at l rest k).outputs
-lock_grows t m h o at l rest None = same_outputs o
-lock_grows t m h o at l rest (Some u) = same_outputs o
-
-unlock_grows : (m : List ℕ) (h : Holders) (o : Outputs) (at l : ℕ) (rest : List Item) (b : Bool) → GrowsByOne o (after_unlock m h o at l rest b).outputs
-unlock_grows m h o at l rest true = same_outputs o
-unlock_grows m h o at l rest false = same_outputs o
+grows_none : (o n : Outputs) → n ≡ o → GrowsByOne o n
+grows_none o n e = subst (GrowsByOne o) (sym e) (same_outputs o)
 
 turn_grows : (t : ℕ) (m : List ℕ) (h : Holders) (o : Outputs) (is : List Item) → GrowsByOne o (turn t m h o is).outputs
-turn_grows t m h o (run at (lock l) ∷ rest) = lock_grows t m h o at l rest (holder h l)
-turn_grows t m h o (run at (unlock l) ∷ rest) = unlock_grows m h o at l rest (is_held_by (holder h l) t)
 turn_grows t m h o (emit at word ∷ rest) = record { more = word ∷ []; few = omega arith; grown = refl }
-turn_grows t m h o _ = same_outputs o
+turn_grows t m h o is = grows_none o (turn t m h o is).outputs (grind arith)
 
 -- A step adds at most one output.
 pub step_grows : (r : Run) (t : ℕ) → GrowsByOne r.outputs (step r t).outputs

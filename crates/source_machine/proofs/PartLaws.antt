@@ -1,39 +1,35 @@
 -- A thread stands in its body at the start, and so it does after each step.
-use Rattle.std.proofs.Common.{◌≡◌, ◌⊎◌, inl, inr, ℕ, List, [], ◌∷◌, refl, ap, sym, ◌∙◌, subst, Bool, true, false, Option, Some, None, if◌then◌else◌}
+use Rattle.std.proofs.Common.{◌≡◌, ◌⊎◌, inl, inr, ℕ, List, [], ◌∷◌, refl, ap, sym, ◌∙◌, subst, arith, Bool, true, false, Option, Some, if◌then◌else◌}
 use Rattle.cov_expr.specs.Term.{is_set}
 use Rattle.cov_ast.specs.Plain.{Cmd, Cmds, plain_block}
 use Rattle.cov_ast.specs.Plain as p
 use Rattle.cov_ast.specs.Syntax.{Stm, Block, done, more}
 use Rattle.cov_ast.specs.Syntax as s
-use Rattle.flow_model.specs.Source.{Item, run, items_then, Holders, Outputs, holder, is_held_by}
+use Rattle.statement_parts.specs.PlainParts.{either, Inside, nothing, parts, turns}
+use Rattle.flow_model.specs.Source.{Item, run, items_then, Holders, Outputs}
 use Rattle.source_machine.specs.Frames.{items}
-use Rattle.source_machine.specs.Inside.Entries.{entered, outer, AreFrames}
+use Rattle.source_machine.specs.Inside.Entries.{entered, AreFrames}
 use Rattle.source_machine.specs.Inside.Standing.{IsAtStm, IsPart, Stands}
-use Rattle.source_machine.specs.Inside.Turns.{turned, locked, unlocked}
+use Rattle.source_machine.specs.Inside.Turns.{turned}
 use Rattle.source_machine.proofs.FrameLaws.{items_entered}
 
 pub part_start : (b : Block) (after : List Item) → IsPart b after (items_then (plain_block b) after) ⊎ (items_then (plain_block b) after ≡ after)
 part_start done after = inr refl
-part_start (more at s.skip proofs b) after = inl (inl refl)
-part_start (more at (s.assign x e q retypes) proofs b) after = inl (inl refl)
-part_start (more at (s.lock l) proofs b) after = inl (inl refl)
-part_start (more at (s.unlock l) proofs b) after = inl (inl refl)
 part_start (more at (s.branch e x y join) proofs b) after = inl (inl (inl refl))
 part_start (more at (s.loop e inv x) proofs b) after = inl (inl (inl refl))
-part_start (more at (s.output e) proofs b) after = inl (inl refl)
 part_start (more at (s.note j) proofs b) after = elim (part_start b after) [ inl h ↦ inl (inr h) | inr e ↦ inr e ]
+part_start (more at _ proofs b) after = inl (inl refl)
 
 -- What a thread goes on to ---------------------------------------------------------------------------------------
 
--- from a statement into it
+-- from a statement into the blocks inside it
+abbrev EntersInside : (at : ℕ) → Cmd → (is next : List Item) → Inside Cmds → Type 0
+EntersInside at c is next nothing = ⊥
+EntersInside at c is next (turns e x) = next ≡ items_then x (run at c ∷ is)
+EntersInside at c is next (either e x y) = (next ≡ items_then x is) ⊎ (next ≡ items_then y is)
+
 abbrev Enters : (at : ℕ) → Cmd → (is next : List Item) → Type 0
-Enters at p.skip is next = ⊥
-Enters at (p.assign x e) is next = ⊥
-Enters at (p.lock l) is next = ⊥
-Enters at (p.unlock l) is next = ⊥
-Enters at (p.output e) is next = ⊥
-Enters at (p.branch e x y) is next = (next ≡ items_then x is) ⊎ (next ≡ items_then y is)
-Enters at (p.loop e x) is next = next ≡ items_then x (run at (p.loop e x) ∷ is)
+Enters at c is next = EntersInside at c is next (parts c).inside
 
 -- from a statement past it or into it
 abbrev IsNext : (at : ℕ) → Cmd → (is next : List Item) → Type 0
@@ -71,11 +67,6 @@ loop_next e inv x a after next n =
 mutual
   stm_next : (d : Stm) (a : ℕ) (after : List Item) (at : ℕ) (c : Cmd) (is next : List Item) → IsAtStm d a after (run at c ∷ is) → IsNext at c is next
       → IsAtStm d a after next ⊎ (next ≡ after)
-  stm_next s.skip a after at c is next h n = inr (past at a c p.skip is next after h n (λ x. x))
-  stm_next (s.assign x e q retypes) a after at c is next h n = inr (past at a c (p.assign x e) is next after h n (λ x. x))
-  stm_next (s.lock l) a after at c is next h n = inr (past at a c (p.lock l) is next after h n (λ x. x))
-  stm_next (s.unlock l) a after at c is next h n = inr (past at a c (p.unlock l) is next after h n (λ x. x))
-  stm_next (s.output e) a after at c is next h n = inr (past at a c (p.output e) is next after h n (λ x. x))
   stm_next (s.branch e x y join) a after at c is next (inl h) (inl n) = inr (n ∙ rest_is h)
   stm_next (s.branch e x y join) a after at c is next (inl h) (inr n) =
       branch_next e x y join a after next (subst (λ js. (next ≡ items_then (plain_block x) js) ⊎ (next ≡ items_then (plain_block y) js)) (rest_is h)
@@ -93,6 +84,7 @@ mutual
   stm_next (s.loop e inv x) a after at c is next (inr h) n =
       elim (part_next x (run a (p.loop e (plain_block x)) ∷ after) at c is next h n) [ inl k ↦ inl (inr k) | inr f ↦ inl (inl f) ]
   stm_next (s.note j) a after at c is next h n = absurd h
+  stm_next _ a after at c is next h n = inr (past at a c _ is next after h n (λ x. x))
 
   part_next : (b : Block) (after : List Item) (at : ℕ) (c : Cmd) (is next : List Item) → IsPart b after (run at c ∷ is) → IsNext at c is next
       → IsPart b after next ⊎ (next ≡ after)
@@ -135,31 +127,11 @@ module _ (body : Block) (rest : Block) (bs : List Block) where
   loop_stands at e inv x proofs false h = rest_stands at (p.loop e (plain_block x)) h
 
 module _ (m : List ℕ) (h : Holders) (o : Outputs) (body : Block) where
-  lock_stands : (bs : List Block) (rest : Block) (t : ℕ) (word : Option ℕ) (l : ℕ) (u : Option ℕ) → Stands body (items bs) → Stands body (items (entered rest (outer bs)))
-      → Stands body (items (locked m h o bs rest t word l u).frames)
-  lock_stands bs rest t word l None f g = g
-  lock_stands bs rest t word l (Some u) f g = f
-
-  unlock_stands : (bs : List Block) (rest : Block) (word : Option ℕ) (l : ℕ) (u : Bool) → Stands body (items bs) → Stands body (items (entered rest (outer bs)))
-      → Stands body (items (unlocked m h o bs rest word l u).frames)
-  unlock_stands bs rest word l true f g = g
-  unlock_stands bs rest word l false f g = f
-
   pub turned_stands : (t vars locks room : ℕ) (bs : List Block) (word : Option ℕ) → AreFrames vars locks room bs → Stands body (items bs)
       → Stands body (items (turned t m h o bs word).frames)
   turned_stands t vars locks room [] word f q = q
   turned_stands t vars locks room (done ∷ bs) word f q = absurd f.1
-  turned_stands t vars locks room (more at s.skip proofs rest ∷ bs) word f q = rest_stands body rest bs at p.skip q
-  turned_stands t vars locks room (more at (s.assign x e r retypes) proofs rest ∷ bs) None f q = q
-  turned_stands t vars locks room (more at (s.assign x e r retypes) proofs rest ∷ bs) (Some w) f q = rest_stands body rest bs at (p.assign x e) q
-  turned_stands t vars locks room (more at (s.output e) proofs rest ∷ bs) None f q = q
-  turned_stands t vars locks room (more at (s.output e) proofs rest ∷ bs) (Some w) f q = rest_stands body rest bs at (p.output e) q
-  turned_stands t vars locks room (more at (s.lock l) proofs rest ∷ bs) word f q =
-      lock_stands (more at (s.lock l) proofs rest ∷ bs) rest t word l (holder h l) q (rest_stands body rest bs at (p.lock l) q)
-  turned_stands t vars locks room (more at (s.unlock l) proofs rest ∷ bs) word f q =
-      unlock_stands (more at (s.unlock l) proofs rest ∷ bs) rest word l (is_held_by (holder h l) t) q (rest_stands body rest bs at (p.unlock l) q)
-  turned_stands t vars locks room (more at (s.branch e x y join) proofs rest ∷ bs) None f q = q
   turned_stands t vars locks room (more at (s.branch e x y join) proofs rest ∷ bs) (Some w) f q = branch_stands body rest bs at e x y (is_set w) q
-  turned_stands t vars locks room (more at (s.loop e inv x) proofs rest ∷ bs) None f q = q
   turned_stands t vars locks room (more at (s.loop e inv x) proofs rest ∷ bs) (Some w) f q = loop_stands body rest bs at e inv x proofs (is_set w) q
   turned_stands t vars locks room (more at (s.note j) proofs rest ∷ bs) word f q = absurd f.1
+  turned_stands t vars locks room (more at c proofs rest ∷ bs) word f q = let g = rest_stands body rest bs at _ q in grind arith

@@ -1,5 +1,5 @@
 -- A step on frames is the step of the definition on what they stand for.
-use Rattle.std.proofs.Common.{◌≡◌, ℕ, ◌+◌, ◌≤◌, List, [], ◌∷◌, ◌++◌, length, set, refl, ap, sym, ◌∙◌, arith, Bool, true, false, not, Option, Some, None, is_some, if◌then◌else◌}
+use Rattle.std.proofs.Common.{◌≡◌, ℕ, ◌+◌, ◌≤◌, List, [], ◌∷◌, length, refl, ap, sym, ◌∙◌, arith, Bool, true, false, Option, Some, None, if◌then◌else◌}
 use Rattle.std.proofs.lemmas.List.{length-append, length-set}
 use Rattle.cov_expr.specs.Term.{Term, is_set}
 use Rattle.cov_ast.specs.Plain.{plain_block, none}
@@ -7,11 +7,10 @@ use Rattle.cov_ast.specs.Plain as p
 use Rattle.cov_ast.specs.Syntax.{Block, done, more}
 use Rattle.cov_ast.specs.Syntax as s
 use Rattle.cov_ast.specs.WellFormed.{IsBlockInRange}
-use Rattle.flow_model.specs.Source.{Local, local, Holders, Outputs, holder, is_held_by, Item, turn, items_then, after_lock, after_unlock, step_says}
-use Rattle.flow_model.specs.declared.machine.Stepped.TheVariants as stepped
+use Rattle.flow_model.specs.Source.{Local, local, Holders, Outputs, Item, turn, items_then, step_says}
 use Rattle.source_machine.specs.Frames.{items, with_word}
 use Rattle.source_machine.specs.Inside.Entries.{entered, height, AreFrames}
-use Rattle.source_machine.specs.Inside.Turns.{Turned, turned, moved, past, locked, unlocked}
+use Rattle.source_machine.specs.Inside.Turns.{Turned, turned, moved}
 use Rattle.source_machine.proofs.FrameLaws.{items_entered, items_then_last, length_entered, entered_fine}
 
 -- what threads share and what remains of the thread, as the definition sees them
@@ -28,24 +27,6 @@ seen_moved : (m : List ℕ) (h : Holders) (o : Outputs) (b : Block) (bs : List B
 seen_moved m h o b bs = ap (local m h o) (items_entered b bs)
 
 module _ (t : ℕ) (m : List ℕ) (h : Holders) (o : Outputs) (at : ℕ) (proofs : List s.Proof) (rest : Block) (bs : List Block) where
-  lock_does : (l : ℕ) (word u : Option ℕ) → seen (locked m h o (more at (s.lock l) proofs rest ∷ bs) rest t word l u) ≡ after_lock t m h o at l (items_then (plain_block rest) (items bs)) u
-  lock_does l word None = seen_moved m (set h l (Some t)) o rest bs
-  lock_does l None (Some u) = refl
-  lock_does l (Some w) (Some u) = refl
-
-  lock_says : (l : ℕ) (word u : Option ℕ) → (locked m h o (more at (s.lock l) proofs rest ∷ bs) rest t word l u).answer ≡ (if is_some u then stepped.Stayed else stepped.Moved)
-  lock_says l word None = refl
-  lock_says l word (Some u) = refl
-
-  unlock_does : (l : ℕ) (word : Option ℕ) (u : Bool) → seen (unlocked m h o (more at (s.unlock l) proofs rest ∷ bs) rest word l u) ≡ after_unlock m h o at l (items_then (plain_block rest) (items bs)) u
-  unlock_does l word true = seen_moved m (set h l None) o rest bs
-  unlock_does l None false = refl
-  unlock_does l (Some w) false = refl
-
-  unlock_says : (l : ℕ) (word : Option ℕ) (u : Bool) → (unlocked m h o (more at (s.unlock l) proofs rest ∷ bs) rest word l u).answer ≡ (if not u then stepped.Stayed else stepped.Moved)
-  unlock_says l word true = refl
-  unlock_says l word false = refl
-
   branch_does : (one other : Block) (u : Bool) → seen (moved m h o (entered (if u then one else other) (entered rest bs)))
       ≡ local m h o (items_then (if u then plain_block one else plain_block other) (items_then (plain_block rest) (items bs)))
   branch_does one other true = seen_moved m h o one (entered rest bs) ∙ ap (λ is. local m h o (items_then (plain_block one) is)) (items_entered rest bs)
@@ -65,25 +46,10 @@ module _ (t : ℕ) (m : List ℕ) (h : Holders) (o : Outputs) (vars locks room :
   turned_is [] None f = record { does = refl; says = refl }
   turned_is [] (Some w) f = record { does = refl; says = refl }
   turned_is (done ∷ bs) word f = absurd f.1
-  turned_is (more at s.skip proofs rest ∷ bs) None f = record { does = seen_moved m h o rest bs; says = refl }
-  turned_is (more at s.skip proofs rest ∷ bs) (Some w) f = record { does = seen_moved m h o rest bs; says = refl }
-  turned_is (more at (s.assign x e q retypes) proofs rest ∷ bs) None f = record { does = refl; says = refl }
-  turned_is (more at (s.assign x e q retypes) proofs rest ∷ bs) (Some w) f = record { does = seen_moved (set m x w) h o rest bs; says = refl }
-  turned_is (more at (s.output e) proofs rest ∷ bs) None f = record { does = refl; says = refl }
-  turned_is (more at (s.output e) proofs rest ∷ bs) (Some w) f = record { does = seen_moved m h (o ++ w ∷ []) rest bs; says = refl }
-  turned_is (more at (s.lock l) proofs rest ∷ bs) None f =
-      record { does = lock_does t m h o at proofs rest bs l None (holder h l); says = lock_says t m h o at proofs rest bs l None (holder h l) }
-  turned_is (more at (s.lock l) proofs rest ∷ bs) (Some w) f =
-      record { does = lock_does t m h o at proofs rest bs l (Some w) (holder h l); says = lock_says t m h o at proofs rest bs l (Some w) (holder h l) }
-  turned_is (more at (s.unlock l) proofs rest ∷ bs) None f =
-      record { does = unlock_does t m h o at proofs rest bs l None (is_held_by (holder h l) t); says = unlock_says t m h o at proofs rest bs l None (is_held_by (holder h l) t) }
-  turned_is (more at (s.unlock l) proofs rest ∷ bs) (Some w) f =
-      record { does = unlock_does t m h o at proofs rest bs l (Some w) (is_held_by (holder h l) t); says = unlock_says t m h o at proofs rest bs l (Some w) (is_held_by (holder h l) t) }
-  turned_is (more at (s.branch e one other join) proofs rest ∷ bs) None f = record { does = refl; says = refl }
   turned_is (more at (s.branch e one other join) proofs rest ∷ bs) (Some w) f = record { does = branch_does t m h o at proofs rest bs one other (is_set w); says = refl }
-  turned_is (more at (s.loop e inv body) proofs rest ∷ bs) None f = record { does = refl; says = refl }
   turned_is (more at (s.loop e inv body) proofs rest ∷ bs) (Some w) f = record { does = loop_does t m h o at proofs rest bs e inv body (is_set w); says = refl }
   turned_is (more at (s.note j) proofs rest ∷ bs) word f = absurd f.1
+  turned_is (more at c proofs rest ∷ bs) word f = record { does = grind (arith, items_entered); says = grind arith }
 
 -- Frames stay fit to run -----------------------------------------------------------------------------------------
 
@@ -98,16 +64,6 @@ module _ (vars locks room : ℕ) where
   loop_fine body rest b bs true x y = x
   loop_fine body rest b bs false x y = y
 
-  lock_fine : (m : List ℕ) (h : Holders) (o : Outputs) (bs : List Block) (rest : Block) (t : ℕ) (word : Option ℕ) (l : ℕ) (u : Option ℕ)
-      → AreFrames vars locks room bs → AreFrames vars locks room (past rest bs) → AreFrames vars locks room (locked m h o bs rest t word l u).frames
-  lock_fine m h o bs rest t word l None f g = g
-  lock_fine m h o bs rest t word l (Some u) f g = f
-
-  unlock_fine : (m : List ℕ) (h : Holders) (o : Outputs) (bs : List Block) (rest : Block) (word : Option ℕ) (l : ℕ) (u : Bool)
-      → AreFrames vars locks room bs → AreFrames vars locks room (past rest bs) → AreFrames vars locks room (unlocked m h o bs rest word l u).frames
-  unlock_fine m h o bs rest word l true f g = g
-  unlock_fine m h o bs rest word l false f g = f
-
   rest_fine : (at : ℕ) (c : s.Stm) (proofs : List s.Proof) (rest : Block) (bs : List Block) → AreFrames vars locks room (more at c proofs rest ∷ bs)
       → AreFrames vars locks room (entered rest bs)
   rest_fine at c proofs rest bs f = entered_fine vars locks room rest bs (f.0).2 (let k = f.2 in omega arith) f.3
@@ -115,106 +71,27 @@ module _ (vars locks room : ℕ) where
   pub turned_fine : (t : ℕ) (m : List ℕ) (h : Holders) (o : Outputs) (bs : List Block) (word : Option ℕ) → AreFrames vars locks room bs → AreFrames vars locks room (turned t m h o bs word).frames
   turned_fine t m h o [] word f = f
   turned_fine t m h o (done ∷ bs) word f = absurd f.1
-  turned_fine t m h o (more at s.skip proofs rest ∷ bs) word f = rest_fine at s.skip proofs rest bs f
-  turned_fine t m h o (more at (s.assign x e q retypes) proofs rest ∷ bs) None f = f
-  turned_fine t m h o (more at (s.assign x e q retypes) proofs rest ∷ bs) (Some w) f = rest_fine at (s.assign x e q retypes) proofs rest bs f
-  turned_fine t m h o (more at (s.output e) proofs rest ∷ bs) None f = f
-  turned_fine t m h o (more at (s.output e) proofs rest ∷ bs) (Some w) f = rest_fine at (s.output e) proofs rest bs f
-  turned_fine t m h o (more at (s.lock l) proofs rest ∷ bs) word f =
-      lock_fine m h o (more at (s.lock l) proofs rest ∷ bs) rest t word l (holder h l) f (rest_fine at (s.lock l) proofs rest bs f)
-  turned_fine t m h o (more at (s.unlock l) proofs rest ∷ bs) word f =
-      unlock_fine m h o (more at (s.unlock l) proofs rest ∷ bs) rest word l (is_held_by (holder h l) t) f (rest_fine at (s.unlock l) proofs rest bs f)
-  turned_fine t m h o (more at (s.branch e one other join) proofs rest ∷ bs) None f = f
   turned_fine t m h o (more at (s.branch e one other join) proofs rest ∷ bs) (Some w) f =
       let k = f.2 in
       let n = length_entered rest bs in
       branch_fine one other (entered rest bs) (is_set w) ((f.0).0).1 ((f.0).0).2 (omega arith) (omega arith)
       (rest_fine at (s.branch e one other join) proofs rest bs f)
-  turned_fine t m h o (more at (s.loop e inv body) proofs rest ∷ bs) None f = f
   turned_fine t m h o (more at (s.loop e inv body) proofs rest ∷ bs) (Some w) f =
       let k = f.2 in
       loop_fine body rest (more at (s.loop e inv body) proofs rest) bs (is_set w)
       (entered_fine vars locks room body (more at (s.loop e inv body) proofs rest ∷ bs) ((f.0).0).2 (omega arith) f)
       (rest_fine at (s.loop e inv body) proofs rest bs f)
-  turned_fine t m h o (more at (s.note j) proofs rest ∷ bs) word f = absurd f.1
+  turned_fine t m h o (more at c proofs rest ∷ bs) word f = let g = rest_fine at c proofs rest bs f in grind arith
 
 -- Sizes stay ---------------------------------------------------------------------------------------------------
 
-lock_sizes : (m : List ℕ) (h : Holders) (o : Outputs) (bs : List Block) (rest : Block) (t : ℕ) (word : Option ℕ) (l : ℕ) (u : Option ℕ) → length (locked m h o bs rest t word l u).holders ≡ length h
-lock_sizes m h o bs rest t word l None = length-set h l (Some t)
-lock_sizes m h o bs rest t word l (Some u) = refl
-
-unlock_sizes : (m : List ℕ) (h : Holders) (o : Outputs) (bs : List Block) (rest : Block) (word : Option ℕ) (l : ℕ) (u : Bool) → length (unlocked m h o bs rest word l u).holders ≡ length h
-unlock_sizes m h o bs rest word l true = length-set h l None
-unlock_sizes m h o bs rest word l false = refl
-
-lock_memory : (m : List ℕ) (h : Holders) (o : Outputs) (bs : List Block) (rest : Block) (t : ℕ) (word : Option ℕ) (l : ℕ) (u : Option ℕ) → (locked m h o bs rest t word l u).memory ≡ m
-lock_memory m h o bs rest t word l None = refl
-lock_memory m h o bs rest t word l (Some u) = refl
-
-unlock_memory : (m : List ℕ) (h : Holders) (o : Outputs) (bs : List Block) (rest : Block) (word : Option ℕ) (l : ℕ) (u : Bool) → (unlocked m h o bs rest word l u).memory ≡ m
-unlock_memory m h o bs rest word l true = refl
-unlock_memory m h o bs rest word l false = refl
-
 module _ (t : ℕ) (m : List ℕ) (h : Holders) (o : Outputs) where
   pub turned_memory : (bs : List Block) (word : Option ℕ) → length (turned t m h o bs word).memory ≡ length m
-  turned_memory [] word = refl
-  turned_memory (done ∷ bs) word = refl
-  turned_memory (more at s.skip proofs rest ∷ bs) word = refl
-  turned_memory (more at (s.assign x e q retypes) proofs rest ∷ bs) None = refl
-  turned_memory (more at (s.assign x e q retypes) proofs rest ∷ bs) (Some w) = length-set m x w
-  turned_memory (more at (s.lock l) proofs rest ∷ bs) word = ap length (lock_memory m h o (more at (s.lock l) proofs rest ∷ bs) rest t word l (holder h l))
-  turned_memory (more at (s.unlock l) proofs rest ∷ bs) word = ap length (unlock_memory m h o (more at (s.unlock l) proofs rest ∷ bs) rest word l (is_held_by (holder h l) t))
-  turned_memory (more at (s.branch e one other join) proofs rest ∷ bs) None = refl
-  turned_memory (more at (s.branch e one other join) proofs rest ∷ bs) (Some w) = refl
-  turned_memory (more at (s.loop e inv body) proofs rest ∷ bs) None = refl
-  turned_memory (more at (s.loop e inv body) proofs rest ∷ bs) (Some w) = refl
-  turned_memory (more at (s.note j) proofs rest ∷ bs) word = refl
-  turned_memory (more at (s.output e) proofs rest ∷ bs) None = refl
-  turned_memory (more at (s.output e) proofs rest ∷ bs) (Some w) = refl
+  turned_memory bs word = grind (arith, length-set)
 
   pub turned_holders : (bs : List Block) (word : Option ℕ) → length (turned t m h o bs word).holders ≡ length h
-  turned_holders [] word = refl
-  turned_holders (done ∷ bs) word = refl
-  turned_holders (more at s.skip proofs rest ∷ bs) word = refl
-  turned_holders (more at (s.assign x e q retypes) proofs rest ∷ bs) None = refl
-  turned_holders (more at (s.assign x e q retypes) proofs rest ∷ bs) (Some w) = refl
-  turned_holders (more at (s.lock l) proofs rest ∷ bs) word = lock_sizes m h o (more at (s.lock l) proofs rest ∷ bs) rest t word l (holder h l)
-  turned_holders (more at (s.unlock l) proofs rest ∷ bs) word = unlock_sizes m h o (more at (s.unlock l) proofs rest ∷ bs) rest word l (is_held_by (holder h l) t)
-  turned_holders (more at (s.branch e one other join) proofs rest ∷ bs) None = refl
-  turned_holders (more at (s.branch e one other join) proofs rest ∷ bs) (Some w) = refl
-  turned_holders (more at (s.loop e inv body) proofs rest ∷ bs) None = refl
-  turned_holders (more at (s.loop e inv body) proofs rest ∷ bs) (Some w) = refl
-  turned_holders (more at (s.note j) proofs rest ∷ bs) word = refl
-  turned_holders (more at (s.output e) proofs rest ∷ bs) None = refl
-  turned_holders (more at (s.output e) proofs rest ∷ bs) (Some w) = refl
+  turned_holders bs word = grind (arith, length-set)
 
--- Outputs grow by one word at most -----------------------------------------------------------------------------
-
-lock_outputs : (m : List ℕ) (h : Holders) (o : Outputs) (bs : List Block) (rest : Block) (t : ℕ) (word : Option ℕ) (l : ℕ) (u : Option ℕ) → (locked m h o bs rest t word l u).outputs ≡ o
-lock_outputs m h o bs rest t word l None = refl
-lock_outputs m h o bs rest t word l (Some u) = refl
-
-unlock_outputs : (m : List ℕ) (h : Holders) (o : Outputs) (bs : List Block) (rest : Block) (word : Option ℕ) (l : ℕ) (u : Bool) → (unlocked m h o bs rest word l u).outputs ≡ o
-unlock_outputs m h o bs rest word l true = refl
-unlock_outputs m h o bs rest word l false = refl
-
-module _ (t : ℕ) (m : List ℕ) (h : Holders) (o : Outputs) where
-  as_many : (n : Outputs) → n ≡ o → length n ≤ length o + 1
-  as_many n e = let k = ap length e in omega arith
-
+  -- Outputs grow by one word at most.
   pub turned_outputs : (bs : List Block) (word : Option ℕ) → length (turned t m h o bs word).outputs ≤ length o + 1
-  turned_outputs [] word = as_many o refl
-  turned_outputs (done ∷ bs) word = as_many o refl
-  turned_outputs (more at (s.lock l) proofs rest ∷ bs) word = as_many _ (lock_outputs m h o (more at (s.lock l) proofs rest ∷ bs) rest t word l (holder h l))
-  turned_outputs (more at (s.unlock l) proofs rest ∷ bs) word = as_many _ (unlock_outputs m h o (more at (s.unlock l) proofs rest ∷ bs) rest word l (is_held_by (holder h l) t))
-  turned_outputs (more at (s.output e) proofs rest ∷ bs) (Some w) = let k = length-append o (w ∷ []) in omega arith
-  turned_outputs (more at (s.output e) proofs rest ∷ bs) None = as_many o refl
-  turned_outputs (more at (s.assign x e q retypes) proofs rest ∷ bs) None = as_many o refl
-  turned_outputs (more at (s.assign x e q retypes) proofs rest ∷ bs) (Some w) = as_many o refl
-  turned_outputs (more at (s.branch e one other join) proofs rest ∷ bs) None = as_many o refl
-  turned_outputs (more at (s.branch e one other join) proofs rest ∷ bs) (Some w) = as_many o refl
-  turned_outputs (more at (s.loop e inv body) proofs rest ∷ bs) None = as_many o refl
-  turned_outputs (more at (s.loop e inv body) proofs rest ∷ bs) (Some w) = as_many o refl
-  turned_outputs (more at s.skip proofs rest ∷ bs) word = as_many o refl
-  turned_outputs (more at (s.note j) proofs rest ∷ bs) word = as_many o refl
+  turned_outputs bs word = grind (arith, length-append)

@@ -1,10 +1,11 @@
 -- What contracts see of a program that runs, the run of the definition for which it stands, and what calls answer.
-use Rattle.std.specs.Prelude.{ℕ, List, [], ◌∷◌, map, reverse, Option}
+use Rattle.std.specs.Prelude.{ℕ, List, [], ◌∷◌, map, reverse, Option, Some, None}
+use Rattle.std.specs.Option.{option_or}
 use Rattle.cov_ast.specs.View as view
 use Rattle.cov_ast.specs.declared.decl.Program.{Program}
 use Rattle.cov_ast.specs.declared.stmt.Stmt.{Stmt}
 use Rattle.flow_model.specs.FirstDifference.{holders_of}
-use Rattle.cov_ast.specs.Plain.{skip, assign, lock, unlock, branch, loop, output}
+use Rattle.statement_parts.specs.PlainParts.{parts}
 use Rattle.flow_model.specs.Source.{Item, run, put, test, emit, Outputs, Run}
 use Rattle.flow_model.specs.declared.machine.Holder.{Holder}
 use Rattle.source_machine.specs.Frames.{items, with_word}
@@ -36,16 +37,15 @@ run_of m = record { memory = m.memory; holders = holders_of m.holders; outputs =
 
 -- Answers ------------------------------------------------------------------------------------------------------
 
+-- what a step changes that takes a lock or gives it back
+abbrev pub change_of_lock : Option ℕ → Change
+change_of_lock None = change.Nothing
+change_of_lock (Some l) = change.Holder l
+
 -- What the next step of a thread changes beside its items, by the items before it, where the step doesn't stay.
 abbrev pub change_of : List Item → Change
 change_of [] = change.Nothing
-change_of (run at skip ∷ rest) = change.Nothing
-change_of (run at (assign x e) ∷ rest) = change.Nothing
-change_of (run at (lock l) ∷ rest) = change.Holder l
-change_of (run at (unlock l) ∷ rest) = change.Holder l
-change_of (run at (branch e a b) ∷ rest) = change.Nothing
-change_of (run at (loop e b) ∷ rest) = change.Nothing
-change_of (run at (output e) ∷ rest) = change.Nothing
+change_of (run at c ∷ rest) = change_of_lock (option_or (parts c).taken (parts c).returned)
 change_of (put at x word ∷ rest) = change.Word x
 change_of (test at word a b ∷ rest) = change.Nothing
 change_of (emit at word ∷ rest) = change.Outputs

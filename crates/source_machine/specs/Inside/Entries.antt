@@ -1,18 +1,12 @@
 -- Frames as blocks are entered, how many there are at most, and which can run.
-use Rattle.std.specs.Prelude.{ℕ, ◌+◌, ◌≤◌, List, [], ◌∷◌, length, max, Bool, true, false, if◌then◌else◌}
-use Rattle.cov_ast.specs.Syntax.{Stm, Block, done, more}
-use Rattle.cov_ast.specs.Syntax as s
+use Rattle.std.specs.Prelude.{ℕ, ◌+◌, ◌≤◌, ◌&&◌, List, [], ◌∷◌, length, max, Bool, MatchBool, not, is_some, if◌then◌else◌}
+use Rattle.cov_ast.specs.Syntax.{Proof, Stm, Block, done, more}
 use Rattle.cov_ast.specs.WellFormed.{IsBlockInRange}
+use Rattle.statement_parts.specs.Parts.{Inside, made, made_inside, of_either, of_none, of_turn, parts}
 
+-- It only states something: it has no guard.
 abbrev pub is_note : Stm → Bool
-is_note s.skip = false
-is_note (s.assign x e q retypes) = false
-is_note (s.lock l) = false
-is_note (s.unlock l) = false
-is_note (s.branch e a b join) = false
-is_note (s.loop e inv b) = false
-is_note (s.note j) = true
-is_note (s.output e) = false
+is_note c = is_some (parts c).state && not (is_some (parts c).guard)
 
 -- a block from its first statement on that takes a step
 abbrev pub without_notes : Block → Block
@@ -34,35 +28,32 @@ outer (b ∷ bs) = bs
 
 -- Heights ------------------------------------------------------------------------------------------------------
 
-abbrev mutual
-  -- how many frames a thread has at most while it runs a statement, and a block
-  pub stm_height : Stm → ℕ
-  stm_height s.skip = 1
-  stm_height (s.assign x e q retypes) = 1
-  stm_height (s.lock l) = 1
-  stm_height (s.unlock l) = 1
-  stm_height (s.branch e a b join) = 1 + max (height a) (height b)
-  stm_height (s.loop e inv b) = 1 + height b
-  stm_height (s.note j) = 0
-  stm_height (s.output e) = 1
+-- the frame of the statement, if it takes a step
+abbrev pub own_height : Stm → ℕ
+own_height c = if is_note c then 0 else 1
 
-  pub height : Block → ℕ
-  height done = 0
-  height (more at c proofs b) = max (stm_height c) (height b)
+-- with the frames of the blocks inside, of which the thread stands in one
+abbrev pub with_blocks : (own : ℕ) → Inside ℕ → ℕ
+with_blocks own of_none = own
+with_blocks own (of_turn e inv n) = own + n
+with_blocks own (of_either e join n k) = own + max n k
+
+abbrev pub or_behind : (at : ℕ) → Stm → List Proof → Inside ℕ → (rest : ℕ) → ℕ
+or_behind at c proofs inside rest = max (with_blocks (own_height c) inside) rest
+
+-- how many frames a thread has at most while it runs a statement, and a block
+abbrev pub stm_height : Stm → ℕ
+stm_height c = with_blocks (own_height c) (made_inside 0 or_behind c)
+
+abbrev pub height : Block → ℕ
+height b = made 0 or_behind b
 
 -- Frames that can run ------------------------------------------------------------------------------------------
 
 -- The block begins with a statement that takes a step.
 abbrev pub IsReady : Block → Type 0
 IsReady done = ⊥
-IsReady (more at s.skip proofs b) = Unit {0}
-IsReady (more at (s.assign x e q retypes) proofs b) = Unit {0}
-IsReady (more at (s.lock l) proofs b) = Unit {0}
-IsReady (more at (s.unlock l) proofs b) = Unit {0}
-IsReady (more at (s.branch e x y join) proofs b) = Unit {0}
-IsReady (more at (s.loop e inv x) proofs b) = Unit {0}
-IsReady (more at (s.note j) proofs b) = ⊥
-IsReady (more at (s.output e) proofs b) = Unit {0}
+IsReady (more at c proofs b) = MatchBool (is_note c) ⊥ (Unit {0})
 
 -- Each frame is in range and begins with a statement that takes a step, and there is room for all that it enters.
 module _ (vars locks room : ℕ) where
