@@ -15,7 +15,7 @@ use Rattle.cov_ast.specs.declared.decl.LockDecl.{LockDecl}
 use Rattle.mode_state.specs.Sets.{Sets, modes_at, is_stable, locks_of}
 use Rattle.mode_state.proofs.HeldLaws.{any_from}
 use Rattle.point_law.specs.Point.{Point, is_tracked, given_type, default_type}
-use Rattle.point_law.specs.After.{locked_type, after_lock, unlocked_type, kept_type, after_unlock}
+use Rattle.point_law.specs.After.{locked_type, unlocked_type, kept_type, updated}
 use Rattle.point_law.specs.Point.{IsPoint}
 use Rattle.typing_state.specs.Inside.Tells.{IsTrackedBeside}
 use Rattle.point_law.specs.Terms.{each_variable, is_closed_type}
@@ -63,15 +63,9 @@ module _ (p : Plain) (t l : ℕ) (held : List Bool) (count : length held ≡ len
   tracked_then x true false q h e k = sym (ap (λ b. b && true) (stable_under x h))
   tracked_then x false c q h e k = k ∙ (λ i. sym (unlisted_stable p t l held true x h) i && not (e i))
 
-pub lock_point : (p : Plain) (t l : ℕ) (a : Point) → l < length p.locks → IsPoint p t a → IsPoint p t (after_lock p t a l)
-lock_point p t l a inside h = record {
-  complete = length-updated (locked_type p l) a.types ∙ h.complete;
-  locks = length-set a.held l true ∙ h.locks;
-  tracked = λ x lt.
-      let there : x < length a.types = omega (arith, h.complete) in
-      ap is_some (updated_at (locked_type p l) a.types x None there)
-      ∙ tracked_then p t l a.held h.locks inside x (under p l x) (is_control p x) (given_type a x) refl refl (h.tracked x lt);
-}
+  -- each variable that is tracked has a type then
+  pub locked_tracked : (x : ℕ) (q : Option Term) → is_some q ≡ is_tracked p t held x → is_some (locked_type p l x q) ≡ is_tracked p t (set held l true) x
+  locked_tracked x q e = tracked_then x (under p l x) (is_control p x) q refl refl e
 
 -- Which variables are stable once it is given back -------------------------------------------------------------
 
@@ -101,17 +95,20 @@ module _ (p : Plain) (t l : ℕ) (held : List Bool) (count : length held ≡ len
   tracked_after x true f q e h = some_mapped f q ∙ h ∙ tracked_before x e
   tracked_after x false f q e h = refl
 
-pub unlock_point : (p : Plain) (t l : ℕ) (a : Point) → l < length p.locks → IsPoint p t a → IsPoint p t (after_unlock p t a l)
-unlock_point p t l a inside h =
-    let held = set a.held l false in
-    record {
-      complete = length-updated (unlocked_type p t held) a.types ∙ h.complete;
-      locks = length-set a.held l false ∙ h.locks;
-      tracked = λ x lt.
-          let there : x < length a.types = omega (arith, h.complete) in
-          ap is_some (updated_at (unlocked_type p t held) a.types x None there)
-          ∙ tracked_after p t l a.held h.locks inside x (is_tracked p t held x) (kept_type p t held x) (given_type a x) refl (h.tracked x lt);
-    }
+  pub unlocked_tracked : (x : ℕ) (q : Option Term) → is_some q ≡ is_tracked p t held x → is_some (unlocked_type p t (set held l false) x q) ≡ is_tracked p t (set held l false) x
+  unlocked_tracked x q e = tracked_after x (is_tracked p t (set held l false) x) (kept_type p t (set held l false) x) q refl e
+
+-- a lock is held or not from then on, and each variable that is tracked then has a type
+pub held_point : (p : Plain) (t l : ℕ) (a : Point) (b : Bool) (f : ℕ → Option Term → Option Term) (es : List Term) → IsPoint p t a
+    → ((x : ℕ) → is_some (given_type a x) ≡ is_tracked p t a.held x → is_some (f x (given_type a x)) ≡ is_tracked p t (set a.held l b) x)
+    → IsPoint p t (record { held = set a.held l b; types = updated f a.types; preds = es })
+held_point p t l a b f es h tracked = record {
+  complete = length-updated f a.types ∙ h.complete;
+  locks = length-set a.held l b ∙ h.locks;
+  tracked = λ x lt.
+      let there : x < length a.types = omega (arith, h.complete) in
+      ap is_some (updated_at f a.types x None there) ∙ tracked x (h.tracked x lt);
+}
 
 -- What a lock that is given back leaves alone ------------------------------------------------------------------
 

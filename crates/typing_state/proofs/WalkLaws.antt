@@ -27,6 +27,14 @@ done_below f from n end (Some x) le h = at (nat_lt x end) refl
     at true e = (ltb-true x end e, h.1, h.2)
     at false e = λ k low high. h.2 k low (let past : end ≤ x = ltb-false x end e in omega arith)
 
+-- where each is walked
+pub done_next : (f : ℕ → Bool) (from end : ℕ) → AreDone f from end (if_below end (Some from))
+done_next f from end = at (nat_lt from end) refl
+  where
+    at : (b : Bool) → nat_lt from end ≡ b → AreDone f from end (if b then Some from else None)
+    at true e = (ltb-true from end e, omega arith, λ k low high. absurd (omega arith))
+    at false e = λ k low high. absurd (let past : end ≤ from = ltb-false from end e in omega arith)
+
 -- what comes next comes before an end that it is below
 pub below_some : (P : ℕ → Type 0) (end : ℕ) (x : Option ℕ) → IfSome x P → IfSome (if_below end x) P
 below_some P end None h = tt

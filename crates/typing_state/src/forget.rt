@@ -10,7 +10,8 @@ ghost use Rattle.cov_ast.specs.View as view;
 ghost use Rattle.cov_ast.specs.WellFormed.{IsWellFormed};
 ghost use Rattle.point_law.specs.After as after;
 ghost use Rattle.typing_state.specs.Groups.{is_free};
-ghost use Rattle.typing_state.specs.Inside.Tells.{AtEach, IsTrackedBeside, passes};
+ghost use Rattle.typing_state.specs.Inside.Forgotten.{AreFit, IsInRange, is_left_out, is_passed, left, stays};
+ghost use Rattle.typing_state.specs.Inside.Tells.{AtEach, Tells, passes};
 ghost use Rattle.point_law.specs.AtModes.{AtModes};
 ghost use Rattle.point_law.specs.Point as point;
 ghost use Rattle.point_law.specs.Terms.{is_closed_type};
@@ -43,27 +44,57 @@ pub fn default_type(
     variables.class(x)
 }
 
-/// Forgets what isn't stable any longer, once a lock is given back: types of variables that aren't tracked, and types that
-/// mention a variable that isn't stable. Only the variables of the lock, and those whose type mentions a variable, are walked.
-pub fn unlock_types(
+/// Which types are forgotten.
+#[derive(Clone, Copy)]
+pub enum Forgotten {
+    /// Every one.
+    Every,
+    /// Those that mention a variable, which has a new value.
+    Mentioning(u32),
+    /// Those that mention a variable that isn't stable any longer, where a lock is given back. What isn't tracked any longer has no
+    /// type then.
+    Unstable(u32),
+}
+
+/// Gives each variable whose type is forgotten what is known of it without more. Only those are walked whose type may be forgotten.
+pub fn forget(
     p: &Program,
     modes: &ModeState,
     variables: &Variables,
-    l: u32,
+    which: Forgotten,
     types: &mut Types,
 ) -> Result<(), NoMemory>
     requires formed { IsWellFormed (view.program p.now) }
-    requires lock { l < length p.now.locks }
+    requires range { IsInRange (length p.now.locks) which }
     ensures { OnOk result (AtEach (plain (view.program p.now)) modes.now variables.now (λ t held. length types.old ≤ length p.now.vars
-        → IsTrackedBeside (plain (view.program p.now)) t held l (map (option_map term) types.old)
-        → map (option_map term) types.new ≡ after.updated (after.unlocked_type (plain (view.program p.now)) t held) (map (option_map term) types.old))) }
+        → AreFit (plain (view.program p.now)) t held which (map (option_map term) types.old)
+        → map (option_map term) types.new ≡ after.updated (left (plain (view.program p.now)) t held which) (map (option_map term) types.old))) }
 {
     let mut from = 0;
-    while let Some(z) = next_changed(p, modes, types, l, from) {
-        unlock_type(p, modes, variables, types, z)?;
+    while let Some(z) = next_forgotten(p, modes, types, which, from) {
+        forget_type(p, modes, variables, which, types, z)?;
         from = z + 1;
     }
     Ok(())
+}
+
+/// The first variable from a number on whose type may be forgotten.
+fn next_forgotten(
+    p: &Program,
+    modes: &ModeState,
+    types: &Types,
+    which: Forgotten,
+    from: u32,
+) -> Option<u32>
+    requires formed { IsWellFormed (view.program p.now) }
+    requires range { IsInRange (length p.now.locks) which }
+    ensures { AreDone (λ k. is_passed modes.now which k (get_or (map (option_map term) types.now) k None)) from (length p.now.vars) result }
+{
+    match which {
+        Forgotten::Every => if_below(var_count(p), Some(from)),
+        Forgotten::Mentioning(x) => next_mentioning(p, types, x, from),
+        Forgotten::Unstable(l) => next_changed(p, modes, types, l, from),
+    }
 }
 
 /// The first variable from a number on that a lock lists, or whose type may mention a variable.
@@ -105,29 +136,56 @@ pub fn if_below(end: u32, x: Option<u32>) -> Option<u32>
     }
 }
 
-fn unlock_type(
+/// Forgets the type of a variable, if it is one of those.
+fn forget_type(
     p: &Program,
     modes: &ModeState,
     variables: &Variables,
+    which: Forgotten,
     types: &mut Types,
     z: u32,
 ) -> Result<(), NoMemory>
     requires formed { IsWellFormed (view.program p.now) }
+    requires range { IsInRange (length p.now.locks) which }
     requires variable { z < length p.now.vars }
     ensures { OnOk result (AtEach (plain (view.program p.now)) modes.now variables.now (λ t held.
         map (option_map term) types.new ≡ set (map (option_map term) types.old) z
-        (after.unlocked_type (plain (view.program p.now)) t held z (get_or (map (option_map term) types.old) z None)))) }
+        (left (plain (view.program p.now)) t held which z (get_or (map (option_map term) types.old) z None)))) }
 {
-    if !is_tracked(modes, variables, z) {
+    if is_left_out(modes, variables, which, z) {
         types.set(z, None);
         return Ok(());
     }
-    if keeps_type(p, modes, types, z) {
+    if stays(p, modes, types, which, z) {
         return Ok(());
     }
     let known = default_type(modes, variables, z)?;
     types.set(z, Some(known));
     Ok(())
+}
+
+/// Whether a variable has no type any longer.
+fn is_left_out(modes: &ModeState, variables: &Variables, which: Forgotten, z: u32) -> bool
+    ensures { Tells (λ p t held z. is_left_out p t held which z) modes.now variables.now z result }
+{
+    match which {
+        Forgotten::Every | Forgotten::Mentioning(_) => false,
+        Forgotten::Unstable(_) => !is_tracked(modes, variables, z),
+    }
+}
+
+/// Whether the type of a variable, if there is one, isn't forgotten.
+fn stays(p: &Program, modes: &ModeState, types: &Types, which: Forgotten, z: u32) -> bool
+    requires formed { IsWellFormed (view.program p.now) }
+    requires range { IsInRange (length p.now.locks) which }
+    ensures { AtModes (plain (view.program p.now)) modes.now (λ t held.
+        result ≡ stays (plain (view.program p.now)) t held which (get_or (map (option_map term) types.now) z None)) }
+{
+    match which {
+        Forgotten::Every => !types.has(z),
+        Forgotten::Mentioning(x) => types.is_free(z, x),
+        Forgotten::Unstable(_) => keeps_type(p, modes, types, z),
+    }
 }
 
 /// Whether the type of a variable, if there is one, is over stable variables.
@@ -140,86 +198,6 @@ fn keeps_type(p: &Program, modes: &ModeState, types: &Types, z: u32) -> bool
         Some(q) => is_kept(p, modes, q),
         None => true,
     }
-}
-
-/// Forgets the types that mention a variable, which has a new value. Only variables of whose sixteen some type may mention it
-/// are walked.
-pub fn forget_types(
-    p: &Program,
-    modes: &ModeState,
-    variables: &Variables,
-    x: u32,
-    types: &mut Types,
-) -> Result<(), NoMemory>
-    requires formed { IsWellFormed (view.program p.now) }
-    requires small { x < MOST_VARIABLES }
-    ensures { OnOk result (AtEach (plain (view.program p.now)) modes.now variables.now (λ t held. length types.old ≤ length p.now.vars
-        → map (option_map term) types.new ≡ after.retyped (after.forgotten_type (plain (view.program p.now)) t held x) (map (option_map term) types.old))) }
-{
-    let mut from = 0;
-    while let Some(z) = next_mentioning(p, types, x, from) {
-        forget_type(p, modes, variables, x, types, z)?;
-        from = z + 1;
-    }
-    Ok(())
-}
-
-fn forget_type(
-    p: &Program,
-    modes: &ModeState,
-    variables: &Variables,
-    x: u32,
-    types: &mut Types,
-    z: u32,
-) -> Result<(), NoMemory>
-    requires variable { z < length p.now.vars }
-    requires small { x < MOST_VARIABLES }
-    ensures { OnOk result (AtEach (plain (view.program p.now)) modes.now variables.now (λ t held.
-        map (option_map term) types.new ≡ set (map (option_map term) types.old) z
-        (option_map (after.forgotten_type (plain (view.program p.now)) t held x z) (get_or (map (option_map term) types.old) z None)))) }
-{
-    if types.is_free(z, x) {
-        return Ok(());
-    }
-    let known = default_type(modes, variables, z)?;
-    types.set(z, Some(known));
-    Ok(())
-}
-
-/// Gives each variable that has a type what is known of it without more.
-pub fn reset_types(
-    p: &Program,
-    modes: &ModeState,
-    variables: &Variables,
-    types: &mut Types,
-) -> Result<(), NoMemory>
-    requires { IsWellFormed (view.program p.now) }
-    ensures { OnOk result (AtEach (plain (view.program p.now)) modes.now variables.now (λ t held. length types.old ≤ length p.now.vars
-        → map (option_map term) types.new ≡ after.retyped (λ z g. point.default_type (plain (view.program p.now)) t held z) (map (option_map term) types.old))) }
-{
-    for z in 0..var_count(p) {
-        reset_type(p, modes, variables, types, z)?;
-    }
-    Ok(())
-}
-
-fn reset_type(
-    p: &Program,
-    modes: &ModeState,
-    variables: &Variables,
-    types: &mut Types,
-    z: u32,
-) -> Result<(), NoMemory>
-    requires { z < length p.now.vars }
-    ensures { OnOk result (AtEach (plain (view.program p.now)) modes.now variables.now (λ t held.
-        map (option_map term) types.new ≡ set (map (option_map term) types.old) z
-        (option_map (λ g. point.default_type (plain (view.program p.now)) t held z) (get_or (map (option_map term) types.old) z None)))) }
-{
-    if types.has(z) {
-        let known = default_type(modes, variables, z)?;
-        types.set(z, Some(known));
-    }
-    Ok(())
 }
 
 /// The types after a variable has a value of a type.
@@ -263,7 +241,7 @@ fn retype(
         → map (option_map term) types.new ≡ after.retyped (λ z g. after.listed_or (map view.retype retypes.now) z (after.forgotten_type (plain (view.program p.now)) t held x z g))
         (map (option_map term) types.old))) }
 {
-    forget_types(p, modes, variables, x, types)?;
+    forget(p, modes, variables, Forgotten::Mentioning(x), types)?;
     put_retypes(alloc, types, retypes)?;
     Ok(())
 }

@@ -10,7 +10,7 @@ ghost use Rattle.point_law.specs.After as after;
 ghost use Rattle.typing_state.specs.KeptPoints.{KeepsParts};
 ghost use Rattle.typing_state.specs.Inside.Tells.{OfParts};
 
-use crate::forget::{assign_types, reset_types, unlock_types};
+use crate::forget::{Forgotten, assign_types, forget};
 use crate::locks::lock_types;
 use crate::predicates::Predicates;
 use crate::preds::{add_any, add_value, is_over_stable};
@@ -103,7 +103,13 @@ impl Parts {
         ensures { OnOk result (OfParts (plain (view.program p.now)) self.old (λ t a.
             KeepsParts (plain (view.program p.now)) t (after.meet (plain (view.program p.now)) t a (view.state s.now)) self.new)) }
     {
-        reset_types(p, &self.modes, self.variables.as_ref(), &mut self.types)?;
+        forget(
+            p,
+            &self.modes,
+            self.variables.as_ref(),
+            Forgotten::Every,
+            &mut self.types,
+        )?;
         self.note(alloc, s)?;
         Ok(())
     }
@@ -130,7 +136,13 @@ impl Parts {
     {
         self.modes.give(l);
         self.preds.drop_unstable(p, &self.modes);
-        unlock_types(p, &self.modes, self.variables.as_ref(), l, &mut self.types)?;
+        forget(
+            p,
+            &self.modes,
+            self.variables.as_ref(),
+            Forgotten::Unstable(l),
+            &mut self.types,
+        )?;
         Ok(())
     }
 

@@ -11,5 +11,5 @@ returns c t held modes variables small =
     let p = plain (view.program c.args.p.now) in
     let qs = map (option_map term) c.args.types.now in
     let retypes = map view.retype c.args.retypes.now in
-    c.in_ok-put_retypes.ensures ∙ ap (retyped (listed_or retypes)) (c.in_ok-forget_types.ensures t held modes variables small)
+    c.in_ok-put_retypes.ensures ∙ ap (retyped (listed_or retypes)) (c.in_ok-forget.ensures t held modes variables small tt)
     ∙ retyped_twice (listed_or retypes) (forgotten_type p t held c.args.x) qs
