@@ -1,5 +1,5 @@
 -- How many entailments a statement and a block have at most, by their size.
-use Rattle.std.proofs.Common.{◌≡◌, ℕ, zero, suc, ◌+◌, ◌*◌, ◌<◌, ◌≤◌, ◌==◌, eqb, not, List, [], ◌∷◌, ◌++◌, length, map, filter, get_or, Bool, true, false, sum_by, option_to_list, refl, subst, arith, Option, Some, None, IsTrue, All, eq-eqb, eqb-true, ⊎_elim, ◌&&◌, ◌||◌}
+use Rattle.std.proofs.Common.{◌≡◌, ℕ, zero, suc, ◌+◌, ◌*◌, ◌<◌, ◌≤◌, ◌==◌, eqb, not, List, [], ◌∷◌, ◌++◌, length, map, filter, get_or, Bool, true, false, sum_by, option_to_list, refl, subst, ap, arith, Option, Some, None, IsTrue, All, eq-eqb, eqb-true, ⊎_elim, ◌&&◌, ◌||◌}
 use Rattle.std.specs.List.{AllByRecursion, IsDistinct, list_any, flat_map}
 use Rattle.std.proofs.lemmas.Bool.{not-true, or_cases, or_left, false_from_ne_true}
 use Rattle.std.proofs.lemmas.List.{length-append, length-map}
@@ -12,7 +12,7 @@ use Rattle.cov_expr.specs.Trees.{has_number, nodes, mentions}
 use Rattle.cov_ast.specs.Declarations.{class_of, is_control, lock_at, no_lock}
 use Rattle.cov_ast.specs.Obligations.{all_hold}
 use Rattle.cov_ast.specs.Plain.{plain}
-use Rattle.cov_ast.specs.Syntax.{Lock, Program, State, Proof, Stm, skip, assign, lock, unlock, branch, loop, note, output, Block, done, more}
+use Rattle.cov_ast.specs.Syntax.{Lock, Program, State, Stm, assign, branch, loop, Block, done, more}
 use Rattle.cov_ast.specs.WellFormed.{IsWellFormed, IsStmInRange, IsBlockInRange, places, places_within, types_size, state_size, stm_size, block_size}
 use Rattle.lock_spec.specs.Locks.{listing_obligations, w4_from, invariant_obligations, lock_obligations}
 use Rattle.policy_class.specs.Policy.{policy_obligations}
@@ -23,9 +23,10 @@ use Rattle.point_law.specs.Point.{Point, vars_of}
 use Rattle.point_law.specs.After.{with_guard, meet}
 use Rattle.typing_law.specs.Counts.{entailment_count}
 use Rattle.typing_law.specs.Blocks.{value_type, after_stm, after_block}
-use Rattle.typing_law.specs.Entailments.{Entailment, from_preds, from_one_more, type_follows, state_follows, guard_follows, written_type, shown_value, shown_controlled, controlled_follows, controlled_values, retype_follows, assign_entailments, freed_value, unlock_entailments}
-use Rattle.typing_law.specs.ThreadObligations.{flat, stm_parts, block_obligations}
-use Rattle.typing_law.proofs.Counting.{count_skip, count_assign, count_lock, count_unlock, count_note, count_output, count_branch, count_loop, count_more}
+use Rattle.typing_law.specs.Entailments.{Entailment, from_preds, from_one_more, type_follows, state_follows, guard_follows, written_type, shown_value, shown_controlled, controlled_follows, controlled_values, retype_follows, assign_entailments}
+use Rattle.typing_law.specs.ThreadEntailments.{block_entailments, placed_from, stm_entailments}
+use Rattle.typing_law.specs.ThreadObligations.{block_obligations}
+use Rattle.typing_law.proofs.Counting.{block_counted, placed_length}
 use Rattle.typing_law.proofs.Soundness.FromObligations.{AllTrue, all_true, true_left, true_right}
 use Rattle.typing_law.proofs.Soundness.Lists.{has_left, has_right}
 use Rattle.typing_law.proofs.Soundness.Static.{clash, cond_is}
@@ -149,20 +150,6 @@ module _ (p : Program) (t : ℕ) where
 
   -- of a program with true declarations
   module _ (fine : IsWellFormed p) (h : IsTrue (all_hold (declaration_obligations p))) where
-    pub few_entailments_unlock : (a : Point) (l : ℕ) → l < length p.locks → length (unlock_entailments (plain p) t a l) ≤ 1024
-    few_entailments_unlock a l lt =
-        let k = lock_at (plain p) l in
-        let freed = filter (λ x. not (is_control (plain p) x)) k.hide in
-        omega (
-          arith,
-          length-append (map (from_preds a.preds) (option_to_list k.inv)) (map (freed_value (plain p) t a) freed),
-          length-map (option_to_list k.inv) (from_preds a.preds),
-          one_at_most k.inv,
-          length-map freed (freed_value (plain p) t a),
-          length-filter-le (λ x. not (is_control (plain p) x)) k.hide,
-          few_hidden p fine h l lt,
-        )
-
     pub few_entailments_assign : (a : Point) (x : ℕ) (e : Term) (q : Option Term) (retypes : List (ℕ × Term))
         → length (assign_entailments (plain p) t a x e q retypes) ≤ 1024 * (1 + stm_size (assign x e q retypes))
     few_entailments_assign a x e q retypes =
@@ -184,44 +171,77 @@ module _ (p : Program) (t : ℕ) where
         )
 
     mutual
-      pub few_entailments_of : (s : Stm) (at : ℕ) (proofs : List Proof) (a : Point) → IsStmInRange (length p.vars) (length p.locks) s
-          → entailment_count (flat (stm_parts (plain p) t s at proofs a)) ≤ 1024 * (1 + stm_size s)
-      few_entailments_of skip at proofs a r = omega (arith, count_skip (plain p) t at proofs a)
-      few_entailments_of (assign x e q retypes) at proofs a r =
-          omega (arith, count_assign (plain p) t at proofs a x e q retypes, few_entailments_assign a x e q retypes)
-      few_entailments_of (lock l) at proofs a r = omega (arith, count_lock (plain p) t at proofs a l)
-      few_entailments_of (unlock l) at proofs a r = omega (arith, count_unlock (plain p) t at proofs a l, few_entailments_unlock a l r)
-      few_entailments_of (branch e yes_block no_block join) at proofs a r =
+      few_of : (s : Stm) (at : ℕ) (a : Point) → IsStmInRange (length p.vars) (length p.locks) s
+          → length (stm_entailments (plain p) t s at a) ≤ 1024 * (1 + stm_size s)
+      few_of (assign x e q retypes) at a r =
+          omega (arith, placed_length at 1 (assign_entailments (plain p) t a x e q retypes), few_entailments_assign a x e q retypes)
+      few_of (branch e yes_block no_block join) at a r =
           let yes_start = with_guard (plain p) t a e in
           let no_start = with_guard (plain p) t a (neg e) in
           let yes_end = after_block (plain p) t yes_block yes_start in
           let no_end = after_block (plain p) t no_block no_start in
+          let inside = block_entailments (plain p) t yes_block yes_start in
+          let behind = block_entailments (plain p) t no_block no_start in
+          let hs = state_follows yes_end join ++ state_follows no_end join in
           omega (
             arith,
-            count_branch (plain p) t at proofs a e yes_block no_block join,
-            few_entailments yes_block yes_start r.1,
-            few_entailments no_block no_start r.2,
+            length-append inside (behind ++ placed_from at 2 hs),
+            length-append behind (placed_from at 2 hs),
+            few_in yes_block yes_start r.1,
+            few_in no_block no_start r.2,
+            placed_length at 2 hs,
             length-append (state_follows yes_end join) (state_follows no_end join),
             few_entailments_state yes_end join,
             few_entailments_state no_end join,
           )
-      few_entailments_of (loop e inv b) at proofs a r =
+      few_of (loop e inv b) at a r =
           let head = meet (plain p) t a inv in
           let start = with_guard (plain p) t head e in
           let end = after_block (plain p) t b start in
+          let gs = state_follows a inv ++ guard_follows (plain p) t head e ∷ [] in
+          let inside = block_entailments (plain p) t b start in
+          let last = placed_from at (suc (length gs)) (state_follows end inv) in
           omega (
             arith,
-            count_loop (plain p) t at proofs a e inv b,
+            length-append (placed_from at 1 gs) (inside ++ last),
+            length-append inside last,
+            placed_length at 1 gs,
+            placed_length at (suc (length gs)) (state_follows end inv),
             length-append (state_follows a inv) (guard_follows (plain p) t head e ∷ []),
             few_entailments_state a inv,
-            few_entailments b start r.2,
+            few_in b start r.2,
             few_entailments_state end inv,
           )
-      few_entailments_of (note j) at proofs a r = omega (arith, count_note (plain p) t at proofs a j, few_entailments_state a j)
-      few_entailments_of (output e) at proofs a r = omega (arith, count_output (plain p) t at proofs a e)
+      few_of _ at a r =
+          omega (
+            arith,
+            placed_length,
+            length-append {A = Entailment},
+            length-map {A = Term} {B = Entailment},
+            length-map {A = ℕ} {B = Entailment},
+            length-filter-le {X = ℕ},
+            one_at_most,
+            few_entailments_state,
+            few_hidden p fine h,
+          )
 
-      pub few_entailments : (b : Block) (a : Point) → IsBlockInRange (length p.vars) (length p.locks) b
-          → entailment_count (block_obligations (plain p) t b a) ≤ 1024 * block_size b
-      few_entailments done a r = omega arith
-      few_entailments (more at s proofs b) a r =
-          omega (arith, count_more (plain p) t at s proofs b a, few_entailments_of s at proofs a r.0, few_entailments b (after_stm (plain p) t s a) r.2)
+      few_in : (b : Block) (a : Point) → IsBlockInRange (length p.vars) (length p.locks) b
+          → length (block_entailments (plain p) t b a) ≤ 1024 * block_size b
+      few_in done a r = omega arith
+      few_in (more at s proofs b) a r =
+          let behind = after_stm (plain p) t s a in
+          omega (
+            arith,
+            length-append (stm_entailments (plain p) t s at a) (block_entailments (plain p) t b behind),
+            few_of s at a r.0,
+            few_in b behind r.2,
+          )
+
+    -- those of a statement that has these alone
+    pub few_own : (s : Stm) (at : ℕ) (a : Point) (gs : List Entailment) → stm_entailments (plain p) t s at a ≡ placed_from at 1 gs
+        → IsStmInRange (length p.vars) (length p.locks) s → length gs ≤ 1024 * (1 + stm_size s)
+    few_own s at a gs are r = omega (arith, few_of s at a r, ap length are, placed_length at 1 gs)
+
+    pub few_entailments : (b : Block) (a : Point) → IsBlockInRange (length p.vars) (length p.locks) b
+        → entailment_count (block_obligations (plain p) t b a) ≤ 1024 * block_size b
+    few_entailments b a r = omega (arith, block_counted (plain p) t b a, few_in b a r)

@@ -1,13 +1,12 @@
--- How many entailments the obligations of a statement have, kind by kind, and that there are as many entailments.
-use Rattle.std.proofs.Common.{◌≡◌, ℕ, suc, ◌+◌, List, [], ◌∷◌, ◌++◌, length, map, Bool, true, false, cond, ◌&&◌, if◌then◌else◌, refl, sym, ap, ◌∙◌, arith, Option}
-use Rattle.std.proofs.lemmas.List.{length-append}
+-- How many entailments the obligations of a statement have, and that they ask for its entailments, in their order.
+use Rattle.std.proofs.Common.{◌≡◌, ℕ, suc, ◌+◌, List, [], ◌∷◌, ◌++◌, length, map, Bool, true, false, cond, if◌then◌else◌, refl, sym, ap, subst, ◌∙◌, arith}
+use Rattle.std.proofs.lemmas.List.{append-nil, length-append}
 use Rattle.std.proofs.lemmas.List.Sums.{sum_by-append}
 use Rattle.cov_expr.specs.Term.{Term, neg}
 use Rattle.cov_expr.specs.Trees.{vars}
-use Rattle.cov_ast.specs.Declarations.{is_control}
 use Rattle.cov_ast.specs.Obligations.{Obligation}
 use Rattle.cov_ast.specs.Plain.{Plain}
-use Rattle.cov_ast.specs.Syntax.{State, Proof, Stm, skip, assign, lock, unlock, branch, loop, note, output, Block, done, more}
+use Rattle.cov_ast.specs.Syntax.{State, Proof, Stm, branch, loop, Block, done, more}
 use Rattle.cov_ast.specs.declared.refusal.Rule.TheVariants.{V5, V9}
 use Rattle.cov_ast.specs.declared.refusal.Detail.TheVariants.{Number}
 use Rattle.mode_state.specs.Sets.{is_stable}
@@ -15,8 +14,8 @@ use Rattle.point_law.specs.Point.{Point, is_tracked}
 use Rattle.point_law.specs.After.{with_guard, meet}
 use Rattle.typing_law.specs.Counts.{entailment_count, is_entailment}
 use Rattle.typing_law.specs.Blocks.{after_stm, after_block}
-use Rattle.typing_law.specs.Entailments.{Entailment, is_proved, guard_follows, state_follows, assign_entailments, unlock_entailments}
-use Rattle.typing_law.specs.ThreadEntailments.{block_entailments, placed_from, stm_entailments}
+use Rattle.typing_law.specs.Entailments.{Entailment, is_proved, guard_follows, state_follows}
+use Rattle.typing_law.specs.ThreadEntailments.{PlacedEntailment, block_entailments, placed_from, placed_proofs, proofs_within, stm_entailments}
 use Rattle.typing_law.specs.ThreadObligations.{flat, obligation, one_unstable, narrow, of_var, reads, over_stable, type_obligations, state_obligations, guard_obligations, proved, numbers, stm_parts, block_obligations}
 
 -- Lists --------------------------------------------------------------------------------------------------------
@@ -84,48 +83,126 @@ module _ (p : Plain) (t at : ℕ) where
   count_stable held true e = none_mapped _ (vars e) (λ x. refl)
   count_stable held false e = refl
 
--- Statements ---------------------------------------------------------------------------------------------------
+-- Along statements ----------------------------------------------------------------------------------------------
+
+-- something of the proofs at each of these places
+abbrev pub AllGiven : (ℕ → List Proof → Type 0) → List (ℕ × List Proof) → Type 0
+AllGiven Given [] = Unit {0}
+AllGiven Given (q ∷ qs) = Given q.0 q.1 × AllGiven Given qs
+
+given_first : (Given : ℕ → List Proof → Type 0) (qs rs : List (ℕ × List Proof)) → AllGiven Given (qs ++ rs) → AllGiven Given qs
+given_first Given [] rs h = tt
+given_first Given (q ∷ qs) rs h = (h.0, given_first Given qs rs h.1)
+
+given_rest : (Given : ℕ → List Proof → Type 0) (qs rs : List (ℕ × List Proof)) → AllGiven Given (qs ++ rs) → AllGiven Given rs
+given_rest Given [] rs h = h
+given_rest Given (q ∷ qs) rs h = given_rest Given qs rs h.1
+
+all_given : (Given : ℕ → List Proof → Type 0) → ((at : ℕ) (proofs : List Proof) → Given at proofs) → (qs : List (ℕ × List Proof)) → AllGiven Given qs
+all_given Given h [] = tt
+all_given Given h (q ∷ qs) = (h q.0 q.1, all_given Given h qs)
+
+-- What holds between obligations and entailments where none is asked, of lists one after another, and of V9 where something is known of the proofs.
+pub record Alongside (p : Plain) (t : ℕ) : Type 1 where
+  pub Holds : List Obligation → List PlacedEntailment → Type 0
+  pub Given : ℕ → List Proof → Type 0
+  pub none : (es : List Obligation) → entailment_count es ≡ 0 → Holds es []
+  pub both : (es fs : List Obligation) (gs hs : List PlacedEntailment) → Holds es gs → Holds fs hs → Holds (es ++ fs) (gs ++ hs)
+  pub of_proved : (at : ℕ) (proofs : List Proof) → Given at proofs → (n : ℕ) (gs : List Entailment) → Holds (proved p t at proofs n gs) (placed_from at n gs)
+
+ruleset none_asked = (count_numbers, count_reads, count_stable, count_types, count_state, count_guard)
+
+module _ (p : Plain) (t : ℕ) (law : Alongside p t) where
+  -- of the parts of a rule
+  record Parts (ess : List (List Obligation)) (gs : List PlacedEntailment) : Type 0 where
+    together : law.Holds (flat ess) gs
+
+  nothing : Parts [] []
+  nothing = record { together = law.none [] refl }
+
+  pass : (es : List Obligation) (ess : List (List Obligation)) (gs : List PlacedEntailment) → entailment_count es ≡ 0 → Parts ess gs → Parts (es ∷ ess) gs
+  pass es ess gs none h = record { together = law.both es (flat ess) [] gs (law.none es none) h.together }
+
+  gain : (es : List Obligation) (ess : List (List Obligation)) (gs hs : List PlacedEntailment) → law.Holds es gs → Parts ess hs → Parts (es ∷ ess) (gs ++ hs)
+  gain es ess gs hs here h = record { together = law.both es (flat ess) gs hs here h.together }
+
+  last : (at : ℕ) (proofs : List Proof) → law.Given at proofs → (n : ℕ) (gs : List Entailment) (ess : List (List Obligation)) → Parts ess []
+      → Parts (proved p t at proofs n gs ∷ ess) (placed_from at n gs)
+  last at proofs given n gs ess h =
+      subst (λ hs. Parts (proved p t at proofs n gs ∷ ess) hs) (append-nil (placed_from at n gs)) (gain _ ess _ [] (law.of_proved at proofs given n gs) h)
+
+  ruleset by_parts = (nothing, pass, last, none_asked)
+
+  mutual
+    -- The parts of each rule ask for the entailments of the statement, in their order.
+    stm_along : (s : Stm) (at : ℕ) (proofs : List Proof) (a : Point) → law.Given at proofs → AllGiven law.Given (proofs_within s)
+        → Parts (stm_parts p t s at proofs a) (stm_entailments p t s at a)
+    stm_along (branch e yes_block no_block join) at proofs a given h =
+        let yes_start = with_guard p t a e in
+        let no_start = with_guard p t a (neg e) in
+        let yes_end = after_block p t yes_block yes_start in
+        let gs = guard_follows p t a e ∷ [] in
+        let hs = state_follows yes_end join ++ state_follows (after_block p t no_block no_start) join in
+        pass _ _ _ (count_guard p t at a.held e)
+        (pass _ _ _ refl (pass _ _ _ refl
+        (gain _ _ (placed_from at 1 gs) _ (law.of_proved at proofs given 1 gs)
+        (gain _ _ _ _ (block_along yes_block yes_start (given_first law.Given (placed_proofs yes_block) (placed_proofs no_block) h))
+        (gain _ _ _ _ (block_along no_block no_start (given_rest law.Given (placed_proofs yes_block) (placed_proofs no_block) h))
+        (pass _ _ _ refl
+        (pass _ _ _ (count_state p t at yes_end.held join)
+        (pass _ _ _ refl
+        (last at proofs given 2 hs _ (pass _ _ _ (count_numbers p t at (length gs + length hs) proofs) nothing))))))))))
+    stm_along (loop e inv b) at proofs a given h =
+        let head = meet p t a inv in
+        let body_start = with_guard p t head e in
+        let gs = state_follows a inv ++ guard_follows p t head e ∷ [] in
+        let hs = state_follows (after_block p t b body_start) inv in
+        pass _ _ _ (count_state p t at a.held inv)
+        (pass _ _ _ (count_guard p t at a.held e)
+        (pass _ _ _ refl (pass _ _ _ refl
+        (gain _ _ _ _ (law.of_proved at proofs given 1 gs)
+        (gain _ _ _ _ (block_along b body_start h)
+        (pass _ _ _ refl (pass _ _ _ refl
+        (last at proofs given (suc (length gs)) hs _ (pass _ _ _ (count_numbers p t at (length gs + length hs) proofs) nothing)))))))))
+    stm_along _ at proofs a given h = search by_parts depth 16
+
+    pub block_along : (b : Block) (a : Point) → AllGiven law.Given (placed_proofs b) → law.Holds (block_obligations p t b a) (block_entailments p t b a)
+    block_along done a h = law.none [] refl
+    block_along (more at s proofs b) a h =
+        let here = stm_along s at proofs a h.0 (given_first law.Given (proofs_within s) (placed_proofs b) h.1) in
+        let rest = block_along b (after_stm p t s a) (given_rest law.Given (proofs_within s) (placed_proofs b) h.1) in
+        law.both (flat (stm_parts p t s at proofs a)) (block_obligations p t b (after_stm p t s a)) (stm_entailments p t s at a)
+        (block_entailments p t b (after_stm p t s a)) here.together rest
+
+-- Of statements and of blocks ----------------------------------------------------------------------------------
+
+pub placed_length : (at n : ℕ) (gs : List Entailment) → length (placed_from at n gs) ≡ length gs
+placed_length at n [] = refl
+placed_length at n (g ∷ gs) = omega (arith, placed_length at (suc n) gs)
+
+module _ (p : Plain) (t : ℕ) where
+  -- there are as many
+  abbrev counted : Alongside p t
+  counted = record {
+    Holds = λ es gs. entailment_count es ≡ length gs;
+    Given = λ at proofs. Unit {0};
+    none = λ es h. h;
+    both = λ es fs gs hs h k. omega (arith, count_append es fs, length-append gs hs, h, k);
+    of_proved = λ at proofs given n gs. count_proved p t at proofs n gs ∙ sym (placed_length at n gs);
+  }
+
+  pub stm_counted : (s : Stm) (at : ℕ) (proofs : List Proof) (a : Point)
+      → entailment_count (flat (stm_parts p t s at proofs a)) ≡ length (stm_entailments p t s at a)
+  stm_counted s at proofs a = (stm_along p t counted s at proofs a tt (all_given counted.Given (λ _ _. tt) (proofs_within s))).together
+
+  pub block_counted : (b : Block) (a : Point) → entailment_count (block_obligations p t b a) ≡ length (block_entailments p t b a)
+  block_counted b a = block_along p t counted b a (all_given counted.Given (λ _ _. tt) (placed_proofs b))
 
 module _ (p : Plain) (t at : ℕ) (proofs : List Proof) (a : Point) where
-  pub count_skip : entailment_count (flat (stm_parts p t skip at proofs a)) ≡ 0
-  count_skip = omega (arith, count_flat (stm_parts p t skip at proofs a), count_numbers p t at 0 proofs)
-
-  pub count_assign : (x : ℕ) (e : Term) (q : Option Term) (retypes : List (ℕ × Term))
-      → entailment_count (flat (stm_parts p t (assign x e q retypes) at proofs a)) ≡ length (assign_entailments p t a x e q retypes)
-  count_assign x e q retypes =
-      let gs = assign_entailments p t a x e q retypes in
-      omega (
-        arith,
-        count_flat (stm_parts p t (assign x e q retypes) at proofs a),
-        count_reads p t at a.held e,
-        count_stable p t at a.held (is_control p x) e,
-        count_types p t at (λ z. is_control p x && is_tracked p t a.held z) a.held [] retypes,
-        count_proved p t at proofs 1 gs,
-        count_numbers p t at (length gs) proofs,
-      )
-
-  pub count_lock : (l : ℕ) → entailment_count (flat (stm_parts p t (lock l) at proofs a)) ≡ 0
-  count_lock l = refl
-
-  pub count_unlock : (l : ℕ) → entailment_count (flat (stm_parts p t (unlock l) at proofs a)) ≡ length (unlock_entailments p t a l)
-  count_unlock l =
-      let gs = unlock_entailments p t a l in
-      omega (arith, count_flat (stm_parts p t (unlock l) at proofs a), count_proved p t at proofs 1 gs, count_numbers p t at (length gs) proofs)
-
-  pub count_note : (j : State) → entailment_count (flat (stm_parts p t (note j) at proofs a)) ≡ length (state_follows a j)
-  count_note j =
-      let gs = state_follows a j in
-      omega (arith, count_flat (stm_parts p t (note j) at proofs a), count_state p t at a.held j, count_proved p t at proofs 1 gs, count_numbers p t at (length gs) proofs)
-
-  pub count_output : (e : Term) → entailment_count (flat (stm_parts p t (output e) at proofs a)) ≡ 1
-  count_output e =
-      omega (
-        arith,
-        count_flat (stm_parts p t (output e) at proofs a),
-        count_guard p t at a.held e,
-        count_proved p t at proofs 1 (guard_follows p t a e ∷ []),
-        count_numbers p t at 1 proofs,
-      )
+  -- those of a statement that has these alone
+  pub count_own : (s : Stm) (gs : List Entailment) → stm_entailments p t s at a ≡ placed_from at 1 gs
+      → entailment_count (flat (stm_parts p t s at proofs a)) ≡ length gs
+  count_own s gs are = stm_counted p t s at proofs a ∙ ap length are ∙ placed_length at 1 gs
 
   -- that of the guard, those of both blocks, and those of the join
   pub count_branch : (e : Term) (yes_block no_block : Block) (join : State)
@@ -171,66 +248,3 @@ pub count_more : (p : Plain) (t at : ℕ) (s : Stm) (proofs : List Proof) (b : B
     → entailment_count (block_obligations p t (more at s proofs b) a)
     ≡ entailment_count (flat (stm_parts p t s at proofs a)) + entailment_count (block_obligations p t b (after_stm p t s a))
 count_more p t at s proofs b a = count_append (flat (stm_parts p t s at proofs a)) (block_obligations p t b (after_stm p t s a))
-
--- Of statements and of blocks ----------------------------------------------------------------------------------
-
-pub placed_length : (at n : ℕ) (gs : List Entailment) → length (placed_from at n gs) ≡ length gs
-placed_length at n [] = refl
-placed_length at n (g ∷ gs) = omega (arith, placed_length at (suc n) gs)
-
-module _ (p : Plain) (t : ℕ) where
-  mutual
-    pub stm_counted : (s : Stm) (at : ℕ) (proofs : List Proof) (a : Point)
-        → entailment_count (flat (stm_parts p t s at proofs a)) ≡ length (stm_entailments p t s at a)
-    stm_counted skip at proofs a = count_skip p t at proofs a
-    stm_counted (assign x e q retypes) at proofs a =
-        count_assign p t at proofs a x e q retypes ∙ sym (placed_length at 1 (assign_entailments p t a x e q retypes))
-    stm_counted (lock l) at proofs a = refl
-    stm_counted (unlock l) at proofs a = count_unlock p t at proofs a l ∙ sym (placed_length at 1 (unlock_entailments p t a l))
-    stm_counted (branch e yes_block no_block join) at proofs a =
-        let yes_start = with_guard p t a e in
-        let no_start = with_guard p t a (neg e) in
-        let gs = guard_follows p t a e ∷ [] in
-        let hs = state_follows (after_block p t yes_block yes_start) join ++ state_follows (after_block p t no_block no_start) join in
-        let inside = block_entailments p t yes_block yes_start in
-        let behind = block_entailments p t no_block no_start in
-        let last = placed_from at 2 hs in
-        omega (
-          arith,
-          count_branch p t at proofs a e yes_block no_block join,
-          length-append (placed_from at 1 gs) (inside ++ (behind ++ last)),
-          length-append inside (behind ++ last),
-          length-append behind last,
-          placed_length at 2 hs,
-          block_counted yes_block yes_start,
-          block_counted no_block no_start,
-        )
-    stm_counted (loop e inv b) at proofs a =
-        let head = meet p t a inv in
-        let start = with_guard p t head e in
-        let gs = state_follows a inv ++ guard_follows p t head e ∷ [] in
-        let hs = state_follows (after_block p t b start) inv in
-        let inside = block_entailments p t b start in
-        let last = placed_from at (suc (length gs)) hs in
-        omega (
-          arith,
-          count_loop p t at proofs a e inv b,
-          length-append (placed_from at 1 gs) (inside ++ last),
-          length-append inside last,
-          placed_length at 1 gs,
-          placed_length at (suc (length gs)) hs,
-          block_counted b start,
-        )
-    stm_counted (note j) at proofs a = count_note p t at proofs a j ∙ sym (placed_length at 1 (state_follows a j))
-    stm_counted (output e) at proofs a = count_output p t at proofs a e
-
-    pub block_counted : (b : Block) (a : Point) → entailment_count (block_obligations p t b a) ≡ length (block_entailments p t b a)
-    block_counted done a = refl
-    block_counted (more at s proofs b) a =
-        omega (
-          arith,
-          count_more p t at s proofs b a,
-          length-append (stm_entailments p t s at a) (block_entailments p t b (after_stm p t s a)),
-          stm_counted s at proofs a,
-          block_counted b (after_stm p t s a),
-        )

@@ -1,5 +1,5 @@
 -- Every run of a program whose statements keep the rules is disciplined.
-use Rattle.std.proofs.Common.{◌≡◌, ◌≢◌, ℕ, zero, suc, ◌+◌, ◌<◌, ◌≤◌, not, List, [], ◌∷◌, ◌++◌, length, get_or, set, replicate, Bool, true, false, inl, inr, Option, Some, None, refl, sym, ◌∙◌, ap, subst, arith, IsTrue, if◌then◌else◌, cond, count_by, zero-add, length-set, get_or-set_same, get_or-set_other, eq-eqb, eqb-true}
+use Rattle.std.proofs.Common.{◌≡◌, ◌≢◌, ◌⊎◌, ℕ, zero, suc, ◌+◌, ◌<◌, ◌≤◌, not, List, [], ◌∷◌, ◌++◌, length, get_or, set, replicate, Bool, true, false, inl, inr, Option, Some, None, refl, sym, ◌∙◌, ap, subst, arith, IsTrue, if◌then◌else◌, cond, count_by, zero-add, length-set, get_or-set_same, get_or-set_other}
 use Rattle.std.proofs.Math.Decide.{ℕ_discrete}
 use Rattle.std.specs.Option.{ForSome}
 use Rattle.std.specs.Prelude.{All, AllPairs, IfSome}
@@ -11,13 +11,14 @@ use Rattle.cov_expr.specs.Term.{Term, value, is_set}
 use Rattle.cov_expr.specs.Trees.{occurrences, width}
 use Rattle.cov_expr.specs.Words.{IsSchedule}
 use Rattle.cov_ast.specs.Declarations.{no_thread}
-use Rattle.cov_ast.specs.Plain.{skip, assign, lock, unlock, branch, loop, output, Cmds, none, next, ◌then_all◌, Plain, plain, plain_block, plain_thread}
+use Rattle.cov_ast.specs.Plain.{Cmd, assign, branch, loop, output, Cmds, none, next, ◌then_all◌, Plain, plain, plain_block, plain_thread}
+use Rattle.cov_ast.specs.LocksAlong.{locks_after}
 use Rattle.cov_ast.specs.Syntax.{Program}
 use Rattle.cov_ast.specs.Obligations.{all_hold}
 use Rattle.cov_ast.specs.Tables.{has}
 use Rattle.cov_ast.specs.WellFormed.{IsWellFormed}
 use Rattle.cov_ast.proofs.ObligationLaws.{both_hold}
-use Rattle.flow_model.specs.Source.{Item, run, put, test, emit, Holders, holder, Outputs, Local, local, items_then, turn, is_held_by, after_lock, after_unlock, Run, items_of, run_from, step, begin, after}
+use Rattle.flow_model.specs.Source.{Item, run, put, test, emit, Holders, holder, Outputs, Local, local, items_then, turn, is_held_by, Run, items_of, run_from, step, begin, after}
 use Rattle.flow_model.specs.Composable.{HasCompatibleModes}
 use Rattle.flow_model.specs.Holdings.{IsStableNow, IsWritableNow}
 use Rattle.flow_model.specs.Agreement.{SameAt}
@@ -31,6 +32,8 @@ use Rattle.typing_law.specs.Accepted.{IsAccepted}
 use Rattle.typing_law.specs.Disciplined.{held_at, held_in_front_of, evaluated_expression, IsEvaluable, IsDisciplinedAt, IsDisciplined}
 use Rattle.typing_law.proofs.Parts.{thread_holds}
 use Rattle.typing_law.proofs.Placed.{Reads, PlacedCmd, Placed, placed_block}
+use Rattle.typing_law.proofs.Soundness.Fits.{ChangesOwn, Turned, waits, proceeds}
+use Rattle.typing_law.proofs.Soundness.Others.{HeldBehind, turn_keeps}
 use Rattle.typing_law.proofs.Soundness.Sound.{block_sized}
 use Rattle.typing_law.proofs.Places.{places_found}
 
@@ -70,32 +73,18 @@ for_some (Some d) P k e h = let same : d ≡ e = cc in subst P same k
 
 -- Held locks -----------------------------------------------------------------------------------------------------
 
--- a lock that is taken or given back, with what is told of it
-held_set : (h : Holders) (t l : ℕ) (o : Option ℕ) (H : List Bool) (b : Bool) → l < length h → l < length H → b ≡ is_held_by o t
-    → AreHeldBy h t H → AreHeldBy (set h l o) t (set H l b)
-held_set h t l o H b in_h in_H e held j = go (ℕ_discrete j l)
+-- others hold what they held
+others_keep : (t : ℕ) (h k : Holders) → ChangesOwn t h k → (u : ℕ) → u ≢ t → (l : ℕ) → is_held_by (holder k l) u ≡ is_held_by (holder h l) u
+others_keep t h k own u d l = go (own l)
   where
-    go : Dec (j ≡ l) → has (set H l b) j ≡ is_held_by (holder (set h l o) j) t
-    go (yes i) =
-        ap (has (set H l b)) i ∙ get_or-set_same H l b false in_H ∙ e
-        ∙ sym (ap (λ (q : Option ℕ). is_held_by q t) (ap (holder (set h l o)) i ∙ get_or-set_same h l o None in_h))
-    go (no n) =
-        get_or-set_other H l j b false n ∙ held j ∙ sym (ap (λ (q : Option ℕ). is_held_by q t) (get_or-set_other h l j o None n))
+    another : is_held_by (Some t) u ≡ false
+    another = ne_eqb t u (λ i. d (sym i))
 
--- who doesn't hold a lock before and after it is taken or given back holds what it held
-other_set : (h : Holders) (u l : ℕ) (o : Option ℕ) → l < length h → is_held_by (holder h l) u ≡ false → is_held_by o u ≡ false → (j : ℕ)
-    → is_held_by (holder (set h l o) j) u ≡ is_held_by (holder h j) u
-other_set h u l o inside before after j = go (ℕ_discrete j l)
-  where
-    go : Dec (j ≡ l) → is_held_by (holder (set h l o) j) u ≡ is_held_by (holder h j) u
-    go (yes i) =
-        ap (λ (q : Option ℕ). is_held_by q u) (ap (holder (set h l o)) i ∙ get_or-set_same h l o None inside)
-        ∙ after ∙ sym before ∙ ap (λ k. is_held_by (holder h k) u) (sym i)
-    go (no n) = ap (λ (q : Option ℕ). is_held_by q u) (get_or-set_other h l j o None n)
-
-not_other : (o : Option ℕ) (t u : ℕ) → u ≢ t → is_held_by o t ≡ true → is_held_by o u ≡ false
-not_other None t u n h = refl
-not_other (Some v) t u n h = ne_eqb v u (λ e. n (sym e ∙ eqb-true v t h))
+    go : (holder k l ≡ holder h l) ⊎ ((holder h l ≡ None) × (holder k l ≡ Some t)) ⊎ ((holder h l ≡ Some t) × (holder k l ≡ None))
+        → is_held_by (holder k l) u ≡ is_held_by (holder h l) u
+    go (inl e) = ap (λ (q : Option ℕ). is_held_by q u) e
+    go (inr (inl e)) = ap (λ (q : Option ℕ). is_held_by q u) e.1 ∙ another ∙ sym (ap (λ (q : Option ℕ). is_held_by q u) e.0)
+    go (inr (inr e)) = ap (λ (q : Option ℕ). is_held_by q u) e.1 ∙ sym another ∙ sym (ap (λ (q : Option ℕ). is_held_by q u) e.0)
 
 -- One thread -----------------------------------------------------------------------------------------------------
 
@@ -152,37 +141,21 @@ module _ (p : Plain) (t : ℕ) (at_place : ℕ → List Bool) where
   still m h said is H n held k =
       (record { held = H; sized = n; by = held; rest = k }, record { words = λ x w. refl; others = λ u d l. refl; locks = refl })
 
-  -- a holder changes
-  switch : (m : List ℕ) (h : Holders) (said : Outputs) (l : ℕ) (o : Option ℕ) (is : List Item) (H : List Bool) (b : Bool) → length h ≡ length p.locks
-      → length H ≡ length p.locks → AreHeldBy h t H → l < length p.locks → b ≡ is_held_by o t
-      → ((u : ℕ) → u ≢ t → is_held_by (holder h l) u ≡ false) → ((u : ℕ) → u ≢ t → is_held_by o u ≡ false)
-      → PlacedItems is (set H l b) → Goes m h (local m (set h l o) said is)
-  switch m h said l o is H b nh nH held inside e before after k = (
-    record {
-      held = set H l b;
-      sized = length-set H l b ∙ nH;
-      by = held_set h t l o H b (rw nh inside) (rw nH inside) e held;
-      rest = left is (set H l b) k;
-    },
-    record {
-      words = λ x w. refl;
-      others = λ u d j. other_set h u l o (rw nh inside) (before u d) (after u d) j;
-      locks = length-set h l o;
-    },
-  )
-
-  own_lock : (m : List ℕ) (h : Holders) (said : Outputs) (at l : ℕ) (is : List Item) (H : List Bool) → length h ≡ length p.locks → length H ≡ length p.locks
-      → AreHeldBy h t H → PlacedItems (run at (lock l) ∷ is) H → (o : Option ℕ) → holder h l ≡ o → Goes m h (after_lock t m h said at l is o)
-  own_lock m h said at l is H nh nH held k None e =
-      switch m h said l (Some t) is H true nh nH held k.2.0 (sym (eq-eqb t t refl)) (λ u d. ap (λ (q : Option ℕ). is_held_by q u) e)
-      (λ u d. ne_eqb t u (λ i. d (sym i))) (subst (PlacedItems is) (sym k.2.1) k.3)
-  own_lock m h said at l is H nh nH held k (Some u) e = still m h said (run at (lock l) ∷ is) H nH held k
-
-  own_unlock : (m : List ℕ) (h : Holders) (said : Outputs) (at l : ℕ) (is : List Item) (H : List Bool) → length h ≡ length p.locks → length H ≡ length p.locks
-      → AreHeldBy h t H → PlacedItems (run at (unlock l) ∷ is) H → (b : Bool) → is_held_by (holder h l) t ≡ b → Goes m h (after_unlock m h said at l is b)
-  own_unlock m h said at l is H nh nH held k true e =
-      switch m h said l None is H false nh nH held k.2.0 refl (λ u d. not_other (holder h l) t u d e) (λ u d. refl) (subst (PlacedItems is) (sym k.2.2) k.3)
-  own_unlock m h said at l is H nh nH held k false e = still m h said (run at (unlock l) ∷ is) H nH held k
+  -- a statement that evaluates nothing
+  own_done : (m : List ℕ) (h : Holders) (said : Outputs) (at : ℕ) (c : Cmd) (is : List Item) (H : List Bool) → length H ≡ length p.locks → AreHeldBy h t H
+      → (k : PlacedItems (run at c ∷ is) H) → locks_after c H ≡ k.0 → Turned t c h (λ g. HeldBehind t h g H (locks_after c H))
+      → Goes m h (turn t m h said (run at c ∷ is))
+  own_done m h said at c is H n held k behind (waits same) = subst (Goes m h) (sym (same m said at is)) (still m h said (run at c ∷ is) H n held k)
+  own_done m h said at c is H n held k behind (proceeds g same own r) =
+      subst (Goes m h) (sym (same m said at is)) (
+        record {
+          held = locks_after c H;
+          sized = r.sized ∙ n;
+          by = r.by;
+          rest = left is (locks_after c H) (subst (PlacedItems is) (sym behind) k.3);
+        },
+        record { words = λ x w. refl; others = others_keep t h g own; locks = r.holders },
+      )
 
   -- others keep what the thread holds
   stays : (h h' : Holders) (is : List Item) → ((l : ℕ) → is_held_by (holder h' l) t ≡ is_held_by (holder h l) t) → Stands h is → Stands h' is
@@ -200,20 +173,20 @@ module _ (p : Plain) (t : ℕ) (at_place : ℕ → List Bool) where
     own_turn : (m : List ℕ) (h : Holders) (said : Outputs) (is : List Item) (H : List Bool) → length h ≡ length p.locks → length H ≡ length p.locks
         → AreHeldBy h t H → IsLeft is H → Goes m h (turn t m h said is)
     own_turn m h said [] H nh nH held k = still m h said [] H nH held k
-    own_turn m h said (run at skip ∷ is) H nh nH held k = still m h said is H nH held (left is H (subst (PlacedItems is) (sym k.2) k.3))
     own_turn m h said (run at (assign x e) ∷ is) H nh nH held k =
-        still m h said (put at x (value e m) ∷ is) H nH held (k.1, k.2.0, subst (PlacedItems is) (sym k.2.2) k.3)
-    own_turn m h said (run at (lock l) ∷ is) H nh nH held k = own_lock m h said at l is H nh nH held k (holder h l) refl
-    own_turn m h said (run at (unlock l) ∷ is) H nh nH held k = own_unlock m h said at l is H nh nH held k (is_held_by (holder h l) t) refl
+        still m h said (put at x (value e m) ∷ is) H nH held (k.1, k.2.writes, subst (PlacedItems is) (sym k.2.inside) k.3)
     own_turn m h said (run at (branch e a b) ∷ is) H nh nH held k =
-        still m h said (test at (value e m) a b ∷ is) H nH held (k.1, placed_then a is H k.0 k.2.1 k.3, placed_then b is H k.0 k.2.2 k.3)
+        still m h said (test at (value e m) a b ∷ is) H nH held (k.1, placed_then a is H k.0 k.2.inside.0 k.3, placed_then b is H k.0 k.2.inside.1 k.3)
     own_turn m h said (run at (loop e a) ∷ is) H nh nH held k =
         let again : Cmds = next at (loop e a) none in
-        let rest : PlacedItems is H = subst (PlacedItems is) (sym k.2.2) k.3 in
-        let body : Placed p t at_place (◌then_all◌ a again) H H = placed_append a again H H H k.2.1 (H, k.1, (k.2.0, k.2.1, refl), refl) in
+        let rest : PlacedItems is H = subst (PlacedItems is) (sym k.2.inside.1) k.3 in
+        let once_more : Placed p t at_place again H H = (H, k.1, record { writes = tt; reads = k.2.reads; inside = (k.2.inside.0, refl) }, refl) in
+        let body : Placed p t at_place (◌then_all◌ a again) H H = placed_append a again H H H k.2.inside.0 once_more in
         still m h said (test at (value e m) (◌then_all◌ a again) none ∷ is) H nH held (k.1, placed_then (◌then_all◌ a again) is H H body rest, rest)
     own_turn m h said (run at (output e) ∷ is) H nh nH held k =
-        still m h said (emit at (value e m) ∷ is) H nH held (k.1, subst (PlacedItems is) (sym k.2.1) k.3)
+        still m h said (emit at (value e m) ∷ is) H nH held (k.1, subst (PlacedItems is) (sym k.2.inside) k.3)
+    own_turn m h said (run at c ∷ is) H nh nH held k =
+        own_done m h said at c is H nH held k k.2.inside (turn_keeps t c refl h H (nh ∙ sym nH) held)
     own_turn m h said (put at x w ∷ is) H nh nH held k = (
       record { held = H; sized = nH; by = held; rest = left is H k.2 },
       record {
@@ -230,10 +203,11 @@ module _ (p : Plain) (t : ℕ) (at_place : ℕ → List Bool) where
     own_turn m h said (emit at w ∷ is) H nh nH held k = still m h (said ++ w ∷ []) is H nH held (left is H k.1)
 
     evaluates : (h : Holders) (is : List Item) (H : List Bool) → AreHeldBy h t H → IsLeft is H → IfSome (evaluated_expression is) (IsEvaluable p h t)
-    evaluates h (run at (assign x e) ∷ is) H held k = evaluable p h t H (sets h H held) e k.2.1
-    evaluates h (run at (branch e a b) ∷ is) H held k = evaluable p h t H (sets h H held) e k.2.0
-    evaluates h (run at (loop e a) ∷ is) H held k = evaluable p h t H (sets h H held) e k.2.0
-    evaluates h (run at (output e) ∷ is) H held k = evaluable p h t H (sets h H held) e k.2.0
+    evaluates h (run at c ∷ is) H held k = all_evaluable (evaluated_expression (run at c ∷ is)) k.2.reads
+      where
+        all_evaluable : (o : Option Term) → IfSome o (Reads p t H) → IfSome o (IsEvaluable p h t)
+        all_evaluable None r = tt
+        all_evaluable (Some e) r = evaluable p h t H (sets h H held) e r
     evaluates h _ H held k = tt
 
 -- Runs -----------------------------------------------------------------------------------------------------------

@@ -1,10 +1,8 @@
 -- Where every obligation of a program holds, those of its declarations and those of each thread hold.
-use Rattle.std.proofs.Common.{◌≡◌, ℕ, zero, suc, ◌+◌, ◌<◌, ◌&&◌, [], ◌∷◌, Bool, true, false, cond, Some, None, refl, List, ◌++◌, IsTrue, sym, ◌∙◌, length, subst, arith}
+use Rattle.std.proofs.Common.{◌≡◌, ℕ, zero, suc, ◌+◌, ◌<◌, List, IsTrue, length, subst, arith}
 use Rattle.std.specs.List.{flat_map, range_with_len}
-use Rattle.std.proofs.lemmas.Bool.{and_parts}
-use Rattle.std.proofs.lemmas.List.Folds.{list_all-append}
 use Rattle.cov_ast.specs.Syntax.{Program}
-use Rattle.cov_ast.specs.Obligations.{Obligation, all_hold, first_false}
+use Rattle.cov_ast.specs.Obligations.{Obligation, all_hold}
 use Rattle.cov_ast.proofs.ObligationLaws.{both_hold}
 use Rattle.mode_compat.specs.Compatible.{threads_of}
 use Rattle.mode_compat.specs.Declared.{declaration_obligations}

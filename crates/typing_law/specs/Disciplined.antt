@@ -8,8 +8,9 @@ use Rattle.cov_expr.specs.Term.{Term, neg}
 use Rattle.cov_expr.specs.Trees.{occurrences, width}
 use Rattle.cov_expr.specs.Words.{IsMemory, IsSchedule}
 use Rattle.cov_ast.specs.Plain.{Plain, plain}
-use Rattle.cov_ast.specs.Plain as code
-use Rattle.cov_ast.specs.Syntax.{Stm, skip, assign, lock, unlock, branch, loop, note, output, Block, done, more, Program}
+use Rattle.cov_ast.specs.Syntax.{Proof, Stm, Block, Program}
+use Rattle.statement_parts.specs.Parts.{Inside, of_none, of_turn, of_either, made_inside, made}
+use Rattle.statement_parts.specs.PlainParts.{parts}
 use Rattle.flow_model.specs.Source.{Item, run, put, test, emit, Holders, Run, items_of, place_of, step, after}
 use Rattle.flow_model.specs.Holdings.{IsStableNow}
 use Rattle.flow_model.specs.Agreement.{SameAt}
@@ -21,22 +22,23 @@ use Rattle.typing_law.specs.Blocks.{after_stm}
 
 -- Locks along the text -------------------------------------------------------------------------------------------
 
--- the point before each statement, with the statement's place; nested statements and notes have one too
 module _ (p : Plain) (t : ℕ) where
-  abbrev mutual
-    pub points_within : Stm → Point → List (ℕ × Point)
-    points_within skip a = []
-    points_within (assign x e q retypes) a = []
-    points_within (lock l) a = []
-    points_within (unlock l) a = []
-    points_within (branch e yes_block no_block join) a = points yes_block (with_guard p t a e) ++ points no_block (with_guard p t a (neg e))
-    points_within (loop e inv b) a = points b (with_guard p t (meet p t a inv) e)
-    points_within (note j) a = []
-    points_within (output e) a = []
+  -- those of the blocks inside a statement, by the point before it
+  abbrev pub points_inside : Inside (Point → List (ℕ × Point)) → Point → List (ℕ × Point)
+  points_inside of_none a = []
+  points_inside (of_turn e inv of_body) a = of_body (with_guard p t (meet p t a inv) e)
+  points_inside (of_either e join of_first of_second) a = of_first (with_guard p t a e) ++ of_second (with_guard p t a (neg e))
 
-    pub points : Block → Point → List (ℕ × Point)
-    points done a = []
-    points (more at s proofs b) a = (at, a) ∷ points_within s a ++ points b (after_stm p t s a)
+  abbrev pub points_in_front : (at : ℕ) → Stm → List Proof → Inside (Point → List (ℕ × Point)) → (rest : Point → List (ℕ × Point)) → Point
+      → List (ℕ × Point)
+  points_in_front at s proofs inside rest a = (at, a) ∷ points_inside inside a ++ rest (after_stm p t s a)
+
+  abbrev pub points_within : Stm → Point → List (ℕ × Point)
+  points_within s = points_inside (made_inside (λ a. []) points_in_front s)
+
+  -- the point before each statement, with the statement's place; nested statements and notes have one too
+  abbrev pub points : Block → Point → List (ℕ × Point)
+  points b = made (λ a. []) points_in_front b
 
 -- those of a thread
 abbrev pub points_of : Program → (t : ℕ) → List (ℕ × Point)
@@ -61,13 +63,7 @@ held_in_front_of p t (i ∷ is) = held_at p t (place_of i)
 -- the expression that the next step evaluates, if it evaluates one
 abbrev pub evaluated_expression : List Item → Option Term
 evaluated_expression [] = None
-evaluated_expression (run at code.skip ∷ is) = None
-evaluated_expression (run at (code.assign x e) ∷ is) = Some e
-evaluated_expression (run at (code.lock l) ∷ is) = None
-evaluated_expression (run at (code.unlock l) ∷ is) = None
-evaluated_expression (run at (code.branch e yes_block no_block) ∷ is) = Some e
-evaluated_expression (run at (code.loop e body) ∷ is) = Some e
-evaluated_expression (run at (code.output e) ∷ is) = Some e
+evaluated_expression (run at c ∷ is) = (parts c).evaluated
 evaluated_expression (put at x word ∷ is) = None
 evaluated_expression (test at word yes_block no_block ∷ is) = None
 evaluated_expression (emit at word ∷ is) = None

@@ -9,6 +9,7 @@ use Rattle.cov_ast.specs.Plain.{Plain, plain}
 use Rattle.cov_ast.specs.declared.refusal.Rule.{Rule}
 use Rattle.cov_ast.specs.declared.refusal.Rule.TheVariants.{W1, W2, W3, W4, W5, W6, W7, W8, W9, V1, V2, V3, V4, V5, V6, V7, V8, V9, V10, V11, V12, V13, V14, V15, V16}
 use Rattle.cov_ast.specs.declared.refusal.Detail.TheVariants.{Number}
+use Rattle.statement_parts.specs.Parts.{Inside, with_inside, made_inside, made}
 use Rattle.mode_compat.specs.Compatible.{numbered}
 use Rattle.point_law.specs.Point.{Point}
 use Rattle.point_law.specs.After.{start, with_guard, meet}
@@ -114,22 +115,16 @@ thread_entailments p t = reached_entailments (thread_obligations p t) (all_entai
 
 -- Their certificates ---------------------------------------------------------------------------------------------
 
-abbrev mutual
-  -- the proofs of nested statements, each with the place of its statement
-  pub proofs_within : Stm → List (ℕ × List Proof)
-  proofs_within skip = []
-  proofs_within (assign x e q retypes) = []
-  proofs_within (lock l) = []
-  proofs_within (unlock l) = []
-  proofs_within (branch e yes_block no_block join) = placed_proofs yes_block ++ placed_proofs no_block
-  proofs_within (loop e inv b) = placed_proofs b
-  proofs_within (note j) = []
-  proofs_within (output e) = []
+abbrev pub proofs_in_front : (at : ℕ) → Stm → List Proof → Inside (List (ℕ × List Proof)) → (rest : List (ℕ × List Proof)) → List (ℕ × List Proof)
+proofs_in_front at s proofs inside rest = (at, proofs) ∷ with_inside [] inside ++ rest
 
-  -- the proofs of statements and of those in them, each with the place of its statement
-  pub placed_proofs : Block → List (ℕ × List Proof)
-  placed_proofs done = []
-  placed_proofs (more at s proofs b) = (at, proofs) ∷ proofs_within s ++ placed_proofs b
+-- the proofs of nested statements, each with the place of its statement
+abbrev pub proofs_within : Stm → List (ℕ × List Proof)
+proofs_within s = with_inside [] (made_inside [] proofs_in_front s)
+
+-- the proofs of statements and of those in them, each with the place of its statement
+abbrev pub placed_proofs : Block → List (ℕ × List Proof)
+placed_proofs b = made [] proofs_in_front b
 
 -- the first at a place, or none
 abbrev pub proofs_among : List (ℕ × List Proof) → (place : ℕ) → List Proof

@@ -1,19 +1,16 @@
 -- What the rules ask of a statement, as conditions: what has to follow holds in every memory of words.
 use Rattle.std.proofs.Common.{◌≡◌, ◌⊎◌, ℕ, ◌<◌, List, [], ◌∷◌, length, Bool, false, IsTrue}
 use Rattle.cov_expr.specs.Entailment.{Holds, AllHold, Entails}
-use Rattle.cov_expr.specs.Term.{Term, neg}
+use Rattle.cov_expr.specs.Term.{Term}
 use Rattle.cov_expr.specs.Trees.{mentions}
 use Rattle.cov_expr.specs.Trees as trees
 use Rattle.cov_expr.specs.Words.{AreWords, HasWords}
 use Rattle.cov_ast.specs.Declarations.{class_of, hides, invariant_of, is_control}
 use Rattle.cov_ast.specs.Plain.{Plain}
-use Rattle.cov_ast.specs.Syntax.{State, Stm, skip, assign, lock, unlock, branch, loop, note, output, Block, done, more}
+use Rattle.cov_ast.specs.Syntax.{State}
 use Rattle.cov_ast.specs.Tables.{has}
 use Rattle.mode_state.specs.Sets.{is_stable, is_hidden, may_read, may_write}
 use Rattle.point_law.specs.Point.{Point, type_at, ty, ty_var, is_over_stable, is_over_controls}
-use Rattle.point_law.specs.After.{with_guard, meet}
-use Rattle.typing_law.specs.Blocks.{value_type, after_stm, after_block}
-use Rattle.typing_law.specs.ThreadObligations.{same_held}
 
 abbrev pub Each : List Term → (Term → Type 0) → Type 0
 Each [] P = Unit {0}
@@ -59,27 +56,3 @@ module _ (p : Plain) (t : ℕ) where
   pub record StateOver (held : List Bool) (j : State) : Type 0 where
     pub preds : Each j.preds (λ e. IsTrue (is_over_stable p t held e))
     pub types : EachType j.types (λ z r. IsTrue (is_over_controls p t held r))
-
-  abbrev mutual
-    pub Checks : Stm → Point → Type 0
-    Checks skip a = Unit {0}
-    Checks (assign x e q retypes) a = AssignChecks a x e (value_type p t a q e) retypes
-    Checks (lock l) a = l < length p.locks
-    Checks (unlock l) a = UnlockChecks a l
-    Checks (branch e yes_block no_block join) a =
-        let yes_end = after_block p t yes_block (with_guard p t a e) in
-        let no_end = after_block p t no_block (with_guard p t a (neg e)) in
-        GuardChecks a e × BlockChecks yes_block (with_guard p t a e) × BlockChecks no_block (with_guard p t a (neg e))
-        × IsTrue (same_held p yes_end.held no_end.held)
-        × StateOver yes_end.held join × StateFollows yes_end join × StateFollows no_end join
-    Checks (loop e inv b) a =
-        let head = meet p t a inv in
-        let body_end = after_block p t b (with_guard p t head e) in
-        StateOver a.held inv × StateFollows a inv × GuardChecks head e × BlockChecks b (with_guard p t head e)
-        × IsTrue (same_held p body_end.held a.held) × StateFollows body_end inv
-    Checks (note j) a = StateOver a.held j × StateFollows a j
-    Checks (output e) a = HasWords e × GuardChecks a e
-
-    pub BlockChecks : Block → Point → Type 0
-    BlockChecks done a = Unit {0}
-    BlockChecks (more at s proofs b) a = Checks s a × BlockChecks b (after_stm p t s a)

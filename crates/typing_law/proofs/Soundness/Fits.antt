@@ -1,12 +1,13 @@
 -- What a point says of two copies of a thread, and what a statement has to do between two points.
-use Rattle.std.proofs.Common.{◌≡◌, ◌≢◌, ℕ, ◌<◌, List, [], ◌∷◌, ◌++◌, length, set, false, Option, Some, None, IsTrue}
+use Rattle.std.proofs.Common.{◌≡◌, ◌≢◌, ◌⊎◌, ℕ, List, [], ◌∷◌, ◌++◌, length, set, false, Option, Some, None, IsTrue}
 use Rattle.cov_expr.specs.Entailment.{Holds, AllHold}
 use Rattle.cov_expr.specs.Term.{Term, value}
 use Rattle.cov_expr.specs.Trees.{mentions}
 use Rattle.cov_expr.specs.Words.{IsMemory, IsWord, HasWords}
 use Rattle.cov_ast.specs.Declarations.{assumes_hide, is_control}
-use Rattle.cov_ast.specs.Plain.{Cmd, skip, assign, lock, unlock, branch, loop, output, Cmds, none, next, ◌then_all◌, Plain}
-use Rattle.flow_model.specs.Source.{Item, run, put, test, emit, Holders, Outputs, holder, items_then}
+use Rattle.cov_ast.specs.Plain.{Cmd, assign, branch, loop, output, Cmds, none, next, ◌then_all◌, Plain}
+use Rattle.statement_parts.specs.PlainParts.{Inside, nothing, turns, either, parts, made_inside, made}
+use Rattle.flow_model.specs.Source.{Item, run, put, test, emit, Holders, Outputs, holder, local, items_then, after_cmd}
 use Rattle.flow_model.specs.Holdings.{IsStableNow, IsWritableNow}
 use Rattle.flow_model.specs.Agreement.{SameAt, MemoriesAgree}
 use Rattle.flow_model.specs.Game.{FreeInvariantsHold}
@@ -19,6 +20,18 @@ pub record World : Type 0 where
   pub right : List ℕ
   pub holders : Holders
   pub outputs : Outputs
+
+module _ (t : ℕ) where
+  -- No holder changes but from none to the thread or from the thread to none.
+  abbrev pub ChangesOwn : (before after : Holders) → Type 0
+  ChangesOwn h k =
+      (l : ℕ) → (holder k l ≡ holder h l) ⊎ ((holder h l ≡ None) × (holder k l ≡ Some t)) ⊎ ((holder h l ≡ Some t) × (holder k l ≡ None))
+
+  -- What one turn does with a statement that evaluates nothing: it waits, or is done, and something is so of the holders then.
+  pub data Turned (c : Cmd) (h : Holders) (After : Holders → Type 0) : Type 0 where
+    waits : ((m : List ℕ) (o : Outputs) (at : ℕ) (is : List Item) → after_cmd t m h o at c is ≡ local m h o (run at c ∷ is)) → Turned c h After
+    proceeds : (k : Holders) → ((m : List ℕ) (o : Outputs) (at : ℕ) (is : List Item) → after_cmd t m h o at c is ≡ local m k o is) → ChangesOwn h k → After k
+        → Turned c h After
 
 module _ (p : Plain) (t : ℕ) where
   -- no other thread assumes that nobody else reads or writes the variable
@@ -64,9 +77,9 @@ module _ (p : Plain) (t : ℕ) where
   abbrev pub stored : World → ℕ → ℕ → ℕ → World
   stored w x v1 v2 = record { left = set w.left x v1; right = set w.right x v2; holders = w.holders; outputs = w.outputs }
 
-  -- the lock has another holder, or none
-  abbrev pub holding : World → ℕ → Option ℕ → World
-  holding w l o = record { left = w.left; right = w.right; holders = set w.holders l o; outputs = w.outputs }
+  -- others hold the locks
+  abbrev pub with_holders : World → Holders → World
+  with_holders w h = record { left = w.left; right = w.right; holders = h; outputs = w.outputs }
 
   -- both copies put out a word
   abbrev pub saying : World → ℕ → World
@@ -81,7 +94,11 @@ module _ (p : Plain) (t : ℕ) where
     pub value1 : AllStable w.holders e → v1 ≡ value e w.left
     pub value2 : AllStable w.holders e → v2 ≡ value e w.right
 
-  -- What statements owe between the points before and after them: an assignment,
+  -- What statements owe between the points before and after them: one that evaluates nothing,
+  pub record TurnOk (c : Cmd) (a b : Point) : Type 0 where
+    pub turned : (w : World) → Fits a w → Turned t c w.holders (λ h. Fits b (with_holders w h))
+
+  -- an assignment,
   pub record AssignOk (x : ℕ) (e : Term) (a b : Point) : Type 0 where
     pub q : Term
     pub words : HasWords e
@@ -89,17 +106,6 @@ module _ (p : Plain) (t : ℕ) where
     pub writable : (w : World) → Fits a w → IsWritableNow p w.holders t x
     pub evaluated : (w : World) → Fits a w → Holds q w.left → value e w.left ≡ value e w.right
     pub after_store : (w : World) (v1 v2 : ℕ) → Fits a w → Pending e q w v1 v2 → Fits b (stored w x v1 v2)
-
-  -- a lock that is free, and is taken,
-  pub record LockOk (l : ℕ) (a b : Point) : Type 0 where
-    pub takes : (w : World) → Fits a w → holder w.holders l ≡ None → Fits b (holding w l (Some t))
-    pub in_range : l < length p.locks
-
-  -- a lock that is given back,
-  pub record UnlockOk (l : ℕ) (a b : Point) : Type 0 where
-    pub held : (w : World) → Fits a w → holder w.holders l ≡ Some t
-    pub gives : (w : World) → Fits a w → Fits b (holding w l None)
-    pub in_range : l < length p.locks
 
   -- an output, which has one value in both,
   pub record OutputOk (e : Term) (a b : Point) : Type 0 where
@@ -115,19 +121,21 @@ module _ (p : Plain) (t : ℕ) where
 
   -- Each statement owes that between two points, and those of a block one after another. A loop has a point of its own that
   -- fits where it is entered and where its body ends.
-  abbrev mutual
-    pub TypedCmd : Cmd → Point → Point → Type 0
-    TypedCmd skip a b = Weaker a b
-    TypedCmd (assign x e) a b = AssignOk x e a b
-    TypedCmd (lock l) a b = LockOk l a b
-    TypedCmd (unlock l) a b = UnlockOk l a b
-    TypedCmd (branch e c d) a b = (yes : Point) × (no : Point) × GuardOk e a yes no × Typed c yes b × Typed d no b
-    TypedCmd (loop e c) a b = (head : Point) × (yes : Point) × Weaker a head × GuardOk e head yes b × Typed c yes head
-    TypedCmd (output e) a b = OutputOk e a b
+  abbrev TypedBy : Cmd → (evaluated : Option Term) → (assigned : Option ℕ) → Inside (Point → Point → Type 0) → Point → Point → Type 0
+  TypedBy c None assigned inside a b = TurnOk c a b
+  TypedBy c (Some e) (Some x) inside a b = AssignOk x e a b
+  TypedBy c (Some e) None nothing a b = OutputOk e a b
+  TypedBy c (Some e) None (turns g Body) a b = (head : Point) × (yes : Point) × Weaker a head × GuardOk e head yes b × Body yes head
+  TypedBy c (Some e) None (either g First Second) a b = (yes : Point) × (no : Point) × GuardOk e a yes no × First yes b × Second no b
 
-    pub Typed : Cmds → Point → Point → Type 0
-    Typed none a b = Weaker a b
-    Typed (next at c cs) a b = (mid : Point) × TypedCmd c a mid × Typed cs mid b
+  abbrev typed_first : (at : ℕ) → Cmd → Inside (Point → Point → Type 0) → (Rest : Point → Point → Type 0) → Point → Point → Type 0
+  typed_first at c inside Rest a b = (mid : Point) × TypedBy c (parts c).evaluated (parts c).assigned inside a mid × Rest mid b
+
+  abbrev pub TypedCmd : Cmd → Point → Point → Type 0
+  TypedCmd c = TypedBy c (parts c).evaluated (parts c).assigned (made_inside Weaker typed_first c)
+
+  abbrev pub Typed : Cmds → Point → Point → Type 0
+  Typed cs = made Weaker typed_first cs
 
   -- the same of items that are all statements
   abbrev pub TypedItem : Item → Point → Point → Type 0
@@ -156,13 +164,11 @@ module _ (p : Plain) (t : ℕ) where
   guard_from e a b c d k o = record { same = λ w f. o.same w (k w f); taken = λ w f. o.taken w (k w f); other = λ w f. o.other w (k w f) }
 
   pub cmd_from : (c : Cmd) (a b d : Point) → Weaker a b → TypedCmd c b d → TypedCmd c a d
-  cmd_from skip a b d k o = λ w f. o w (k w f)
   cmd_from (assign x e) a b d k o = assign_from x e a b d k o
-  cmd_from (lock l) a b d k o = record { takes = λ w f. o.takes w (k w f); in_range = o.in_range }
-  cmd_from (unlock l) a b d k o = record { held = λ w f. o.held w (k w f); gives = λ w f. o.gives w (k w f); in_range = o.in_range }
   cmd_from (branch e c c') a b d k o = (o.0, o.1, guard_from e a b o.0 o.1 k o.2, o.3, o.4)
   cmd_from (loop e c) a b d k o = (o.0, o.1, (λ w f. o.2 w (k w f)), o.3, o.4)
   cmd_from (output e) a b d k o = record { words = o.words; same = λ w f. o.same w (k w f); after = λ w f. o.after w (k w f) }
+  cmd_from _ a b d k o = record { turned = λ w f. o.turned w (k w f) }
 
   pub typed_from : (cs : Cmds) (a b d : Point) → Weaker a b → Typed cs b d → Typed cs a d
   typed_from none a b d k o = λ w f. o w (k w f)

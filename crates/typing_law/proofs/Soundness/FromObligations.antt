@@ -5,26 +5,25 @@ use Rattle.std.specs.List.{range_with_len}
 use Rattle.std.proofs.lemmas.List.{get_or_past}
 use Rattle.std.proofs.lemmas.List.Elements.{All-head, All-tail}
 use Rattle.cov_expr.specs.Entailment.{Entails}
-use Rattle.cov_expr.specs.Term.{Term, neg}
+use Rattle.cov_expr.specs.Term.{Term}
 use Rattle.cov_expr.specs.Trees.{has_number, mentions, vars}
 use Rattle.cov_expr.specs.Trees as trees
 use Rattle.cov_expr.proofs.Tests.{left_true, right_true}
-use Rattle.cov_ast.specs.Declarations.{class_of, invariant_term, is_control, lock_at, no_var}
+use Rattle.cov_ast.specs.Declarations.{class_of, invariant_term, is_control, no_var}
 use Rattle.cov_ast.specs.Obligations.{Obligation, all_hold}
 use Rattle.cov_ast.specs.Plain.{Plain, class_term}
-use Rattle.cov_ast.specs.Syntax.{State, Proof, Stm, skip, assign, lock, unlock, branch, loop, note, output, Block, done, more}
-use Rattle.cov_ast.specs.WellFormed.{IsStmInRange, IsBlockInRange, CertHasWords, StmHasWords, BlockHasWords}
+use Rattle.cov_ast.specs.Syntax.{State, Proof, assign}
+use Rattle.cov_ast.specs.WellFormed.{IsStmInRange, CertHasWords, StmHasWords}
 use Rattle.cov_ast.specs.declared.refusal.Rule.TheVariants.{V1, V5}
 use Rattle.entail_cert.proofs.Instances.{valid_entails}
 use Rattle.entail_cert.proofs.Truth.{all_both}
 use Rattle.mode_state.specs.Sets.{is_stable, is_hidden, may_read}
 use Rattle.mode_state.proofs.HeldLaws.{any_from}
 use Rattle.point_law.specs.Point.{Point, type_at, ty, ty_var, vars_of, is_tracked, is_over_stable, is_over_controls}
-use Rattle.point_law.specs.After.{with_guard, meet}
-use Rattle.typing_law.specs.Blocks.{value_type, after_stm, after_block}
-use Rattle.typing_law.specs.Entailments.{Entailment, from_preds, from_one_more, cert_for, is_proved, type_follows, state_follows, guard_follows, written_type, shown_value, shown_controlled, controlled_follows, controlled_values, retype_follows, assign_entailments, freed_value}
-use Rattle.typing_law.specs.ThreadObligations.{flat, of_var, reads, one_unstable, narrow, guard_obligations, over_stable, type_obligations, state_obligations, proved, assign_parts, unlock_parts, stm_parts, block_obligations}
-use Rattle.typing_law.proofs.Soundness.Conditions.{Each, EachType, Gives, StateFollows, AssignChecks, UnlockChecks, GuardChecks, StateOver, Checks, BlockChecks}
+use Rattle.typing_law.specs.Blocks.{value_type}
+use Rattle.typing_law.specs.Entailments.{Entailment, from_preds, from_one_more, cert_for, is_proved, type_follows, state_follows, written_type, shown_value, shown_controlled, controlled_follows, controlled_values, retype_follows, assign_entailments}
+use Rattle.typing_law.specs.ThreadObligations.{flat, of_var, reads, one_unstable, narrow, guard_obligations, over_stable, type_obligations, state_obligations, proved, assign_parts}
+use Rattle.typing_law.proofs.Soundness.Conditions.{Each, EachType, Gives, StateFollows, AssignChecks, GuardChecks, StateOver}
 use Rattle.typing_law.proofs.Soundness.Exprs.{one_holds}
 use Rattle.typing_law.proofs.Soundness.Lists.{in_vars}
 use Rattle.typing_law.proofs.Soundness.Static.{clash, cond_is}
@@ -53,7 +52,7 @@ obligation_holds f [] x h k = absurd (let c : false ≡ true = k in cc)
 obligation_holds f (y ∷ ys) x h k =
     ⊎_elim (λ e. subst (λ z. IsTrue (f z).holds) (eqb-true y x e) h.0) (λ e. obligation_holds f ys x h.1 e) (or_cases (y == x) (has_number ys x) k)
 
-in_filter : (f : ℕ → Bool) (xs : List ℕ) (x : ℕ) → IsTrue (has_number xs x) → IsTrue (f x) → IsTrue (has_number (filter f xs) x)
+pub in_filter : (f : ℕ → Bool) (xs : List ℕ) (x : ℕ) → IsTrue (has_number xs x) → IsTrue (f x) → IsTrue (has_number (filter f xs) x)
 in_filter f [] x h k = absurd (let c : false ≡ true = h in cc)
 in_filter f (y ∷ ys) x h k =
     ⊎_elim (λ e. let i : f y ≡ true = subst (λ z. IsTrue (f z)) (sym (eqb-true y x e)) k in
@@ -65,17 +64,17 @@ in_filter f (y ∷ ys) x h k =
 pub in_range : (n x : ℕ) → x < n → IsTrue (has_number (range_with_len 0 n) x)
 in_range n x lt = any_from (λ y. y == x) 0 n x (omega arith) (omega arith) (eq-eqb x x refl)
 
-abbrev AllParts : List (List Obligation) → Type 0
+abbrev pub AllParts : List (List Obligation) → Type 0
 AllParts [] = Unit {0}
 AllParts (es ∷ ess) = AllTrue es × AllParts ess
 
-parts : (ess : List (List Obligation)) → AllTrue (flat ess) → AllParts ess
+pub parts : (ess : List (List Obligation)) → AllTrue (flat ess) → AllParts ess
 parts [] h = tt
 parts (es ∷ ess) h = (true_left es (flat ess) h, parts ess (true_right es (flat ess) h))
 
 -- Entailments --------------------------------------------------------------------------------------------------
 
-abbrev ProofsHaveWords : List Proof → Type 0
+abbrev pub ProofsHaveWords : List Proof → Type 0
 ProofsHaveWords proofs = All (λ q. CertHasWords q.cert) proofs
 
 -- A proof with a valid certificate gives its entailment.
@@ -88,26 +87,26 @@ cert_words (q ∷ qs) n w =
 follows : (proofs : List Proof) (n : ℕ) (g : Entailment) → ProofsHaveWords proofs → IsTrue (is_proved proofs n g) → Entails g.hyps g.goal
 follows proofs n g w v = valid_entails g.hyps g.goal (cert_for proofs n) (cert_words proofs n w) v
 
-abbrev AllFollow : List Entailment → Type 0
+abbrev pub AllFollow : List Entailment → Type 0
 AllFollow [] = Unit {0}
 AllFollow (g ∷ gs) = Entails g.hyps g.goal × AllFollow gs
 
-follow_left : (gs hs : List Entailment) → AllFollow (gs ++ hs) → AllFollow gs
+pub follow_left : (gs hs : List Entailment) → AllFollow (gs ++ hs) → AllFollow gs
 follow_left [] hs h = tt
 follow_left (g ∷ gs) hs h = (h.0, follow_left gs hs h.1)
 
-follow_right : (gs hs : List Entailment) → AllFollow (gs ++ hs) → AllFollow hs
+pub follow_right : (gs hs : List Entailment) → AllFollow (gs ++ hs) → AllFollow hs
 follow_right [] hs h = h
 follow_right (g ∷ gs) hs h = follow_right gs hs h.1
 
 -- of a number that is listed
-listed_follows : (f : ℕ → Entailment) (xs : List ℕ) (x : ℕ) → AllFollow (map f xs) → IsTrue (has_number xs x) → Entails (f x).hyps (f x).goal
+pub listed_follows : (f : ℕ → Entailment) (xs : List ℕ) (x : ℕ) → AllFollow (map f xs) → IsTrue (has_number xs x) → Entails (f x).hyps (f x).goal
 listed_follows f [] x h k = absurd (let c : false ≡ true = k in cc)
 listed_follows f (y ∷ ys) x h k =
     ⊎_elim (λ e. subst (λ z. Entails (f z).hyps (f z).goal) (eqb-true y x e) h.0) (λ e. listed_follows f ys x h.1 e)
     (or_cases (y == x) (has_number ys x) k)
 
-gives : (preds : List Term) (q goal : Term) → Entails (preds ++ q ∷ []) goal → Gives preds q goal
+pub gives : (preds : List Term) (q goal : Term) → Entails (preds ++ q ∷ []) goal → Gives preds q goal
 gives preds q goal h m w a b = h m w (all_both m preds (q ∷ []) a (b, tt))
 
 -- what a state says
@@ -119,7 +118,7 @@ types_follow : (a : Point) (rs : List (ℕ × Term)) → AllFollow (map (type_fo
 types_follow a [] h = tt
 types_follow a (r ∷ rs) h = (gives a.preds r.1 (type_at a r.0) h.0, types_follow a rs h.1)
 
-state_gives : (a : Point) (j : State) → AllFollow (state_follows a j) → StateFollows a j
+pub state_gives : (a : Point) (j : State) → AllFollow (state_follows a j) → StateFollows a j
 state_gives a j h = record {
   preds = preds_follow a.preds j.preds (follow_left (map (from_preds a.preds) j.preds) (map (type_follows a) j.types) h);
   types = types_follow a j.types (follow_right (map (from_preds a.preds) j.preds) (map (type_follows a) j.types) h);
@@ -141,7 +140,7 @@ module _ (p : Plain) (t : ℕ) where
     reads_of : (H : List Bool) (e : Term) → AllTrue (reads p t at H e) → (y : ℕ) → IsTrue (mentions e y) → IsTrue (may_read p t H y)
     reads_of H e h y n = obligation_holds (of_var p t at V1 (may_read p t H)) (vars e) y h (in_vars e y n)
 
-    all_follow : (proofs : List Proof) (n : ℕ) (gs : List Entailment) → ProofsHaveWords proofs → AllTrue (proved p t at proofs n gs) → AllFollow gs
+    pub all_follow : (proofs : List Proof) (n : ℕ) (gs : List Entailment) → ProofsHaveWords proofs → AllTrue (proved p t at proofs n gs) → AllFollow gs
     all_follow proofs n [] w h = tt
     all_follow proofs n (g ∷ gs) w h = (follows proofs n g w h.0, all_follow proofs (suc n) gs w h.1)
 
@@ -156,7 +155,7 @@ module _ (p : Plain) (t : ℕ) where
     types_over test H before [] h = tt
     types_over test H before (r ∷ rs) h = ((left_true (test r.0) (not (has_number before r.0)) h.0, h.1.0), types_over test H (r.0 ∷ before) rs h.1.1)
 
-    state_over : (H : List Bool) (j : State) → AllTrue (state_obligations p t at H j) → StateOver p t H j
+    pub state_over : (H : List Bool) (j : State) → AllTrue (state_obligations p t at H j) → StateOver p t H j
     state_over H j h =
         let preds = map (over_stable p t at H) j.preds in
         let types = type_obligations p t at (is_tracked p t H) H [] j.types in
@@ -225,7 +224,7 @@ module _ (p : Plain) (t : ℕ) where
       retyped : EachType rs (λ z r. Gives a.preds (trees.subst r x e) (type_at a z))
       retyped = retypes_follow rs fourth
 
-    assign_of : (a : Point) (x : ℕ) (e : Term) (o : Option Term) (rs : List (ℕ × Term)) (proofs : List Proof)
+    pub assign_of : (a : Point) (x : ℕ) (e : Term) (o : Option Term) (rs : List (ℕ × Term)) (proofs : List Proof)
         → IsStmInRange (length p.vars) (length p.locks) (assign x e o rs)
         → StmHasWords (assign x e o rs) → ProofsHaveWords proofs → AllParts (assign_parts p t at a x e o rs proofs)
         → AssignChecks p t a x e (value_type p t a o e) rs
@@ -250,81 +249,15 @@ module _ (p : Plain) (t : ℕ) where
 
     -- The others -----------------------------------------------------------------------------------------------
 
-    invariant_follows : (preds : List Term) (o : Option Term) → AllFollow (map (from_preds preds) (option_to_list o))
+    pub invariant_follows : (preds : List Term) (o : Option Term) → AllFollow (map (from_preds preds) (option_to_list o))
         → Entails preds (invariant_term o)
     invariant_follows preds None h = λ m w a. one_holds m
     invariant_follows preds (Some e) h = h.0
 
-    unlock_of : (a : Point) (l : ℕ) (proofs : List Proof) → l < length p.locks → ProofsHaveWords proofs → AllParts (unlock_parts p t at a l proofs)
-        → UnlockChecks p t a l
-    unlock_of a l proofs r c h =
-        let shown = filter (λ x. not (is_control p x)) (lock_at p l).hide in
-        let gs = map (from_preds a.preds) (option_to_list (lock_at p l).inv) in
-        let hs = map (freed_value p t a) shown in
-        let all = all_follow proofs 1 (gs ++ hs) c h.1.1.0 in
-        record {
-          in_range = r;
-          held = h.0.0;
-          invariant = invariant_follows a.preds (lock_at p l).inv (follow_left gs hs all);
-          shown = λ x i n. gives a.preds (class_of p x) (type_at a x)
-              (listed_follows (freed_value p t a) shown x (follow_right gs hs all)
-              (in_filter (λ x. not (is_control p x)) (lock_at p l).hide x i (ap not n)));
-        }
-
-    guard_of : (a : Point) (e : Term) → AllTrue (guard_obligations p t at a.held e) → Entails a.preds (ty p t a e) → GuardChecks p t a e
+    pub guard_of : (a : Point) (e : Term) → AllTrue (guard_obligations p t at a.held e) → Entails a.preds (ty p t a e) → GuardChecks p t a e
     guard_of a e h k = record {
       reads = reads_of a.held e
           (true_left (reads p t at a.held e) (one_unstable p t at a.held e)
           (true_left (reads p t at a.held e ++ one_unstable p t at a.held e) (narrow p t at e) h));
       low = k;
     }
-
-  mutual
-    stm_of : (s : Stm) (at : ℕ) (proofs : List Proof) (a : Point) → IsStmInRange (length p.vars) (length p.locks) s → StmHasWords s
-        → ProofsHaveWords proofs
-        → AllParts (stm_parts p t s at proofs a) → Checks p t s a
-    stm_of skip at proofs a r w c h = tt
-    stm_of (assign x e q retypes) at proofs a r w c h = assign_of at a x e q retypes proofs r w c h
-    stm_of (lock l) at proofs a r w c h = r
-    stm_of (unlock l) at proofs a r w c h = unlock_of at a l proofs r c h
-    stm_of (branch e yes_block no_block join) at proofs a r w c h =
-        let yes = with_guard p t a e in
-        let no = with_guard p t a (neg e) in
-        let yes_end = after_block p t yes_block yes in
-        let no_end = after_block p t no_block no in
-        let l = h.1.1.1.1.1.1 in
-        let all = all_follow at proofs 2 (state_follows yes_end join ++ state_follows no_end join) c l.1.1.1.0 in (
-          guard_of at a e h.0 (all_follow at proofs 1 (guard_follows p t a e ∷ []) c h.1.1.1.0).0,
-          block_of yes_block yes r.1 w.1 h.1.1.1.1.0,
-          block_of no_block no r.2 w.2 h.1.1.1.1.1.0,
-          l.0.0,
-          state_over at yes_end.held join l.1.0,
-          state_gives yes_end join (follow_left (state_follows yes_end join) (state_follows no_end join) all),
-          state_gives no_end join (follow_right (state_follows yes_end join) (state_follows no_end join) all),
-        )
-    stm_of (loop e inv b) at proofs a r w c h =
-        let head = meet p t a inv in
-        let yes = with_guard p t head e in
-        let body_end = after_block p t b yes in
-        let gs = state_follows a inv ++ guard_follows p t head e ∷ [] in
-        let all = all_follow at proofs 1 gs c h.1.1.1.1.0 in
-        let l = h.1.1.1.1.1 in (
-          state_over at a.held inv h.0,
-          state_gives a inv (follow_left (state_follows a inv) (guard_follows p t head e ∷ []) all),
-          guard_of at head e h.1.0 (follow_right (state_follows a inv) (guard_follows p t head e ∷ []) all).0,
-          block_of b yes r.2 w.2 l.0,
-          l.1.0.0,
-          state_gives body_end inv (all_follow at proofs (suc (length gs)) (state_follows body_end inv) c l.1.1.1.0),
-        )
-    stm_of (note j) at proofs a r w c h = (state_over at a.held j h.0, state_gives a j (all_follow at proofs 1 (state_follows a j) c h.1.1.0))
-    stm_of (output e) at proofs a r w c h = (w, guard_of at a e h.0 (all_follow at proofs 1 (guard_follows p t a e ∷ []) c h.1.1.0).0)
-
-    pub block_of : (b : Block) (a : Point) → IsBlockInRange (length p.vars) (length p.locks) b → BlockHasWords b → AllTrue (block_obligations p t b a)
-        → BlockChecks p t b a
-    block_of done a r w h = tt
-    block_of (more at s proofs b) a r w h =
-        let ps = stm_parts p t s at proofs a in
-        let rest = block_obligations p t b (after_stm p t s a) in (
-          stm_of s at proofs a r.0 w.0 w.1 (parts ps (true_left (flat ps) rest h)),
-          block_of b (after_stm p t s a) r.2 w.2 (true_right (flat ps) rest h),
-        )

@@ -1,31 +1,98 @@
--- The rules of the other statements are sound.
-use Rattle.std.proofs.Common.{◌≡◌, ◌≢◌, ℕ, ◌<◌, ◌&&◌, not, List, [], ◌∷◌, length, set, Bool, true, false, Option, Some, None, refl, sym, ◌∙◌, ap, subst, IsTrue, inl, inr, get_or-set_same, get_or-set_other, length-set, unwrap_or, option_map}
-use Rattle.std.proofs.lemmas.Bool.{or_right, and_from}
+-- The rules of the other statements are sound, and statements without blocks owe what their rules give.
+use Rattle.std.proofs.Common.{◌≡◌, ◌≢◌, ◌⊎◌, ℕ, ◌<◌, ◌≤◌, ◌&&◌, not, List, [], ◌∷◌, ◌++◌, length, map, filter, set, Bool, true, false, Option, Some, None, refl, sym, ◌∙◌, ap, subst, IsTrue, inl, inr, get_or-set_same, get_or-set_other, length-set, unwrap_or, option_map, option_to_list, eq-eqb}
+use Rattle.std.proofs.lemmas.Bool.{or_right, and_from, cases_lt}
+use Rattle.std.proofs.lemmas.List.{set_past}
 use Rattle.std.proofs.Math.Decide.{ℕ_discrete}
 use Rattle.cov_expr.specs.Entailment.{Holds, AllHold, Entails}
 use Rattle.cov_expr.specs.Term.{Term, const, neg, value, flag, is_set}
 use Rattle.cov_expr.specs.Words.{AreWords, HasWords}
 use Rattle.cov_expr.proofs.Tests.{left_true}
 use Rattle.cov_ast.specs.Declarations.{assumes, class_of, hides, invariant_of, invariant_term, is_control, lock_at, under}
-use Rattle.cov_ast.specs.Plain.{Plain}
-use Rattle.cov_ast.specs.Syntax.{State}
+use Rattle.cov_ast.specs.Plain.{Plain, Cmds, plain_stm}
+use Rattle.cov_ast.specs.Plain as code
+use Rattle.cov_ast.specs.Syntax.{State, Proof, Stm, skip, assign, lock, unlock, note, output}
 use Rattle.cov_ast.specs.Tables.{has}
+use Rattle.cov_ast.specs.WellFormed.{IsStmInRange, StmHasWords}
+use Rattle.cov_ast.specs.LocksAlong.{locks_after}
+use Rattle.statement_parts.specs.Parts as table
+use Rattle.statement_parts.specs.PlainParts as plain
 use Rattle.flow_model.specs.Source.{Holders, holder, is_held_by}
+use Rattle.flow_model.specs.Source as step
 use Rattle.flow_model.specs.Holdings.{IsStableNow, IsHiddenNow}
 use Rattle.flow_model.specs.Agreement.{IsLow, SameAt}
 use Rattle.flow_model.specs.Game.{FreeInvariantsHold}
-use Rattle.flow_model.proofs.Holders.{is_held}
+use Rattle.flow_model.proofs.Holders.{held_is, is_held}
 use Rattle.mode_state.specs.Sets.{is_hidden}
 use Rattle.mode_compat.specs.Declared.{IsDeclared}
 use Rattle.mode_compat.specs.HeldSets.{AreHeldBy}
 use Rattle.point_law.specs.Terms.{with_option, listed}
 use Rattle.point_law.specs.Point.{Point, given_type, type_at, default_type, is_tracked, is_over_stable}
-use Rattle.point_law.specs.After.{after_lock, locked_type, after_unlock, kept_type, unlocked_type, with_guard, meet, noted}
+use Rattle.point_law.specs.After.{after_assign, after_lock, locked_type, after_unlock, kept_type, unlocked_type, with_guard, meet, noted}
+use Rattle.typing_law.specs.Blocks.{value_type, after_stm}
+use Rattle.typing_law.specs.Entailments.{from_preds, freed_value, guard_follows, state_follows}
+use Rattle.typing_law.specs.ThreadObligations.{stm_parts, unlock_parts}
+use Rattle.typing_law.proofs.Soundness.Assign.{assign_ok}
 use Rattle.typing_law.proofs.Soundness.Conditions.{Each, StateFollows, StateOver, UnlockChecks, GuardChecks}
-use Rattle.typing_law.proofs.Soundness.Fits.{World, Settled, Fits, IsNotForeign, AllOver, AllStable, OverStableControls, LockOk, UnlockOk, OutputOk, GuardOk, Weaker, holding}
+use Rattle.typing_law.proofs.Soundness.Fits.{World, Settled, Fits, IsNotForeign, AllOver, AllStable, OverStableControls, ChangesOwn, Turned, waits, proceeds, TurnOk, OutputOk, GuardOk, Weaker, with_holders, Typed, typed_from}
+use Rattle.typing_law.proofs.Soundness.FromObligations.{AllParts, ProofsHaveWords, all_follow, assign_of, follow_left, follow_right, gives, guard_of, in_filter, invariant_follows, listed_follows, state_gives, state_over}
 use Rattle.typing_law.proofs.Soundness.Static.{held_gives, over_gives, all_stable, stable_shown, not_foreign_of_shown, class_over, under_hide, clash, cond_is}
 use Rattle.typing_law.proofs.Soundness.Lists.{distinct_holds, with_holds, listed_is, each_map, updated_is, retyped_is}
 use Rattle.typing_law.proofs.Soundness.Exprs.{distinct_over, with_over, filter_holds, with_if_holds, with_if_over, filter_over, term_agrees, not_const_zero}
+
+-- Holders ------------------------------------------------------------------------------------------------------
+
+-- there are as many, and as many are told of, and what is told is so
+pub record HeldBehind (t : ℕ) (h k : Holders) (H K : List Bool) : Type 0 where
+  pub holders : length k ≡ length h
+  pub sized : length K ≡ length H
+  pub by : AreHeldBy k t K
+
+module _ (t : ℕ) where
+  -- a lock that is taken or given back, with what is told of it
+  held_set : (h : Holders) (l : ℕ) (o : Option ℕ) (H : List Bool) (b : Bool) → length h ≡ length H → b ≡ is_held_by o t → AreHeldBy h t H
+      → HeldBehind t h (set h l o) H (set H l b)
+  held_set h l o H b n e held = record { holders = length-set h l o; sized = length-set H l b; by = λ j. go j (ℕ_discrete j l) }
+    where
+      at : (l < length H) ⊎ (length H ≤ l) → has (set H l b) l ≡ is_held_by (holder (set h l o) l) t
+      at (inl lt) = get_or-set_same H l b false lt ∙ e ∙ sym (ap (λ (q : Option ℕ). is_held_by q t) (get_or-set_same h l o None (rw n lt)))
+      at (inr past) = ap (λ K. has K l) (set_past H l b past) ∙ held l ∙ sym (ap (λ k. is_held_by (holder k l) t) (set_past h l o (rw n past)))
+
+      go : (j : ℕ) → Dec (j ≡ l) → has (set H l b) j ≡ is_held_by (holder (set h l o) j) t
+      go j (yes i) = ap (has (set H l b)) i ∙ at (cases_lt l (length H)) ∙ sym (ap (λ x. is_held_by (holder (set h l o) x) t) i)
+      go j (no d) =
+          get_or-set_other H l j b false d ∙ held j ∙ sym (ap (λ (q : Option ℕ). is_held_by q t) (get_or-set_other h l j o None d))
+
+  changes_own : (h : Holders) (l : ℕ) (o : Option ℕ) → (holder h l ≡ None) × (o ≡ Some t) ⊎ (holder h l ≡ Some t) × (o ≡ None)
+      → ChangesOwn t h (set h l o)
+  changes_own h l o e j = go (ℕ_discrete j l) (cases_lt l (length h)) e
+    where
+      go : Dec (j ≡ l) → (l < length h) ⊎ (length h ≤ l) → (holder h l ≡ None) × (o ≡ Some t) ⊎ (holder h l ≡ Some t) × (o ≡ None)
+          → (holder (set h l o) j ≡ holder h j) ⊎ ((holder h j ≡ None) × (holder (set h l o) j ≡ Some t))
+          ⊎ ((holder h j ≡ Some t) × (holder (set h l o) j ≡ None))
+      go (no d) n r = inl (get_or-set_other h l j o None d)
+      go (yes i) (inr past) r = inl (ap (λ k. holder k j) (set_past h l o past))
+      go (yes i) (inl lt) (inl r) = inr (inl (ap (holder h) i ∙ r.0, ap (holder (set h l o)) i ∙ get_or-set_same h l o None lt ∙ r.1))
+      go (yes i) (inl lt) (inr r) = inr (inr (ap (holder h) i ∙ r.0, ap (holder (set h l o)) i ∙ get_or-set_same h l o None lt ∙ r.1))
+
+  -- What is told of the locks along the text stays so.
+  pub turn_keeps : (c : code.Cmd) → (plain.parts c).evaluated ≡ None → (h : Holders) (H : List Bool) → length h ≡ length H → AreHeldBy h t H
+      → Turned t c h (λ k. HeldBehind t h k H (locks_after c H))
+  turn_keeps code.skip e h H n held = proceeds h (λ m s at is. refl) (λ l. inl refl) (record { holders = refl; sized = refl; by = held })
+  turn_keeps (code.lock l) e h H n held = go (holder h l) refl
+    where
+      go : (o : Option ℕ) → holder h l ≡ o → Turned t (code.lock l) h (λ k. HeldBehind t h k H (set H l true))
+      go None i =
+          proceeds (set h l (Some t)) (λ m s at is. ap (step.after_lock t m h s at l is) i) (changes_own h l (Some t) (inl (i, refl)))
+          (held_set h l (Some t) H true n (sym (eq-eqb t t refl)) held)
+      go (Some u) i = waits (λ m s at is. ap (step.after_lock t m h s at l is) i)
+  turn_keeps (code.unlock l) e h H n held = go (is_held_by (holder h l) t) refl
+    where
+      go : (b : Bool) → is_held_by (holder h l) t ≡ b → Turned t (code.unlock l) h (λ k. HeldBehind t h k H (set H l false))
+      go true i =
+          proceeds (set h l None) (λ m s at is. ap (step.after_unlock m h s at l is) i) (changes_own h l None (inr (held_is (holder h l) t i, refl)))
+          (held_set h l None H false n refl held)
+      go false i = waits (λ m s at is. ap (step.after_unlock m h s at l is) i)
+  turn_keeps _ e h H n held = cc
 
 module _ (p : Plain) (d : IsDeclared p) (t : ℕ) (t_in : t < length p.threads) where
   -- What is known of a variable without more: its class, where nobody hides it.
@@ -191,19 +258,14 @@ module _ (p : Plain) (d : IsDeclared p) (t : ℕ) (t_in : t < length p.threads) 
         go (no n) = sym (taken_other j n) ∙ e
 
     lock_held : AreHeldBy taken_h t (set a.held l true)
-    lock_held j = go (ℕ_discrete j l)
-      where
-        go : Dec (j ≡ l) → has (set a.held l true) j ≡ is_held_by (holder taken_h j) t
-        go (yes i) =
-            ap (has (set a.held l true)) i ∙ get_or-set_same a.held l true false (rw f.sized l_in)
-            ∙ sym (is_held (holder taken_h j) t (ap (holder taken_h) i ∙ taken_at))
-        go (no n) = get_or-set_other a.held l j true false n ∙ f.held j ∙ ap (λ (o : Option ℕ). is_held_by o t) (sym (taken_other j n))
+    unfolding taken_h
+    lock_held = (held_set t w.holders l (Some t) a.held true (f.settled.locks ∙ sym f.sized) (sym (eq-eqb t t refl)) f.held).by
 
     lock_over : (es : List Term) → AllOver p t w.holders es → AllOver p t taken_h es
     lock_over [] o = tt
     lock_over (e ∷ es) o = ((λ y u. lock_stable y (o.0 y u)), lock_over es o.1)
 
-    lock_fits : Fits p t (after_lock p t a l) (holding p t w l (Some t))
+    lock_fits : Fits p t (after_lock p t a l) (with_holders p t w (set w.holders l (Some t)))
     unfolding taken_h
     lock_fits = record {
       settled = record {
@@ -245,8 +307,15 @@ module _ (p : Plain) (d : IsDeclared p) (t : ℕ) (t_in : t < length p.threads) 
             go true i = clash (under p l z && not (is_control p z)) (and_from (under p l z) (not (is_control p z)) i (ap not n)) u
             go false i = i
 
-  pub lock_ok : (a : Point) (l : ℕ) → l < length p.locks → LockOk p t l a (after_lock p t a l)
-  lock_ok a l k = record { takes = λ w f e. lock_fits a l k w f e; in_range = k }
+  lock_ok : (a : Point) (l : ℕ) → l < length p.locks → TurnOk p t (code.lock l) a (after_lock p t a l)
+  lock_ok a l k = record { turned = λ w f. go w f (holder w.holders l) refl }
+    where
+      go : (w : World) → Fits p t a w → (o : Option ℕ) → holder w.holders l ≡ o
+          → Turned t (code.lock l) w.holders (λ h. Fits p t (after_lock p t a l) (with_holders p t w h))
+      go w f None e =
+          proceeds (set w.holders l (Some t)) (λ m s at is. ap (step.after_lock t m w.holders s at l is) e)
+          (changes_own t w.holders l (Some t) (inl (e, refl))) (lock_fits a l k w f e)
+      go w f (Some u) e = waits (λ m s at is. ap (step.after_lock t m w.holders s at l is) e)
 
   -- Unlock -------------------------------------------------------------------------------------------------------
 
@@ -278,14 +347,8 @@ module _ (p : Plain) (d : IsDeclared p) (t : ℕ) (t_in : t < length p.threads) 
     left = set a.held l false
 
     unlock_held : AreHeldBy given_h t left
-    unfolding left
-    unlock_held j = go (ℕ_discrete j l)
-      where
-        go : Dec (j ≡ l) → has left j ≡ is_held_by (holder given_h j) t
-        go (yes i) =
-            ap (has (set a.held l false)) i ∙ get_or-set_same a.held l false false (rw f.sized k.in_range)
-            ∙ sym (ap (λ (o : Option ℕ). is_held_by o t) (ap (holder given_h) i ∙ given_at))
-        go (no n) = get_or-set_other a.held l j false false n ∙ f.held j ∙ ap (λ (o : Option ℕ). is_held_by o t) (sym (given_other j n))
+    unfolding given_h left
+    unlock_held = (held_set t w.holders l None a.held false (f.settled.locks ∙ sym f.sized) refl f.held).by
 
     unlock_visible : (x : ℕ) → IsLow p w.left x → ¬ IsHiddenNow p given_h x → (b : Bool) → hides p l x ≡ b → (c : Bool) → is_control p x ≡ c
         → SameAt w.left w.right x
@@ -300,7 +363,7 @@ module _ (p : Plain) (d : IsDeclared p) (t : ℕ) (t_in : t < length p.threads) 
     unlock_free m i h free j e (yes n) = subst (λ z. Holds (invariant_of p z) m) (sym n) (k.invariant m i h)
     unlock_free m i h free j e (no n) = free j (sym (given_other j n) ∙ e)
 
-    unlock_settled : Settled p t (holding p t w l None)
+    unlock_settled : Settled p t (with_holders p t w (set w.holders l None))
     unfolding given_h
     unlock_settled = record {
       memory1 = f.settled.memory1;
@@ -315,7 +378,7 @@ module _ (p : Plain) (d : IsDeclared p) (t : ℕ) (t_in : t < length p.threads) 
       free2 = λ j e. unlock_free w.right f.settled.memory2.words f.preds2 f.settled.free2 j e (ℕ_discrete j l);
     }
 
-    unlock_fits : Fits p t (after_unlock p t a l) (holding p t w l None)
+    unlock_fits : Fits p t (after_unlock p t a l) (with_holders p t w (set w.holders l None))
     unfolding given_h left
     unlock_fits = record {
       settled = unlock_settled;
@@ -327,11 +390,11 @@ module _ (p : Plain) (d : IsDeclared p) (t : ℕ) (t_in : t < length p.threads) 
       types = λ z s n o.
           unlock_type (λ r. Holds r w.left → SameAt w.left w.right z) z (λ h. absurd (not_const_zero w.left h))
           (λ _. f.types z (given_stable z s) n o)
-          (default_same (holding p t w l None) left unlock_settled unlock_held z s o);
+          (default_same (with_holders p t w (set w.holders l None)) left unlock_settled unlock_held z s o);
       types_over = λ z s n.
           unlock_type (λ r. OverStableControls p t given_h r) z (λ y u. cc)
           (λ i y u. (all_stable p d t t_in given_h left unlock_held (type_at a z) i y u, (f.types_over z (given_stable z s) n y u).1))
-          (default_over (holding p t w l None) left unlock_held z s);
+          (default_over (with_holders p t w (set w.holders l None)) left unlock_held z s);
     }
       where
         kept_is : (Q : Term → Type 0) (z : ℕ) → Q (const 0) → Q (default_type p t left z) → (g : Option Term)
@@ -347,9 +410,45 @@ module _ (p : Plain) (d : IsDeclared p) (t : ℕ) (t_in : t < length p.threads) 
             (cond_is (λ g. Q (unwrap_or g (const 0))) (is_tracked p t left z) (option_map (kept_type p t left z) (given_type a z)) None
             (λ _. kept_is Q z none default (given_type a z) same) (λ _. none))
 
-  pub unlock_ok : (a : Point) (l : ℕ) → UnlockChecks p t a l → UnlockOk p t l a (after_unlock p t a l)
+  unlock_ok : (a : Point) (l : ℕ) → UnlockChecks p t a l → TurnOk p t (code.unlock l) a (after_unlock p t a l)
   unlock_ok a l k = record {
-    held = λ w f. held_gives p d t t_in w.holders a.held f.held l k.held;
-    gives = λ w f. unlock_fits a l k w f;
-    in_range = k.in_range;
+    turned = λ w f.
+        let own = held_gives p d t t_in w.holders a.held f.held l k.held in
+        proceeds (set w.holders l None) (λ m s at is. ap (step.after_unlock m w.holders s at l is) (is_held (holder w.holders l) t own))
+        (changes_own t w.holders l None (inr (own, refl))) (unlock_fits a l k w f);
   }
+
+  unlock_of : (at : ℕ) (a : Point) (l : ℕ) (proofs : List Proof) → l < length p.locks → ProofsHaveWords proofs → AllParts (unlock_parts p t at a l proofs)
+      → UnlockChecks p t a l
+  unlock_of at a l proofs r c h =
+      let shown = filter (λ x. not (is_control p x)) (lock_at p l).hide in
+      let gs = map (from_preds a.preds) (option_to_list (lock_at p l).inv) in
+      let hs = map (freed_value p t a) shown in
+      let all = all_follow p t at proofs 1 (gs ++ hs) c h.1.1.0 in
+      record {
+        in_range = r;
+        held = h.0.0;
+        invariant = invariant_follows p t at a.preds (lock_at p l).inv (follow_left gs hs all);
+        shown = λ x i n. gives a.preds (class_of p x) (type_at a x)
+            (listed_follows (freed_value p t a) shown x (follow_right gs hs all)
+            (in_filter (λ x. not (is_control p x)) (lock_at p l).hide x i (ap not n)));
+      }
+
+  -- Statements without blocks ------------------------------------------------------------------------------------
+
+  -- the truth of its obligations gives what such a statement owes
+  pub alone_ok : (s : Stm) → (table.parts s).nested ≡ table.none → (at : ℕ) (proofs : List Proof) (rest : Cmds) (a b : Point)
+      → IsStmInRange (length p.vars) (length p.locks) s → StmHasWords s → ProofsHaveWords proofs → AllParts (stm_parts p t s at proofs a)
+      → Typed p t rest (after_stm p t s a) b → Typed p t (plain_stm s at rest) a b
+  alone_ok skip o at proofs rest a b r w c h k = (a, record { turned = λ w f. proceeds w.holders (λ m s at is. refl) (λ l. inl refl) f }, k)
+  alone_ok (assign x e q retypes) o at proofs rest a b r w c h k =
+      let v = value_type p t a q e in
+      (after_assign p t a x e v retypes, assign_ok p d t t_in a x e v retypes (assign_of p t at a x e q retypes proofs r w c h), k)
+  alone_ok (lock l) o at proofs rest a b r w c h k = (after_lock p t a l, lock_ok a l r, k)
+  alone_ok (unlock l) o at proofs rest a b r w c h k = (after_unlock p t a l, unlock_ok a l (unlock_of at a l proofs r c h), k)
+  alone_ok (note j) o at proofs rest a b r w c h k =
+      let over = state_over p t at a.held j h.0 in
+      typed_from p t rest a (noted a j) b (noted_ok a j over (state_gives a j (all_follow p t at proofs 1 (state_follows a j) c h.1.1.0))) k
+  alone_ok (output e) o at proofs rest a b r w c h k =
+      (a, output_ok a e w (guard_of p t at a e h.0 (all_follow p t at proofs 1 (guard_follows p t a e ∷ []) c h.1.1.0).0), k)
+  alone_ok _ o at proofs rest a b r w c h k = cc

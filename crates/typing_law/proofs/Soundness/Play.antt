@@ -1,5 +1,5 @@
 -- The game of a typed thread: what holds where its copies stand.
-use Rattle.std.proofs.Common.{◌≡◌, ◌⊎◌, ◌↔◌, ℕ, zero, suc, ◌<◌, List, [], ◌∷◌, ◌++◌, length, set, map, Bool, true, false, replicate, Option, Some, None, refl, sym, ◌∙◌, ap, ap₂, subst, IsTrue, inl, inr, get_or-set_same, get_or-set_other}
+use Rattle.std.proofs.Common.{◌≡◌, ◌↔◌, ℕ, zero, suc, List, [], ◌∷◌, ◌++◌, length, set, map, Bool, true, false, replicate, Option, Some, None, refl, sym, ◌∙◌, ap, ap₂, subst, IsTrue, inl, inr, get_or-set_other}
 use Rattle.std.proofs.Math.Decide.{ℕ_discrete}
 use Rattle.cov_expr.specs.Entailment.{Holds, AllHold}
 use Rattle.cov_expr.specs.Term.{Term, value}
@@ -7,14 +7,14 @@ use Rattle.cov_expr.specs.Trees.{mentions}
 use Rattle.cov_expr.specs.Words.{IsMemory, IsWord, HasWords}
 use Rattle.cov_expr.proofs.Values.{value_mentioned, value_word}
 use Rattle.cov_ast.specs.Declarations.{thread_at}
-use Rattle.cov_ast.specs.Plain.{skip, assign, lock, unlock, branch, loop, output, Cmds, none, next, ◌then_all◌, Plain}
-use Rattle.flow_model.specs.Source.{Item, run, put, test, emit, Holders, Outputs, holder, local, items_then, after_lock, after_unlock, is_held_by}
+use Rattle.cov_ast.specs.Plain.{Cmd, assign, branch, loop, output, Cmds, none, next, ◌then_all◌, Plain}
+use Rattle.flow_model.specs.Source.{Item, run, put, test, emit, Holders, Outputs, holder, Local, local, items_then, after_cmd, is_held_by}
 use Rattle.flow_model.specs.Holdings.{IsStableNow, IsWritableNow}
 use Rattle.flow_model.specs.Agreement.{AreFitStarts, SameAt, AreAlike, shape}
 use Rattle.flow_model.specs.Game.{AreLawful, after_moves, opening, IsSecureThread, Copies, Move, own, outside, after_move, IsLawfulOutside, MeetsGuarantees, IsSecureMove}
 use Rattle.flow_model.proofs.Holders.{held_is, is_held}
 use Rattle.point_law.specs.Point.{Point, type_at}
-use Rattle.typing_law.proofs.Soundness.Fits.{World, AllStable, AllOver, Settled, Fits, stored, holding, saying, Pending, AssignOk, LockOk, UnlockOk, GuardOk, Typed, TypedItems, typed_then, typed_append}
+use Rattle.typing_law.proofs.Soundness.Fits.{World, AllStable, AllOver, Settled, Fits, stored, with_holders, saying, Pending, ChangesOwn, Turned, waits, proceeds, AssignOk, GuardOk, Typed, TypedItems, typed_then, typed_append}
 
 pub same_truth : (a b : Bool) → (IsTrue a → IsTrue b) → (IsTrue b → IsTrue a) → a ≡ b
 same_truth true b h k = sym (h refl)
@@ -31,6 +31,9 @@ holds_same e m n h k = λ z. k (value_mentioned e m n h ∙ z)
 -- the copies with these items
 pub copies : World → List Item → List Item → Copies
 copies w is js = record { left = local w.left w.holders w.outputs is; right = local w.right w.holders w.outputs js }
+
+both_copies : {l k r q : Local} → l ≡ k → r ≡ q → ◌≡◌ {A = Copies} (record { left = l; right = r }) (record { left = k; right = q })
+both_copies e i = ap₂ (λ (l r : Local). let q : Copies = record { left = l; right = r } in q) e i
 
 abbrev pub world : List ℕ → List ℕ → Holders → Outputs → World
 world m1 m2 h o = record { left = m1; right = m2; holders = h; outputs = o }
@@ -274,18 +277,8 @@ module _ (p : Plain) (t : ℕ) where
   stage_ready : (w : World) (a : Point) (is : List Item) → Fits p t a w → TypedItems p t is a → Stage (copies w is is)
   stage_ready w a is f k = ready (record { w = w; a = a; is = is; fits = f; typed = k; stands = refl })
 
-  after_set : (h : Holders) (l : ℕ) (o : Option ℕ) → l < length h
-      → (holder h l ≡ None) × (o ≡ Some t) ⊎ (holder h l ≡ Some t) × (o ≡ None)
-      → (j : ℕ) → Dec (j ≡ l)
-      → (holder (set h l o) j ≡ holder h j) ⊎ ((holder h j ≡ None) × (holder (set h l o) j ≡ Some t))
-      ⊎ ((holder h j ≡ Some t) × (holder (set h l o) j ≡ None))
-  after_set h l o k (inl e) j (yes d) = inr (inl ((ap (holder h) d ∙ e.0), (ap (holder (set h l o)) d ∙ get_or-set_same h l o None k ∙ e.1)))
-  after_set h l o k (inr e) j (yes d) = inr (inr ((ap (holder h) d ∙ e.0), (ap (holder (set h l o)) d ∙ get_or-set_same h l o None k ∙ e.1)))
-  after_set h l o k e j (no d) = inl (get_or-set_other h l j o None d)
-
-  pub locking : (m : List ℕ) (h : Holders) (l : ℕ) (o : Option ℕ) (said : Outputs) (is js : List Item) → l < length h
-      → (holder h l ≡ None) × (o ≡ Some t) ⊎ (holder h l ≡ Some t) × (o ≡ None) → MeetsGuarantees p t (local m h said is) (local m (set h l o) said js)
-  locking m h l o said is js k e = record { kept = λ x n. refl; held = λ j. after_set h l o k e j (ℕ_discrete j l); said = inl refl }
+  turning : (m : List ℕ) (h k : Holders) (said : Outputs) (is js : List Item) → ChangesOwn t h k → MeetsGuarantees p t (local m h said is) (local m k said js)
+  turning m h k said is js e = record { kept = λ x n. refl; held = e; said = inl refl }
 
   stored_at : (m : List ℕ) (h : Holders) (x v y : ℕ) → IsWritableNow p h t x → ¬ IsWritableNow p h t y → Dec (y ≡ x) → SameAt (set m x v) m y
   stored_at m h x v y k n (yes e) = absurd (n (subst (IsWritableNow p h t) (sym e) k))
@@ -298,39 +291,22 @@ module _ (p : Plain) (t : ℕ) where
   emitting_one : (m : List ℕ) (h : Holders) (o : Outputs) (v : ℕ) (is js : List Item) → IsWord v → MeetsGuarantees p t (local m h o is) (local m h (o ++ v ∷ []) js)
   emitting_one m h o v is js n = record { kept = λ x n. refl; held = λ l. inl refl; said = inr (v, n, refl) }
 
-  own_lock : (w : World) (a b : Point) (at l : ℕ) (is : List Item) → Fits p t a w → LockOk p t l a b → TypedItems p t is b
-      → (o : Option ℕ) → holder w.holders l ≡ o
-      → Outcome (copies w (run at (lock l) ∷ is) (run at (lock l) ∷ is))
-      (record { left = after_lock t w.left w.holders w.outputs at l is o; right = after_lock t w.right w.holders w.outputs at l is o })
+  -- a statement that evaluates nothing
+  own_turn : (w : World) (a b : Point) (at : ℕ) (c : Cmd) (is : List Item) → Fits p t a w → TypedItems p t (run at c ∷ is) a
+      → Turned t c w.holders (λ h. Fits p t b (with_holders p t w h)) → TypedItems p t is b
+      → Outcome (copies w (run at c ∷ is) (run at c ∷ is))
+      (record { left = after_cmd t w.left w.holders w.outputs at c is; right = after_cmd t w.right w.holders w.outputs at c is })
   unfolding copies
-  own_lock w a b at l is f ok k None e =
-      let w' = holding p t w l (Some t) in
-      let in_range : l < length w.holders = rw f.settled.locks ok.in_range in
-      let f' = ok.takes w f e in (
-        owes_of w w' (run at (lock l) ∷ is) (run at (lock l) ∷ is) is is f'.settled refl
-            (locking w.left w.holders l (Some t) w.outputs (run at (lock l) ∷ is) is in_range (inl (e, refl)))
-            (locking w.right w.holders l (Some t) w.outputs (run at (lock l) ∷ is) is in_range (inl (e, refl))),
+  own_turn w a b at c is f here (waits same) k =
+      subst (Outcome (copies w (run at c ∷ is) (run at c ∷ is))) (sym (both_copies (same w.left w.outputs at is) (same w.right w.outputs at is)))
+      (still w (run at c ∷ is) (run at c ∷ is) (run at c ∷ is) (run at c ∷ is) f.settled refl (stage_ready w a (run at c ∷ is) f here))
+  own_turn w a b at c is f here (proceeds h same own_alone f') k =
+      let w' = with_holders p t w h in
+      subst (Outcome (copies w (run at c ∷ is) (run at c ∷ is))) (sym (both_copies (same w.left w.outputs at is) (same w.right w.outputs at is))) (
+        owes_of w w' (run at c ∷ is) (run at c ∷ is) is is f'.settled refl (turning w.left w.holders h w.outputs (run at c ∷ is) is own_alone)
+            (turning w.right w.holders h w.outputs (run at c ∷ is) is own_alone),
         stage_ready w' b is f' k,
       )
-  own_lock w a b at l is f ok k (Some u) e =
-      still w (run at (lock l) ∷ is) (run at (lock l) ∷ is) (run at (lock l) ∷ is) (run at (lock l) ∷ is) f.settled refl
-      (stage_ready w a (run at (lock l) ∷ is) f (b, ok, k))
-
-  own_unlock : (w : World) (a b : Point) (at l : ℕ) (is : List Item) → Fits p t a w → UnlockOk p t l a b → TypedItems p t is b
-      → (o : Bool) → o ≡ true
-      → Outcome (copies w (run at (unlock l) ∷ is) (run at (unlock l) ∷ is))
-      (record { left = after_unlock w.left w.holders w.outputs at l is o; right = after_unlock w.right w.holders w.outputs at l is o })
-  unfolding copies
-  own_unlock w a b at l is f ok k true e =
-      let w' = holding p t w l None in
-      let in_range : l < length w.holders = rw f.settled.locks ok.in_range in
-      let f' = ok.gives w f in (
-        owes_of w w' (run at (unlock l) ∷ is) (run at (unlock l) ∷ is) is is f'.settled refl
-            (locking w.left w.holders l None w.outputs (run at (unlock l) ∷ is) is in_range (inr (ok.held w f, refl)))
-            (locking w.right w.holders l None w.outputs (run at (unlock l) ∷ is) is in_range (inr (ok.held w f, refl))),
-        stage_ready w' b is f' k,
-      )
-  own_unlock w a b at l is f ok k false e = absurd cc
 
   stage_testing : (w : World) (a b c : Point) (at : ℕ) (e : Term) (x y : Cmds) (is : List Item) → Fits p t a w → GuardOk p t e a b c
       → TypedItems p t (items_then x is) b → TypedItems p t (items_then y is) c
@@ -387,7 +363,6 @@ module _ (p : Plain) (t : ℕ) where
       → Outcome (copies w is is) (after_move t own (copies w is is))
   unfolding copies
   own_ready w a [] f k = still w [] [] [] [] f.settled refl (stage_ready w a [] f tt)
-  own_ready w a (run at skip ∷ is) f k = still w _ _ is is f.settled refl (stage_ready w k.0 is (k.1 w f) k.2)
   own_ready w a (run at (assign x e) ∷ is) f k =
       let ok = k.1 in
       still w _ _ (put at x (value e w.left) ∷ is) (put at x (value e w.right) ∷ is) f.settled refl
@@ -413,9 +388,6 @@ module _ (p : Plain) (t : ℕ) where
         typed = k.2;
         stands = refl;
       }))
-  own_ready w a (run at (lock l) ∷ is) f k = own_lock w a k.0 at l is f k.1 k.2 (holder w.holders l) refl
-  own_ready w a (run at (unlock l) ∷ is) f k =
-      own_unlock w a k.0 at l is f k.1 k.2 (is_held_by (holder w.holders l) t) (is_held (holder w.holders l) t (k.1.held w f))
   own_ready w a (run at (branch e x y) ∷ is) f k =
       let c = k.1 in
       still w _ _ (test at (value e w.left) x y ∷ is) (test at (value e w.right) x y ∷ is) f.settled
@@ -435,6 +407,7 @@ module _ (p : Plain) (t : ℕ) where
       let ok = k.1 in
       still w _ _ (emit at (value e w.left) ∷ is) (emit at (value e w.right) ∷ is) f.settled refl
       (stage_emitting w k.0 at e is ok.words (ok.after w f) (ok.same w f) k.2)
+  own_ready w a (run at c ∷ is) f k = own_turn w a k.0 at c is f k (k.1.turned w f) k.2
   own_ready w a (put at x v ∷ is) f k = absurd k.1
   own_ready w a (test at v x y ∷ is) f k = absurd k.1
   own_ready w a (emit at v ∷ is) f k = absurd k.1

@@ -1,5 +1,5 @@
--- A thread that meets the conditions of its rules is secure.
-use Rattle.std.proofs.Common.{◌≡◌, ℕ, zero, suc, ◌<◌, ◌≤◌, List, [], length, map, replicate, Bool, true, false, Option, Some, None, refl, sym, ◌∙◌, ap, subst, arith, IsTrue, inl, inr, unwrap_or, cond, length-set}
+-- A thread whose statements have true obligations is secure.
+use Rattle.std.proofs.Common.{◌≡◌, ℕ, zero, suc, ◌<◌, ◌≤◌, List, [], ◌∷◌, ◌++◌, length, map, replicate, Bool, true, false, Option, Some, None, refl, sym, ◌∙◌, ap, subst, arith, IsTrue, inl, inr, unwrap_or, cond, length-set}
 use Rattle.std.proofs.lemmas.Bool.{cases_lt}
 use Rattle.std.proofs.lemmas.List.{get_or_past, length-replicate}
 use Rattle.std.proofs.lemmas.List.FromFn.{get_or-map-range_with_len, length-map-range_with_len}
@@ -9,24 +9,25 @@ use Rattle.cov_expr.specs.Words.{IsMemory}
 use Rattle.cov_expr.proofs.Tests.{each_below}
 use Rattle.cov_ast.specs.Declarations.{class_of, thread_at}
 use Rattle.cov_ast.specs.Plain.{Plain, Cmds, plain_stm, plain_block}
-use Rattle.cov_ast.specs.Syntax.{Stm, skip, assign, lock, unlock, branch, loop, note, output, Block, done, more}
+use Rattle.cov_ast.specs.Syntax.{Proof, Stm, branch, loop, Block, done, more}
 use Rattle.cov_ast.specs.Tables.{has}
+use Rattle.cov_ast.specs.WellFormed.{IsStmInRange, IsBlockInRange, StmHasWords, BlockHasWords}
 use Rattle.flow_model.specs.Source.{Holders, holder, is_held_by}
 use Rattle.flow_model.specs.Agreement.{AreFitStarts, SameAt}
 use Rattle.flow_model.specs.Game.{IsSecureThread}
 use Rattle.mode_compat.specs.Declared.{IsDeclared}
 use Rattle.mode_compat.specs.HeldSets.{AreHeldBy}
 use Rattle.point_law.specs.Point.{Point, is_tracked, vars_of, type_at}
-use Rattle.point_law.specs.After.{start, after_assign, after_lock, after_unlock, with_guard, meet, noted}
-use Rattle.typing_law.specs.Blocks.{value_type, after_stm, after_block}
-use Rattle.typing_law.specs.ThreadObligations.{agree, same_held}
-use Rattle.typing_law.proofs.Soundness.Fits.{Fits, Weaker, Typed, OverStableControls, typed_from}
+use Rattle.point_law.specs.After.{start, with_guard, meet}
+use Rattle.typing_law.specs.Blocks.{after_stm, after_block}
+use Rattle.typing_law.specs.Entailments.{guard_follows, state_follows}
+use Rattle.typing_law.specs.ThreadObligations.{flat, agree, same_held, stm_parts, block_obligations}
+use Rattle.typing_law.proofs.Soundness.Fits.{Fits, Weaker, Typed, OverStableControls}
 use Rattle.typing_law.proofs.Soundness.Play.{world, secure_of}
-use Rattle.typing_law.proofs.Soundness.Conditions.{Checks, BlockChecks}
+use Rattle.typing_law.proofs.Soundness.FromObligations.{AllTrue, AllParts, ProofsHaveWords, parts, true_left, true_right, all_follow, follow_left, follow_right, guard_of, state_gives, state_over}
 use Rattle.typing_law.proofs.Soundness.Static.{class_over, class_of_control, cond_is}
 use Rattle.typing_law.proofs.Soundness.Exprs.{one_holds, not_const_zero}
-use Rattle.typing_law.proofs.Soundness.Assign.{assign_ok}
-use Rattle.typing_law.proofs.Soundness.Others.{met, noted_ok, guard_ok, output_ok, lock_ok, unlock_ok}
+use Rattle.typing_law.proofs.Soundness.Others.{met, guard_ok, alone_ok}
 
 pub agreed : (a b : Bool) → IsTrue (agree a b) → a ≡ b
 agreed true b h = sym h
@@ -44,10 +45,8 @@ module _ (p : Plain) (t : ℕ) where
   -- A statement keeps how many locks are told of.
   mutual
     pub stm_sized : (s : Stm) (a : Point) → length (after_stm p t s a).held ≡ length a.held
-    stm_sized (lock l) a = length-set a.held l true
-    stm_sized (unlock l) a = length-set a.held l false
     stm_sized (branch e yes_block no_block join) a = block_sized yes_block (with_guard p t a e)
-    stm_sized _ a = refl
+    stm_sized _ a = omega (arith, length-set {A = Bool})
 
     pub block_sized : (b : Block) (a : Point) → length (after_block p t b a).held ≡ length a.held
     block_sized done a = refl
@@ -56,55 +55,66 @@ module _ (p : Plain) (t : ℕ) where
 module _ (p : Plain) (d : IsDeclared p) (t : ℕ) (t_in : t < length p.threads) where
   mutual
     -- a statement in front of a typed rest
-    typed_stm : (s : Stm) (at : ℕ) (rest : Cmds) (a b : Point) → length a.held ≡ length p.locks → Checks p t s a
-        → Typed p t rest (after_stm p t s a) b
-        → Typed p t (plain_stm s at rest) a b
-    typed_stm skip at rest a b h k r = (a, (λ w f. f), r)
-    typed_stm (assign x e q retypes) at rest a b h k r =
-        (after_assign p t a x e (value_type p t a q e) retypes, assign_ok p d t t_in a x e (value_type p t a q e) retypes k, r)
-    typed_stm (lock l) at rest a b h k r = (after_lock p t a l, lock_ok p d t t_in a l k, r)
-    typed_stm (unlock l) at rest a b h k r = (after_unlock p t a l, unlock_ok p d t t_in a l k, r)
-    typed_stm (branch e yes_block no_block join) at rest a b h k r =
+    typed_stm : (s : Stm) (at : ℕ) (proofs : List Proof) (rest : Cmds) (a b : Point) → length a.held ≡ length p.locks
+        → IsStmInRange (length p.vars) (length p.locks) s → StmHasWords s → ProofsHaveWords proofs → AllParts (stm_parts p t s at proofs a)
+        → Typed p t rest (after_stm p t s a) b → Typed p t (plain_stm s at rest) a b
+    typed_stm (branch e yes_block no_block join) at proofs rest a b n r w c h k =
         let yes = with_guard p t a e in
         let no = with_guard p t a (neg e) in
         let yes_end = after_block p t yes_block yes in
         let no_end = after_block p t no_block no in
-        let yes_sized = block_sized p t yes_block yes ∙ h in
-        let no_sized = block_sized p t no_block no ∙ h in (
+        let yes_sized = block_sized p t yes_block yes ∙ n in
+        let no_sized = block_sized p t no_block no ∙ n in
+        let behind = h.1.1.1.1.1.1 in
+        let over = state_over p t at yes_end.held join behind.1.0 in
+        let gs = state_follows yes_end join in
+        let hs = state_follows no_end join in
+        let all = all_follow p t at proofs 2 (gs ++ hs) c behind.1.1.1.0 in (
           meet p t yes_end join,
           (
             yes,
             no,
-            guard_ok p d t t_in a e k.0,
-            typed_block yes_block yes (meet p t yes_end join) h k.1 (met p d t t_in yes_end yes_end join yes_sized (λ l. refl) k.4 k.5),
-            typed_block no_block no (meet p t yes_end join) h k.2
-                (met p d t t_in no_end yes_end join yes_sized (held_alike p yes_end.held no_end.held yes_sized no_sized k.3) k.4 k.6),
+            guard_ok p d t t_in a e (guard_of p t at a e h.0 (all_follow p t at proofs 1 (guard_follows p t a e ∷ []) c h.1.1.1.0).0),
+            typed_block yes_block yes (meet p t yes_end join) n r.1 w.1 h.1.1.1.1.0
+                (met p d t t_in yes_end yes_end join yes_sized (λ l. refl) over (state_gives yes_end join (follow_left gs hs all))),
+            typed_block no_block no (meet p t yes_end join) n r.2 w.2 h.1.1.1.1.1.0
+                (met p d t t_in no_end yes_end join yes_sized (held_alike p yes_end.held no_end.held yes_sized no_sized behind.0.0) over
+                (state_gives no_end join (follow_right gs hs all))),
           ),
-          r,
+          k,
         )
-    typed_stm (loop e inv c) at rest a b h k r =
+    typed_stm (loop e inv body) at proofs rest a b n r w c h k =
         let head = meet p t a inv in
         let yes = with_guard p t head e in
-        let body_end = after_block p t c yes in
-        let sized = block_sized p t c yes ∙ h in (
+        let body_end = after_block p t body yes in
+        let sized = block_sized p t body yes ∙ n in
+        let over = state_over p t at a.held inv h.0 in
+        let gs = state_follows a inv in
+        let hs = guard_follows p t head e ∷ [] in
+        let all = all_follow p t at proofs 1 (gs ++ hs) c h.1.1.1.1.0 in
+        let inside = h.1.1.1.1.1 in
+        let again = state_gives body_end inv (all_follow p t at proofs (suc (length (gs ++ hs))) (state_follows body_end inv) c inside.1.1.1.0) in (
           with_guard p t head (neg e),
           (
             head,
             yes,
-            met p d t t_in a a inv h (λ l. refl) k.0 k.1,
-            guard_ok p d t t_in head e k.2,
-            typed_block c yes head h k.3 (met p d t t_in body_end a inv h (λ l. sym (held_alike p body_end.held a.held sized h k.4 l)) k.0 k.5),
+            met p d t t_in a a inv n (λ l. refl) over (state_gives a inv (follow_left gs hs all)),
+            guard_ok p d t t_in head e (guard_of p t at head e h.1.0 (follow_right gs hs all).0),
+            typed_block body yes head n r.2 w.2 inside.0
+                (met p d t t_in body_end a inv n (λ l. sym (held_alike p body_end.held a.held sized n inside.1.0.0 l)) over again),
           ),
-          r,
+          k,
         )
-    typed_stm (note j) at rest a b h k r = typed_from p t rest a (noted a j) b (noted_ok p d t t_in a j k.0 k.1) r
-    typed_stm (output e) at rest a b h k r = (a, output_ok p d t t_in a e k.0 k.1, r)
+    typed_stm s at proofs rest a b n r w c h k = alone_ok p d t t_in s refl at proofs rest a b r w c h k
 
-    typed_block : (c : Block) (a b : Point) → length a.held ≡ length p.locks → BlockChecks p t c a → Weaker p t (after_block p t c a) b
-        → Typed p t (plain_block c) a b
-    typed_block done a b h k r = r
-    typed_block (more at s proofs c) a b h k r =
-        typed_stm s at (plain_block c) a b h k.0 (typed_block c (after_stm p t s a) b (stm_sized p t s a ∙ h) k.1 r)
+    typed_block : (c : Block) (a b : Point) → length a.held ≡ length p.locks → IsBlockInRange (length p.vars) (length p.locks) c → BlockHasWords c
+        → AllTrue (block_obligations p t c a) → Weaker p t (after_block p t c a) b → Typed p t (plain_block c) a b
+    typed_block done a b n r w h k = k
+    typed_block (more at s proofs c) a b n r w h k =
+        let ps = stm_parts p t s at proofs a in
+        let rest = block_obligations p t c (after_stm p t s a) in
+        typed_stm s at proofs (plain_block c) a b n r.0 w.0 w.1 (parts ps (true_left (flat ps) rest h))
+        (typed_block c (after_stm p t s a) b (stm_sized p t s a ∙ n) r.2 w.2 (true_right (flat ps) rest h) k)
 
 -- Starts -------------------------------------------------------------------------------------------------------
 
@@ -167,9 +177,9 @@ module _ (p : Plain) (d : IsDeclared p) (t : ℕ) (t_in : t < length p.threads) 
   }
 
 pub thread_secure : (p : Plain) → IsDeclared p → (t : ℕ) → t < length p.threads → (body : Block) → (thread_at p t).body ≡ plain_block body
-    → BlockChecks p t body (start p t) → IsSecureThread p t
-thread_secure p d t t_in body e k =
+    → IsBlockInRange (length p.vars) (length p.locks) body → BlockHasWords body → AllTrue (block_obligations p t body (start p t)) → IsSecureThread p t
+thread_secure p d t t_in body e r w h =
     secure_of p t (start p t) (after_block p t body (start p t))
     (subst (λ c. Typed p t c (start p t) (after_block p t body (start p t))) (sym e)
-    (typed_block p d t t_in body (start p t) (after_block p t body (start p t)) (length-replicate (length p.locks) false) k (λ w f. f)))
+    (typed_block p d t t_in body (start p t) (after_block p t body (start p t)) (length-replicate (length p.locks) false) r w h (λ w f. f)))
     (λ m1 m2 i1 i2 st. start_fits p d t t_in m1 m2 i1 i2 st)

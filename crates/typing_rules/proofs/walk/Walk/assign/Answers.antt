@@ -12,7 +12,7 @@ use Rattle.typing_law.specs.Counts.{entailment_count}
 use Rattle.typing_law.specs.Entailments.{assign_entailments}
 use Rattle.typing_law.specs.ThreadEntailments.{stm_entailments}
 use Rattle.typing_law.specs.ThreadObligations.{few_preds, flat, stm_parts}
-use Rattle.typing_law.proofs.Counting.{count_assign}
+use Rattle.typing_law.proofs.Counting.{count_own}
 use Rattle.typing_rules.specs.Inside.Passing.{Stops}
 use Rattle.typing_rules.specs.Inside.Walking.{plain_of, value_parts}
 use Rattle.typing_rules.proofs.Assigning.{large_stops, value_stops, value_walks}
@@ -78,6 +78,6 @@ returns c a k =
     let few_ok = (rw c.site.ensures at c.check_few_preds-few.ensures) after keeps in
     let tries = (rw c.as_slice-items.ensures at c.in_ok-tried.ensures) a k in
     let count = entailment_count (flat (stm_parts p t (syntax.assign x e written rs) at proofs a)) in
-    let counted : 0 + 0 + length gs ≡ count = (let none : 0 + 0 + length gs ≡ length gs = omega arith in none) ∙ sym (count_assign p t at proofs a x e written rs) in
+    let counted : 0 + 0 + length gs ≡ count = (let none : 0 + 0 + length gs ≡ length gs = omega arith in none) ∙ sym (count_own p t at proofs a (syntax.assign x e written rs) gs refl) in
     value_walks w.purpose p t at proofs a x e written rs count c.args.kept.now c.conclude.new.kept c.conclude.result first_held
     (c.conclude.ensures after keeps few gs c.args.kept.now (length gs) count refl few_ok (sym c.len-mark.ensures) tries (zero-add (length gs)) counted)

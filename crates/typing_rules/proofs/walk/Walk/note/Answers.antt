@@ -1,11 +1,12 @@
-use Rattle.std.proofs.Common.{◌≡◌, ◌+◌, [], ◌∷◌, ◌++◌, length, map, sym, ◌∙◌, arith, zero-add}
+use Rattle.std.proofs.Common.{◌≡◌, ◌+◌, [], ◌∷◌, ◌++◌, length, map, refl, sym, ◌∙◌, arith, zero-add}
 use Rattle.cov_ast.specs.Obligations.{Decides}
+use Rattle.cov_ast.specs.Syntax.{note}
 use Rattle.cov_ast.specs.View as view
 use Rattle.point_law.specs.After.{noted}
 use Rattle.typing_law.specs.Counts.{entailment_count}
 use Rattle.typing_law.specs.Entailments.{state_follows}
 use Rattle.typing_law.specs.ThreadObligations.{flat, state_obligations}
-use Rattle.typing_law.proofs.Counting.{count_note}
+use Rattle.typing_law.proofs.Counting.{count_own}
 use Rattle.typing_rules.specs.Inside.Walking.{plain_of, last_parts}
 use Rattle.typing_rules.proofs.Others.{others_state}
 use Rattle.typing_rules.proofs.walk.Walk.note.Goals as goal
@@ -25,6 +26,6 @@ returns c a k =
     let first = state_obligations p t at a.held j in
     let stated : Decides first c.check_state-stated.result = (rw c.site.ensures at c.check_state-stated.ensures) a k in
     let counted : 0 + 0 + length gs ≡ entailment_count (first ++ flat (last_parts p t at proofs 1 (length gs) gs (after ∷ []))) =
-    (let none : 0 + 0 + length gs ≡ length gs = omega arith in none) ∙ sym (count_note p t at proofs a j) in
+    (let none : 0 + 0 + length gs ≡ length gs = omega arith in none) ∙ sym (count_own p t at proofs a (note j) gs refl) in
     c.conclude.ensures after keeps first gs c.args.kept.now (length gs) (entailment_count (first ++ flat (last_parts p t at proofs 1 (length gs) gs (after ∷ []))))
     (others_state p t at a.held j) stated (sym c.len-mark.ensures) tries (zero-add (length gs)) counted

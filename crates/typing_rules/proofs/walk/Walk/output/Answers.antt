@@ -1,10 +1,11 @@
-use Rattle.std.proofs.Common.{◌≡◌, ◌+◌, [], ◌∷◌, ◌++◌, length, map, sym, ◌∙◌, arith, zero-add}
+use Rattle.std.proofs.Common.{◌≡◌, ◌+◌, [], ◌∷◌, ◌++◌, length, map, refl, sym, ◌∙◌, arith, zero-add}
 use Rattle.cov_expr.specs.View.{term}
+use Rattle.cov_ast.specs.Syntax.{output}
 use Rattle.cov_ast.specs.View as view
 use Rattle.typing_law.specs.Counts.{entailment_count}
 use Rattle.typing_law.specs.Entailments.{guard_follows}
 use Rattle.typing_law.specs.ThreadObligations.{flat, guard_obligations}
-use Rattle.typing_law.proofs.Counting.{count_output}
+use Rattle.typing_law.proofs.Counting.{count_own}
 use Rattle.typing_rules.specs.Inside.Walking.{plain_of, last_parts}
 use Rattle.typing_rules.proofs.Others.{others_guard}
 use Rattle.typing_rules.proofs.walk.Walk.output.Goals as goal
@@ -22,6 +23,6 @@ returns c a k =
     let first = guard_obligations p t at a.held e in
     let evaluated = (rw c.site.ensures at c.check_guard-evaluated.ensures) a.held (c.modes.ensures p t a k) in
     let counted : 0 + 0 + length gs ≡ entailment_count (first ++ flat (last_parts p t at proofs 1 (length gs) gs (a ∷ []))) =
-    (let none : 0 + 0 + length gs ≡ length gs = omega arith in none) ∙ sym (count_output p t at proofs a e) in
+    (let none : 0 + 0 + length gs ≡ length gs = omega arith in none) ∙ sym (count_own p t at proofs a (output e) gs refl) in
     c.conclude.ensures a k first gs c.args.kept.now (length gs) (entailment_count (first ++ flat (last_parts p t at proofs 1 (length gs) gs (a ∷ []))))
     (others_guard p t at a.held e) evaluated (sym c.len-mark.ensures) tries (zero-add (length gs)) counted

@@ -1,8 +1,9 @@
-use Rattle.std.proofs.Common.{length, map, ap, ◌∙◌, arith, ◌<◌}
+use Rattle.std.proofs.Common.{length, map, refl, ap, ◌∙◌, arith, ◌<◌}
 use Rattle.std.proofs.lemmas.List.{length-map}
+use Rattle.cov_ast.specs.Syntax.{unlock}
 use Rattle.cov_ast.specs.View as view
 use Rattle.typing_law.specs.Entailments.{unlock_entailments}
-use Rattle.typing_law.proofs.Bounds.{few_entailments_unlock}
+use Rattle.typing_law.proofs.Bounds.{few_own}
 use Rattle.typing_rules.specs.Listed.{entailment_of, entailments_of}
 use Rattle.typing_rules.specs.Inside.Walking.{plain_of}
 use Rattle.typing_rules.proofs.TryLaws.{tried_same}
@@ -19,7 +20,8 @@ try_entailments-requires c =
       arith,
       ap length is,
       length-map c.as_slice.result.now (entailment_of a.preds),
-      few_entailments_unlock (view.program program) w.thread c.requires.walk.formed c.requires.walk.declared a c.args.l inside,
+      few_own (view.program program) w.thread c.requires.walk.formed c.requires.walk.declared (unlock c.args.l) c.args.at a (unlock_entailments (plain_of w) w.thread a c.args.l)
+          refl inside,
     )
 
 pub returns : goal.returns

@@ -1,5 +1,6 @@
 use Rattle.std.proofs.Common.{◌≡◌, ◌+◌, refl, arith, [], ◌∷◌, ◌++◌, length, map, sym, ap, ◌∙◌, subst, zero-add}
 use Rattle.cov_ast.specs.Obligations.{Decides}
+use Rattle.cov_ast.specs.Syntax.{unlock}
 use Rattle.cov_ast.specs.Tables.{has}
 use Rattle.cov_ast.specs.View as view
 use Rattle.cov_ast.specs.declared.refusal.Rule.TheVariants.{V7}
@@ -8,7 +9,7 @@ use Rattle.point_law.specs.After.{after_unlock}
 use Rattle.typing_law.specs.Counts.{entailment_count}
 use Rattle.typing_law.specs.Entailments.{unlock_entailments}
 use Rattle.typing_law.specs.ThreadObligations.{flat, of_lock, thread_obligation}
-use Rattle.typing_law.proofs.Counting.{count_unlock}
+use Rattle.typing_law.proofs.Counting.{count_own}
 use Rattle.typing_rules.specs.Inside.Walking.{plain_of, last_parts}
 use Rattle.typing_rules.proofs.walk.Walk.unlock.Goals as goal
 
@@ -31,6 +32,6 @@ returns c a k =
     (subst (λ b. Decides (thread_obligation t at V7 (One c.lock_name.result) b ∷ []) c.require_at-taken.result) held
     (rw c.site.ensures at c.require_at-taken.ensures)) in
     let counted : 0 + 0 + length gs ≡ entailment_count (first ++ flat (last_parts p t at proofs 1 (length gs) gs (after ∷ []))) =
-    (let none : 0 + 0 + length gs ≡ length gs = omega arith in none) ∙ sym (count_unlock p t at proofs a l) in
+    (let none : 0 + 0 + length gs ≡ length gs = omega arith in none) ∙ sym (count_own p t at proofs a (unlock l) gs refl) in
     c.conclude.ensures after keeps first gs c.args.kept.now (length gs) (entailment_count (first ++ flat (last_parts p t at proofs 1 (length gs) gs (after ∷ []))))
     refl taken (sym c.len-mark.ensures) tries (zero-add (length gs)) counted
