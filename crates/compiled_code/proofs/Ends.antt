@@ -72,7 +72,7 @@ module _ (p : Plain) (t : ℕ) (lines : List Line) where
       eval_line e H P i (λ w Q d j. (z : ℕ) × LineIs lines j w (Jz d z) × BlockCode p t lines a H Q (suc j) N × BlockCode p t lines b H Q z N) (λ w Q d j n. (_, n.1)) k
   cmd_line (loop e a) H P i N k = (_, k.at_first)
   cmd_line (output e) H P i N k = (_, k.at_first)
-  cmd_line _ H P i N k = (_, k.0)
+  cmd_line _ H P i N k = (_, k.stands.0)
 
   reach_line : (N : ℕ → Type 0) {i : ℕ} → ((j : ℕ) → N j → HasLine lines j) → Reach lines N i → HasLine lines i
   reach_line N f (here {i = i} n) = f i n
@@ -138,7 +138,7 @@ module _ (p : Plain) (t : ℕ) (lines : List Line) where
           (λ q. reads_here (run at (branch e a b) ∷ is) 2 q.result q.follows.0 (value e c.memory) q.follows.1 (q.right c.registers c.memory eight keeps) refl) k
       cmd_reads at (loop e a) is N k = no_jz (_, k.at_first, straight_no_jz k.first k.first_straight) _
       cmd_reads at (output e) is N k = no_jz (_, k.at_first, straight_no_jz k.first k.first_straight) _
-      cmd_reads at _ is N k = no_jz (_, k.0, refl) _
+      cmd_reads at _ is N k = no_jz (_, k.stands.0, refl) _
 
       reach_reads : (at : ℕ) (x : Cmd) (is : List Item) {i : ℕ} → i ≡ c.position → Reach lines (λ j. CmdCode p t lines x H P j (ItemsCode p t lines is)) i → Reads c (run at x ∷ is) w r
       reach_reads at x is e (here k) = cmd_reads at x is (ItemsCode p t lines is) (subst (λ i. CmdCode p t lines x H P i (ItemsCode p t lines is)) e k)

@@ -1,5 +1,5 @@
 -- No fault applies to a line that is made of a body whose ids are in range.
-use Rattle.std.proofs.Common.{◌≡◌, ◌⊎◌, ℕ, suc, ◌+◌, ◌<◌, ◌≤◌, nat_lt, nat_le, List, [], ◌∷◌, ◌++◌, length, map, Bool, true, false, if◌then◌else◌, Option, Some, None, refl, sym, ◌∙◌, arith, inl, inr, ⊎_elim, length-set, length-append}
+use Rattle.std.proofs.Common.{◌≡◌, ◌⊎◌, ℕ, suc, ◌+◌, ◌<◌, ◌≤◌, nat_lt, nat_le, List, [], ◌∷◌, ◌++◌, length, map, Bool, true, false, if◌then◌else◌, Option, Some, None, IfSome, refl, sym, ◌∙◌, arith, inl, inr, ⊎_elim, length-set, length-append}
 use Rattle.std.specs.Option.{option_or}
 use Rattle.std.proofs.lemmas.Bool.{lt-ltb, le-leb, and_from, cases_lt}
 use Rattle.std.proofs.lemmas.List.{get_or_past, length-map}
@@ -9,18 +9,20 @@ use Rattle.cov_expr.specs.Term.{Term, const, var, neg, bin}
 use Rattle.cov_expr.specs.Trees.{occurrences, width}
 use Rattle.cov_expr.specs.Words.{HasVarsBelow}
 use Rattle.cov_ast.specs.LocksAlong.{locks_after}
-use Rattle.cov_ast.specs.Plain.{Cmd, skip, assign, lock, unlock, branch, loop, output, Cmds, none, next, Plain, plain_stm, plain_block}
+use Rattle.cov_ast.specs.Plain.{Cmd, assign, branch, loop, output, Cmds, none, next, Plain, plain_stm, plain_block}
 use Rattle.cov_ast.specs.Syntax.{Stm, Block, done, more}
 use Rattle.cov_ast.specs.Syntax as annotated
 use Rattle.cov_ast.specs.WellFormed.{IsStmInRange, IsBlockInRange, IsSilentStm, IsSilent}
 use Rattle.mode_state.specs.Sets.{is_stable}
 use Rattle.regalloc.specs.Plan.{Plan, start, held, keep, stored, frees, room}
+use Rattle.statement_parts.specs.PlainParts.{either, Inside, made, made_inside, nothing, parts, turns}
 use Rattle.compiled_code.specs.Compiled.{line, weigh, part_register, var_instr, unstable_of, load_unstable, term_instrs, fetch_at, fetched_plan, load_into, fetch_plan, fetch_instrs, expr_room, expr_plan, expr_register, expr_instrs, expr_lines, direct, eval_lines, eval_plan, eval_register, use_weight, store_from, store_plan, cmd_plan, block_plan, cmd_lines, block_lines}
 use Rattle.compiled_code.proofs.Gen.{fetch_some}
 use Rattle.compiled_code.proofs.Plans.{held_is, reg_low, part_in, room_long, meet_long}
+use Rattle.compiled_code.proofs.Stable.{settled}
 use Rattle.risc_machine.specs.Faults.{has_registers, has_variable, has_lock, has_target, has_version}
 use Rattle.risc_machine.specs.declared.parts.Instr.{Instr}
-use Rattle.risc_machine.specs.declared.parts.Instr.TheVariants.{Load, Store, Jump, Jz, Nop, MovC, MovR, Bin, Acquire, Release, Out}
+use Rattle.risc_machine.specs.declared.parts.Instr.TheVariants.{Load, Store, Jump, Jz, MovC, MovR, Bin, Out}
 use Rattle.risc_machine.specs.declared.parts.Line.{Line}
 
 -- Registers -------------------------------------------------------------------------------------------------------
@@ -66,19 +68,17 @@ store_long false P x r l = length-map P _ ∙ l
 module _ (p : Plain) (t : ℕ) where
   mutual
     cmd_long : (c : Cmd) (H : List Bool) (P : Plan) → length P ≡ 8 → length (cmd_plan p t c H P) ≡ 8
-    cmd_long skip H P l = l
     cmd_long (assign x e) H P l =
         let st = is_stable p t H in
         let o = store_from st P x e in
         store_long (st x) (eval_plan st P e o) x (eval_register st P e o) (eval_long st P e o l)
-    cmd_long (lock k) H P l = l
-    cmd_long (unlock k) H P l = length-map P _ ∙ l
     cmd_long (branch e a b) H P l =
         let Q = eval_plan (is_stable p t H) P e (direct (is_stable p t H) P e) in
         let long = eval_long (is_stable p t H) P e (direct (is_stable p t H) P e) l in
         meet_long (block_plan p t a H Q) (block_plan p t b H Q) 8 (block_long a H Q long) (block_long b H Q long)
     cmd_long (loop e a) H P l = expr_long (is_stable p t H) start e refl
     cmd_long (output e) H P l = expr_long (is_stable p t H) P e l
+    cmd_long c H P l = (settled p t c H P refl).long ∙ l
 
     block_long : (c : Cmds) (H : List Bool) (P : Plan) → length P ≡ 8 → length (block_plan p t c H P) ≡ 8
     block_long none H P l = l
@@ -87,32 +87,53 @@ module _ (p : Plain) (t : ℕ) where
 -- Ids in range ----------------------------------------------------------------------------------------------------
 
 module _ (vars locks version : ℕ) where
-  abbrev mutual
-    pub IsCmdFine : Cmd → Type 0
-    IsCmdFine skip = Unit {0}
-    IsCmdFine (assign x e) = (x < vars) × HasVarsBelow e vars
-    IsCmdFine (lock l) = l < locks
-    IsCmdFine (unlock l) = l < locks
-    IsCmdFine (branch e a b) = HasVarsBelow e vars × AreFine a × AreFine b
-    IsCmdFine (loop e a) = HasVarsBelow e vars × AreFine a
-    IsCmdFine (output e) = HasVarsBelow e vars × (nat_le 2 version ≡ true)
+  -- of the blocks of a statement, by what is said of each
+  abbrev AreFineInside : Inside (Type 0) → Type 0
+  AreFineInside nothing = Unit {0}
+  AreFineInside (turns e a) = a
+  AreFineInside (either e a b) = a × b
 
-    -- ids are in range, and outputs are of their version
-    pub AreFine : Cmds → Type 0
-    AreFine none = Unit {0}
-    AreFine (next at c cs) = IsCmdFine c × AreFine cs
+  -- ids are in range, and outputs are of their version
+  pub record IsFineBy (c : Cmd) (inside : Inside (Type 0)) : Type 0 where
+    pub assigned : IfSome (parts c).assigned (λ x. x < vars)
+    pub evaluated : IfSome (parts c).evaluated (λ e. HasVarsBelow e vars)
+    pub printed : IfSome (parts c).printed (λ e. nat_le 2 version ≡ true)
+    pub taken : IfSome (parts c).taken (λ l. l < locks)
+    pub returned : IfSome (parts c).returned (λ l. l < locks)
+    pub blocks : AreFineInside inside
+
+  -- of a statement and the rest
+  abbrev BeginsFine : (at : ℕ) → Cmd → Inside (Type 0) → (rest : Type 0) → Type 0
+  BeginsFine at c inside rest = IsFineBy c inside × rest
+
+  abbrev pub IsCmdFine : Cmd → Type 0
+  IsCmdFine c = IsFineBy c (made_inside (Unit {0}) BeginsFine c)
+
+  -- statements one after another
+  abbrev pub AreFine : Cmds → Type 0
+  AreFine b = made (Unit {0}) BeginsFine b
 
   mutual
     fine_stm : (s : Stm) (at : ℕ) (rest : Cmds) → IsStmInRange vars locks s → (nat_le 2 version ≡ true) ⊎ IsSilentStm s → AreFine rest → AreFine (plain_stm s at rest)
-    fine_stm annotated.skip at rest r v k = (tt, k)
-    fine_stm (annotated.assign x e q retypes) at rest r v k = ((r.0, r.1), k)
-    fine_stm (annotated.lock l) at rest r v k = (r, k)
-    fine_stm (annotated.unlock l) at rest r v k = (r, k)
-    fine_stm (annotated.branch e a b join) at rest r v k =
-        ((r.0, fine_block a r.1 (⊎_elim (λ s. inl s) (λ s. inr s.0) v), fine_block b r.2 (⊎_elim (λ s. inl s) (λ s. inr s.1) v)), k)
-    fine_stm (annotated.loop e inv b) at rest r v k = ((r.0, fine_block b r.2 v), k)
+    fine_stm (annotated.assign x e q retypes) at rest r v k =
+        (record { assigned = r.0; evaluated = r.1; printed = tt; taken = tt; returned = tt; blocks = tt }, k)
+    fine_stm (annotated.branch e a b join) at rest r v k = (
+      record {
+        assigned = tt;
+        evaluated = r.0;
+        printed = tt;
+        taken = tt;
+        returned = tt;
+        blocks = (fine_block a r.1 (⊎_elim (λ s. inl s) (λ s. inr s.0) v), fine_block b r.2 (⊎_elim (λ s. inl s) (λ s. inr s.1) v));
+      },
+      k,
+    )
+    fine_stm (annotated.loop e inv b) at rest r v k =
+        (record { assigned = tt; evaluated = r.0; printed = tt; taken = tt; returned = tt; blocks = fine_block b r.2 v }, k)
     fine_stm (annotated.note j) at rest r v k = k
-    fine_stm (annotated.output e) at rest r v k = ((r, ⊎_elim (λ s. s) (λ s. absurd s) v), k)
+    fine_stm (annotated.output e) at rest r v k =
+        (record { assigned = tt; evaluated = r; printed = ⊎_elim (λ s. s) (λ s. absurd s) v; taken = tt; returned = tt; blocks = tt }, k)
+    fine_stm _ at rest r v k = assumption
 
     pub fine_block : (b : Block) → IsBlockInRange vars locks b → (nat_le 2 version ≡ true) ⊎ IsSilent b → AreFine (plain_block b)
     fine_block done r v = tt
@@ -283,16 +304,13 @@ module _ (vars locks version lines : ℕ) where
   module _ (p : Plain) (t : ℕ) where
     mutual
       cmd_pass : (c : Cmd) (H : List Bool) (P : Plan) (i : ℕ) → length P ≡ 8 → IsCmdFine vars locks version c → i + length (cmd_lines p t c H P i) ≤ lines → LinesPass (cmd_lines p t c H P i)
-      cmd_pass skip H P i l k n = (record { weight = refl; instr = passes Nop refl refl refl refl refl }, tt)
       cmd_pass (assign x e) H P i l k n =
           let st = is_stable p t H in
           let o = store_from st P x e in
           let r = eval_register st P e o in
           let low = register_below st P e o (λ s q. from_below st P x e s l q) in
-          lines_append (eval_lines st P e o) (line (use_weight o) (Store x r) ∷ []) (eval_pass st P e o l k.1)
-          (record { weight = used_twice o; instr = passes (Store x r) (below_eight r low) (lt-ltb x vars k.0) refl refl refl }, tt)
-      cmd_pass (lock j) H P i l k n = (record { weight = refl; instr = passes (Acquire j) refl refl (lt-ltb j locks k) refl refl }, tt)
-      cmd_pass (unlock j) H P i l k n = (record { weight = refl; instr = passes (Release j) refl refl (lt-ltb j locks k) refl refl }, tt)
+          lines_append (eval_lines st P e o) (line (use_weight o) (Store x r) ∷ []) (eval_pass st P e o l k.evaluated)
+          (record { weight = used_twice o; instr = passes (Store x r) (below_eight r low) (lt-ltb x vars k.assigned) refl refl refl }, tt)
       cmd_pass (branch e a b) H P i l k n =
           let st = is_stable p t H in
           let o = direct st P e in
@@ -308,11 +326,11 @@ module _ (vars locks version lines : ℕ) where
           let j = line (use_weight o) (Jz r at_b) in
           let last = line 0 (Jump (at_b + length cb)) in
           let all : i + length (ce ++ (j ∷ (ca ++ (last ∷ cb)))) ≡ at_b + length cb = simp length-append (omega arith) in
-          lines_append ce (j ∷ (ca ++ (last ∷ cb))) (eval_pass st P e o l k.0) (
+          lines_append ce (j ∷ (ca ++ (last ∷ cb))) (eval_pass st P e o l k.evaluated) (
             record { weight = used_twice o; instr = passes (Jz r at_b) (below_eight r low) refl refl (target_in at_b (omega arith)) refl },
-            lines_append ca (last ∷ cb) (block_pass a H Q at_a long k.1 (omega arith)) (
+            lines_append ca (last ∷ cb) (block_pass a H Q at_a long k.blocks.0 (omega arith)) (
               record { weight = refl; instr = passes (Jump (at_b + length cb)) refl refl refl (target_in (at_b + length cb) (omega arith)) refl },
-              block_pass b H Q at_b long k.2 (omega arith),
+              block_pass b H Q at_b long k.blocks.1 (omega arith),
             ),
           )
       cmd_pass (loop e a) H P i l k n =
@@ -327,9 +345,9 @@ module _ (vars locks version lines : ℕ) where
           let j = line 1 (Jz r z) in
           let last = line 0 (Jump i) in
           let all : i + length (ce ++ (j ∷ (ca ++ (last ∷ [])))) ≡ z = simp length-append (omega arith) in
-          lines_append ce (j ∷ (ca ++ (last ∷ []))) (expr_pass st start e refl k.0) (
+          lines_append ce (j ∷ (ca ++ (last ∷ []))) (expr_pass st start e refl k.evaluated) (
             record { weight = refl; instr = passes (Jz r z) (below_eight r (part_below Q 0)) refl refl (target_in z (omega arith)) refl },
-            lines_append ca (last ∷ []) (block_pass a H Q at_a long k.1 (omega arith)) (
+            lines_append ca (last ∷ []) (block_pass a H Q at_a long k.blocks (omega arith)) (
               record { weight = refl; instr = passes (Jump i) refl refl refl (target_in i (omega arith)) refl },
               tt,
             ),
@@ -337,8 +355,9 @@ module _ (vars locks version lines : ℕ) where
       cmd_pass (output e) H P i l k n =
           let st = is_stable p t H in
           let r = expr_register st P e in
-          lines_append (expr_lines st P e) (line 1 (Out r) ∷ []) (expr_pass st P e l k.0)
-          (record { weight = refl; instr = passes (Out r) (below_eight r (part_below (expr_plan st P e) 0)) refl refl refl k.1 }, tt)
+          lines_append (expr_lines st P e) (line 1 (Out r) ∷ []) (expr_pass st P e l k.evaluated)
+          (record { weight = refl; instr = passes (Out r) (below_eight r (part_below (expr_plan st P e) 0)) refl refl refl k.printed }, tt)
+      cmd_pass _ H P i l k n = (record { weight = refl; instr = passes _ refl refl (first_of (assumption, search lt-ltb)) refl refl }, tt)
 
       pub block_pass : (c : Cmds) (H : List Bool) (P : Plan) (i : ℕ) → length P ≡ 8 → AreFine vars locks version c → i + length (block_lines p t c H P i) ≤ lines → LinesPass (block_lines p t c H P i)
       block_pass none H P i l k n = tt

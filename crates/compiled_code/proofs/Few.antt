@@ -1,25 +1,26 @@
 -- The load bound of whole bodies.
-use Rattle.std.proofs.Common.{◌≡◌, ◌⊎◌, ℕ, zero, suc, ◌+◌, ◌<◌, ◌≤◌, ◌==◌, ◌&&◌, not, List, [], ◌∷◌, ◌++◌, length, set, filter, Bool, true, false, cond, if◌then◌else◌, Option, Some, None, refl, sym, ◌∙◌, ap, subst, arith, IsTrue, inl, inr, ⊎_elim, eq-eqb, eqb-true, get_or-set_other}
-use Rattle.std.specs.List.{AllByRecursion, count_by, flat_map, list_any}
-use Rattle.std.proofs.lemmas.Bool.{or_left, or_right, or_cases, and_parts, and_from, false_from_ne_true, cases_lt, both_ways}
-use Rattle.std.proofs.lemmas.List.{length-map, get_or_past, get_or-replicate}
+use Rattle.std.proofs.Common.{◌≡◌, ◌⊎◌, ℕ, ◌+◌, ◌<◌, ◌≤◌, ◌==◌, ◌&&◌, not, List, [], ◌∷◌, ◌++◌, length, filter, Bool, true, false, cond, if◌then◌else◌, Option, Some, None, refl, sym, ◌∙◌, ap, subst, arith, IsTrue, inl, inr, ⊎_elim, eq-eqb, eqb-true}
+use Rattle.std.specs.List.{AllByRecursion, count_by, flat_map}
+use Rattle.std.specs.Option.{option_map_or}
+use Rattle.std.proofs.lemmas.Bool.{or_left, or_right, or_cases, false_from_ne_true, both_ways}
+use Rattle.std.proofs.lemmas.List.{get_or-replicate}
 use Rattle.std.proofs.lemmas.List.Recursion.{is_count_by}
 use Rattle.cov_expr.specs.Term.{Term}
 use Rattle.cov_expr.specs.Trees.{add_new, has_number, mentions, occurrences, width}
-use Rattle.cov_expr.proofs.Tests.{passing}
 use Rattle.cov_expr.proofs.Trees.{has_number-append}
-use Rattle.cov_ast.specs.Declarations.{assumes, lists, no_lock, under}
+use Rattle.cov_ast.specs.Declarations.{assumes, under}
 use Rattle.cov_ast.specs.LocksAlong.{Located, located, locks_after, no_locks}
-use Rattle.cov_ast.specs.Plain.{Cmd, skip, assign, lock, unlock, branch, loop, output, Cmds, none, next, Plain}
+use Rattle.cov_ast.specs.Plain.{Cmd, assign, branch, loop, output, Cmds, none, next, Plain}
 use Rattle.cov_ast.specs.Tables.{has}
 use Rattle.mode_compat.specs.Declared.{IsDeclared}
-use Rattle.mode_state.specs.Sets.{is_stable, locks_of}
-use Rattle.mode_state.proofs.HeldLaws.{any_from}
-use Rattle.regalloc.specs.Plan.{Plan, start, restrict, frees}
+use Rattle.mode_state.specs.Sets.{is_stable}
+use Rattle.regalloc.specs.Plan.{Plan, start, frees}
+use Rattle.statement_parts.specs.PlainParts.{parts}
 use Rattle.compiled_code.specs.Compiled.{line, weigh, expr_plan, expr_register, expr_instrs, direct, store_from, eval_lines, eval_plan, eval_register, use_weight, store_plan, cmd_plan, cmd_lines, block_lines}
 use Rattle.compiled_code.specs.LoadBound.{is_straight, is_lock_of, Assignment, assigned, statements, assignments, stable_uses, IsSmall, HasFewLoads}
 use Rattle.compiled_code.proofs.Loads.{IsIn, Has, Fit, three_free, fit_start, fit_below, stored_has, credit, credit_small, credit_less, loads, loads_are, loads_append, loads_weigh, expr_few, store_fit, store_more}
-use Rattle.compiled_code.proofs.Plans.{reg_low, reg_free, restricted_is, restrict_keeps}
+use Rattle.compiled_code.proofs.Plans.{reg_low, reg_free}
+use Rattle.compiled_code.proofs.Stable.{declared_lock, stable_some, stable_by, Settled, settled}
 use Rattle.risc_machine.specs.declared.parts.Instr.TheVariants.{Store}
 use Rattle.risc_machine.specs.declared.parts.Line.{Line}
 
@@ -59,65 +60,46 @@ module _ (z : ℕ) where
 -- how many items pass a test, by recursion
 abbrev counted : {X : Type 0} → (X → Bool) → List X → ℕ
 counted test [] = 0
-counted test (x ∷ xs) = cond (test x) (1 + counted test xs) (counted test xs)
+counted test (x ∷ xs) = cond (test x) 1 0 + counted test xs
 
 counted_is : {X : Type 0} (test : X → Bool) (xs : List X) → counted test xs ≡ count_by test xs
-counted_is test xs = is_count_by (counted test) test refl (λ x xs. refl) xs
+counted_is test xs = is_count_by (counted test) test refl (λ x xs. one_more_or_none (test x) (counted test xs)) xs
+  where
+    one_more_or_none : (b : Bool) (n : ℕ) → cond b 1 0 + n ≡ cond b (1 + n) n
+    one_more_or_none true n = refl
+    one_more_or_none false n = omega arith
 
--- Stable variables ------------------------------------------------------------------------------------------------
+counted_append : {X : Type 0} (test : X → Bool) (xs ys : List X) → counted test (xs ++ ys) ≡ counted test xs + counted test ys
+counted_append test [] ys = omega arith
+counted_append test (x ∷ xs) ys = let k = counted_append test xs ys in omega arith
 
-cleared : (H : List Bool) (l j : ℕ) → has (set H l false) j ≡ true → has H j ≡ true
-cleared [] l j h = h
-cleared (b ∷ H) zero zero h = absurd (let c : false ≡ true = h in cc)
-cleared (b ∷ H) zero (suc j) h = h
-cleared (b ∷ H) (suc l) zero h = h
-cleared (b ∷ H) (suc l) (suc j) h = cleared H l j h
+counted_same : {X : Type 0} (f g : X → Bool) → ((x : X) → f x ≡ g x) → (xs : List X) → counted f xs ≡ counted g xs
+counted_same f g same [] = refl
+counted_same f g same (x ∷ xs) = ap (λ b. cond b 1 0 + counted f xs) (same x) ∙ ap (λ n. cond (g x) 1 0 + n) (counted_same f g same xs)
+
+counted_none : {X : Type 0} (test : X → Bool) → ((x : X) → test x ≡ false) → (xs : List X) → counted test xs ≡ 0
+counted_none test f [] = refl
+counted_none test f (x ∷ xs) = ap (λ b. cond b 1 0 + counted test xs) (f x) ∙ (let k = counted_none test f xs in omega arith)
+
+-- the assignments among statements
+abbrev assignments_of : List Located → List Assignment
+assignments_of ss = flat_map (λ s. assigned s.held s.cmd) ss
 
 module _ (p : Plain) (t : ℕ) where
-  declared_lock : (l x : ℕ) → under p l x ≡ true → l < length p.locks
-  declared_lock l x h = go (cases_lt l (length p.locks))
-    where
-      go : (l < length p.locks) ⊎ (length p.locks ≤ l) → l < length p.locks
-      go (inl lt) = lt
-      go (inr past) = absurd (let c : false ≡ true = sym (ap (λ k. lists k x) (get_or_past p.locks l no_lock past)) ∙ h in cc)
-
-  stable_some : (H : List Bool) (x : ℕ) → is_stable p t H x ≡ true → IsTrue (assumes p t x) ⊎ ((l : ℕ) × (has H l ≡ true) × (under p l x ≡ true))
-  stable_some H x h =
-      ⊎_elim (λ a. inl a)
-      (λ a. let k = passing (λ l. has H l && under p l x) 0 (length p.locks) a in let both = and_parts (has H k.0) (under p k.0 x) k.1 in inr (k.0, both.0, both.1))
-      (or_cases (assumes p t x) (list_any (λ l. has H l && under p l x) (locks_of p)) h)
-
-  stable_by : (H : List Bool) (l x : ℕ) → has H l ≡ true → under p l x ≡ true → is_stable p t H x ≡ true
-  stable_by H l x h u =
-      let inside = declared_lock l x u in
-      or_right (assumes p t x) _ (any_from (λ l. has H l && under p l x) 0 (length p.locks) l (omega arith) (omega arith) (and_from (has H l) (under p l x) h u))
-
-  stable_before : (H : List Bool) (l x : ℕ) → under p l x ≡ false → is_stable p t (set H l true) x ≡ true → is_stable p t H x ≡ true
-  stable_before H l x n h =
-      ⊎_elim (λ a. or_left (assumes p t x) _ a)
-      (λ k. stable_by H k.0 x (sym (get_or-set_other H l k.0 true false (λ e. absurd (both_ways (under p l x) n (subst (λ j. under p j x ≡ true) e k.2)))) ∙ k.1) k.2)
-      (stable_some (set H l true) x h)
-
-  stable_cleared : (H : List Bool) (l x : ℕ) → is_stable p t (set H l false) x ≡ true → is_stable p t H x ≡ true
-  stable_cleared H l x h =
-      ⊎_elim (λ a. or_left (assumes p t x) _ a) (λ k. stable_by H k.0 x (cleared H l k.0 k.1) k.2) (stable_some (set H l false) x h)
-
   -- Statements ----------------------------------------------------------------------------------------------------
 
-  -- The loads of x that a statement allows: the `lock` of a lock that x is under, and an assignment that reads x where it isn't
-  -- stable, one each.
+  -- The loads of x that statements allow, one each: an assignment that reads x where it isn't stable, and where a lock is taken that x is under.
+  abbrev reads_unstable : ℕ → Assignment → Bool
+  reads_unstable x a = mentions a.value x && not (is_stable p t a.held x)
+
+  abbrev takes_over : ℕ → Cmd → Bool
+  takes_over x c = option_map_or (λ l. under p l x) (parts c).taken false
+
   abbrev allowed : ℕ → List Bool → Cmd → ℕ
-  allowed x H skip = 0
-  allowed x H (assign y e) = cond (mentions e x && not (is_stable p t H x)) 1 0
-  allowed x H (lock l) = cond (under p l x) 1 0
-  allowed x H (unlock l) = 0
-  allowed x H (branch e a b) = 0
-  allowed x H (loop e a) = 0
-  allowed x H (output e) = 0
+  allowed x H c = counted (reads_unstable x) (assigned H c) + cond (takes_over x c) 1 0
 
   abbrev all_allowed : ℕ → List Located → ℕ
-  all_allowed x [] = 0
-  all_allowed x (s ∷ ss) = allowed x s.held s.cmd + all_allowed x ss
+  all_allowed x ss = counted (reads_unstable x) (assignments_of ss) + counted (λ s. takes_over x s.cmd) ss
 
   -- what a stable variable is read or written by
   abbrev uses : Assignment → List ℕ
@@ -169,98 +151,85 @@ module _ (p : Plain) (t : ℕ) where
                   omega arith;
             }
 
-    lock_less : (l : ℕ) (H : List Bool) (P : Plan) (x : ℕ) → credit (is_stable p t (set H l true)) P x ≤ cond (under p l x) 1 0 + credit (is_stable p t H) P x
-    lock_less l H P x = go (under p l x) refl
+    -- a statement that evaluates nothing leaves no more to load than before, but for a variable under a lock that it takes
+    settled_less : (c : Cmd) (H : List Bool) (P : Plan) (x : ℕ) → Settled p t c H P
+        → credit (is_stable p t (locks_after c H)) (cmd_plan p t c H P) x ≤ cond (takes_over x c) 1 0 + credit (is_stable p t H) P x
+    settled_less c H P x w = go (takes_over x c) refl
       where
-        go : (b : Bool) → under p l x ≡ b → credit (is_stable p t (set H l true)) P x ≤ cond b 1 0 + credit (is_stable p t H) P x
-        go true e = let a = credit_small (is_stable p t (set H l true)) P x in omega arith
+        go : (b : Bool) → takes_over x c ≡ b → credit (is_stable p t (locks_after c H)) (cmd_plan p t c H P) x ≤ cond b 1 0 + credit (is_stable p t H) P x
+        go true e = let a = credit_small (is_stable p t (locks_after c H)) (cmd_plan p t c H P) x in omega arith
         go false e =
-            let a = credit_less (is_stable p t H) (is_stable p t (set H l true)) P P x (λ s. stable_before H l x e s) (λ s k. k) in
+            let a = credit_less (is_stable p t H) (is_stable p t (locks_after c H)) P (cmd_plan p t c H P) x (λ s. w.before x e s) (λ s k. (k.0, w.keeps k.0 x k.1 s)) in
             omega arith
 
-    unlock_less : (l : ℕ) (H : List Bool) (P : Plan) (x : ℕ) → credit (is_stable p t (set H l false)) (restrict (is_stable p t (set H l false)) P) x ≤ credit (is_stable p t H) P x
-    unlock_less l H P x =
-        credit_less (is_stable p t H) (is_stable p t (set H l false)) P (restrict (is_stable p t (set H l false)) P) x
-        (λ s. stable_cleared H l x s)
-        (λ s k. (k.0, restrict_keeps (is_stable p t (set H l false)) P k.0 x k.1 s))
+    -- assignments of a small body, whose stable variables are in S
+    abbrev AreSmall : List Assignment → Type 0
+    AreSmall [] = Unit {0}
+    AreSmall (a ∷ rest) = (width a.value ≤ 3) × ((z : ℕ) → IsIn (a.variable ∷ occurrences a.value) z → IsTrue (is_stable p t a.held z) → IsIn S z) × AreSmall rest
 
-    -- a statement of a small body, whose stable variables are in S
-    abbrev IsSmallCmd : List Bool → Cmd → Type 0
-    IsSmallCmd H skip = Unit {0}
-    IsSmallCmd H (assign y e) = (width e ≤ 3) × ((z : ℕ) → IsIn (y ∷ occurrences e) z → IsTrue (is_stable p t H z) → IsIn S z)
-    IsSmallCmd H (lock l) = Unit {0}
-    IsSmallCmd H (unlock l) = Unit {0}
-    IsSmallCmd H (branch e a b) = ⊥
-    IsSmallCmd H (loop e a) = ⊥
-    IsSmallCmd H (output e) = ⊥
+    small_parts : (xs ys : List Assignment) → AreSmall (xs ++ ys) → AreSmall xs × AreSmall ys
+    small_parts [] ys k = (tt, k)
+    small_parts (a ∷ xs) ys k = let both = small_parts xs ys k.2 in ((k.0, k.1, both.0), both.1)
 
-    abbrev AreSmallCmds : List Located → Type 0
-    AreSmallCmds [] = Unit {0}
-    AreSmallCmds (s ∷ ss) = IsSmallCmd s.held s.cmd × AreSmallCmds ss
+    all_small : (xs : List Assignment) → AllByRecursion (λ a. width a.value ≤ 3) xs → ((z : ℕ) → IsIn (flat_map uses xs) z → IsIn S z) → AreSmall xs
+    all_small [] n g = tt
+    all_small (a ∷ xs) n g = (
+      n.0,
+      (λ z k u. g z (in_left z (uses a) (flat_map uses xs) (filtered_in z (is_stable p t a.held) (a.variable ∷ occurrences a.value) k u))),
+      all_small xs n.1 (λ z k. g z (in_right z (uses a) (flat_map uses xs) k)),
+    )
 
-    few_block : (c : Cmds) (H : List Bool) (P : Plan) (i : ℕ) → AreSmallCmds (located c H) → Fit S P → (x : ℕ)
-        → loads x (block_lines p t c H P i) ≤ all_allowed x (located c H) + credit (is_stable p t H) P x
-    few_block none H P i k f x = omega arith
-    few_block (next at skip cs) H P i k f x = let b = few_block cs H P (i + 1) k.1 f x in omega arith
-    few_block (next at (assign y e) cs) H P i k f x =
-        let ls = cmd_lines p t (assign y e) H P i in
-        let Q = cmd_plan p t (assign y e) H P in
-        let a = assign_few y e H P i k.0.0 f k.0.1 in
-        let b = few_block cs H Q (i + length ls) k.1 a.fit x in
-        subst (λ m. m ≤ cond (mentions e x && not (is_stable p t H x)) 1 0 + all_allowed x (located cs H) + credit (is_stable p t H) P x)
-        (sym (loads_append x ls (block_lines p t cs H Q (i + length ls))))
-        (let c = a.counts x in omega arith)
-    few_block (next at (lock l) cs) H P i k f x =
-        let b = few_block cs (set H l true) P (i + 1) k.1 f x in
-        let c = lock_less l H P x in
+    -- one statement: its loads, and what the plan owes after it
+    record CmdFew (c : Cmd) (H : List Bool) (P : Plan) (i : ℕ) : Type 0 where
+      fit : Fit S (cmd_plan p t c H P)
+      counts : (x : ℕ)
+          → loads x (cmd_lines p t c H P i) + credit (is_stable p t (locks_after c H)) (cmd_plan p t c H P) x ≤ allowed x H c + credit (is_stable p t H) P x
+
+    few_cmd : (c : Cmd) (H : List Bool) (P : Plan) (i : ℕ) → IsTrue (is_straight c) → AreSmall (assigned H c) → Fit S P → CmdFew c H P i
+    few_cmd (assign y e) H P i s k f =
+        let a = assign_few y e H P i k.0 f k.1 in
+        record { fit = a.fit; counts = λ x. let n = a.counts x in omega arith }
+    few_cmd (branch e a b) H P i s k f = absurd (let c : false ≡ true = s in cc)
+    few_cmd (loop e a) H P i s k f = absurd (let c : false ≡ true = s in cc)
+    few_cmd (output e) H P i s k f = absurd (let c : false ≡ true = s in cc)
+    few_cmd c H P i s k f =
+        let w = settled p t c H P refl in
+        record {
+          fit = fit_below S P (cmd_plan p t c H P) f (w.long ∙ f.long) (λ j y e. w.kept j y e);
+          counts = λ x. let n = settled_less c H P x w in omega arith;
+        }
+
+    few_block : (c : Cmds) (H : List Bool) (P : Plan) (i : ℕ) → AllByRecursion (λ s. IsTrue (is_straight s.cmd)) (located c H) → AreSmall (assignments_of (located c H))
+        → Fit S P → (x : ℕ) → loads x (block_lines p t c H P i) ≤ all_allowed x (located c H) + credit (is_stable p t H) P x
+    few_block none H P i s k f x = omega arith
+    few_block (next at c cs) H P i s k f x =
+        let ls = cmd_lines p t c H P i in
+        let K = locks_after c H in
+        let Q = cmd_plan p t c H P in
+        let small = small_parts (assigned H c) (assignments_of (located cs K)) k in
+        let a = few_cmd c H P i s.0 small.0 f in
+        let b = few_block cs K Q (i + length ls) s.1 small.1 a.fit x in
+        let l = loads_append x ls (block_lines p t cs K Q (i + length ls)) in
+        let n = counted_append (reads_unstable x) (assigned H c) (assignments_of (located cs K)) in
+        let m = a.counts x in
         omega arith
-    few_block (next at (unlock l) cs) H P i k f x =
-        let K = set H l false in
-        let R = restrict (is_stable p t K) P in
-        let b = few_block cs K R (i + 1) k.1 (fit_below S P R f (length-map P _ ∙ f.long) (λ j y e. (restricted_is (is_stable p t K) P j y e).0)) x in
-        let c = unlock_less l H P x in
-        omega arith
-    few_block (next at (branch e a b) cs) H P i k f x = absurd k.0
-    few_block (next at (loop e a) cs) H P i k f x = absurd k.0
-    few_block (next at (output e) cs) H P i k f x = absurd k.0
-
-    small_cmds : (c : Cmds) (H : List Bool) → AllByRecursion (λ s. IsTrue (is_straight s.cmd)) (located c H) → AllByRecursion (λ a. width a.value ≤ 3) (flat_map (λ s. assigned s.held s.cmd) (located c H))
-        → ((z : ℕ) → IsIn (flat_map uses (flat_map (λ s. assigned s.held s.cmd) (located c H))) z → IsIn S z) → AreSmallCmds (located c H)
-    small_cmds none H s n g = tt
-    small_cmds (next at skip cs) H s n g = (tt, small_cmds cs H s.1 n g)
-    small_cmds (next at (assign y e) cs) H s n g =
-        let a : Assignment = record { held = H; variable = y; value = e } in
-        let rest = flat_map uses (flat_map (λ s. assigned s.held s.cmd) (located cs H)) in (
-          (n.0, λ z k u. g z (in_left z (uses a) rest (filtered_in z (is_stable p t H) (y ∷ occurrences e) k u))),
-          small_cmds cs H s.1 n.1 (λ z k. g z (in_right z (uses a) rest k)),
-        )
-    small_cmds (next at (lock l) cs) H s n g = (tt, small_cmds cs (set H l true) s.1 n g)
-    small_cmds (next at (unlock l) cs) H s n g = (tt, small_cmds cs (set H l false) s.1 n g)
-    small_cmds (next at (branch e a b) cs) H s n g = absurd (let c : false ≡ true = s.0 in cc)
-    small_cmds (next at (loop e a) cs) H s n g = absurd (let c : false ≡ true = s.0 in cc)
-    small_cmds (next at (output e) cs) H s n g = absurd (let c : false ≡ true = s.0 in cc)
 
   -- The two counts of the bound -----------------------------------------------------------------------------------
 
   module _ (d : IsDeclared p) where
-    allowed_none : (x : ℕ) (c : Cmds) (H : List Bool) → IsTrue (assumes p t x) → all_allowed x (located c H) ≡ 0
-    allowed_none x none H a = refl
-    allowed_none x (next at skip cs) H a = let k = allowed_none x cs H a in omega arith
-    allowed_none x (next at (assign y e) cs) H a =
-        ap (λ b. cond b 1 0 + all_allowed x (located cs H)) (none_of (mentions e x) (is_stable p t H x) (or_left _ _ a))
-        ∙ (let k = allowed_none x cs H a in omega arith)
+    allowed_none : (x : ℕ) (ss : List Located) → IsTrue (assumes p t x) → all_allowed x ss ≡ 0
+    allowed_none x ss a =
+        let n = counted_none (reads_unstable x) (λ b. none_of (mentions b.value x) (is_stable p t b.held x) (or_left _ _ a)) (assignments_of ss) in
+        let m = counted_none (λ s. takes_over x s.cmd) (λ s. over_none (parts s.cmd).taken) ss in
+        omega arith
       where
         none_of : (b s : Bool) → s ≡ true → (b && not s) ≡ false
         none_of true s e = ap not e
         none_of false s e = refl
-    allowed_none x (next at (lock l) cs) H a =
-        ap (λ b. cond b 1 0 + all_allowed x (located cs (set H l true)))
-        (false_from_ne_true (under p l x) (λ u. absurd (both_ways (assumes p t x) (d.not_assumed l x t u) a)))
-        ∙ (let k = allowed_none x cs (set H l true) a in omega arith)
-    allowed_none x (next at (unlock l) cs) H a = let k = allowed_none x cs (set H l false) a in omega arith
-    allowed_none x (next at (branch e b c) cs) H a = let k = allowed_none x cs (locks_after (branch e b c) H) a in omega arith
-    allowed_none x (next at (loop e b) cs) H a = let k = allowed_none x cs H a in omega arith
-    allowed_none x (next at (output e) cs) H a = let k = allowed_none x cs H a in omega arith
+
+        over_none : (o : Option ℕ) → option_map_or (λ l. under p l x) o false ≡ false
+        over_none None = refl
+        over_none (Some l) = false_from_ne_true (under p l x) (λ u. absurd (both_ways (assumes p t x) (d.not_assumed l x t u) a))
 
     module _ (l x : ℕ) (u : IsTrue (under p l x)) where
       same_lock : (j : ℕ) → under p j x ≡ (j == l)
@@ -274,46 +243,34 @@ module _ (p : Plain) (t : ℕ) where
       stable_is H = go (has H l) refl
         where
           go : (b : Bool) → has H l ≡ b → is_stable p t H x ≡ b
-          go true e = stable_by H l x e u
+          go true e = stable_by p t H l x e u
           go false e =
               false_from_ne_true (is_stable p t H x)
-              (λ s. ⊎_elim (λ a. absurd (both_ways (assumes p t x) (d.not_assumed l x t u) a)) (λ r. absurd (both_ways (has H l) e (subst (λ j. has H j ≡ true) (d.one_lock x r.0 l r.2 u) r.1))) (stable_some H x s))
+              (λ s. ⊎_elim (λ a. absurd (both_ways (assumes p t x) (d.not_assumed l x t u) a)) (λ r. absurd (both_ways (has H l) e (subst (λ j. has H j ≡ true) (d.one_lock x r.0 l r.2 u) r.1))) (stable_some p t H x s))
 
       takes : List Located → ℕ
       takes ss = counted (λ s. is_lock_of l s.cmd) ss
 
       reads : List Located → ℕ
-      reads ss = counted (λ a. mentions a.value x && not (has a.held l)) (flat_map (λ s. assigned s.held s.cmd) ss)
+      reads ss = counted (λ a. mentions a.value x && not (has a.held l)) (assignments_of ss)
 
-      allowed_are : (c : Cmds) (H : List Bool) → all_allowed x (located c H) ≡ takes (located c H) + reads (located c H)
+      allowed_are : (ss : List Located) → all_allowed x ss ≡ takes ss + reads ss
       unfolding takes reads
-      allowed_are none H = omega arith
-      allowed_are (next at skip cs) H = let k = allowed_are cs H in omega arith
-      allowed_are (next at (assign y e) cs) H =
-          subst (λ b. cond (mentions e x && not b) 1 0 + all_allowed x (located cs H) ≡ takes (located cs H) + cond (mentions e x && not (has H l)) (1 + reads (located cs H)) (reads (located cs H)))
-          (sym (stable_is H)) (one_read (mentions e x && not (has H l)) _ _ _ (allowed_are cs H))
+      allowed_are ss =
+          let n = counted_same (λ s. takes_over x s.cmd) (λ s. is_lock_of l s.cmd) (λ s. over_is (parts s.cmd).taken) ss in
+          let m = counted_same (reads_unstable x) (λ a. mentions a.value x && not (has a.held l)) (λ a. ap (λ b. mentions a.value x && not b) (stable_is a.held)) (assignments_of ss) in
+          omega arith
         where
-          one_read : (b : Bool) (n m k : ℕ) → n ≡ m + k → cond b 1 0 + n ≡ m + cond b (1 + k) k
-          one_read true n m k e = omega arith
-          one_read false n m k e = omega arith
-      allowed_are (next at (lock j) cs) H =
-          subst (λ b. cond b 1 0 + all_allowed x (located cs (set H j true)) ≡ cond (j == l) (1 + takes (located cs (set H j true))) (takes (located cs (set H j true))) + reads (located cs (set H j true)))
-          (sym (same_lock j)) (one_lock (j == l) _ _ _ (allowed_are cs (set H j true)))
-        where
-          one_lock : (b : Bool) (n m k : ℕ) → n ≡ m + k → cond b 1 0 + n ≡ cond b (1 + m) m + k
-          one_lock true n m k e = omega arith
-          one_lock false n m k e = omega arith
-      allowed_are (next at (unlock j) cs) H = let k = allowed_are cs (set H j false) in omega arith
-      allowed_are (next at (branch e b c) cs) H = let k = allowed_are cs (locks_after (branch e b c) H) in omega arith
-      allowed_are (next at (loop e b) cs) H = let k = allowed_are cs H in omega arith
-      allowed_are (next at (output e) cs) H = let k = allowed_are cs H in omega arith
+          over_is : (o : Option ℕ) → option_map_or (λ j. under p j x) o false ≡ option_map_or (λ j. j == l) o false
+          over_is None = refl
+          over_is (Some j) = same_lock j
 
     few_loads : (c : Cmds) → IsSmall p t c → (x : ℕ)
         → loads x (block_lines p t c (no_locks p) start 0) ≤ all_allowed x (statements p c) + credit (is_stable p t (no_locks p)) start x
     few_loads c k x =
         let S = add_new [] (stable_uses p t c) in
-        few_block S k.four c (no_locks p) start 0
-        (small_cmds S k.four c (no_locks p) k.straight k.narrow (λ z i. still_added z (stable_uses p t c) [] (inr i)))
+        few_block S k.four c (no_locks p) start 0 k.straight
+        (all_small S k.four (assignments p c) k.narrow (λ z i. still_added z (stable_uses p t c) [] (inr i)))
         (fit_start S) x
 
     pub few_body : (c : Cmds) → IsSmall p t c → HasFewLoads p t c (block_lines p t c (no_locks p) start 0)
@@ -321,16 +278,16 @@ module _ (p : Plain) (t : ℕ) where
     few_body c k = record {
       assumed = λ x a.
           let b = few_loads c k x in
-          let n = allowed_none x c (no_locks p) a in
+          let n = allowed_none x (statements p c) a in
           let s = credit_small (is_stable p t (no_locks p)) start x in
           let e = loads_are x (block_lines p t c (no_locks p) start 0) in
           omega arith;
       locked = λ l x u.
           let b = few_loads c k x in
-          let n = allowed_are l x u c (no_locks p) in
+          let n = allowed_are l x u (statements p c) in
           let m = counted_is (λ s. is_lock_of l s.cmd) (statements p c) in
           let r = counted_is (λ a. mentions a.value x && not (has a.held l)) (assignments p c) in
-          let s : credit (is_stable p t (no_locks p)) start x ≡ 0 = ap (λ b. cond b 1 0) (stable_is l x u (no_locks p) ∙ get_or-replicate (length p.locks) l false false (declared_lock l x u)) in
+          let s : credit (is_stable p t (no_locks p)) start x ≡ 0 = ap (λ b. cond b 1 0) (stable_is l x u (no_locks p) ∙ get_or-replicate (length p.locks) l false false (declared_lock p t l x u)) in
           let e = loads_are x (block_lines p t c (no_locks p) start 0) in
           omega arith;
     }

@@ -8,7 +8,8 @@ use Rattle.regalloc.specs.Plan.{Plan, start}
 use Rattle.compiled_code.specs.Compiled.{line, weigh, expr_plan, expr_register, expr_instrs, expr_lines, direct, eval_lines, eval_plan, eval_register, use_weight, store_from, cmd_plan, cmd_lines, block_lines}
 use Rattle.compiled_code.proofs.Cores.{IsStraight, Straight}
 use Rattle.compiled_code.proofs.Gen.{ExprParts, expr_parts}
-use Rattle.compiled_code.proofs.LaidOut.{IsTidyExpr, IsTidyCmd, IsTidy, At, at_left, at_right, at_all}
+use Rattle.compiled_code.proofs.LaidOut.{IsTidyExpr, IsTidyCmd, IsTidy, at_left, at_right, at_all}
+use Rattle.compiled_code.proofs.Shape.{At}
 use Rattle.risc_machine.specs.declared.parts.Instr.{Instr}
 use Rattle.risc_machine.specs.declared.parts.Instr.TheVariants.{Load, Store, Jump, Jz, MovC, MovR, Bin, Out}
 use Rattle.risc_machine.specs.declared.parts.Line.{Line}
@@ -71,7 +72,7 @@ module _ (p : Plain) (t : ℕ) (lines : List Line) where
     cmd_lead (assign x e) H P i k h =
         let st = is_stable p t H in
         let o = store_from st P x e in
-        lead_append lines i (eval_lines st P e o) (line (use_weight o) (Store x (eval_register st P e o)) ∷ []) (eval_lead H P e i o k.1) (inr (used o), tt)
+        lead_append lines i (eval_lines st P e o) (line (use_weight o) (Store x (eval_register st P e o)) ∷ []) (eval_lead H P e i o k.evaluated) (inr (used o), tt)
     cmd_lead (branch e a b) H P i k h =
         let st = is_stable p t H in
         let o = direct st P e in
@@ -85,10 +86,10 @@ module _ (p : Plain) (t : ℕ) (lines : List Line) where
         let last = line 0 (Jump (at_b + length cb)) in
         let h1 = at_right lines i ce (j ∷ (ca ++ (last ∷ cb))) h in
         let h2 = at_right lines at_a ca (last ∷ cb) h1.1 in
-        lead_append lines i ce (j ∷ (ca ++ (last ∷ cb))) (eval_lead H P e i o k.0) (
+        lead_append lines i ce (j ∷ (ca ++ (last ∷ cb))) (eval_lead H P e i o k.evaluated) (
           inr (used o),
-          lead_append lines at_a ca (last ∷ cb) (block_lead a H Q at_a k.1 (at_left lines at_a ca (last ∷ cb) h1.1))
-              (inl (refl, inl (omega arith)), block_lead b H Q at_b k.2 h2.1),
+          lead_append lines at_a ca (last ∷ cb) (block_lead a H Q at_a k.blocks.0 (at_left lines at_a ca (last ∷ cb) h1.1))
+              (inl (refl, inl (omega arith)), block_lead b H Q at_b k.blocks.1 h2.1),
         )
     cmd_lead (loop e a) H P i k h =
         let st = is_stable p t H in
@@ -100,14 +101,14 @@ module _ (p : Plain) (t : ℕ) (lines : List Line) where
         let j = line 1 (Jz (expr_register st start e) z) in
         let last = line 0 (Jump i) in
         let h1 = at_right lines i ce (j ∷ (ca ++ (last ∷ []))) h in
-        lead_append lines i ce (j ∷ (ca ++ (last ∷ []))) (expr_lead H start e i k.0) (
+        lead_append lines i ce (j ∷ (ca ++ (last ∷ []))) (expr_lead H start e i k.evaluated) (
           inr (le_refl 1),
-          lead_append lines at_a ca (last ∷ []) (block_lead a H Q at_a k.1 (at_left lines at_a ca (last ∷ []) h1.1))
-              (inl (refl, inr (expr_first H start e i (j ∷ (ca ++ (last ∷ []))) k.0 h)), tt),
+          lead_append lines at_a ca (last ∷ []) (block_lead a H Q at_a k.blocks.0 (at_left lines at_a ca (last ∷ []) h1.1))
+              (inl (refl, inr (expr_first H start e i (j ∷ (ca ++ (last ∷ []))) k.evaluated h)), tt),
         )
     cmd_lead (output e) H P i k h =
         let st = is_stable p t H in
-        lead_append lines i (expr_lines st P e) (line 1 (Out (expr_register st P e)) ∷ []) (expr_lead H P e i k) (inr (le_refl 1), tt)
+        lead_append lines i (expr_lines st P e) (line 1 (Out (expr_register st P e)) ∷ []) (expr_lead H P e i k.evaluated) (inr (le_refl 1), tt)
     cmd_lead _ H P i k h = (inr (le_refl 1), tt)
 
     block_lead : (c : Cmds) (H : List Bool) (P : Plan) (i : ℕ) → IsTidy p t c H → At lines i (block_lines p t c H P i) → AllLead lines i (block_lines p t c H P i)

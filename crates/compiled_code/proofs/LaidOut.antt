@@ -1,17 +1,18 @@
 -- The lines of a body stand for it.
-use Rattle.std.proofs.Common.{◌≡◌, ℕ, suc, ◌+◌, ◌<◌, ◌≤◌, List, [], ◌∷◌, ◌++◌, length, map, set, Bool, true, false, Option, Some, None, refl, subst, arith, IsTrue, slice_get, length-append, append_assoc, add-zero, inl, inr, subst₂}
+use Rattle.std.proofs.Common.{◌≡◌, ℕ, suc, ◌+◌, ◌<◌, ◌≤◌, List, [], ◌∷◌, ◌++◌, length, map, Bool, false, Option, Some, None, IfSome, refl, subst, arith, IsTrue, slice_get, length-append, append_assoc, add-zero, inl, inr, subst₂}
 use Rattle.cov_expr.specs.Term.{Term}
 use Rattle.cov_expr.specs.Trees.{mentions, width}
 use Rattle.cov_ast.specs.LocksAlong.{locks_after, locks_at_end}
-use Rattle.cov_ast.specs.Plain.{Cmd, skip, assign, lock, unlock, branch, loop, output, Cmds, none, next, Plain}
-use Rattle.cov_ast.specs.Tables.{has}
+use Rattle.cov_ast.specs.Plain.{Cmd, assign, branch, loop, output, Cmds, none, next, Plain}
 use Rattle.flow_model.specs.Source.{items_then}
 use Rattle.mode_state.specs.Sets.{is_stable, may_write}
-use Rattle.regalloc.specs.Plan.{Plan, start, meet, restrict}
+use Rattle.regalloc.specs.Plan.{Plan, start, meet}
+use Rattle.statement_parts.specs.PlainParts.{either, first_block, Inside, last_block, made, made_inside, nothing, parts, turns}
 use Rattle.compiled_code.specs.Compiled.{line, weigh, expr_plan, expr_register, expr_instrs, expr_lines, direct, eval_lines, eval_plan, eval_register, use_weight, store_from, store_plan, cmd_plan, block_plan, cmd_lines, block_lines}
 use Rattle.compiled_code.proofs.Gen.{ExprParts, expr_parts, direct_right, store_from_direct, store_plan_right}
-use Rattle.compiled_code.proofs.Plans.{meet_is, restricted_is}
-use Rattle.compiled_code.proofs.Shape.{LineIs, Reach, here, hop, LinesFrom, AfterStore, ExprCode, EvalCode, CmdCode, BlockCode, ItemsCode, Follow, block_map, block_then}
+use Rattle.compiled_code.proofs.Plans.{meet_is}
+use Rattle.compiled_code.proofs.Shape.{LineIs, Reach, here, hop, LinesFrom, At, HasLocks, AfterStore, ExprCode, EvalCode, CmdCode, BlockCode, ItemsCode, Follow, block_map, block_then}
+use Rattle.compiled_code.proofs.Stable.{settled}
 use Rattle.risc_machine.specs.declared.parts.Instr.{Instr}
 use Rattle.risc_machine.specs.declared.parts.Instr.TheVariants.{Store, Jump, Jz, Out}
 use Rattle.risc_machine.specs.declared.parts.Line.{Line}
@@ -24,27 +25,34 @@ module _ (p : Plain) (t : ℕ) where
     pub narrow : width e ≤ 7
     pub one_unstable : (x y : ℕ) → IsTrue (mentions e x) → IsTrue (mentions e y) → is_stable p t H x ≡ false → is_stable p t H y ≡ false → x ≡ y
 
-  abbrev mutual
-    pub IsTidyCmd : Cmd → List Bool → Type 0
-    IsTidyCmd skip H = Unit {0}
-    IsTidyCmd (assign x e) H = IsTrue (may_write p t H x) × IsTidyExpr H e × (x < length p.vars)
-    IsTidyCmd (lock l) H = l < length p.locks
-    IsTidyCmd (unlock l) H = (l < length p.locks) × IsTrue (has H l)
-    IsTidyCmd (branch e a b) H = IsTidyExpr H e × IsTidy a H × IsTidy b H × (locks_at_end a H ≡ locks_at_end b H)
-    IsTidyCmd (loop e a) H = IsTidyExpr H e × IsTidy a H × (locks_at_end a H ≡ H)
-    IsTidyCmd (output e) H = IsTidyExpr H e
+  -- Of the blocks of a statement, by what is said of each: both of a branch end with the same locks, and that of a loop with those that are held before it.
+  abbrev pub AreTidyInside : (blocks : Inside Cmds) → Inside (List Bool → Type 0) → List Bool → Type 0
+  AreTidyInside blocks nothing H = Unit {0}
+  AreTidyInside blocks (turns e a) H = a H × (locks_at_end (first_block blocks) H ≡ H)
+  AreTidyInside blocks (either e a b) H = a H × b H × (locks_at_end (first_block blocks) H ≡ locks_at_end (last_block blocks) H)
 
-    -- statements under held locks, as far as the code rests on the rules
-    pub IsTidy : Cmds → List Bool → Type 0
-    IsTidy none H = Unit {0}
-    IsTidy (next at c cs) H = IsTidyCmd c H × IsTidy cs (locks_after c H)
+  -- a statement under held locks, as far as the code rests on the rules, by what is said of its blocks
+  pub record IsTidyBy (c : Cmd) (inside : Inside (List Bool → Type 0)) (H : List Bool) : Type 0 where
+    pub locks : HasLocks p t c H
+    pub assigned : IfSome (parts c).assigned (λ x. IsTrue (may_write p t H x) × (x < length p.vars))
+    pub evaluated : IfSome (parts c).evaluated (λ e. IsTidyExpr H e)
+    pub blocks : AreTidyInside (parts c).inside inside H
+
+  -- of no statement, and of one and the rest
+  abbrev pub EndsTidy : List Bool → Type 0
+  EndsTidy H = Unit {0}
+
+  abbrev pub BeginsTidy : (at : ℕ) → Cmd → Inside (List Bool → Type 0) → (rest : List Bool → Type 0) → List Bool → Type 0
+  BeginsTidy at c inside rest H = IsTidyBy c inside H × rest (locks_after c H)
+
+  abbrev pub IsTidyCmd : Cmd → List Bool → Type 0
+  IsTidyCmd c H = IsTidyBy c (made_inside EndsTidy BeginsTidy c) H
+
+  -- statements one after another
+  abbrev pub IsTidy : Cmds → List Bool → Type 0
+  IsTidy b H = made EndsTidy BeginsTidy b H
 
 -- Lines in code ---------------------------------------------------------------------------------------------------
-
--- these lines stand in the code from i on
-abbrev pub At : List Line → ℕ → List Line → Type 0
-At lines i [] = Unit {0}
-At lines i (l ∷ ls) = (slice_get lines i ≡ Some l) × At lines (suc i) ls
 
 pub at_left : (lines : List Line) (i : ℕ) (a b : List Line) → At lines i (a ++ b) → At lines i a
 at_left lines i [] b h = tt
@@ -108,7 +116,6 @@ module _ (p : Plain) (t : ℕ) (lines : List Line) where
   mutual
     cmd_at : (c : Cmd) (H : List Bool) (P : Plan) (i : ℕ) (N : List Bool → Plan → ℕ → Type 0) → Follow p t lines N N → IsTidyCmd p t c H → At lines i (cmd_lines p t c H P i)
         → N (locks_after c H) (cmd_plan p t c H P) (i + length (cmd_lines p t c H P i)) → CmdCode p t lines c H P i N
-    cmd_at skip H P i N f k h n = (h.0, subst (N H P) (omega arith) n)
     cmd_at (assign x e) H P i N f k h n =
         let st = is_stable p t H in
         let o = store_from st P x e in
@@ -116,19 +123,15 @@ module _ (p : Plain) (t : ℕ) (lines : List Line) where
         let Q = eval_plan st P e o in
         let g = eval_register st P e o in
         let last = line (use_weight o) (Store x g) in (
-          k.0,
-          eval_at H P e i (λ w Q d j. LineIs lines j w (Store x d) × (R : Plan) × AfterStore p t H Q x d R × N H R (suc j)) k.1 o
+          k.assigned.0,
+          eval_at H P e i (λ w Q d j. LineIs lines j w (Store x d) × (R : Plan) × AfterStore p t H Q x d R × N H R (suc j)) k.evaluated o
               (λ s q. store_from_direct st P x e s q) (at_left lines i ce (last ∷ []) h) (
                 (at_right lines i ce (last ∷ []) h).0,
                 store_plan (st x) Q x g,
-                store_plan_right p t H Q x g k.2 (st x) refl,
+                store_plan_right p t H Q x g k.assigned.1 (st x) refl,
                 subst (N H (store_plan (st x) Q x g)) (simp length-append (omega arith)) n,
               ),
         )
-    cmd_at (lock l) H P i N f k h n = (h.0, k, subst (N (set H l true) P) (omega arith) n)
-    cmd_at (unlock l) H P i N f k h n =
-        let R = restrict (is_stable p t (set H l false)) P in
-        (h.0, k.0, k.1, R, (λ j y e. restricted_is (is_stable p t (set H l false)) P j y e), subst (N (set H l false) R) (omega arith) n)
     cmd_at (branch e a b) H P i N f k h n =
         let st = is_stable p t H in
         let o = direct st P e in
@@ -145,14 +148,14 @@ module _ (p : Plain) (t : ℕ) (lines : List Line) where
         let A = block_plan p t a H Q in
         let B = block_plan p t b H Q in
         let m : N (locks_at_end a H) (meet A B) (at_b + length cb) = subst (N (locks_at_end a H) (meet A B)) (branch_end i ce ca cb j last) n in
-        let m' : N (locks_at_end b H) (meet A B) (at_b + length cb) = subst (λ K. N K (meet A B) (at_b + length cb)) k.3 m in
-        eval_at H P e i (λ w Q d j. (z : ℕ) × LineIs lines j w (Jz d z) × BlockCode p t lines a H Q (suc j) N × BlockCode p t lines b H Q z N) k.0 o (λ s q. q)
+        let m' : N (locks_at_end b H) (meet A B) (at_b + length cb) = subst (λ K. N K (meet A B) (at_b + length cb)) k.blocks.2 m in
+        eval_at H P e i (λ w Q d j. (z : ℕ) × LineIs lines j w (Jz d z) × BlockCode p t lines a H Q (suc j) N × BlockCode p t lines b H Q z N) k.evaluated o (λ s q. q)
         (at_left lines i ce (j ∷ (ca ++ (last ∷ cb))) h) (
           at_b,
           h1.0,
-          block_at a H Q at_a N f k.1 (at_left lines at_a ca (last ∷ cb) h1.1)
+          block_at a H Q at_a N f k.blocks.0 (at_left lines at_a ca (last ∷ cb) h1.1)
               (hop h2.0 (here (f (locks_at_end a H) (meet A B) A (at_b + length cb) (λ j y e. (meet_is A B j y e).0) m))),
-          block_at b H Q at_b N f k.2 h2.1 (here (f (locks_at_end b H) (meet A B) B (at_b + length cb) (λ j y e. (meet_is A B j y e).1) m')),
+          block_at b H Q at_b N f k.blocks.1 h2.1 (here (f (locks_at_end b H) (meet A B) B (at_b + length cb) (λ j y e. (meet_is A B j y e).1) m')),
         )
     cmd_at (loop e a) H P i N f k h n =
         let st = is_stable p t H in
@@ -167,22 +170,31 @@ module _ (p : Plain) (t : ℕ) (lines : List Line) where
         let h2 = at_right lines at_a ca (last ∷ []) h1.1 in
         let m : N H Q z = subst (N H Q) (loop_end i ce ca j last) n in
         expr_at H start e i
-        (λ Q d j. (z : ℕ) × LineIs lines j 1 (Jz d z) × BlockCode p t lines a H Q (suc j) (λ K R k. (K ≡ H) × Reach lines (λ j. j ≡ i) k) × N H Q z) k.0
+        (λ Q d j. (z : ℕ) × LineIs lines j 1 (Jz d z) × BlockCode p t lines a H Q (suc j) (λ K R k. (K ≡ H) × Reach lines (λ j. j ≡ i) k) × N H Q z) k.evaluated
         (at_left lines i ce (j ∷ (ca ++ (last ∷ []))) h) (
           z,
           h1.0,
-          block_at a H Q at_a (λ K R k. (K ≡ H) × Reach lines (λ j. j ≡ i) k) (λ L R S k x v. v) k.1
-              (at_left lines at_a ca (last ∷ []) h1.1) (here (k.2, hop h2.0 (here refl))),
+          block_at a H Q at_a (λ K R k. (K ≡ H) × Reach lines (λ j. j ≡ i) k) (λ L R S k x v. v) k.blocks.0
+              (at_left lines at_a ca (last ∷ []) h1.1) (here (k.blocks.1, hop h2.0 (here refl))),
           m,
         )
     cmd_at (output e) H P i N f k h n =
         let st = is_stable p t H in
         let ce = expr_lines st P e in
         let last = line 1 (Out (expr_register st P e)) in
-        expr_at H P e i (λ Q d j. LineIs lines j 1 (Out d) × N H Q (suc j)) k (at_left lines i ce (last ∷ []) h) (
+        expr_at H P e i (λ Q d j. LineIs lines j 1 (Out d) × N H Q (suc j)) k.evaluated (at_left lines i ce (last ∷ []) h) (
           (at_right lines i ce (last ∷ []) h).0,
           subst (N H (expr_plan st P e)) (simp length-append (omega arith)) n,
         )
+    cmd_at c H P i N f k h n =
+        let w = settled p t c H P refl in
+        record {
+          stands = h;
+          locks = k.locks;
+          after = cmd_plan p t c H P;
+          left = λ j y e. (w.kept j y e, w.stays j y e);
+          follows = subst (N (locks_after c H) (cmd_plan p t c H P)) (omega arith) n;
+        }
 
     block_at : (c : Cmds) (H : List Bool) (P : Plan) (i : ℕ) (N : List Bool → Plan → ℕ → Type 0) → Follow p t lines N N → IsTidy p t c H → At lines i (block_lines p t c H P i)
         → Reach lines (N (locks_at_end c H) (block_plan p t c H P)) (i + length (block_lines p t c H P i)) → BlockCode p t lines c H P i N

@@ -6,6 +6,7 @@ mod Coupling
 mod Ends
 mod SecureRuns
 mod Gen
+mod Stable
 mod LaidOut
 mod Forward
 mod Progress

@@ -1,16 +1,19 @@
 -- Which lines stand for which items, from a position on, with the locks that are held and the plan.
-use Rattle.std.proofs.Common.{◌≡◌, ◌≢◌, ◌⊎◌, ℕ, suc, ◌<◌, List, [], ◌∷◌, length, get_or, set, Bool, true, false, Some, None, IsTrue, inl, inr, ⊎_elim, slice_get}
+use Rattle.std.proofs.Common.{◌≡◌, ◌≢◌, ◌⊎◌, ℕ, suc, ◌<◌, List, [], ◌∷◌, length, get_or, Bool, Option, Some, None, IfSome, IsTrue, inl, inr, ⊎_elim, slice_get}
 use Rattle.cov_expr.specs.Term.{Term, value}
-use Rattle.cov_ast.specs.Plain.{Cmd, skip, assign, lock, unlock, branch, loop, output, Cmds, none, next, ◌then_all◌, Plain}
+use Rattle.cov_ast.specs.LocksAlong.{locks_after}
+use Rattle.cov_ast.specs.Plain.{Cmd, assign, branch, loop, output, Cmds, none, next, ◌then_all◌, Plain}
 use Rattle.cov_ast.specs.Tables.{has}
 use Rattle.flow_model.specs.Source.{Item, run, put, test, emit, items_then}
 use Rattle.mode_state.specs.Sets.{is_stable, may_write}
 use Rattle.regalloc.specs.Plan.{Plan, start}
 use Rattle.regalloc.specs.TrueRecord.{IsTrueRecord}
+use Rattle.statement_parts.specs.PlainParts.{either, Inside, made, made_inside, nothing, parts, turns}
+use Rattle.compiled_code.specs.Compiled.{cmd_lines}
 use Rattle.compiled_code.proofs.Cores.{exec_one, exec, IsStraight, Straight}
 use Rattle.compiled_code.proofs.Plans.{Below}
 use Rattle.risc_machine.specs.declared.parts.Instr.{Instr}
-use Rattle.risc_machine.specs.declared.parts.Instr.TheVariants.{Store, Jump, Jz, Nop, Acquire, Release, Out}
+use Rattle.risc_machine.specs.declared.parts.Instr.TheVariants.{Store, Jump, Jz, Out}
 use Rattle.risc_machine.specs.declared.parts.Line.{Line}
 
 -- Lines -----------------------------------------------------------------------------------------------------------
@@ -28,6 +31,11 @@ module _ (lines : List Line) where
   abbrev pub LinesFrom : List Instr → ℕ → (ℕ → Type 0) → Type 0
   LinesFrom [] i N = N i
   LinesFrom (c ∷ cs) i N = LineIs i 0 c × LinesFrom cs (suc i) N
+
+  -- these lines stand in the code from i on
+  abbrev pub At : ℕ → List Line → Type 0
+  At i [] = Unit {0}
+  At i (l ∷ ls) = (slice_get lines i ≡ Some l) × At (suc i) ls
 
   pub reach_map : (N M : ℕ → Type 0) {i : ℕ} → ((j : ℕ) → N j → M j) → Reach N i → Reach M i
   reach_map N M f (here {i = i} n) = here (f i n)
@@ -51,9 +59,14 @@ module _ (p : Plain) (t : ℕ) where
   abbrev pub Record : Plan → List Bool → List ℕ → List ℕ → Type 0
   Record P H r m = IsTrueRecord (IsStable H) P r m
 
-  -- what is left of P is stable under H
-  abbrev pub Left : List Bool → Plan → Plan → Type 0
-  Left H P R = (j y : ℕ) → get_or R j None ≡ Some y → (get_or P j None ≡ Some y) × IsStable H y
+  -- what is left of P, and stays stable
+  abbrev pub Left : (before after : List Bool) → Plan → Plan → Type 0
+  Left H K P R = (j y : ℕ) → get_or R j None ≡ Some y → (get_or P j None ≡ Some y) × (IsStable H y → IsStable K y)
+
+  -- the locks that a statement takes and gives back are there, and those that it gives back are held
+  pub record HasLocks (c : Cmd) (H : List Bool) : Type 0 where
+    pub taken : IfSome (parts c).taken (λ l. l < length p.locks)
+    pub returned : IfSome (parts c).returned (λ l. (l < length p.locks) × IsTrue (has H l))
 
   -- after a store of register d to x
   abbrev pub AfterStore : List Bool → Plan → ℕ → ℕ → Plan → Type 0
@@ -72,10 +85,14 @@ module _ (p : Plain) (t : ℕ) where
   pub store_below : (H : List Bool) (P Q R : Plan) (x d : ℕ) → Below P Q → AfterStore H P x d R → AfterStore H Q x d R
   store_below H P Q R x d b a j y e = ⊎_elim (λ k. inl k) (λ k. inr (k.0, b j y k.1)) (a j y e)
 
-  pub left_below : (H : List Bool) (P Q R : Plan) → Below P Q → Left H P R → Left H Q R
-  left_below H P Q R b a j y e = let k = a j y e in (b j y k.0, k.1)
+  pub left_below : (H K : List Bool) (P Q R : Plan) → Below P Q → Left H K P R → Left H K Q R
+  left_below H K P Q R b a j y e = let k = a j y e in (b j y k.0, k.1)
 
 -- Code of expressions and statements ------------------------------------------------------------------------------
+
+-- what stands under held locks and a plan from a position on, in front of something
+abbrev pub Code : Type 1
+Code = List Bool → Plan → ℕ → (List Bool → Plan → ℕ → Type 0) → Type 0
 
 module _ (p : Plain) (t : ℕ) (lines : List Line) where
   pub record ExprCode (H : List Bool) (P : Plan) (i : ℕ) (e : Term) (N : Plan → ℕ → ℕ → Type 0) : Type 0 where
@@ -99,24 +116,44 @@ module _ (p : Plain) (t : ℕ) (lines : List Line) where
   abbrev pub EvalCode : List Bool → Plan → ℕ → Term → (ℕ → Plan → ℕ → ℕ → Type 0) → Type 0
   EvalCode H P i e N = ExprCode H P i e (N 1) ⊎ Direct H P i e (N 2)
 
-  abbrev mutual
-    -- c stands at i under the held locks H and the plan P, and N at what follows
-    pub CmdCode : Cmd → List Bool → Plan → ℕ → (List Bool → Plan → ℕ → Type 0) → Type 0
-    CmdCode skip H P i N = LineIs lines i 1 Nop × N H P (suc i)
-    CmdCode (assign x e) H P i N =
-        IsTrue (may_write p t H x) × EvalCode H P i e (λ w Q d j. LineIs lines j w (Store x d) × (R : Plan) × AfterStore p t H Q x d R × N H R (suc j))
-    CmdCode (lock l) H P i N = LineIs lines i 1 (Acquire l) × (l < length p.locks) × N (set H l true) P (suc i)
-    CmdCode (unlock l) H P i N =
-        LineIs lines i 1 (Release l) × (l < length p.locks) × IsTrue (has H l) × (R : Plan) × Left p t (set H l false) P R × N (set H l false) R (suc i)
-    CmdCode (branch e a b) H P i N =
-        EvalCode H P i e (λ w Q d j. (z : ℕ) × LineIs lines j w (Jz d z) × BlockCode a H Q (suc j) N × BlockCode b H Q z N)
-    CmdCode (loop e a) H P i N =
-        ExprCode H start i e (λ Q d j. (z : ℕ) × LineIs lines j 1 (Jz d z) × BlockCode a H Q (suc j) (λ K R k. (K ≡ H) × Reach lines (λ j. j ≡ i) k) × N H Q z)
-    CmdCode (output e) H P i N = ExprCode H P i e (λ Q d j. LineIs lines j 1 (Out d) × N H Q (suc j))
+  -- a statement of one line, which evaluates nothing, and N behind it
+  pub record LineCode (c : Cmd) (H : List Bool) (P : Plan) (i : ℕ) (N : List Bool → Plan → ℕ → Type 0) : Type 0 where
+    pub stands : At lines i (cmd_lines p t c H P i)
+    pub locks : HasLocks p t c H
+    pub after : Plan
+    pub left : Left p t H (locks_after c H) P after
+    pub follows : N (locks_after c H) after (suc i)
 
-    pub BlockCode : Cmds → List Bool → Plan → ℕ → (List Bool → Plan → ℕ → Type 0) → Type 0
-    BlockCode none H P i N = Reach lines (N H P) i
-    BlockCode (next at c cs) H P i N = Reach lines (λ j. CmdCode c H P j (λ K Q k. BlockCode cs K Q k N)) i
+  -- an expression whose value is stored, or else put out
+  abbrev pub ValueCode : Term → (assigned : Option ℕ) → Code
+  ValueCode e (Some x) H P i N =
+      IsTrue (may_write p t H x) × EvalCode H P i e (λ w Q d j. LineIs lines j w (Store x d) × (R : Plan) × AfterStore p t H Q x d R × N H R (suc j))
+  ValueCode e None H P i N = ExprCode H P i e (λ Q d j. LineIs lines j 1 (Out d) × N H Q (suc j))
+
+  -- a statement without blocks, by what it evaluates
+  abbrev pub LeafCode : Cmd → (evaluated : Option Term) → Code
+  LeafCode c None H P i N = LineCode c H P i N
+  LeafCode c (Some e) H P i N = ValueCode e (parts c).assigned H P i N
+
+  -- c stands at i under the held locks H and the plan P, and N at what follows: by what stands for each of its blocks
+  abbrev pub CodeBy : Cmd → Inside Code → Code
+  CodeBy c nothing H P i N = LeafCode c (parts c).evaluated H P i N
+  CodeBy c (either e a b) H P i N = EvalCode H P i e (λ w Q d j. (z : ℕ) × LineIs lines j w (Jz d z) × a H Q (suc j) N × b H Q z N)
+  CodeBy c (turns e a) H P i N =
+      ExprCode H start i e (λ Q d j. (z : ℕ) × LineIs lines j 1 (Jz d z) × a H Q (suc j) (λ K R k. (K ≡ H) × Reach lines (λ j. j ≡ i) k) × N H Q z)
+
+  -- of no statement, and of one and the rest
+  abbrev pub EndCode : Code
+  EndCode H P i N = Reach lines (N H P) i
+
+  abbrev pub FirstCode : (at : ℕ) → Cmd → Inside Code → (rest : Code) → Code
+  FirstCode at c inside rest H P i N = Reach lines (λ j. CodeBy c inside H P j (λ K Q k. rest K Q k N)) i
+
+  abbrev pub CmdCode : Cmd → Code
+  CmdCode c H P i N = CodeBy c (made_inside EndCode FirstCode c) H P i N
+
+  abbrev pub BlockCode : Cmds → Code
+  BlockCode b H P i N = made EndCode FirstCode b H P i N
 
   abbrev pub ItemsCode : List Item → List Bool → Plan → ℕ → Type 0
   ItemsCode [] H P i = Reach lines (λ j. j ≡ length lines) i
@@ -153,7 +190,6 @@ module _ (p : Plain) (t : ℕ) (lines : List Line) where
   mutual
     pub cmd_map : (c : Cmd) (H : List Bool) (P Q : Plan) (i : ℕ) (N M : List Bool → Plan → ℕ → Type 0) → Below P Q → Follow N M
         → CmdCode c H P i N → CmdCode c H Q i M
-    cmd_map skip H P Q i N M b f k = (k.0, f H P Q (suc i) b k.1)
     cmd_map (assign x e) H P Q i N M b f k = (
       k.0,
       eval_map H P Q i e
@@ -161,9 +197,6 @@ module _ (p : Plain) (t : ℕ) (lines : List Line) where
           (λ w Q d j. LineIs lines j w (Store x d) × (R : Plan) × AfterStore p t H Q x d R × M H R (suc j)) b
           (λ w A B d j u n. (n.0, n.1, store_below p t H A B n.1 x d u n.2, f H n.1 n.1 (suc j) (λ i x e. e) n.3)) k.1,
     )
-    cmd_map (lock l) H P Q i N M b f k = (k.0, k.1, f (set H l true) P Q (suc i) b k.2)
-    cmd_map (unlock l) H P Q i N M b f k =
-        (k.0, k.1, k.2, k.3, left_below p t (set H l false) P Q k.3 b k.4, f (set H l false) k.3 k.3 (suc i) (λ i x e. e) k.5)
     cmd_map (branch e a c) H P Q i N M b f k =
         eval_map H P Q i e
         (λ w Q d j. (z : ℕ) × LineIs lines j w (Jz d z) × BlockCode a H Q (suc j) N × BlockCode c H Q z N)
@@ -177,6 +210,13 @@ module _ (p : Plain) (t : ℕ) (lines : List Line) where
     cmd_map (output e) H P Q i N M b f k =
         expr_map H P Q i e (λ Q d j. LineIs lines j 1 (Out d) × N H Q (suc j)) (λ Q d j. LineIs lines j 1 (Out d) × M H Q (suc j)) b
         (λ A d j n. (n.0, f H A A (suc j) (λ i x e. e) n.1)) k
+    cmd_map c H P Q i N M b f k = record {
+      stands = k.stands;
+      locks = k.locks;
+      after = k.after;
+      left = left_below p t H (locks_after c H) P Q k.after b k.left;
+      follows = f (locks_after c H) k.after k.after (suc i) (λ i x e. e) k.follows;
+    }
 
     pub block_map : (c : Cmds) (H : List Bool) (P Q : Plan) (i : ℕ) (N M : List Bool → Plan → ℕ → Type 0) → Below P Q → Follow N M
         → BlockCode c H P i N → BlockCode c H Q i M

@@ -1,25 +1,28 @@
 -- One instruction against the source steps that it stands for.
-use Rattle.std.proofs.Common.{◌≡◌, ◌≢◌, ℕ, zero, suc, ◌<◌, List, [], ◌∷◌, ◌++◌, length, get_or, set, Bool, true, false, if◌then◌else◌, not, Option, Some, None, refl, sym, ◌∙◌, ap, subst, IsTrue, inl, inr, ⊎_elim, slice_get, is_some, length-set, get_or-set_same, get_or-set_other, eq-eqb, le_refl}
+use Rattle.std.proofs.Common.{◌≡◌, ◌≢◌, ℕ, zero, suc, ◌<◌, List, [], ◌∷◌, ◌++◌, length, get_or, set, Bool, true, false, if◌then◌else◌, Option, Some, None, IfSome, refl, sym, ◌∙◌, ap, subst, IsTrue, inl, inr, ⊎_elim, slice_get, is_some, length-set, get_or-set_same, get_or-set_other, eq-eqb, le_refl}
+use Rattle.std.specs.Option.{option_map_or}
 use Rattle.std.proofs.Math.Decide.{ℕ_discrete}
 use Rattle.std.proofs.lemmas.Bool.{ne_eqb}
 use Rattle.std.proofs.lemmas.Option.{slice_get_past}
 use Rattle.cov_expr.specs.Term.{Term, value, is_set}
-use Rattle.cov_ast.specs.Plain.{Cmd, skip, assign, lock, unlock, branch, loop, output, Cmds, none, next, ◌then_all◌, Plain}
+use Rattle.cov_ast.specs.LocksAlong.{locks_after}
+use Rattle.cov_ast.specs.Plain.{Cmd, assign, lock, branch, loop, output, Cmds, none, next, ◌then_all◌, Plain}
 use Rattle.cov_ast.specs.Tables.{has}
 use Rattle.flow_model.specs.Agreement.{SameAt}
 use Rattle.flow_model.specs.Game.{turn_of}
-use Rattle.flow_model.specs.Holdings.{IsStableNow, IsWritableNow}
-use Rattle.flow_model.specs.Source.{Item, run, put, test, emit, Holders, holder, Outputs, Local, local, items_then, turn, is_held_by, after_lock, after_unlock}
+use Rattle.flow_model.specs.Holdings.{IsWritableNow}
+use Rattle.flow_model.specs.Source.{Item, run, put, test, emit, Holders, holder, Outputs, Local, local, items_then, turn, is_held_by, after_lock}
 use Rattle.flow_model.proofs.Holders.{held_is}
 use Rattle.mode_compat.specs.HeldSets.{AreHeldBy, AreSetsOf}
 use Rattle.mode_state.specs.Sets.{is_stable, may_write}
 use Rattle.regalloc.specs.Plan.{Plan, start}
+use Rattle.statement_parts.specs.PlainParts.{parts}
 use Rattle.compiled_code.proofs.Cores.{Core, core, core_instr, core_line, exec_one, exec, IsStraight, Straight, exec_long, straight_step}
 use Rattle.compiled_code.proofs.Plans.{start_below}
-use Rattle.compiled_code.proofs.Shape.{LineIs, Reach, here, hop, LinesFrom, reach_map, IsStable, Record, AfterStore, Yields, ExprCode, EvalCode, CmdCode, BlockCode, ItemsCode, items_map, expr_map, eval_map, cmd_map, block_map, block_then, block_append}
+use Rattle.compiled_code.proofs.Shape.{LineIs, Reach, here, hop, LinesFrom, reach_map, IsStable, Record, AfterStore, Yields, ExprCode, EvalCode, LineCode, CmdCode, BlockCode, ItemsCode, items_map, expr_map, eval_map, cmd_map, block_map, block_then, block_append}
 use Rattle.risc_machine.specs.Machine.{weight_of}
 use Rattle.risc_machine.specs.declared.parts.Instr.{Instr}
-use Rattle.risc_machine.specs.declared.parts.Instr.TheVariants.{Store, Jump, Jz, Acquire, Release, Out}
+use Rattle.risc_machine.specs.declared.parts.Instr.TheVariants.{Store, Jump, Jz, Acquire, Out}
 use Rattle.risc_machine.specs.declared.parts.Line.{Line}
 
 -- some turns of t
@@ -69,15 +72,6 @@ module _ (p : Plain) (t : ℕ) where
           ∙ sym (ap (λ (q : Option ℕ). is_held_by q t) (ap (holder (set h l o)) i ∙ get_or-set_same h l o None (rw nh inside)))
       go (no n) =
           get_or-set_other H l j b false n ∙ held j ∙ sym (ap (λ (q : Option ℕ). is_held_by q t) (get_or-set_other h l j o None n))
-
-  -- what was stable is stable where one more lock is held
-  still_stable : (h : Holders) (l x : ℕ) → l < length h → IsStableNow p h t x → IsStableNow p (set h l (Some t)) t x
-  still_stable h l x inside (inl a) = inl a
-  still_stable h l x inside (inr k) = inr (k.0, go (ℕ_discrete k.0 l), k.2)
-    where
-      go : Dec (k.0 ≡ l) → holder (set h l (Some t)) k.0 ≡ Some t
-      go (yes i) = ap (holder (set h l (Some t))) i ∙ get_or-set_same h l (Some t) None inside
-      go (no n) = get_or-set_other h l k.0 (Some t) None n ∙ k.1
 
   -- One instruction -----------------------------------------------------------------------------------------------
 
@@ -263,39 +257,75 @@ module _ (p : Plain) (t : ℕ) (sets : AreSets p t) (lines : List Line) where
           stands = ready (record { H = H; plan = P; sized = sized; held = held; locks = locks; eight = eight; keeps = keeps; code = n.1 });
         })
 
+    -- the holders g, with the locks K that t holds of them, in place of h and H
+    record Switched (g : Holders) (K : List Bool) : Type 0 where
+      leaves : (is : List Item) → Leaves p t m h (local m g o is)
+      are_held : AreHeldBy g t K
+      all_told : length K ≡ length p.locks
+      all_there : length g ≡ length p.locks
+
+    unswitched : Switched h H
+    unswitched = record { leaves = λ is. quiet p t m h o is; are_held = held; all_told = sized; all_there = locks }
+
+    -- a lock with another holder
+    lock_switched : (l : ℕ) (q : Option ℕ) (b : Bool) → l < length p.locks → ((u : ℕ) → u ≢ t → is_held_by (holder h l) u ≡ false) → ((u : ℕ) → u ≢ t → is_held_by q u ≡ false)
+        → b ≡ is_held_by q t → Switched (set h l q) (set H l b)
+    lock_switched l q b inside before after same = record {
+      leaves = λ is. switched p t m h o l q is (rw locks inside) before after;
+      are_held = held_switched p t h l q H b locks sized inside same held;
+      all_told = length-set H l b ∙ sized;
+      all_there = length-set h l q ∙ locks;
+    }
+
+    -- a lock that t may give back is held by it
+    still_mine : (l : Option ℕ) → IfSome l (λ l. (l < length p.locks) × IsTrue (has H l)) → IfSome l (λ l. is_held_by (holder h l) t ≡ true)
+    still_mine None k = tt
+    still_mine (Some l) k = sym (held l) ∙ k.1
+
+    -- without the lock that is given back, if there is one
+    freed : (l : Option ℕ) → IfSome l (λ l. (l < length p.locks) × IsTrue (has H l)) → Switched (option_map_or (λ l. set h l None) l h) (option_map_or (λ l. set H l false) l H)
+    freed None k = unswitched
+    freed (Some l) k =
+        lock_switched l None false k.0 (λ u d. ap (λ (q : Option ℕ). is_held_by q u) (held_is (holder h l) t (still_mine (Some l) k)) ∙ ne_eqb t u (λ i. d (sym i)))
+        (λ u d. refl) refl
+
     module _ (P : Plan) (keeps : Record p t P H r m) where
-      lock_matched : (i at l : ℕ) (is : List Item) → l < length p.locks → LineIs lines i 1 (Acquire l) → ItemsCode p t lines is (set H l true) P (suc i)
-          → ItemsCode p t lines (run at (lock l) ∷ is) H P i → (q : Option ℕ) → holder h l ≡ q → Matched p t lines (core m h o r i) (run at (lock l) ∷ is) (slice_get lines i)
-      lock_matched i at l is n e k whole None j =
-          let now : core_instr t (core m h o r i) (Acquire l) ≡ core m (set h l (Some t)) o r (suc i) =
-          ap (λ (q : Option ℕ). if is_some q then core m h o r i else core m (set h l (Some t)) o r (suc i)) j in
-          let taken : AreHeldBy (set h l (Some t)) t (set H l true) = held_switched p t h l (Some t) H true locks sized n (sym (eq-eqb t t refl)) held in
-          subst (λ q. Matched p t lines (core m h o r i) (run at (lock l) ∷ is) q) (sym e)
+      -- a line that leaves words and outputs, against the step of a statement that evaluates nothing
+      line_matched : (c : Cmd) (at i : ℕ) (is : List Item) → LineCode p t lines c H P i (ItemsCode p t lines is) → (x : Instr) (g : Holders) → LineIs lines i 1 x
+          → core_instr t (core m h o r i) x ≡ core m g o r (suc i) → turn t m h o (run at c ∷ is) ≡ local m g o is → Switched g (locks_after c H)
+          → Matched p t lines (core m h o r i) (run at c ∷ is) (slice_get lines i)
+      line_matched c at i is k x g n now turns w =
+          subst (λ l. Matched p t lines (core m h o r i) (run at c ∷ is) l) (sym n)
           (record {
-            next = local m (set h l (Some t)) o is;
-            turns = sym (ap (after_lock t m h o at l is) j);
-            leaves = switched p t m h o l (Some t) is (rw locks n) (λ u d. ap (λ (q : Option ℕ). is_held_by q u) j) (λ u d. ne_eqb t u (λ i. d (sym i)));
+            next = local m g o is;
+            turns = sym turns;
+            leaves = w.leaves is;
             memory = ap (λ (c : Core). c.memory) now;
             holders = ap (λ (c : Core). c.holders) now;
             outputs = ap (λ (c : Core). c.outputs) now;
             stands = subst (λ c. Stands p t lines c is) (sym now)
                 (ready (record {
-                  H = set H l true;
-                  plan = P;
-                  sized = length-set H l true ∙ sized;
-                  held = taken;
-                  locks = length-set h l (Some t) ∙ locks;
+                  H = locks_after c H;
+                  plan = k.after;
+                  sized = w.all_told;
+                  held = w.are_held;
+                  locks = w.all_there;
                   eight = eight;
-                  keeps = λ j x e.
-                      let q = keeps j x e in
-                      (((sets (set h l (Some t)) (set H l true) taken).stable x).1 (still_stable p t h l x (rw locks n) (((sets h H held).stable x).0 q.0)), q.1);
-                  code = k;
+                  keeps = λ j x e. let q = k.left j x e in let s = keeps j x q.0 in (q.1 s.0, s.1);
+                  code = k.follows;
                 }));
           })
-      lock_matched i at l is n e k whole (Some u) j =
+
+      lock_matched : (i at l : ℕ) (is : List Item) → CmdCode p t lines (lock l) H P i (ItemsCode p t lines is) → (q : Option ℕ) → holder h l ≡ q
+          → Matched p t lines (core m h o r i) (run at (lock l) ∷ is) (slice_get lines i)
+      lock_matched i at l is k None j =
+          line_matched (lock l) at i is k (Acquire l) (set h l (Some t)) k.stands.0
+          (ap (λ (q : Option ℕ). if is_some q then core m h o r i else core m (set h l (Some t)) o r (suc i)) j) (ap (after_lock t m h o at l is) j)
+          (lock_switched l (Some t) true k.locks.taken (λ u d. ap (λ (q : Option ℕ). is_held_by q u) j) (λ u d. ne_eqb t u (λ i. d (sym i))) (sym (eq-eqb t t refl)))
+      lock_matched i at l is k (Some u) j =
           let now : core_instr t (core m h o r i) (Acquire l) ≡ core m h o r i =
           ap (λ (q : Option ℕ). if is_some q then core m h o r i else core m (set h l (Some t)) o r (suc i)) j in
-          subst (λ q. Matched p t lines (core m h o r i) (run at (lock l) ∷ is) q) (sym e)
+          subst (λ q. Matched p t lines (core m h o r i) (run at (lock l) ∷ is) q) (sym k.stands.0)
           (record {
             next = local m h o (run at (lock l) ∷ is);
             turns = sym (ap (after_lock t m h o at l is) j);
@@ -303,34 +333,7 @@ module _ (p : Plain) (t : ℕ) (sets : AreSets p t) (lines : List Line) where
             memory = ap (λ (c : Core). c.memory) now;
             holders = ap (λ (c : Core). c.holders) now;
             outputs = ap (λ (c : Core). c.outputs) now;
-            stands = subst (λ c. Stands p t lines c (run at (lock l) ∷ is)) (sym now) (go_on P (run at (lock l) ∷ is) i keeps whole);
-          })
-
-      unlock_matched : (i at l : ℕ) (is : List Item) → CmdCode p t lines (unlock l) H P i (ItemsCode p t lines is)
-          → Matched p t lines (core m h o r i) (run at (unlock l) ∷ is) (slice_get lines i)
-      unlock_matched i at l is k =
-          let mine : is_held_by (holder h l) t ≡ true = sym (held l) ∙ k.2 in
-          let now : core_instr t (core m h o r i) (Release l) ≡ core m (set h l None) o r (suc i) =
-          ap (λ b. if not b then core m h o r i else core m (set h l None) o r (suc i)) mine in
-          subst (λ q. Matched p t lines (core m h o r i) (run at (unlock l) ∷ is) q) (sym k.0)
-          (record {
-            next = local m (set h l None) o is;
-            turns = sym (ap (after_unlock m h o at l is) mine);
-            leaves = switched p t m h o l None is (rw locks k.1) (λ u d. ap (λ (q : Option ℕ). is_held_by q u) (held_is (holder h l) t mine) ∙ ne_eqb t u (λ i. d (sym i))) (λ u d. refl);
-            memory = ap (λ (c : Core). c.memory) now;
-            holders = ap (λ (c : Core). c.holders) now;
-            outputs = ap (λ (c : Core). c.outputs) now;
-            stands = subst (λ c. Stands p t lines c is) (sym now)
-                (ready (record {
-                  H = set H l false;
-                  plan = k.3;
-                  sized = length-set H l false ∙ sized;
-                  held = held_switched p t h l None H false locks sized k.1 refl held;
-                  locks = length-set h l None ∙ locks;
-                  eight = eight;
-                  keeps = λ j x e. let q = k.4 j x e in (q.1, (keeps j x q.0).1);
-                  code = k.5;
-                }));
+            stands = subst (λ c. Stands p t lines c (run at (lock l) ∷ is)) (sym now) (go_on P (run at (lock l) ∷ is) i keeps (here k));
           })
 
       -- the loop again, where its body ends
@@ -359,20 +362,8 @@ module _ (p : Plain) (t : ℕ) (sets : AreSets p t) (lines : List Line) where
 
       cmd_matched : (c : Cmd) (at : ℕ) (is : List Item) (i : ℕ) → CmdCode p t lines c H P i (ItemsCode p t lines is)
           → Matched p t lines (core m h o r i) (run at c ∷ is) (slice_get lines i)
-      cmd_matched skip at is i k =
-          subst (λ l. Matched p t lines (core m h o r i) (run at skip ∷ is) l) (sym k.0)
-          (record {
-            next = local m h o is;
-            turns = refl;
-            leaves = quiet p t m h o is;
-            memory = refl;
-            holders = refl;
-            outputs = refl;
-            stands = go_on P is (suc i) keeps k.1;
-          })
       cmd_matched (assign x e) at is i k = eval_store i at x e is k.0 k.1
-      cmd_matched (lock l) at is i k = lock_matched i at l is k.1 k.0 k.2 (here k) (holder h l) refl
-      cmd_matched (unlock l) at is i k = unlock_matched i at l is k
+      cmd_matched (lock l) at is i k = lock_matched i at l is k (holder h l) refl
       cmd_matched (branch e a b) at is i k =
           eval_branch i at e a b is
           (eval_map p t lines H P P i e
@@ -403,6 +394,10 @@ module _ (p : Plain) (t : ℕ) (sets : AreSets p t) (lines : List Line) where
           (run at (loop e a)) is (test at (value e m) whole none) refl (λ c g. testing H g)
       cmd_matched (output e) at is i k =
           first_matched P i e (OutAt p t lines H is) keeps k (run at (output e)) is (emit at (value e m)) refl (λ c g. emitting H g)
+      cmd_matched c at is i k =
+          let mine = still_mine (parts c).returned k.locks.returned in
+          line_matched c at i is k _ (option_map_or (λ l. set h l None) (parts c).returned h) k.stands.0 (first_of (assumption, simp mine)) (first_of (assumption, simp mine))
+          (freed (parts c).returned k.locks.returned)
 
       ready_matched : (is : List Item) (i : ℕ) → ItemsCode p t lines is H P i → Matched p t lines (core m h o r i) is (slice_get lines i)
       ready_matched [] i k = end_matched P keeps k

@@ -1,5 +1,5 @@
 -- The rules give what the code of a body rests on.
-use Rattle.std.proofs.Common.{◌≡◌, ℕ, zero, suc, ◌+◌, ◌<◌, ◌≤◌, ◌==◌, not, nat_le, List, [], ◌∷◌, ◌++◌, length, Bool, true, false, cond, refl, sym, ◌∙◌, ap, subst, arith, IsTrue, inl, inr, count_by, zero-add, eqb-true, ◌⊎◌}
+use Rattle.std.proofs.Common.{◌≡◌, ℕ, zero, suc, ◌+◌, ◌<◌, ◌≤◌, ◌==◌, ◌&&◌, not, nat_le, List, [], ◌∷◌, ◌++◌, length, Bool, true, false, cond, refl, sym, ◌∙◌, ap, subst, arith, IsTrue, inl, inr, count_by, zero-add, eqb-true, ◌⊎◌}
 use Rattle.std.specs.List.{range_with_len, flat_map}
 use Rattle.std.proofs.Math.ListN.{get_or-map}
 use Rattle.std.proofs.lemmas.Bool.{and_parts, or_cases, leb-true}
@@ -14,7 +14,7 @@ use Rattle.cov_ast.specs.Declarations.{thread_at}
 use Rattle.cov_ast.specs.LocksAlong.{locks_at_end, no_locks}
 use Rattle.cov_ast.specs.Obligations.{Obligation, all_hold}
 use Rattle.cov_ast.specs.Plain.{Cmds, Plain, plain, plain_stm, plain_block, plain_thread}
-use Rattle.cov_ast.specs.Syntax.{Proof, Stm, skip, assign, lock, unlock, branch, loop, note, output, Block, done, more, Program}
+use Rattle.cov_ast.specs.Syntax.{Proof, Stm, assign, branch, loop, note, output, Block, done, more, Program}
 use Rattle.cov_ast.specs.Tables.{has}
 use Rattle.cov_ast.specs.WellFormed.{IsStmInRange, IsBlockInRange, IsThreadInRange, IsWellFormed}
 use Rattle.cov_ast.proofs.ObligationLaws.{both_hold}
@@ -22,7 +22,7 @@ use Rattle.mode_compat.specs.Compatible.{numbered, threads_of, no_thread}
 use Rattle.mode_compat.specs.Declared.{declaration_obligations}
 use Rattle.mode_state.specs.Sets.{is_stable, may_write}
 use Rattle.typing_law.specs.Blocks.{after_stm, after_block}
-use Rattle.typing_law.specs.ThreadObligations.{flat, agree, same_held, reads, one_unstable, narrow, assign_parts, unlock_parts, stm_parts, block_obligations, end_obligation, end_point, thread_obligations}
+use Rattle.typing_law.specs.ThreadObligations.{flat, agree, same_held, reads, one_unstable, narrow, assign_parts, stm_parts, block_obligations, end_obligation, end_point, thread_obligations}
 use Rattle.typing_law.proofs.Soundness.Sound.{agreed, stm_sized, block_sized}
 use Rattle.point_law.specs.After.{start, with_guard, meet}
 use Rattle.point_law.specs.Point.{Point}
@@ -67,6 +67,10 @@ module _ (p : Plain) (t : ℕ) where
   each_part [] h = tt
   each_part (es ∷ ess) h = let both = both_hold es (flat ess) h in (both.0, each_part ess both.1)
 
+  -- the first of what holds
+  first_holds : (b rest : Bool) → IsTrue (b && rest) → IsTrue b
+  first_holds b rest h = (and_parts b rest h).0
+
   -- where the same locks are held, the lists are the same
   one_list : (H K : List Bool) → length H ≡ length p.locks → length K ≡ length p.locks → IsTrue (same_held p H K) → H ≡ K
   one_list H K h k same =
@@ -101,14 +105,16 @@ module _ (p : Plain) (t : ℕ) where
   mutual
     tidy_stm : (s : Stm) (at : ℕ) (proofs : List Proof) (rest : Cmds) (a : Point) → length a.held ≡ length p.locks → IsStmInRange (length p.vars) (length p.locks) s
         → IsTrue (all_hold (flat (stm_parts p t s at proofs a))) → IsTidy p t rest (after_stm p t s a).held → IsTidy p t (plain_stm s at rest) a.held
-    tidy_stm skip at proofs rest a n r h k = (tt, k)
     tidy_stm (assign x v q retypes) at proofs rest a n r h k =
-        let hs = each_part (assign_parts p t at a x v q retypes proofs) h in
-        (((and_parts (may_write p t a.held x) true hs.1.0).0, tidy_expr a.held v (and_parts _ true hs.1.1.1.0).0 (and_parts _ true hs.1.1.0).0, r.0), k)
-    tidy_stm (lock l) at proofs rest a n r h k = (r, k)
-    tidy_stm (unlock l) at proofs rest a n r h k =
-        let hs = each_part (unlock_parts p t at a l proofs) h in
-        ((r, (and_parts (has a.held l) true hs.0).0), k)
+        let hs = each_part (assign_parts p t at a x v q retypes proofs) h in (
+          record {
+            locks = assumption;
+            assigned = ((and_parts (may_write p t a.held x) true hs.1.0).0, r.0);
+            evaluated = tidy_expr a.held v (and_parts _ true hs.1.1.1.0).0 (and_parts _ true hs.1.1.0).0;
+            blocks = tt;
+          },
+          k,
+        )
     tidy_stm (branch g yes_block no_block join) at proofs rest a n r h k =
         let yes = with_guard p t a g in
         let no = with_guard p t a (neg g) in
@@ -116,21 +122,36 @@ module _ (p : Plain) (t : ℕ) where
         let no_held = (after_block p t no_block no).held in
         let hs = each_part (stm_parts p t (branch g yes_block no_block join) at proofs a) h in
         let same = one_list yes_held no_held (block_sized p t yes_block yes ∙ n) (block_sized p t no_block no ∙ n) (and_parts _ true hs.1.1.1.1.1.1.0).0 in (
-          (
-            tidy_guard at a.held g hs.0,
-            tidy_block yes_block yes n r.1 hs.1.1.1.1.0,
-            tidy_block no_block no n r.2 hs.1.1.1.1.1.0,
-            held_behind yes_block yes ∙ same ∙ sym (held_behind no_block no),
-          ),
+          record {
+            locks = assumption;
+            assigned = tt;
+            evaluated = tidy_guard at a.held g hs.0;
+            blocks = (
+              tidy_block yes_block yes n r.1 hs.1.1.1.1.0,
+              tidy_block no_block no n r.2 hs.1.1.1.1.1.0,
+              held_behind yes_block yes ∙ same ∙ sym (held_behind no_block no),
+            );
+          },
           subst (IsTidy p t rest) (sym (held_behind yes_block yes)) k,
         )
     tidy_stm (loop g inv b) at proofs rest a n r h k =
         let from = with_guard p t (meet p t a inv) g in
         let hs = each_part (stm_parts p t (loop g inv b) at proofs a) h in
-        let same = one_list (after_block p t b from).held a.held (block_sized p t b from ∙ n) n (and_parts _ true hs.1.1.1.1.1.1.0).0 in
-        ((tidy_guard at a.held g hs.1.0, tidy_block b from n r.2 hs.1.1.1.1.1.0, held_behind b from ∙ same), k)
+        let same = one_list (after_block p t b from).held a.held (block_sized p t b from ∙ n) n (and_parts _ true hs.1.1.1.1.1.1.0).0 in (
+          record {
+            locks = assumption;
+            assigned = tt;
+            evaluated = tidy_guard at a.held g hs.1.0;
+            blocks = (tidy_block b from n r.2 hs.1.1.1.1.1.0, held_behind b from ∙ same);
+          },
+          k,
+        )
     tidy_stm (note j) at proofs rest a n r h k = k
-    tidy_stm (output g) at proofs rest a n r h k = (tidy_guard at a.held g (each_part (stm_parts p t (output g) at proofs a) h).0, k)
+    tidy_stm (output g) at proofs rest a n r h k =
+        let hs = each_part (stm_parts p t (output g) at proofs a) h in
+        (record { locks = assumption; assigned = tt; evaluated = tidy_guard at a.held g hs.0; blocks = tt }, k)
+    tidy_stm _ at proofs rest a n r h k =
+        (record { locks = record { taken = assumption; returned = first_of (assumption, search first_holds) }; assigned = tt; evaluated = tt; blocks = tt }, k)
 
     tidy_block : (b : Block) (a : Point) → length a.held ≡ length p.locks → IsBlockInRange (length p.vars) (length p.locks) b
         → IsTrue (all_hold (block_obligations p t b a)) → IsTidy p t (plain_block b) a.held

@@ -1,12 +1,13 @@
 -- How often code may load a variable: once for each time that it becomes stable, and once for each statement that reads it
 -- where others may write it.
-use Rattle.std.specs.Prelude.{ℕ, ◌+◌, ◌≤◌, ◌<◌, ◌==◌, not, ◌&&◌, List, [], ◌∷◌, length, Bool, true, false, IsTrue}
+use Rattle.std.specs.Prelude.{ℕ, ◌+◌, ◌≤◌, ◌<◌, ◌==◌, not, ◌&&◌, ◌||◌, List, [], ◌∷◌, length, map, Bool, false, IsTrue, is_some, is_none, option_to_list}
+use Rattle.std.specs.Option.{option_map_or, option_zip}
 use Rattle.std.specs.List.{AllByRecursion, count_by, filter, flat_map}
 use Rattle.cov_expr.specs.Term.{Term}
 use Rattle.cov_expr.specs.Trees.{add_new, mentions, occurrences, width}
 use Rattle.cov_ast.specs.Declarations.{assumes, thread_at, under}
 use Rattle.cov_ast.specs.LocksAlong.{Located, located, no_locks}
-use Rattle.cov_ast.specs.Plain.{Cmd, skip, assign, lock, unlock, branch, loop, output, Cmds, Plain}
+use Rattle.cov_ast.specs.Plain.{Cmd, Cmds, Plain}
 use Rattle.cov_ast.specs.Tables.{has}
 use Rattle.mode_state.specs.Sets.{is_stable}
 use Rattle.risc_machine.specs.Machine.{lines_of}
@@ -14,6 +15,7 @@ use Rattle.risc_machine.specs.declared.parts.Instr.{Instr}
 use Rattle.risc_machine.specs.declared.parts.Instr.TheVariants.{Load, Store, Jump, Jz, Nop, MovC, MovR, Bin, Acquire, Release, Out}
 use Rattle.risc_machine.specs.declared.parts.Line.{Line}
 use Rattle.risc_machine.specs.declared.parts.Parts.{Parts}
+use Rattle.statement_parts.specs.PlainParts.{parts}
 
 abbrev pub is_load_of : (x : ℕ) → Instr → Bool
 is_load_of x (Load r y) = y == x
@@ -34,25 +36,13 @@ loads_of x lines = count_by (λ l. is_load_of x l.instr) lines
 
 -- Statements -----------------------------------------------------------------------------------------------------
 
--- whether it is `skip`, an assignment, `lock` or `unlock`
+-- whether nothing is evaluated but what is assigned: it is no branch, no loop and no output
 abbrev pub is_straight : Cmd → Bool
-is_straight skip = true
-is_straight (assign x e) = true
-is_straight (lock l) = true
-is_straight (unlock l) = true
-is_straight (branch e a b) = false
-is_straight (loop e a) = false
-is_straight (output e) = false
+is_straight c = is_some (parts c).assigned || is_none (parts c).evaluated
 
 -- whether it takes this lock
 abbrev pub is_lock_of : (l : ℕ) → Cmd → Bool
-is_lock_of l skip = false
-is_lock_of l (assign x e) = false
-is_lock_of l (lock j) = j == l
-is_lock_of l (unlock j) = false
-is_lock_of l (branch e a b) = false
-is_lock_of l (loop e a) = false
-is_lock_of l (output e) = false
+is_lock_of l c = option_map_or (λ j. j == l) (parts c).taken false
 
 -- an assignment, with the locks that are held before it
 pub record Assignment : Type 0 where
@@ -62,13 +52,7 @@ pub record Assignment : Type 0 where
 
 -- the assignment that a statement is, if it is one
 abbrev pub assigned : (held : List Bool) → Cmd → List Assignment
-assigned held skip = []
-assigned held (assign x e) = record { held = held; variable = x; value = e } ∷ []
-assigned held (lock l) = []
-assigned held (unlock l) = []
-assigned held (branch e a b) = []
-assigned held (loop e a) = []
-assigned held (output e) = []
+assigned held c = map (λ a. record { held = held; variable = a.0; value = a.1 }) (option_to_list (option_zip (parts c).assigned (parts c).evaluated))
 
 -- Bodies ---------------------------------------------------------------------------------------------------------
 

@@ -1,5 +1,5 @@
 -- Laws of the code of statements.
-use Rattle.std.proofs.Common.{◌≡◌, ℕ, suc, ◌+◌, List, [], ◌∷◌, ◌++◌, Bool, true, false, length, set, Option, None, refl, sym, ◌∙◌, ap, ap₂, subst, arith, append_assoc, length-append}
+use Rattle.std.proofs.Common.{◌≡◌, ℕ, suc, ◌+◌, List, [], ◌∷◌, ◌++◌, Bool, false, length, set, Option, None, refl, sym, ◌∙◌, ap, ap₂, subst, arith, append_assoc, length-append}
 use Rattle.std.proofs.Math.Seq.{set-append_seam}
 use Rattle.std.proofs.lemmas.List.{append-nil}
 use Rattle.cov_expr.specs.Term.{Term}
@@ -7,7 +7,7 @@ use Rattle.cov_expr.specs.Words.{HasVarsBelow}
 use Rattle.cov_ast.specs.LocksAlong.{locks_after, locks_at_end}
 use Rattle.cov_ast.specs.Plain.{Plain, Cmd, Cmds, none, next, plain_stm, plain_block}
 use Rattle.cov_ast.specs.Plain as plain
-use Rattle.cov_ast.specs.Syntax.{State, Stm, Block, done, more, skip, assign, lock, unlock, branch, loop, note, output}
+use Rattle.cov_ast.specs.Syntax.{State, Stm, Block, done, more, assign, branch, loop, note, output}
 use Rattle.cov_ast.specs.WellFormed.{IsBlockInRange, IsStmInRange}
 use Rattle.mode_state.specs.Sets.{Sets, is_stable, modes_at}
 use Rattle.regalloc.specs.Plan.{Plan, start, restrict, meet}
@@ -23,19 +23,18 @@ use Rattle.risc_machine.specs.declared.parts.Line.{Line}
 -- What is kept after statements ----------------------------------------------------------------------------------
 
 module _ (p : Plain) (t : ℕ) where
+  restricted_below : (locks : List Bool) (plan : Plan) → KeepsBelow (length p.vars) plan → KeepsBelow (length p.vars) (restrict (is_stable p t locks) plan)
+  restricted_below locks plan below = below_less (length p.vars) _ plan (restrict_less (is_stable p t locks) plan) below
+
   mutual
     stm_below : (s : Stm) (rest : Cmds) (at : ℕ) → IsStmInRange (length p.vars) (length p.locks) s → (locks : List Bool) (plan : Plan) → KeepsBelow (length p.vars) plan
         → ((locks : List Bool) (plan : Plan) → KeepsBelow (length p.vars) plan → KeepsBelow (length p.vars) (block_plan p t rest locks plan))
         → KeepsBelow (length p.vars) (block_plan p t (plain_stm s at rest) locks plan)
-    stm_below skip rest at range locks plan below go = go locks plan below
     stm_below (assign x e q retypes) rest at range locks plan below go =
         let stable = is_stable p t locks in
         let from = store_from stable plan x e in
         go locks _ (store_below (length p.vars) (stable x) (eval_plan stable plan e from) x (eval_register stable plan e from) range.0
         (eval_below (length p.vars) stable e plan from range.1 below))
-    stm_below (lock l) rest at range locks plan below go = go (set locks l true) plan below
-    stm_below (unlock l) rest at range locks plan below go =
-        go (set locks l false) _ (below_less (length p.vars) _ plan (restrict_less (is_stable p t (set locks l false)) plan) below)
     stm_below (branch e a b join) rest at range locks plan below go =
         let stable = is_stable p t locks in
         let inside = eval_plan stable plan e (direct stable plan e) in
@@ -45,8 +44,8 @@ module _ (p : Plain) (t : ℕ) where
         (block_below a range.1 locks inside kept))
     stm_below (loop e inv b) rest at range locks plan below go =
         go locks _ (expr_below (length p.vars) (is_stable p t locks) e start range.0 (start_below (length p.vars)))
-    stm_below (note j) rest at range locks plan below go = go locks plan below
     stm_below (output e) rest at range locks plan below go = go locks _ (expr_below (length p.vars) (is_stable p t locks) e plan range below)
+    stm_below _ rest at range locks plan below go = go _ _ (first_of (assumption, search restricted_below))
 
     pub block_below : (b : Block) → IsBlockInRange (length p.vars) (length p.locks) b → (locks : List Bool) (plan : Plan) → KeepsBelow (length p.vars) plan
         → KeepsBelow (length p.vars) (block_plan p t (plain_block b) locks plan)
@@ -74,20 +73,17 @@ module _ (p : Plain) (t : ℕ) where
       ap (λ (ls : List Line). let r : Emitter = record (after p t (next at c cs) e) { lines = ls } in r) same
 
   pub after_more : (s : Stm) (at : ℕ) (cs : Cmds) (e : Emitter) → Stands p t e → after p t (plain_stm s at cs) e ≡ after p t cs (after p t (plain_stm s 0 none) e)
-  after_more skip at cs e h = then_rest plain.skip cs at e
-  after_more (assign x a q retypes) at cs e h = then_rest (plain.assign x a) cs at e
-  after_more (lock l) at cs e h = then_rest (plain.lock l) cs at e
-  after_more (unlock l) at cs e h = then_rest (plain.unlock l) cs at e
-  after_more (branch a b d join) at cs e h = then_rest (plain.branch a (plain_block b) (plain_block d)) cs at e
-  after_more (loop a inv b) at cs e h = then_rest (plain.loop a (plain_block b)) cs at e
   after_more (note j) at cs e h = ap (after p t cs) (sym (after_none e h))
-  after_more (output a) at cs e h = then_rest (plain.output a) cs at e
+  after_more _ at cs e h = search then_rest
 
   -- Locks --------------------------------------------------------------------------------------------------------
 
+  -- a lock is given back: what isn't stable without it isn't kept any longer
   pub unlocked : (l : ℕ) (old pushed : Emitter) (gave : Sets) (plan : Plan) → pushed ≡ with_lines old (line 1 (Release l) ∷ [])
       → gave ≡ record pushed.modes { held = set pushed.modes.held l false } → KeepsStable gave pushed.plan plan → Stands p t old
-      → ◌≡◌ {A = Emitter} (record { lines = pushed.lines; plan = plan; modes = gave }) (after p t (next 0 (plain.unlock l) none) old)
+      → (let held = set old.modes.held l false in
+      ◌≡◌ {A = Emitter} (record { lines = pushed.lines; plan = plan; modes = gave })
+      (record { lines = old.lines ++ (line 1 (Release l) ∷ []); plan = restrict (is_stable p t held) old.plan; modes = modes_at p t held }))
   unlocked l old pushed gave plan is gives keeps h =
       let held = set old.modes.held l false in
       let modes : gave ≡ modes_at p t held =

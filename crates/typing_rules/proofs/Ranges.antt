@@ -10,13 +10,13 @@ use Rattle.cov_expr.specs.Words.{HasVarsBelow}
 use Rattle.cov_expr.specs.declared.expr.Op.TheVariants.{Both}
 use Rattle.cov_ast.specs.Declarations.{class_of, is_control, no_var, under}
 use Rattle.cov_ast.specs.Plain.{Plain, class_term, plain}
-use Rattle.cov_ast.specs.Syntax.{State, Stm, skip, assign, lock, unlock, branch, loop, note, output, Block, done, more}
+use Rattle.cov_ast.specs.Syntax.{State, Stm, assign, branch, loop, note, Block, done, more}
 use Rattle.cov_ast.specs.View as view
 use Rattle.cov_ast.specs.WellFormed.{AreTypesInRange, IsBlockInRange, IsStmInRange, IsTypeInRange, IsWellFormed}
 use Rattle.cov_ast.specs.declared.decl.Program as decl
 use Rattle.cov_ast.proofs.WellFormedLaws.{class_at}
 use Rattle.mode_state.specs.Sets.{is_hidden}
-use Rattle.point_law.specs.After.{after_assign, after_lock, after_unlock, assigned_type, forgotten_type, kept_type, listed_or, locked_type, meet, noted, start, start_type, unlocked_type, with_guard}
+use Rattle.point_law.specs.After.{after_assign, assigned_type, forgotten_type, kept_type, listed_or, locked_type, meet, noted, start, start_type, unlocked_type, updated, with_guard}
 use Rattle.point_law.specs.Point.{Point, default_type, is_over_stable, is_tracked, ty, ty_var, type_at, vars_of}
 use Rattle.point_law.specs.Terms.{distinct_terms, is_one, joined, joined_from, with_term, with_terms, without_ones}
 use Rattle.typing_law.specs.Blocks.{after_block, after_stm, value_type}
@@ -132,8 +132,9 @@ module _ (p : Plain) (t n m : ℕ) (classes : HasClassesBelow p n) where
       retyped_is (λ q. HasVarsBelow q n) (λ z q. listed_or j.types z (default_type p t a.held z)) a.types z tt
       (listed_below j.types r z (default_type p t a.held z) (default_below a.held z))
 
-  lock_below : (a : Point) → HasTypesBelow a n → (l : ℕ) → HasTypesBelow (after_lock p t a l) n
-  lock_below a h l z =
+  -- with the locks that are taken, and with those that are left
+  taken_below : (a : Point) → HasTypesBelow a n → (l z : ℕ) → HasVarsBelow (unwrap_or (get_or (updated (locked_type p l) a.types) z None) (const 0)) n
+  taken_below a h l z =
       updated_is (λ q. HasVarsBelow (unwrap_or q (const 0)) n) (locked_type p l) a.types z tt
       (cond_is (λ q. HasVarsBelow (unwrap_or q (const 0)) n) (under p l z && not (is_control p z)) (Some (class_of p z)) (get_or a.types z None)
       (λ _. classes z) (λ _. h z))
@@ -145,23 +146,20 @@ module _ (p : Plain) (t n m : ℕ) (classes : HasClassesBelow p n) where
       cond_is (λ q. HasVarsBelow (unwrap_or q (const 0)) n) (is_tracked p t held z) (Some (kept_type p t held z q)) None
       (λ _. cond_is (λ q. HasVarsBelow q n) (is_over_stable p t held q) q (default_type p t held z) (λ _. h) (λ _. default_below held z)) (λ _. tt)
 
-  unlock_below : (a : Point) → HasTypesBelow a n → (l : ℕ) → HasTypesBelow (after_unlock p t a l) n
-  unlock_below a h l z =
-      let held = (after_unlock p t a l).held in
+  left_below : (a : Point) → HasTypesBelow a n → (held : List Bool) (z : ℕ)
+      → HasVarsBelow (unwrap_or (get_or (updated (unlocked_type p t held) a.types) z None) (const 0)) n
+  left_below a h held z =
       updated_is (λ q. HasVarsBelow (unwrap_or q (const 0)) n) (unlocked_type p t held) a.types z tt (kept_below held z (get_or a.types z None) (h z))
 
   note_below : (a : Point) → HasTypesBelow a n → (j : State) → AreTypesInRange n m j.types → HasTypesBelow (noted a j) n
   note_below a h j r z = retyped_is (λ q. HasVarsBelow q n) (listed_or j.types) a.types z tt (listed_below j.types r z (type_at a z) (h z))
 
   pub stm_below : (s : Stm) (a : Point) → IsStmInRange n m s → HasTypesBelow a n → HasTypesBelow (after_stm p t s a) n
-  stm_below skip a r h = h
   stm_below (assign x e q retypes) a r h = assign_below a h x e (value_type p t a q e) retypes (value_below a h q r.2 e) r.3
-  stm_below (lock l) a r h = lock_below a h l
-  stm_below (unlock l) a r h = unlock_below a h l
   stm_below (branch e yes_block no_block join) a r h = meet_below (after_block p t yes_block (with_guard p t a e)) join r.3.types
   stm_below (loop e inv b) a r h = meet_below a inv r.1.types
   stm_below (note j) a r h = note_below a h j r.types
-  stm_below (output e) a r h = h
+  stm_below _ a r h = λ z. first_of (search h, search taken_below, search left_below)
 
   pub block_below : (b : Block) (a : Point) → IsBlockInRange n m b → HasTypesBelow a n → HasTypesBelow (after_block p t b a) n
   block_below done a r h = h
