@@ -7,7 +7,6 @@ use Rattle.cov_expr.specs.declared.expr.Op.TheVariants.{Both, Eq, Le, Either}
 use Rattle.cov_ast.specs.Syntax as s
 use Rattle.entail_text.specs.Given.{cert_for}
 use Rattle.entail_text.specs.Nodes.{node, node_at}
-use Rattle.entail_text.specs.Dropped.{dropped_line}
 use Rattle.entail_text.specs.EntailmentLines.{entailment_text, place_of, indent}
 use Rattle.entail_text.specs.OtherCertificates.{first_valid}
 
@@ -82,28 +81,7 @@ first_given = refl
 not_given : cert_for (proved 2 s.range ∷ []) 1 ≡ None
 not_given = refl
 
--- What is dropped, and what other certificates would show --------------------------------------------------------
-
-second_dropped : dropped_line (codes "inv") (bin Le (var 0) (const 2) ∷ []) hyps ≡ codes "  dropped here: 2 (hypotheses that the inv doesn't list)\n"
-second_dropped = simp (decimal_digit 2 (lit< tt))
-
--- of one without variables nothing is said
-none_dropped : dropped_line (codes "join") (bin Le (var 0) (const 2) ∷ []) (const 1 ∷ bin Le (var 0) (const 2) ∷ []) ≡ []
-none_dropped = refl
-
--- two of which one predicate is made, and one that is made of two
-abbrev both_hyps : Term
-both_hyps = bin Both (bin Le (var 0) (const 2)) (is_zero (var 1))
-
-parts_of_one : dropped_line (codes "note") (both_hyps ∷ []) hyps ≡ []
-parts_of_one = refl
-
-whole_of_two : dropped_line (codes "note") hyps (both_hyps ∷ []) ≡ []
-whole_of_two = refl
-
--- one part alone is listed
-whole_of_one : dropped_line (codes "note") (is_zero (var 1) ∷ []) (both_hyps ∷ []) ≡ codes "  dropped here: 1 (hypotheses that the note doesn't list)\n"
-whole_of_one = simp (decimal_digit 1 (lit< tt))
+-- What other certificates would show ----------------------------------------------------------------------------
 
 -- the second of two certificates, which is given for 7
 second_shows : first_valid (record { number = 3; cert = s.hyp 2 } ∷ record { number = 7; cert = s.hyp 1 } ∷ []) 3 (var 1 ∷ var 0 ∷ []) (var 1) ≡ Some 7

@@ -5,7 +5,6 @@
 //! - [`failing_node_is_there`] has no body: its contract is a law, that the node of which the text tells is there and fails.
 //! - [`cert_for`]: the certificate that a statement gives for an entailment.
 //! - [`add_other`]: which certificate that is given for another entailment would show this one.
-//! - [`add_dropped`]: the hypotheses that the state which is to be met doesn't list.
 //! - [`found_for`]: what searches come to for an entailment, as a [`Finding`]: a certificate, a memory that breaks it, or neither. [`add_finding`]: the
 //!   same in words, with where a certificate is to be written. [`would_help`]: whether one predicate more would do, and [`is_hopeless`], whether a memory breaks
 //!   it with some more. [`suggested_certificates_are_valid`], [`broken_entailments_have_no_certificate`] and [`what_would_help_is_enough`] are laws of it.
@@ -16,7 +15,6 @@
 //! | `node` | `Nodes` | the hypotheses and the goal of each node of a certificate |
 //! | `given` | `Given` | the certificate of a number |
 //! | `other` | `OtherCertificates` | the certificates of other numbers |
-//! | `dropped` | `Dropped` | the hypotheses that a state drops |
 //! | `zero` | `ZeroGoals` | goals that are 0, and how such a one may be shown at all |
 //! | `finding` | `Findings` | what searches come to, and what would help |
 //! | `suggestion` | `Suggestions` | the words on a certificate that is found |
@@ -25,7 +23,6 @@
 #![tactic(auto)]
 
 mod broken;
-mod dropped;
 mod entailment;
 mod finding;
 mod given;
@@ -35,7 +32,6 @@ mod other;
 mod suggestion;
 mod zero;
 
-pub use dropped::add_dropped;
 pub use entailment::{add_hypotheses, add_told};
 pub use finding::{Finding, found_for, is_hopeless, would_help};
 pub use given::cert_for;
