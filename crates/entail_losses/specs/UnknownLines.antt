@@ -1,7 +1,7 @@
 -- Why nothing is known of variables of a goal, as lines of text. Expressions are spelled canonically.
 use Rattle.std.specs.Prelude.{ℕ, List, [], ◌∷◌, ◌++◌, Bool, codes, decimal, if◌then◌else◌, Option, Some, None}
 use Rattle.cov_expr.specs.Term.{Term}
-use Rattle.cov_ast.specs.Declarations.{lists, lock_at, name_of}
+use Rattle.cov_ast.specs.Declarations.{lock_at, name_of}
 use Rattle.cov_ast.specs.Plain.{Plain}
 use Rattle.cov_ast.specs.Syntax.{Lock}
 use Rattle.cov_ast.specs.Tables.{has}
@@ -12,6 +12,7 @@ use Rattle.entail_losses.specs.Unknowns.{Fact, Reason, reason, unknowns, unmenti
 use Rattle.entail_losses.specs.declared.left_out_states.StateAt.{StateAt}
 use Rattle.entail_losses.specs.declared.unknown_reasons.Loss.{Loss}
 use Rattle.entail_losses.specs.declared.unknown_reasons.Loss.TheVariants.{Stored, Returned}
+use Rattle.entail_origins.specs.LocksOver.{lock_over}
 use Rattle.statement_paths.specs.Paths.{Step}
 use Rattle.text_parts.specs.Lines.{line}
 
@@ -23,17 +24,12 @@ unheld_text k = codes "the lock " ++ k.name ++ codes ", that it is under, isn't 
 abbrev pub free_text : List ℕ
 free_text = codes "it is under no lock, and the thread doesn't assume that no other writes it\n"
 
--- the first lock that has it in a list
-abbrev pub lister : (x : ℕ) → List Lock → Option Lock
-lister x [] = None
-lister x (k ∷ ks) = if lists k x then Some k else lister x ks
-
 abbrev pub cause_text : Option Lock → List ℕ
 cause_text None = free_text
 cause_text (Some k) = unheld_text k
 
 abbrev pub shared_text : Plain → (x : ℕ) → List ℕ
-shared_text p x = codes "it isn't stable here, so that no predicate that mentions it is known: " ++ cause_text (lister x p.locks)
+shared_text p x = codes "it isn't stable here, so that no predicate that mentions it is known: " ++ cause_text (lock_over x p.locks)
 
 -- Of one that is -----------------------------------------------------------------------------------------------
 

@@ -7,6 +7,7 @@ ghost use Rattle.cov_ast.specs.View as view;
 ghost use Rattle.cov_ast.specs.WellFormed.{IsWellFormed};
 ghost use Rattle.entail_losses.specs.UnknownLines as spec;
 ghost use Rattle.entail_losses.specs.Unknowns as reasons;
+ghost use Rattle.entail_origins.specs.LocksOver.{lock_over};
 ghost use Rattle.statement_paths.specs.Paths as paths;
 
 use crate::left_out_lines::add_origin_part;
@@ -17,6 +18,7 @@ use crate::unknown_variables::unknown_variables;
 use cov_ast::{LockDecl, NameTable, NumberSet, Program};
 use cov_expr::{Blob, Expr, NoMemory};
 use cov_print::add_expr;
+use entail_origins::lock_over;
 use statement_paths::Step;
 use std::alloc::Global;
 use text_parts::{add_lock_name, add_number, add_variable_name, position};
@@ -122,24 +124,12 @@ fn add_shared(p: &Program, x: u32, text: &mut Blob) -> Result<(), NoMemory>
 
 /// Adds the first lock that has a variable in a list, as one that isn't held, or that there is none.
 fn add_cause(p: &Program, x: u32, text: &mut Blob) -> Result<(), NoMemory>
-    ensures { OnOk result (text.new ≡ text.old ++ spec.cause_text (spec.lister x (plain (view.program p.now)).locks)) }
+    ensures { OnOk result (text.new ≡ text.old ++ spec.cause_text (lock_over x (plain (view.program p.now)).locks)) }
 {
-    match lister(p, x) {
+    match lock_over(x, p.locks.as_slice()) {
         Some(lock) => add_unheld(lock, text),
         None => add_free(text),
     }
-}
-
-/// The first lock that has a variable in a list.
-fn lister(p: &Program, x: u32) -> Option<&LockDecl>
-    ensures { option_map (λ k. view.lock k.now) result ≡ spec.lister x (plain (view.program p.now)).locks }
-{
-    for lock in p.locks.as_slice() {
-        if lock.lists(x) {
-            return Some(lock);
-        }
-    }
-    None
 }
 
 /// Adds that a variable is under no lock, and nothing is assumed of it.

@@ -226,7 +226,7 @@ text = 10 ∷ 120 ∷ 10 ∷ 10 ∷ 120 ∷ 120 ∷ 120 ∷ 120 ∷ []
 
 a_control_and_an_assignment : type_lines program 0 text (taken ∷ stored ∷ raised ∷ []) q.Printed (s.output (bin Add (var 0) (var 2)))
     ≡ codes "  type of m:  1, as that of every control\n  type of o:  from the assignment, line 2, of `o + buf`; then m is stored to, line 3, which it mentions, so that it becomes its class `0` (high)"
-    ++ codes "; another is set by `retype o as ..` there, or `as ..` at the assignment\n"
+    ++ codes "; another is set by a store to it in front, or by `retype o as ..` there, where that is shown, or `as ..` at the assignment\n"
     ++ codes "  type of o at line 2:  its class `0` (high), from the start of the thread\n  type of buf at line 2:  its class `m == 0`, from the lock l, line 2\n"
 a_control_and_an_assignment = simp (decimal_digit 0 (lit< tt), decimal_digit 2 (lit< tt), decimal_digit 3 (lit< tt))
 
@@ -242,7 +242,7 @@ a_low_variable : type_lines program 0 text [] q.Printed (s.output (var 3)) ≡ c
 a_low_variable = simp (decimal_digit 1 (lit< tt))
 
 -- under its lock nobody else reads `buf`
-hidden : type_lines program 0 text (taken ∷ joined [] ∷ []) (q.Freed 1) (s.unlock 0) ≡ codes "  type of buf:  0, since the join of the `if`, line 4, doesn't list it\n"
+hidden : type_lines program 0 text (taken ∷ joined [] ∷ []) (q.Freed 1) (s.unlock 0) ≡ codes "  type of buf:  0 (hidden from others; with `nowrite` in place of `hide` its class), since the join of the `if`, line 4, doesn't list it\n"
 hidden = simp (decimal_digit 4 (lit< tt))
 
 not_hidden : type_lines program 0 text (joined [] ∷ returned ∷ []) (q.Retyped 2) s.skip
@@ -251,7 +251,7 @@ not_hidden = simp (decimal_digit 0 (lit< tt), decimal_digit 4 (lit< tt))
 
 -- under its lock a type that is forgotten says nothing
 forgotten_where_hidden : type_lines program 0 text (taken ∷ passed 3 (s.assign 0 (const 1) None []) ∷ []) (q.Controlled 1) s.skip
-    ≡ codes "  type of buf:  its class `m == 0`, from the lock l, line 2; then m is stored to, line 3, which it mentions, so that it becomes 0; another is set by `retype buf as ..` there\n"
+    ≡ codes "  type of buf:  its class `m == 0`, from the lock l, line 2; then m is stored to, line 3, which it mentions, so that it becomes 0 (hidden from others; with `nowrite` in place of `hide` its class); another is set by a store to it in front, or by `retype buf as ..` there, where that is shown\n"
 forgotten_where_hidden = simp (decimal_digit 0 (lit< tt), decimal_digit 2 (lit< tt), decimal_digit 3 (lit< tt))
 
 -- others may read `o`

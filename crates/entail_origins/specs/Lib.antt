@@ -10,6 +10,7 @@ pub mod AskedVariables
 pub mod AskedHypotheses
 pub mod GoalTypes
 pub mod KnownTypes
+pub mod LocksOver
 pub mod FollowedTypes
 pub mod TypeLines
 pub mod TypesFromOrigins

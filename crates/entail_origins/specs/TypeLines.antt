@@ -3,7 +3,7 @@
 use Rattle.std.specs.Prelude.{ℕ, ◌+◌, ◌-◌, ◌==◌, length, map, take, List, [], ◌∷◌, ◌++◌, Bool, true, false, codes, decimal, if◌then◌else◌, Option, Some, None}
 use Rattle.std.specs.List.{slice_get}
 use Rattle.cov_expr.specs.Term.{Term, const}
-use Rattle.cov_ast.specs.Declarations.{class_of, lock_at, name_of}
+use Rattle.cov_ast.specs.Declarations.{class_of, lock_at, name_of, var_at}
 use Rattle.cov_ast.specs.Plain.{Plain}
 use Rattle.cov_ast.specs.Syntax.{Stm}
 use Rattle.cov_ast.specs.Tables.{has}
@@ -62,9 +62,18 @@ spelled_class names e = codes "its class `" ++ whole names e ++ class_end e
 abbrev pub class_text : Plain → Names → (z : ℕ) → List ℕ
 class_text p names z = spelled_class names (class_of p z)
 
+-- whether a class is high whatever the memory
+abbrev pub is_always_high : Term → Bool
+is_always_high (const k) = k == 0
+is_always_high e = false
+
+-- what is known of a variable of a class that no other thread may read
+abbrev pub hidden_text : Term → List ℕ
+hidden_text class = if is_always_high class then codes "0" else codes "0 (hidden from others; with `nowrite` in place of `hide` its class)"
+
 -- what is known of a variable without more: nothing where no other thread may read it, and else its class
 abbrev pub default_text : Plain → Names → (hidden : Bool) → (z : ℕ) → List ℕ
-default_text p names true z = codes "0"
+default_text p names true z = hidden_text (class_of p z)
 default_text p names false z = class_text p names z
 
 abbrev pub taken_text : Plain → Names → (z l : ℕ) → List ℕ
@@ -184,10 +193,10 @@ assignment_words true = codes ", or `as ..` at the assignment"
 assignment_words false = []
 
 abbrev pub retype_words : Plain → (z : ℕ) → List ℕ
-retype_words p z = codes "; another is set by `retype " ++ name_of p z
+retype_words p z = codes "; another is set by a store to it in front, or by `retype " ++ name_of p z
 
 abbrev pub there_words : (of_value : Bool) → List ℕ
-there_words of_value = codes " as ..` there" ++ assignment_words of_value
+there_words of_value = codes " as ..` there, where that is shown" ++ assignment_words of_value
 
 abbrev pub setters : Plain → (of_value : Bool) → (z : ℕ) → List ℕ
 setters p of_value z = retype_words p z ++ there_words of_value
@@ -216,9 +225,21 @@ point_behind bytes steps count = point_text bytes (slice_get steps count)
 abbrev pub label : Plain → (bytes : List ℕ) → List Step → VariableAt → List ℕ
 label p bytes steps v = codes "  type of " ++ name_of p v.var ++ point_behind bytes steps v.steps ++ codes ":  "
 
+-- why the type of a variable is its class, which isn't stable: of one that is always high where it is declared
+abbrev pub unstable_words : (is_high : Bool) → List ℕ
+unstable_words true = codes "; it isn't stable here"
+unstable_words false = codes ", since it isn't stable here: the thread doesn't assume that no other writes it, and holds no lock that it is under"
+
+abbrev pub declared_text : (bytes : List ℕ) → (at : ℕ) → (is_high : Bool) → List ℕ
+declared_text bytes at true = place_text bytes at
+declared_text bytes at false = []
+
+abbrev pub shared_end : (bytes : List ℕ) → (at : ℕ) → (is_high : Bool) → List ℕ
+shared_end bytes at is_high = declared_text bytes at is_high ++ unstable_words is_high
+
 -- of a variable that isn't stable
-abbrev pub shared_text : Plain → Names → (z : ℕ) → List ℕ
-shared_text p names z = class_text p names z ++ codes ", since it isn't stable here: the thread doesn't assume that no other writes it, and holds no lock that it is under"
+abbrev pub shared_text : Plain → Names → (bytes : List ℕ) → (z : ℕ) → List ℕ
+shared_text p names bytes z = class_text p names z ++ shared_end bytes (var_at p z).at (is_always_high (class_of p z))
 
 module _ (p : Plain) (t : ℕ) (names : Names) (bytes : List ℕ) (steps : List Step) (known : Known) (z : ℕ) where
   -- where a type comes from, what changed it since, and what sets another, of a variable that is under these locks
@@ -232,7 +253,7 @@ module _ (p : Plain) (t : ℕ) (names : Names) (bytes : List ℕ) (steps : List 
   abbrev pub type_text : List ℕ
   type_text =
       if has known.controls z then codes "1, as that of every control" else
-      (if has known.stable z then history_text (locks_over p z) else shared_text p names z)
+      (if has known.stable z then history_text (locks_over p z) else shared_text p names bytes z)
 
 -- the text on a variable behind steps
 abbrev pub behind_text : Plain → (t : ℕ) → Names → (bytes : List ℕ) → List Step → (z : ℕ) → List ℕ

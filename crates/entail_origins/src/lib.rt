@@ -7,6 +7,7 @@
 //!   [`state_source`]. [`remarks`]: a few words on each hypothesis, with the line of its origin, the last step that gives it ([`Origin`], [`origin_of`],
 //!   [`origin_at`]). [`add_origin`] and [`add_any_origin`]: the words on one.
 //! - [`variables_of`]: the variables whose types make up the goal of a question.
+//! - [`lock_over`]: the first lock that a variable is under.
 //! - [`add_type_lines`]: a line for each variable whose type makes up the goal: the last step on the way that sets it, and the last after it
 //!   that changed it, and what would set another; and where the first is an assignment, such lines for the variables of its value in front of it, and so on.
 //!
@@ -25,6 +26,7 @@
 //! | `type_origin`, `type_steps` | `TypeOrigins` | what in a step sets the type of a variable, and the last that does |
 //! | `type_changes` | `TypeChanges` | what may forget it, and the last step behind the origin that did |
 //! | `goal_variables` | `AskedVariables` | whose types make up a goal |
+//! | `locks` | `LocksOver` | the first lock that a variable is under |
 //! | `known_types` | `KnownTypes` | what is known of the variables at a point |
 //! | `followed_types` | `FollowedTypes` | of which variables is told behind those of a goal |
 //! | `type_lines`, `type_classes`, `type_words` | `TypeLines` | the lines, by what is known of the variables at the point |
@@ -40,6 +42,7 @@ mod hypothesis_laws;
 mod hypothesis_origin;
 mod kinds;
 mod known_types;
+mod locks;
 mod numbered_question;
 mod question_laws;
 mod question_lines;
@@ -59,6 +62,7 @@ pub use goal_variables::variables_of;
 pub use hypothesis_laws::predicates_have_origins;
 pub use hypothesis_origin::{HypothesisSource, Origin, origin_at, origin_of};
 pub use kinds::{Asked, End, Question};
+pub use locks::lock_over;
 pub use numbered_question::question;
 pub use question_laws::{each_entailment_has_a_question, what_is_listed_is_asked};
 pub use question_lines::{add_question, add_question_line};

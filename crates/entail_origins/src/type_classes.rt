@@ -1,25 +1,72 @@
 //! The words on a variable whose type is its class, which is spelled.
 
 ghost use Rattle.std.specs.Prelude.{◌≡◌, ◌++◌, OnOk};
+ghost use Rattle.cov_ast.specs.Declarations.{class_of, var_at};
 ghost use Rattle.cov_ast.specs.Plain.{class_term, plain};
 ghost use Rattle.cov_ast.specs.View as view;
 ghost use Rattle.cov_expr.specs.View.{term};
 ghost use Rattle.cov_print.specs.Spelling.{whole};
 ghost use Rattle.entail_origins.specs.TypeLines as spec;
 
+use crate::type_lines::add_place;
 use cov_ast::{Class, NameTable, Program};
 use cov_expr::{Blob, Expr, NoMemory};
 use cov_print::add_expr;
 use text_parts::add_number;
 
 /// Adds the type of a variable that isn't stable.
-pub fn add_shared(p: &Program, names: &NameTable, z: u32, text: &mut Blob) -> Result<(), NoMemory>
-    ensures { OnOk result (text.new ≡ text.old ++ spec.shared_text (plain (view.program p.now)) names.now z) }
+pub fn add_shared(
+    p: &Program,
+    names: &NameTable,
+    bytes: &[u8],
+    z: u32,
+    text: &mut Blob,
+) -> Result<(), NoMemory>
+    ensures { OnOk result (text.new ≡ text.old ++ spec.shared_text (plain (view.program p.now)) names.now bytes.now z) }
 {
     add_class(p, names, z, text)?;
-    text.extend_from_slice(
-        b", since it isn't stable here: the thread doesn't assume that no other writes it, and holds no lock that it is under",
-    )
+    add_why_shared(p, bytes, z, text)
+}
+
+/// Adds why that is its class: of one that is always high where it is declared.
+fn add_why_shared(p: &Program, bytes: &[u8], z: u32, text: &mut Blob) -> Result<(), NoMemory>
+    ensures { OnOk result (text.new ≡ text.old
+        ++ spec.shared_end bytes.now (var_at (plain (view.program p.now)) z).at (spec.is_always_high (class_of (plain (view.program p.now)) z))) }
+{
+    match p.vars.as_slice().get(z as usize) {
+        Some(var) => add_shared_end(bytes, var.at, is_always_high(&var.class), text),
+        None => add_shared_end(bytes, 0, true, text),
+    }
+}
+
+/// Adds that a variable isn't stable, of one that is always high behind the line of its declaration.
+fn add_shared_end(bytes: &[u8], at: u32, is_high: bool, text: &mut Blob) -> Result<(), NoMemory>
+    ensures { OnOk result (text.new ≡ text.old ++ spec.shared_end bytes.now at is_high) }
+{
+    add_declared(bytes, at, is_high, text)?;
+    text.extend_from_slice(unstable_words(is_high).as_bytes())
+}
+
+/// Adds the line of a declaration, where it is to be told.
+fn add_declared(bytes: &[u8], at: u32, is_told: bool, text: &mut Blob) -> Result<(), NoMemory>
+    ensures { OnOk result (text.new ≡ text.old ++ spec.declared_text bytes.now at is_told) }
+{
+    if is_told {
+        add_place(bytes, at, text)
+    } else {
+        Ok(())
+    }
+}
+
+/// The words on a variable that isn't stable.
+fn unstable_words(is_high: bool) -> &'static str
+    ensures { result.now ≡ spec.unstable_words is_high }
+{
+    if is_high {
+        "; it isn't stable here"
+    } else {
+        ", since it isn't stable here: the thread doesn't assume that no other writes it, and holds no lock that it is under"
+    }
 }
 
 /// Adds the type of a variable that no step sets.
@@ -41,9 +88,51 @@ pub fn add_default(
     ensures { OnOk result (text.new ≡ text.old ++ spec.default_text (plain (view.program p.now)) names.now hidden z) }
 {
     if hidden {
-        text.extend_from_slice(b"0")
+        add_hidden(p, z, text)
     } else {
         add_class(p, names, z, text)
+    }
+}
+
+/// Adds what is known of a variable that no other thread may read.
+fn add_hidden(p: &Program, z: u32, text: &mut Blob) -> Result<(), NoMemory>
+    ensures { OnOk result (text.new ≡ text.old ++ spec.hidden_text (class_of (plain (view.program p.now)) z)) }
+{
+    match p.vars.as_slice().get(z as usize) {
+        Some(var) => text.extend_from_slice(hidden_text(&var.class).as_bytes()),
+        None => text.extend_from_slice(b"0"),
+    }
+}
+
+/// The words on one of a class.
+fn hidden_text(class: &Class) -> &'static str
+    ensures { result.now ≡ spec.hidden_text (class_term (view.class class.now)) }
+{
+    if is_always_high(class) {
+        "0"
+    } else {
+        "0 (hidden from others; with `nowrite` in place of `hide` its class)"
+    }
+}
+
+/// Whether a class is high whatever the memory.
+fn is_always_high(class: &Class) -> bool
+    ensures { result ≡ spec.is_always_high (class_term (view.class class.now)) }
+{
+    match class {
+        Class::Low => false,
+        Class::High => true,
+        Class::When(e) => is_zero(e),
+    }
+}
+
+/// Whether an expression is the constant 0.
+fn is_zero(e: &Expr) -> bool
+    ensures { result ≡ spec.is_always_high (term e.now) }
+{
+    match e {
+        Expr::Const(k) => *k == 0,
+        Expr::Var(_) | Expr::Not(_) | Expr::Bin(..) => false,
     }
 }
 

@@ -203,7 +203,7 @@ fn add_type(
     } else if known.stable.has(z) {
         add_tracked(trace, names, bytes, steps, known, z, text)
     } else {
-        add_shared(trace.program, names, z, text)
+        add_shared(trace.program, names, bytes, z, text)
     }
 }
 
@@ -367,7 +367,7 @@ fn add_unlisted(
 }
 
 /// Adds the line of a place.
-fn add_place(bytes: &[u8], at: u32, text: &mut Blob) -> Result<(), NoMemory>
+pub fn add_place(bytes: &[u8], at: u32, text: &mut Blob) -> Result<(), NoMemory>
     ensures { OnOk result (text.new ≡ text.old ++ spec.place_text bytes.now at) }
 {
     text.extend_from_slice(b", line ")?;
@@ -471,7 +471,7 @@ fn add_setters(p: &Program, of_value: bool, z: u32, text: &mut Blob) -> Result<(
 fn add_retype(p: &Program, z: u32, text: &mut Blob) -> Result<(), NoMemory>
     ensures { OnOk result (text.new ≡ text.old ++ spec.retype_words (plain (view.program p.now)) z) }
 {
-    text.extend_from_slice(b"; another is set by `retype ")?;
+    text.extend_from_slice(b"; another is set by a store to it in front, or by `retype ")?;
     add_variable_name(p, z, text)
 }
 
@@ -479,7 +479,7 @@ fn add_retype(p: &Program, z: u32, text: &mut Blob) -> Result<(), NoMemory>
 fn add_there(of_value: bool, text: &mut Blob) -> Result<(), NoMemory>
     ensures { OnOk result (text.new ≡ text.old ++ spec.there_words of_value) }
 {
-    text.extend_from_slice(b" as ..` there")?;
+    text.extend_from_slice(b" as ..` there, where that is shown")?;
     text.extend_from_slice(assignment_words(of_value).as_bytes())
 }
 

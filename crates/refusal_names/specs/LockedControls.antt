@@ -1,15 +1,10 @@
 -- W8: the lock that a control is under which a thread doesn't assume beside what it controls: what is under a lock can't be assumed (W6).
-use Rattle.std.specs.Prelude.{ℕ, List, [], ◌∷◌, ◌++◌, Option, Some, None, codes, decimal, if◌then◌else◌}
-use Rattle.cov_ast.specs.Declarations.{lists}
+use Rattle.std.specs.Prelude.{ℕ, List, [], ◌++◌, Option, Some, None, codes, decimal}
 use Rattle.cov_ast.specs.NameTables.{find_name}
 use Rattle.cov_ast.specs.Syntax.{Lock, Program}
+use Rattle.entail_origins.specs.LocksOver.{lock_over}
 use Rattle.text_parts.specs.Lines.{line}
 use Rattle.text_parts.specs.VariableNames.{variable_names}
-
--- the first lock that lists a variable
-abbrev pub lock_listing : (x : ℕ) → List Lock → Option Lock
-lock_listing x [] = None
-lock_listing x (l ∷ ls) = if lists l x then Some l else lock_listing x ls
 
 -- under which lock a control is: its name and the line of that
 abbrev pub control_text : (control : List ℕ) → List ℕ
@@ -42,7 +37,7 @@ locked_line bytes (Some l) variable control = locked_text bytes l control ++ men
 -- of the control, if there is one
 abbrev pub line_of_control : Program → (bytes : List ℕ) → (number : Option ℕ) → (variable control : List ℕ) → List ℕ
 line_of_control p bytes None variable control = []
-line_of_control p bytes (Some c) variable control = locked_line bytes (lock_listing c p.locks) variable control
+line_of_control p bytes (Some c) variable control = locked_line bytes (lock_over c p.locks) variable control
 
 -- The line of the names of a refusal: those of the variable that is assumed and of its control that isn't. There is none where the control is under no lock.
 abbrev pub control_line : Program → (bytes : List ℕ) → (variable control : List ℕ) → List ℕ

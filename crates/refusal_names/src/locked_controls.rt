@@ -1,13 +1,13 @@
 //! The line of W8: the lock that a control is under which a thread doesn't assume beside what it controls.
 
-ghost use Rattle.std.specs.Prelude.{◌≡◌, ◌++◌, OnOk, map, option_map};
-ghost use Rattle.cov_ast.specs.Declarations.{lists};
+ghost use Rattle.std.specs.Prelude.{◌≡◌, ◌++◌, OnOk, option_map};
 ghost use Rattle.cov_ast.specs.View as view;
 ghost use Rattle.cov_ast.specs.WellFormed.{IsWellFormed};
 ghost use Rattle.refusal_names.specs.LockedControls as spec;
 
 use cov_ast::{LockDecl, Program};
-use cov_expr::{Blob, Name, NoMemory, has_number};
+use cov_expr::{Blob, Name, NoMemory};
+use entail_origins::lock_over;
 use std::alloc::Global;
 use text_parts::{add_line_of, variable_names};
 
@@ -26,30 +26,11 @@ pub fn add_locked_control(
     let names = variable_names(alloc, p)?;
     match names.find(control) {
         Some(c) => {
-            let lock = lock_listing(c, p.locks.as_slice());
+            let lock = lock_over(c, p.locks.as_slice());
             add_locked(bytes, lock, variable, control, text)
         }
         None => Ok(()),
     }
-}
-
-/// The first lock that lists a variable.
-fn lock_listing(x: u32, locks: &[LockDecl]) -> Option<&LockDecl>
-    ensures { option_map (λ l. view.lock l.now) result ≡ spec.lock_listing x (map view.lock locks.now) }
-{
-    for lock in locks {
-        if is_listed(lock, x) {
-            return Some(lock);
-        }
-    }
-    None
-}
-
-/// Whether a lock lists a variable.
-fn is_listed(lock: &LockDecl, x: u32) -> bool
-    ensures { result ≡ lists (view.lock lock.now) x }
-{
-    has_number(lock.nowrite.as_slice(), x) || has_number(lock.hide.as_slice(), x)
 }
 
 /// Adds the line, where there is a lock.

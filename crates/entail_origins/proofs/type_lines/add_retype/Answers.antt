@@ -9,5 +9,5 @@ pub returns : goal.returns
 returns c =
     let name = name_of (plain (view.program c.args.p.now)) c.args.z in
     on_ok_weaker c.add_variable_name.result
-    (λ is. is ∙ ap (λ s. s ++ name) c.in_ok-extend_from_slice.ensures.ok ∙ append_assoc c.args.text.now (codes "; another is set by `retype ") name)
+    (λ is. is ∙ ap (λ s. s ++ name) c.in_ok-extend_from_slice.ensures.ok ∙ append_assoc c.args.text.now (codes "; another is set by a store to it in front, or by `retype ") name)
     c.add_variable_name.ensures

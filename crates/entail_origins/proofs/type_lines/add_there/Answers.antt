@@ -8,5 +8,5 @@ returns c =
     let words = spec.assignment_words c.args.of_value in
     on_ok_weaker c.extend_from_slice-2.result
     (λ is. is ∙ ap (λ bs. c.extend_from_slice.new.self ++ bs) (c.as_bytes.ensures.value ∙ c.assignment_words.ensures)
-    ∙ ap (λ s. s ++ words) c.in_ok-extend_from_slice.ensures.ok ∙ append_assoc c.args.text.now (codes " as ..` there") words)
+    ∙ ap (λ s. s ++ words) c.in_ok-extend_from_slice.ensures.ok ∙ append_assoc c.args.text.now (codes " as ..` there, where that is shown") words)
     c.extend_from_slice-2.ensures.ok
