@@ -6,7 +6,6 @@ mod SitePoints
 mod SiteRanges
 mod SiteLaws
 mod WholeProgram
-mod StoredLaws
 mod OthersListed
 mod Examples
 pub mod DeclaredLaws

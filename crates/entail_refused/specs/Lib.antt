@@ -2,6 +2,7 @@ pub mod Sites
 pub mod Further
 pub mod Asked
 pub mod AskedBy
+pub mod Cleared
 pub mod GivenElsewhere
 pub mod Remarked
 pub mod Readers

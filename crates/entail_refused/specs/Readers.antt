@@ -1,33 +1,52 @@
--- Why something is asked of a variable that others may read: the thread assumes that no other writes it, and not that none reads it.
-use Rattle.std.specs.Prelude.{ℕ, List, [], ◌++◌, Bool, not, ◌&&◌, codes, if◌then◌else◌}
+-- Why something is asked of a variable that others may read: the thread assumes that no other writes it, and not that none reads it; or, of one to which nothing is stored, a lock lists it so.
+use Rattle.std.specs.Prelude.{ℕ, List, [], ◌++◌, Bool, not, ◌&&◌, codes, if◌then◌else◌, Option, Some, None}
 use Rattle.cov_expr.specs.Trees.{has_number}
 use Rattle.cov_ast.specs.Declarations.{name_of, is_control}
 use Rattle.cov_ast.specs.Plain.{plain}
-use Rattle.cov_ast.specs.Syntax.{Modes, Program}
+use Rattle.cov_ast.specs.Syntax.{Lock, Program}
+use Rattle.entail_origins.specs.LocksOver.{lock_over}
 use Rattle.entail_origins.specs.declared.kinds.Question.{Question}
 use Rattle.entail_origins.specs.declared.kinds.Question.TheVariants as q
 use Rattle.mode_compat.specs.Compatible.{numbered}
 
--- whether modes assume the first, and not the second
-abbrev pub is_unhidden : Modes → (x : ℕ) → Bool
-is_unhidden modes x = has_number modes.assume_nowrite x && not (has_number modes.assume_hide x)
+-- whether a variable is in the first list, and not in the second
+abbrev pub is_unhidden : (nowrite hide : List ℕ) → (x : ℕ) → Bool
+is_unhidden nowrite hide x = has_number nowrite x && not (has_number hide x)
+
+-- what keeps others from writing it: a lock, or what the thread assumes
+abbrev pub keeper_text : Option Lock → List ℕ
+keeper_text None = codes "the thread assumes"
+keeper_text (Some l) = codes "the lock " ++ (l.name ++ codes " has")
 
 abbrev pub reader_front : Program → (x : ℕ) → List ℕ
-reader_front p x = codes "  asked since others may read " ++ (name_of (plain p) x ++ codes ": the thread assumes `nowrite ")
+reader_front p x = codes "  asked since others may read " ++ (name_of (plain p) x ++ codes ": ")
+
+-- a list, with the variable in it
+abbrev pub listed_as : Program → (front : List ℕ) → (x : ℕ) → List ℕ
+listed_as p front x = front ++ (name_of (plain p) x ++ codes "`")
 
 abbrev pub reader_end : Program → (x : ℕ) → List ℕ
-reader_end p x = name_of (plain p) x ++ (codes "`, and not `hide " ++ (name_of (plain p) x ++ codes "`\n"))
+reader_end p x = listed_as p (codes " `nowrite ") x ++ (listed_as p (codes ", and not `hide ") x ++ codes "\n")
 
-abbrev pub line_on : Program → (x : ℕ) → List ℕ
-line_on p x = reader_front p x ++ reader_end p x
+abbrev pub line_on : Program → Option Lock → (x : ℕ) → List ℕ
+line_on p keeper x = reader_front p x ++ (keeper_text keeper ++ reader_end p x)
+
+-- where a lock lists it so
+abbrev pub line_by_lock : Program → Option Lock → (x : ℕ) → List ℕ
+line_by_lock p None x = []
+line_by_lock p (Some l) x = if is_unhidden l.nowrite l.hide x then line_on p (Some l) x else []
 
 module _ (p : Program) (t : ℕ) where
+  -- whether the thread assumes that of it
+  abbrev pub is_kept : (x : ℕ) → Bool
+  is_kept x = let modes = (numbered p t).modes in is_unhidden modes.assume_nowrite modes.assume_hide x
+
   abbrev pub line_unless_hidden : (x : ℕ) → List ℕ
-  line_unless_hidden x = if is_unhidden (numbered p t).modes x then line_on p x else []
+  line_unless_hidden x = if is_kept x then line_on p None x else line_by_lock p (lock_over x p.locks) x
 
   -- of a control it is asked where others may not read it too
   abbrev pub line_unless_control : (x : ℕ) → List ℕ
-  line_unless_control x = if is_control (plain p) x then [] else line_unless_hidden x
+  line_unless_control x = if not (is_control (plain p) x) && is_kept x then line_on p None x else []
 
   -- of what is asked where a variable is low behind an assignment
   abbrev pub reader_line : Question → List ℕ

@@ -10,7 +10,7 @@ ghost use Rattle.entail_refused.specs.Sites as sites;
 ghost use Rattle.entail_refused.specs.Sites.{IsSiteInRange};
 
 use crate::asked_by::add_asked_by;
-use crate::dropped::add_dropped_at;
+use crate::cleared::add_cleared_line;
 use crate::readers::add_reader_line;
 use crate::remarked::known_of;
 use crate::site::Site;
@@ -23,8 +23,8 @@ use entail_text::Finding;
 use std::alloc::Global;
 use typing_law::Entail;
 
-/// Adds which declaration asks for an entailment of a thread and who may read, where the types come from that make up its goal, which hypotheses the state drops that is asked of,
-/// which of the predicates that were lost on the way would help, and to which variables nothing stores. Nothing is added where a certificate is found for it, or where it isn't known where it is asked. `bytes` are the text of the program.
+/// Adds which declaration asks for an entailment of a thread and who may read, what is mostly missing, where the types come from that make up its goal, to which variables nothing is stored, and
+/// which of the predicates that were lost on the way would help. Nothing is added where a certificate is found for it, or where it isn't known where it is asked. `bytes` are the text of the program.
 pub fn add_further(
     alloc: Global,
     p: &Program,
@@ -93,8 +93,8 @@ fn add_further_at(
     };
     add_asked_by(p, bytes, site.question, text)?;
     add_reader_line(p, t, site.question, text)?;
+    add_cleared_line(p, site.question, text)?;
     add_type_lines(alloc, p, t, bytes, steps, site.question, site.kind, text)?;
-    add_dropped_at(alloc, site.question, site.kind, hyps, text)?;
-    add_losses(alloc, p, t, bytes, steps, unshown, text)?;
-    add_unstored_line(alloc, p, site.question, site.kind, &e.goal, text)
+    add_unstored_line(alloc, p, t, site.question, site.kind, hyps, &e.goal, text)?;
+    add_losses(alloc, p, t, bytes, steps, unshown, text)
 }

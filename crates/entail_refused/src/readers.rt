@@ -1,16 +1,17 @@
-//! Why something is asked of a variable that others may read, where the thread keeps only others' writes from it.
+//! Why something is asked of a variable that others may read, where the thread or a lock keeps only others' writes from it.
 
-ghost use Rattle.std.specs.Prelude.{◌≡◌, ◌<◌, ◌++◌, OnOk, length};
+ghost use Rattle.std.specs.Prelude.{◌≡◌, ◌<◌, ◌++◌, OnOk, Some, length, option_map};
 ghost use Rattle.cov_ast.specs.View as view;
 ghost use Rattle.entail_refused.specs.Readers as spec;
 
-use cov_ast::{Modes, Program};
+use cov_ast::{LockDecl, Program};
 use cov_expr::{Blob, NoMemory, has_number};
-use entail_origins::Question;
+use entail_origins::{Question, lock_over};
 use policy_class::is_control;
 use text_parts::add_variable_name;
 
-/// Adds that others may read the variable of which something is asked where it is low, where the thread assumes that no other writes it, and not that none reads it.
+/// Adds that others may read the variable of which something is asked where it is low, where the thread assumes that no other writes it, and not that none reads it; or, of one to
+/// which nothing is stored, the first lock over it lists it so.
 pub fn add_reader_line(
     p: &Program,
     t: u32,
@@ -40,10 +41,10 @@ fn add_unless_control(p: &Program, t: u32, x: u32, text: &mut Blob) -> Result<()
     requires { t < length p.now.threads }
     ensures { OnOk result (text.new ≡ text.old ++ spec.line_unless_control (view.program p.now) t x) }
 {
-    if is_control(p, x) {
-        Ok(())
+    if !is_control(p, x) && is_kept(p, t, x) {
+        add_line(p, None, x, text)
     } else {
-        add_unless_hidden(p, t, x, text)
+        Ok(())
     }
 }
 
@@ -52,25 +53,60 @@ fn add_unless_hidden(p: &Program, t: u32, x: u32, text: &mut Blob) -> Result<(),
     requires { t < length p.now.threads }
     ensures { OnOk result (text.new ≡ text.old ++ spec.line_unless_hidden (view.program p.now) t x) }
 {
-    if is_unhidden(&p.threads.as_slice()[t as usize].modes, x) {
-        add_line(p, x, text)
+    if is_kept(p, t, x) {
+        add_line(p, None, x, text)
     } else {
-        Ok(())
+        add_by_lock(p, lock_over(x, p.locks.as_slice()), x, text)
     }
 }
 
-/// Whether modes assume of a variable that no other thread writes it, and not that none reads it.
-fn is_unhidden(modes: &Modes, x: u32) -> bool
-    ensures { result ≡ spec.is_unhidden (view.modes modes.now) x }
+/// Whether a thread assumes of a variable that no other writes it, and not that none reads it.
+fn is_kept(p: &Program, t: u32, x: u32) -> bool
+    requires { t < length p.now.threads }
+    ensures { result ≡ spec.is_kept (view.program p.now) t x }
 {
-    has_number(modes.assume_nowrite.as_slice(), x) && !has_number(modes.assume_hide.as_slice(), x)
+    let modes = &p.threads.as_slice()[t as usize].modes;
+    is_unhidden(
+        modes.assume_nowrite.as_slice(),
+        modes.assume_hide.as_slice(),
+        x,
+    )
+}
+
+/// Adds that of a variable that a lock keeps from others' writes, and not from their reads.
+fn add_by_lock(
+    p: &Program,
+    lock: Option<&LockDecl>,
+    x: u32,
+    text: &mut Blob,
+) -> Result<(), NoMemory>
+    ensures { OnOk result (text.new ≡ text.old ++ spec.line_by_lock (view.program p.now) (option_map (λ l. view.lock l.now) lock.entry) x) }
+{
+    match lock {
+        Some(l) => {
+            if is_unhidden(l.nowrite.as_slice(), l.hide.as_slice(), x) {
+                add_line(p, Some(l), x, text)
+            } else {
+                Ok(())
+            }
+        }
+        None => Ok(()),
+    }
+}
+
+/// Whether a variable is in the first list, and not in the second.
+fn is_unhidden(nowrite: &[u32], hide: &[u32], x: u32) -> bool
+    ensures { result ≡ spec.is_unhidden nowrite.now hide.now x }
+{
+    has_number(nowrite, x) && !has_number(hide, x)
 }
 
 /// Adds the line.
-fn add_line(p: &Program, x: u32, text: &mut Blob) -> Result<(), NoMemory>
-    ensures { OnOk result (text.new ≡ text.old ++ spec.line_on (view.program p.now) x) }
+fn add_line(p: &Program, keeper: Option<&LockDecl>, x: u32, text: &mut Blob) -> Result<(), NoMemory>
+    ensures { OnOk result (text.new ≡ text.old ++ spec.line_on (view.program p.now) (option_map (λ l. view.lock l.now) keeper.entry) x) }
 {
     add_front(p, x, text)?;
+    add_keeper(keeper, text)?;
     add_end(p, x, text)
 }
 
@@ -80,15 +116,42 @@ fn add_front(p: &Program, x: u32, text: &mut Blob) -> Result<(), NoMemory>
 {
     text.extend_from_slice(b"  asked since others may read ")?;
     add_variable_name(p, x, text)?;
-    text.extend_from_slice(b": the thread assumes `nowrite ")
+    text.extend_from_slice(b": ")
 }
 
-/// Adds what the thread assumes of it.
+/// Adds what keeps others from writing it.
+fn add_keeper(keeper: Option<&LockDecl>, text: &mut Blob) -> Result<(), NoMemory>
+    ensures { OnOk result (text.new ≡ text.old ++ spec.keeper_text (option_map (λ l. view.lock l.now) keeper.entry)) }
+{
+    match keeper {
+        Some(lock) => add_lock(lock, text),
+        None => text.extend_from_slice(b"the thread assumes"),
+    }
+}
+
+/// Adds that a lock does.
+fn add_lock(lock: &LockDecl, text: &mut Blob) -> Result<(), NoMemory>
+    ensures { OnOk result (text.new ≡ text.old ++ spec.keeper_text (Some (view.lock lock.now))) }
+{
+    text.extend_from_slice(b"the lock ")?;
+    text.extend_from_slice(lock.name.text())?;
+    text.extend_from_slice(b" has")
+}
+
+/// Adds in which list it is, and in which it isn't.
 fn add_end(p: &Program, x: u32, text: &mut Blob) -> Result<(), NoMemory>
     ensures { OnOk result (text.new ≡ text.old ++ spec.reader_end (view.program p.now) x) }
 {
+    add_listed(p, b" `nowrite ", x, text)?;
+    add_listed(p, b", and not `hide ", x, text)?;
+    text.extend_from_slice(b"\n")
+}
+
+/// Adds a list, with the variable in it.
+fn add_listed(p: &Program, front: &[u8], x: u32, text: &mut Blob) -> Result<(), NoMemory>
+    ensures { OnOk result (text.new ≡ text.old ++ spec.listed_as (view.program p.now) front.now x) }
+{
+    text.extend_from_slice(front)?;
     add_variable_name(p, x, text)?;
-    text.extend_from_slice(b"`, and not `hide ")?;
-    add_variable_name(p, x, text)?;
-    text.extend_from_slice(b"`\n")
+    text.extend_from_slice(b"`")
 }

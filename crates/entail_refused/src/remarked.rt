@@ -1,6 +1,6 @@
 //! Where the hypotheses of an entailment come from.
 
-ghost use Rattle.std.specs.Prelude.{◌≡◌, IfOk, map, option_map};
+ghost use Rattle.std.specs.Prelude.{◌≡◌, ◌-◌, IfOk, length, map, option_map, take};
 ghost use Rattle.cov_expr.specs.View.{term};
 ghost use Rattle.cov_ast.specs.Plain.{plain};
 ghost use Rattle.cov_ast.specs.View as view;
@@ -8,7 +8,6 @@ ghost use Rattle.entail_origins.specs.AskedHypotheses.{asks_more};
 ghost use Rattle.entail_refused.specs.Remarked as spec;
 ghost use Rattle.entail_refused.specs.Sites as sites;
 
-use crate::dropped::without_last;
 use crate::site::Site;
 use cov_ast::Program;
 use cov_expr::{Blob, Expr, List, NoMemory};
@@ -61,6 +60,25 @@ pub fn known_of(question: Question, hypotheses: &[Expr]) -> &[Expr]
     } else {
         hypotheses
     }
+}
+
+/// The hypothesis that is asked with the goal, if there is one.
+pub fn asked_of(question: Question, hypotheses: &[Expr]) -> Option<&Expr>
+    ensures { option_map (λ e. term e.now) result ≡ spec.asked_of question (map term hypotheses.now) }
+{
+    if asks_more(question) {
+        hypotheses.get(hypotheses.len().saturating_sub(1))
+    } else {
+        None
+    }
+}
+
+/// All but the last of some hypotheses.
+fn without_last(hypotheses: &[Expr]) -> &[Expr]
+    ensures { map term result.now ≡ take (length (map term hypotheses.now) - 1) (map term hypotheses.now) }
+{
+    let count = hypotheses.len().saturating_sub(1);
+    &hypotheses[..count]
 }
 
 /// Whether an entailment follows from one expression more than the predicates, which is its last hypothesis.

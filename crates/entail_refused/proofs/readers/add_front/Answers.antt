@@ -12,5 +12,5 @@ returns c =
     let name = name_of (plain (view.program c.args.p.now)) c.args.x in
     let so_far = c.in_ok-add_variable_name.ensures ∙ ap (λ s. s ++ name) c.in_ok-extend_from_slice.ensures.ok ∙ append_assoc old front name in
     on_ok_weaker c.extend_from_slice-2.result
-    (λ is. is ∙ ap (λ s. s ++ codes ": the thread assumes `nowrite ") so_far ∙ append_assoc old (front ++ name) (codes ": the thread assumes `nowrite "))
+    (λ is. is ∙ ap (λ s. s ++ codes ": ") so_far ∙ append_assoc old (front ++ name) (codes ": "))
     c.extend_from_slice-2.ensures.ok

@@ -1,7 +1,7 @@
 use Rattle.std.proofs.Common.{◌-◌, take, map, sym, ap, ◌∙◌}
 use Rattle.std.proofs.lemmas.List.{length-map, take-map}
 use Rattle.cov_expr.specs.View.{term}
-use Rattle.entail_refused.proofs.dropped.without_last.Goals as goal
+use Rattle.entail_refused.proofs.remarked.without_last.Goals as goal
 
 pub returns : goal.returns
 returns c =

@@ -1,0 +1,38 @@
+//! What is mostly missing where a store to a control makes a variable low that may not be public.
+
+ghost use Rattle.std.specs.Prelude.{◌≡◌, ◌++◌, OnOk};
+ghost use Rattle.cov_ast.specs.View as view;
+ghost use Rattle.entail_refused.specs.Cleared as spec;
+
+use cov_ast::Program;
+use cov_expr::{Blob, NoMemory};
+use entail_origins::Question;
+use text_parts::add_variable_name;
+
+/// Adds that a store of another value is mostly missing, where something is asked of a variable to which nothing is stored. That this would do isn't looked at.
+pub fn add_cleared_line(p: &Program, question: Question, text: &mut Blob) -> Result<(), NoMemory>
+    ensures { OnOk result (text.new ≡ text.old ++ spec.cleared_line (view.program p.now) question) }
+{
+    match question {
+        Question::Controlled(y) => add_cleared(p, y, text),
+        Question::Written
+        | Question::Shown(_)
+        | Question::Retyped(_)
+        | Question::Invariant(_)
+        | Question::Freed(_)
+        | Question::Guard
+        | Question::HeadGuard
+        | Question::Printed
+        | Question::Predicate(_, _)
+        | Question::TypeOf(_, _) => Ok(()),
+    }
+}
+
+/// Adds that a store to a variable is mostly missing.
+fn add_cleared(p: &Program, y: u32, text: &mut Blob) -> Result<(), NoMemory>
+    ensures { OnOk result (text.new ≡ text.old ++ spec.cleared_text (view.program p.now) y) }
+{
+    text.extend_from_slice(b"  mostly a store of a public value to ")?;
+    add_variable_name(p, y, text)?;
+    text.extend_from_slice(b" is missing, in front of this statement\n")
+}
