@@ -57,12 +57,16 @@ is_of_thread t u = false
 abbrev pub look_end : List ℕ
 look_end = codes ", for which no certificate is found: what is mended there may move the numbers of this one\n"
 
-abbrev pub look_text : (bytes : List ℕ) → (place : ℕ) → List ℕ
-look_text bytes place = codes "  look first at line " ++ (decimal (line bytes place) ++ look_end)
+-- the line of a place, or that it is that of the same statement
+abbrev pub other_place : (bytes : List ℕ) → (own place : ℕ) → List ℕ
+other_place bytes own place = if own == place then codes "the next refusal of this statement" else codes "line " ++ decimal (line bytes place)
+
+abbrev pub look_text : (bytes : List ℕ) → (own place : ℕ) → List ℕ
+look_text bytes own place = codes "  look first at " ++ (other_place bytes own place ++ look_end)
 
 -- that, where of a refusal itself nothing is wanted but a certificate
 unfoldable pub look_unless_open : (bytes : List ℕ) → Program → Refusal → (place : ℕ) → List ℕ
-look_unless_open bytes p r place = if length (found_among p (r ∷ [])) == 0 then [] else look_text bytes place
+look_unless_open bytes p r place = if length (found_among p (r ∷ [])) == 0 then [] else look_text bytes r.place place
 
 -- that place is the first of those of the same thread for which none is found, if there is one
 abbrev pub look_line : (bytes : List ℕ) → Program → Refusal → (others : List Refusal) → List ℕ

@@ -170,19 +170,31 @@ fn add_look_unless_open(
     if parts.found.is_empty() {
         Ok(())
     } else {
-        add_look_text(bytes, place, text)
+        add_look_text(bytes, refusal.place, place, text)
     }
 }
 
-/// Adds a place to look at first.
-fn add_look_text(bytes: &[u8], place: u32, text: &mut Blob) -> Result<(), NoMemory>
-    ensures { OnOk result (text.new ≡ text.old ++ spec.look_text bytes.now place) }
+/// Adds another place to look at first.
+fn add_look_text(bytes: &[u8], own: u32, place: u32, text: &mut Blob) -> Result<(), NoMemory>
+    ensures { OnOk result (text.new ≡ text.old ++ spec.look_text bytes.now own place) }
 {
-    text.extend_from_slice(b"  look first at line ")?;
-    add_line_of(bytes, place, text)?;
+    text.extend_from_slice(b"  look first at ")?;
+    add_other_place(bytes, own, place, text)?;
     text.extend_from_slice(
         b", for which no certificate is found: what is mended there may move the numbers of this one\n",
     )
+}
+
+/// Adds the line of a place, or that it is that of the same statement.
+fn add_other_place(bytes: &[u8], own: u32, place: u32, text: &mut Blob) -> Result<(), NoMemory>
+    ensures { OnOk result (text.new ≡ text.old ++ spec.other_place bytes.now own place) }
+{
+    if own == place {
+        text.extend_from_slice(b"the next refusal of this statement")
+    } else {
+        text.extend_from_slice(b"line ")?;
+        add_line_of(bytes, place, text)
+    }
 }
 
 /// Adds what is told of refusals for which a certificate is found, if there are any.
