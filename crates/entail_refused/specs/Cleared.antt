@@ -1,4 +1,4 @@
--- What is mostly missing where a store to a control makes a variable low that may not be public: another value in that variable.
+-- What is mostly done where a store to a control makes a variable low that may not be public: another value is stored to it.
 use Rattle.std.specs.Prelude.{ℕ, List, [], ◌++◌, codes}
 use Rattle.cov_ast.specs.Declarations.{name_of}
 use Rattle.cov_ast.specs.Plain.{plain}
@@ -7,9 +7,9 @@ use Rattle.entail_origins.specs.declared.kinds.Question.{Question}
 use Rattle.entail_origins.specs.declared.kinds.Question.TheVariants as q
 
 abbrev pub cleared_text : Program → (y : ℕ) → List ℕ
-cleared_text p y = codes "  mostly a store of a public value to " ++ (name_of (plain p) y ++ codes " is missing, in front of this statement\n")
+cleared_text p y = codes "  mostly a store of a public value to " ++ (name_of (plain p) y ++ codes " mends it, in front of this statement\n")
 
--- of what is asked of a variable to which nothing is stored
+-- of what is asked of a variable since a control of it is stored to
 abbrev pub cleared_line : Program → Question → List ℕ
 cleared_line p q.Written = []
 cleared_line p (q.Shown x) = []

@@ -13,7 +13,7 @@ use Rattle.entail_refused.specs.Remarked.{known_of}
 use Rattle.entail_refused.specs.Sites.{Site}
 use Rattle.entail_refused.specs.Unstored.{unstored_line}
 
--- which declaration asks, why where others may read a variable, what is mostly missing, where the types come from that make up the goal, to which variables nothing is
+-- which declaration asks, why where others may read a variable, what is mostly done, where the types come from that make up the goal, to which variables nothing is
 -- stored, and which of what was lost on the way would help
 abbrev pub further_at : Program → (t : ℕ) → (bytes : List ℕ) → Site → Entailment → List ℕ
 further_at p t bytes s g =

@@ -1,4 +1,4 @@
-//! What is mostly missing where a store to a control makes a variable low that may not be public.
+//! What is mostly done where a store to a control makes a variable low that may not be public.
 
 ghost use Rattle.std.specs.Prelude.{◌≡◌, ◌++◌, OnOk};
 ghost use Rattle.cov_ast.specs.View as view;
@@ -9,7 +9,8 @@ use cov_expr::{Blob, NoMemory};
 use entail_origins::Question;
 use text_parts::add_variable_name;
 
-/// Adds that a store of another value is mostly missing, where something is asked of a variable to which nothing is stored. That this would do isn't looked at.
+/// Adds that a store of another value mostly mends it, where something is asked of a variable since a control of it is stored to. That this would do isn't looked at, nor whether one
+/// stands there.
 pub fn add_cleared_line(p: &Program, question: Question, text: &mut Blob) -> Result<(), NoMemory>
     ensures { OnOk result (text.new ≡ text.old ++ spec.cleared_line (view.program p.now) question) }
 {
@@ -28,11 +29,11 @@ pub fn add_cleared_line(p: &Program, question: Question, text: &mut Blob) -> Res
     }
 }
 
-/// Adds that a store to a variable is mostly missing.
+/// Adds that a store to a variable mostly mends it.
 fn add_cleared(p: &Program, y: u32, text: &mut Blob) -> Result<(), NoMemory>
     ensures { OnOk result (text.new ≡ text.old ++ spec.cleared_text (view.program p.now) y) }
 {
     text.extend_from_slice(b"  mostly a store of a public value to ")?;
     add_variable_name(p, y, text)?;
-    text.extend_from_slice(b" is missing, in front of this statement\n")
+    text.extend_from_slice(b" mends it, in front of this statement\n")
 }

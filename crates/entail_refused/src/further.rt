@@ -23,7 +23,7 @@ use entail_text::Finding;
 use std::alloc::Global;
 use typing_law::Entail;
 
-/// Adds which declaration asks for an entailment of a thread and who may read, what is mostly missing, where the types come from that make up its goal, to which variables nothing is stored, and
+/// Adds which declaration asks for an entailment of a thread and who may read, what is mostly done, where the types come from that make up its goal, to which variables nothing is stored, and
 /// which of the predicates that were lost on the way would help. Nothing is added where a certificate is found for it, or where it isn't known where it is asked. `bytes` are the text of the program.
 pub fn add_further(
     alloc: Global,

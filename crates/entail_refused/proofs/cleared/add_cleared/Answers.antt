@@ -10,7 +10,7 @@ returns c =
     let old = c.args.text.now in
     let front = codes "  mostly a store of a public value to " in
     let name = name_of (plain (view.program c.args.p.now)) c.args.y in
-    let end = codes " is missing, in front of this statement\n" in
+    let end = codes " mends it, in front of this statement\n" in
     let so_far = c.in_ok-add_variable_name.ensures ∙ ap (λ s. s ++ name) c.in_ok-extend_from_slice.ensures.ok ∙ append_assoc old front name in
     on_ok_weaker c.extend_from_slice-2.result
     (λ is. is ∙ ap (λ s. s ++ end) so_far ∙ append_assoc old (front ++ name) end)
