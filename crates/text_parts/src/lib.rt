@@ -1,7 +1,7 @@
 //! Parts of a text: names of a program's variables and locks, and numbers; and lines and columns of a text, and what it looks like
 //! around a place.
 //!
-//! - [`add_variable_name`], [`add_lock_name`], [`add_number`], [`add_line_of`]: each adds its part to a text and leaves what stands there. A number that no
+//! - [`add_variable_name`], [`add_variable_names`], [`add_lock_name`], [`add_number`], [`add_line_of`]: each adds its part to a text and leaves what stands there. A number that no
 //!   declaration has adds nothing.
 //! - [`variable_names`]: the names of all variables, with which expressions of the program are spelled (`specs/VariableNames.antt`).
 //! - [`position`]: the line and the column of a place, both counted from 1 ([`LineColumn`]).
@@ -18,11 +18,12 @@ mod laws;
 mod lines;
 mod names;
 
-ghost use Rattle.std.specs.Prelude.{◌≡◌, ◌++◌, OnOk, decimal};
+ghost use Rattle.std.specs.Prelude.{◌≡◌, ◌++◌, OnOk, decimal, flat_map};
 ghost use Rattle.cov_ast.specs.Declarations.{lock_at, name_of};
 ghost use Rattle.cov_ast.specs.Plain.{plain};
 ghost use Rattle.cov_ast.specs.View as view;
 ghost use Rattle.text_parts.specs.Lines.{line};
+ghost use Rattle.text_parts.specs.VariableNames.{spaced_name};
 
 use cov_ast::Program;
 use cov_expr::{Blob, NoMemory};
@@ -40,6 +41,17 @@ pub fn add_variable_name(p: &Program, x: u32, text: &mut Blob) -> Result<(), NoM
         Some(var) => text.extend_from_slice(var.name.text()),
         None => Ok(()),
     }
+}
+
+/// Adds the names of variables, each behind a blank.
+pub fn add_variable_names(p: &Program, xs: &[u32], text: &mut Blob) -> Result<(), NoMemory>
+    ensures { OnOk result (text.new ≡ text.old ++ flat_map (spaced_name (plain (view.program p.now))) xs.now) }
+{
+    for x in xs {
+        text.extend_from_slice(b" ")?;
+        add_variable_name(p, *x, text)?;
+    }
+    Ok(())
 }
 
 /// Adds the name of a lock.
