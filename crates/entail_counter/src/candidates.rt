@@ -69,13 +69,6 @@ fn add_near(v: u32, found: &mut List<u32>) -> Result<(), NoMemory>
 {
     add(v, found)?;
     add(apply(Op::Add, v, 1), found)?;
-    add_before(v, found)
-}
-
-/// Adds the word before one, where there is one.
-fn add_before(v: u32, found: &mut List<u32>) -> Result<(), NoMemory>
-    ensures { OnOk result (found.new ≡ spec.with_before found.old v) }
-{
     if v == 0 { Ok(()) } else { add(v - 1, found) }
 }
 
@@ -114,7 +107,10 @@ fn add_tight(e: &Expr, x: u32, m: &[Binding], found: &mut List<u32>) -> Result<(
         Expr::Not(a) => add_tight(a, x, m, found),
         Expr::Bin(op, a, b) => {
             if is_comparison(*op) {
-                add_at_equal(a, b, x, m, found)
+                match crossing(as_line(x, m, a), as_line(x, m, b)) {
+                    Some(v) => add_near(v, found),
+                    None => Ok(()),
+                }
             } else {
                 add_tight(a, x, m, found)?;
                 add_tight(b, x, m, found)
@@ -140,28 +136,5 @@ fn is_comparison(op: Op) -> bool
     match op {
         Op::Eq | Op::Ne | Op::Lt | Op::Le => true,
         Op::Add | Op::Sub | Op::Mul | Op::And | Op::Or | Op::Xor | Op::Both | Op::Either => false,
-    }
-}
-
-/// Adds those next to where two sides are equal.
-fn add_at_equal(
-    a: &Expr,
-    b: &Expr,
-    x: u32,
-    m: &[Binding],
-    found: &mut List<u32>,
-) -> Result<(), NoMemory>
-    ensures { OnOk result (found.new ≡ spec.with_equal x m.now found.old (term a.now) (term b.now)) }
-{
-    add_near_any(crossing(as_line(x, m, a), as_line(x, m, b)), found)
-}
-
-/// Adds those next to a value, if there is one.
-fn add_near_any(value: Option<u32>, found: &mut List<u32>) -> Result<(), NoMemory>
-    ensures { OnOk result (found.new ≡ spec.with_any found.old value) }
-{
-    match value {
-        Some(v) => add_near(v, found),
-        None => Ok(()),
     }
 }

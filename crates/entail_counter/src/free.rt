@@ -59,19 +59,14 @@ fn free(e: &Expr, m: &[Binding]) -> Unbound
 {
     match e {
         Expr::Const(_) => Unbound::Settled,
-        Expr::Var(x) => of_variable(*x, bound(m, *x)),
+        Expr::Var(x) => {
+            match bound(m, *x) {
+                Some(_) => Unbound::Settled,
+                None => Unbound::One(*x),
+            }
+        }
         Expr::Not(a) => free(a, m),
         Expr::Bin(_, a, b) => joined(free(a, m), free(b, m)),
-    }
-}
-
-/// Those of a variable.
-fn of_variable(x: u32, value: Option<u32>) -> Unbound
-    ensures { result ≡ spec.of_variable x value }
-{
-    match value {
-        Some(_) => Unbound::Settled,
-        None => Unbound::One(x),
     }
 }
 

@@ -15,18 +15,13 @@ pub fn known(e: &Expr, m: &[Binding]) -> Option<u32>
     match e {
         Expr::Const(k) => Some(*k),
         Expr::Var(x) => bound(m, *x),
-        Expr::Not(a) => negated(known(a, m)),
+        Expr::Not(a) => {
+            match known(a, m) {
+                Some(v) => Some((v == 0) as u32),
+                None => None,
+            }
+        }
         Expr::Bin(op, a, b) => combined(*op, known(a, m), known(b, m)),
-    }
-}
-
-/// What `!` gives.
-fn negated(a: Option<u32>) -> Option<u32>
-    ensures { result ≡ spec.negated a }
-{
-    match a {
-        Some(v) => Some((v == 0) as u32),
-        None => None,
     }
 }
 

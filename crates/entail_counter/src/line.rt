@@ -30,31 +30,19 @@ pub fn as_line(x: u32, m: &[Binding], e: &Expr) -> Line
             if *y == x {
                 Line::Rising(0)
             } else {
-                of_value(bound(m, *y))
+                match bound(m, *y) {
+                    Some(v) => Line::Constant(v),
+                    None => Line::Other,
+                }
             }
         }
-        Expr::Not(a) => negated(as_line(x, m, a)),
+        Expr::Not(a) => {
+            match as_line(x, m, a) {
+                Line::Constant(v) => Line::Constant((v == 0) as u32),
+                Line::Rising(_) | Line::Falling(_) | Line::Other => Line::Other,
+            }
+        }
         Expr::Bin(op, a, b) => combined(*op, as_line(x, m, a), as_line(x, m, b)),
-    }
-}
-
-/// That of another variable.
-fn of_value(value: Option<u32>) -> Line
-    ensures { result ≡ spec.of_value value }
-{
-    match value {
-        Some(v) => Line::Constant(v),
-        None => Line::Other,
-    }
-}
-
-/// That of a negation.
-fn negated(a: Line) -> Line
-    ensures { result ≡ spec.negated a }
-{
-    match a {
-        Line::Constant(v) => Line::Constant((v == 0) as u32),
-        Line::Rising(_) | Line::Falling(_) | Line::Other => Line::Other,
     }
 }
 
@@ -63,7 +51,16 @@ fn combined(op: Op, a: Line, b: Line) -> Line
     ensures { result ≡ spec.combined op a b }
 {
     match op {
-        Op::Add => added(a, b),
+        Op::Add => {
+            match (a, b) {
+                (Line::Constant(v), Line::Constant(w)) => Line::Constant(apply(Op::Add, v, w)),
+                (Line::Constant(v), Line::Rising(c)) => Line::Rising(apply(Op::Add, v, c)),
+                (Line::Constant(v), Line::Falling(c)) => Line::Falling(apply(Op::Add, v, c)),
+                (Line::Rising(c), Line::Constant(w)) => Line::Rising(apply(Op::Add, c, w)),
+                (Line::Falling(c), Line::Constant(w)) => Line::Falling(apply(Op::Add, c, w)),
+                (_, _) => Line::Other,
+            }
+        }
         Op::Sub => taken(a, b),
         Op::Mul
         | Op::And
@@ -74,21 +71,12 @@ fn combined(op: Op, a: Line, b: Line) -> Line
         | Op::Lt
         | Op::Le
         | Op::Both
-        | Op::Either => applied(op, a, b),
-    }
-}
-
-/// That of a sum.
-fn added(a: Line, b: Line) -> Line
-    ensures { result ≡ spec.added a b }
-{
-    match (a, b) {
-        (Line::Constant(v), Line::Constant(w)) => Line::Constant(apply(Op::Add, v, w)),
-        (Line::Constant(v), Line::Rising(c)) => Line::Rising(apply(Op::Add, v, c)),
-        (Line::Constant(v), Line::Falling(c)) => Line::Falling(apply(Op::Add, v, c)),
-        (Line::Rising(c), Line::Constant(w)) => Line::Rising(apply(Op::Add, c, w)),
-        (Line::Falling(c), Line::Constant(w)) => Line::Falling(apply(Op::Add, c, w)),
-        (_, _) => Line::Other,
+        | Op::Either => {
+            match (a, b) {
+                (Line::Constant(v), Line::Constant(w)) => Line::Constant(apply(op, v, w)),
+                (_, _) => Line::Other,
+            }
+        }
     }
 }
 
@@ -102,16 +90,6 @@ fn taken(a: Line, b: Line) -> Line
         (Line::Constant(v), Line::Falling(c)) => Line::Rising(apply(Op::Sub, v, c)),
         (Line::Rising(c), Line::Constant(w)) => Line::Rising(apply(Op::Sub, c, w)),
         (Line::Falling(c), Line::Constant(w)) => Line::Falling(apply(Op::Sub, c, w)),
-        (_, _) => Line::Other,
-    }
-}
-
-/// That of another operation.
-fn applied(op: Op, a: Line, b: Line) -> Line
-    ensures { result ≡ spec.applied op a b }
-{
-    match (a, b) {
-        (Line::Constant(v), Line::Constant(w)) => Line::Constant(apply(op, v, w)),
         (_, _) => Line::Other,
     }
 }

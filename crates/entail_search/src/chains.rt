@@ -16,7 +16,7 @@ use crate::nodes;
 use crate::nodes::MOST_NUMBERED;
 use crate::readings::gathered;
 use cov_ast::Cert;
-use cov_expr::{Expr, HOLE, List, NoMemory, Op, boxed, copy, same};
+use cov_expr::{Expr, HOLE, List, NoMemory, Op, same};
 use std::alloc::Global;
 use tree_copies::copy_cert;
 
@@ -78,30 +78,6 @@ fn joining_like(
     nodes::axiom_of_three(alloc, k, a, b, c, last)
 }
 
-/// `a < c` by `a <= b` and `b < c`.
-fn joining_last(alloc: Global, n: u32, a: &Expr, b: &Expr, c: &Expr) -> Result<Cert, NoMemory>
-    requires { n ≤ MOST_NUMBERED }
-    ensures { IfOk result (λ made. view.cert made ≡ spec.joining n false true (term a.now) (term b.now) (term c.now)) }
-{
-    let template = nodes::pair(alloc, Op::Lt, &Expr::Var(HOLE), c)?;
-    let equal = nodes::forward(alloc, n + 5, template)?;
-    let rest = by_less_or_equal(alloc, n + 2, n + 4, a, b, c, equal)?;
-    let step = nodes::axiom_of_two(alloc, 10, a, b, rest)?;
-    nodes::unpacked(alloc, n + 1, step)
-}
-
-/// `a < c` by `a < b` and `b <= c`.
-fn joining_first(alloc: Global, n: u32, a: &Expr, b: &Expr, c: &Expr) -> Result<Cert, NoMemory>
-    requires { n ≤ MOST_NUMBERED }
-    ensures { IfOk result (λ made. view.cert made ≡ spec.joining n true false (term a.now) (term b.now) (term c.now)) }
-{
-    let template = nodes::pair(alloc, Op::Lt, a, &Expr::Var(HOLE))?;
-    let equal = nodes::backward(alloc, n + 5, template, Cert::Auto)?;
-    let rest = by_less_or_equal(alloc, n + 3, n + 4, a, b, c, equal)?;
-    let step = nodes::axiom_of_two(alloc, 10, b, c, rest)?;
-    nodes::unpacked(alloc, n + 1, step)
-}
-
 /// `a` and `c` compared, where the hypothesis behind the first n has `a` and `b`, and `b` and `c`, each strictly or not.
 fn joining(
     alloc: Global,
@@ -118,8 +94,20 @@ fn joining(
     match (first, second) {
         (false, false) => joining_like(alloc, n, 12, a, b, c),
         (true, true) => joining_like(alloc, n, 8, a, b, c),
-        (false, true) => joining_last(alloc, n, a, b, c),
-        (true, false) => joining_first(alloc, n, a, b, c),
+        (false, true) => {
+            let template = nodes::pair(alloc, Op::Lt, &Expr::Var(HOLE), c)?;
+            let equal = nodes::forward(alloc, n + 5, template)?;
+            let rest = by_less_or_equal(alloc, n + 2, n + 4, a, b, c, equal)?;
+            let step = nodes::axiom_of_two(alloc, 10, a, b, rest)?;
+            nodes::unpacked(alloc, n + 1, step)
+        }
+        (true, false) => {
+            let template = nodes::pair(alloc, Op::Lt, a, &Expr::Var(HOLE))?;
+            let equal = nodes::backward(alloc, n + 5, template, Cert::Auto)?;
+            let rest = by_less_or_equal(alloc, n + 3, n + 4, a, b, c, equal)?;
+            let step = nodes::axiom_of_two(alloc, 10, b, c, rest)?;
+            nodes::unpacked(alloc, n + 1, step)
+        }
     }
 }
 

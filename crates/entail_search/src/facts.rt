@@ -48,22 +48,17 @@ pub fn is_new(facts: &[Fact], e: &Expr) -> bool
     facts.len() < MOST_FACTS && !has_fact(facts, e)
 }
 
-/// Adds a fact where it is new and there is room.
-fn add(facts: &mut List<Fact>, f: Fact) -> Result<(), NoMemory>
-    ensures { OnOk result (map fact facts.new ≡ spec.with_fact (map fact facts.old) (fact f)) }
-{
-    if is_new(facts.as_slice(), &f.says) {
-        facts.push(f)?;
-    }
-    Ok(())
-}
-
 /// The same of a fact that may not be there.
 pub fn add_any(facts: &mut List<Fact>, f: Option<Fact>) -> Result<(), NoMemory>
     ensures { OnOk result (map fact facts.new ≡ spec.with_any (map fact facts.old) (option_map fact f)) }
 {
     match f {
-        Some(f) => add(facts, f),
+        Some(f) => {
+            if is_new(facts.as_slice(), &f.says) {
+                facts.push(f)?;
+            }
+            Ok(())
+        }
         None => Ok(()),
     }
 }
