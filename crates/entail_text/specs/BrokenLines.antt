@@ -20,11 +20,11 @@ memory_text names (b ∷ bs) = listed (binding_text names) (b ∷ bs)
 abbrev pub help_line : (goal : Term) → List ℕ
 help_line goal =
     if is_closed goal then codes "                it would help that a type says more, that less is asked, or that no run comes here where these hypotheses hold\n"
-    else codes "                it would help that more is known here (the goal, or what gives it), that a type says more, or that less is asked; a store forgets each predicate that has its variable, and a state each that it doesn't list\n"
+    else codes "                it would help that more is known here (the goal, as a test around it gives it, or what gives it), or that less is asked\n"
 
 abbrev pub memory_line : Names → List Binding → List ℕ
 memory_line names m =
-    codes "  breaks it:    " ++ memory_text names m ++ codes "\n                no certificate can show it: in such a memory all hypotheses hold and the goal doesn't\n"
+    codes "  breaks it:    " ++ memory_text names m ++ codes "   (all hypotheses hold there, and the goal doesn't: no certificate can show it)\n"
 
 abbrev pub broken_lines : Names → (goal : Term) → List Binding → List ℕ
 broken_lines names goal m = memory_line names m ++ help_line goal

@@ -44,7 +44,7 @@ fn add_memory_line(names: &NameTable, m: &[Binding], text: &mut Blob) -> Result<
     text.extend_from_slice(b"  breaks it:    ")?;
     add_memory(names, m, text)?;
     text.extend_from_slice(
-        b"\n                no certificate can show it: in such a memory all hypotheses hold and the goal doesn't\n",
+        b"   (all hypotheses hold there, and the goal doesn't: no certificate can show it)\n",
     )
 }
 
@@ -58,7 +58,7 @@ fn add_help(goal: &Expr, text: &mut Blob) -> Result<(), NoMemory>
         );
     }
     text.extend_from_slice(
-        b"                it would help that more is known here (the goal, or what gives it), that a type says more, or that less is asked; a store forgets each predicate that has its variable, and a state each that it doesn't list\n",
+        b"                it would help that more is known here (the goal, as a test around it gives it, or what gives it), or that less is asked\n",
     )
 }
 

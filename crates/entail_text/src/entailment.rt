@@ -1,14 +1,12 @@
 //! What is told of an entailment.
 
-ghost use Rattle.std.specs.Prelude.{◌≡◌, [], ◌∷◌, ◌++◌, OnOk, Some, codes, decimal, flat_map, get_or, map, option_map};
+ghost use Rattle.std.specs.Prelude.{◌≡◌, [], ◌∷◌, ◌++◌, OnOk, Some, codes, decimal, get_or, map, option_map};
 ghost use Rattle.cov_expr.specs.View.{term};
 ghost use Rattle.cov_ast.specs.View as view;
 ghost use Rattle.cov_print.specs.Fronts.{front};
 ghost use Rattle.cov_print.specs.Spelling.{whole};
 ghost use Rattle.entail_cert.specs.Axioms.{numbered};
-ghost use Rattle.entail_cert.specs.Valid.{first_bad};
 ghost use Rattle.entail_text.specs.Inside.{seen};
-ghost use Rattle.entail_text.specs.Nodes as nodes;
 ghost use Rattle.entail_text.specs.EntailmentLines as spec;
 
 use crate::node::{Node, node_at, root};
@@ -162,29 +160,17 @@ fn add_certificate(
     ensures { OnOk result (text.new ≡ text.old ++ spec.certificate names.now (map term hyps.now) (term goal.now) (option_map (λ c. view.cert c.now) cert.entry)) }
 {
     match cert {
-        Some(cert) => add_given(alloc, names, hyps, goal, cert, text),
-        None => text.extend_from_slice(b"none given, and `auto` doesn't show it"),
-    }
-}
-
-/// Adds how a certificate fares.
-fn add_given(
-    alloc: Global,
-    names: &NameTable,
-    hyps: &List<Expr>,
-    goal: &Expr,
-    cert: &Cert,
-    text: &mut Blob,
-) -> Result<(), NoMemory>
-    ensures { OnOk result (text.new ≡ text.old ++ spec.verdict names.now (nodes.node (map term hyps.now) (term goal.now) (view.cert cert.now)) (first_bad (map term hyps.now) (term goal.now) (view.cert cert.now))) }
-{
-    match check_cert(alloc, hyps, goal, cert) {
-        Ok(()) => text.extend_from_slice(b"given; valid"),
-        Err(CertFault::Invalid(path)) => {
-            let root = root(alloc, hyps.as_slice(), goal, cert)?;
-            add_failure(alloc, names, root, path.as_slice(), text)
+        Some(cert) => {
+            match check_cert(alloc, hyps, goal, cert) {
+                Ok(()) => text.extend_from_slice(b"given; valid"),
+                Err(CertFault::Invalid(path)) => {
+                    let root = root(alloc, hyps.as_slice(), goal, cert)?;
+                    add_failure(alloc, names, root, path.as_slice(), text)
+                }
+                Err(CertFault::NoMemory) => Err(NoMemory),
+            }
         }
-        Err(CertFault::NoMemory) => Err(NoMemory),
+        None => text.extend_from_slice(b"none given, and `auto` doesn't show it"),
     }
 }
 
@@ -216,7 +202,12 @@ fn add_any_node(names: &NameTable, node: &Option<Node<'_>>, text: &mut Blob) -> 
     ensures { OnOk result (text.new ≡ text.old ++ spec.node_text_of names.now (option_map seen node.now)) }
 {
     match node {
-        Some(node) => add_node(names, node, text),
+        Some(node) => {
+            add_rule(names, node.cert, text)?;
+            add_goal_there(names, node.goal.expr(), text)?;
+            add_spoken_of(names, node, text)?;
+            text.extend_from_slice(b")")
+        }
         None => Ok(()),
     }
 }
@@ -258,16 +249,6 @@ fn add_next_step(step: u8, text: &mut Blob) -> Result<(), NoMemory>
     add_number(step as usize, text)
 }
 
-/// Adds the front of the certificate of a node, and what its own condition is asked of.
-fn add_node(names: &NameTable, node: &Node<'_>, text: &mut Blob) -> Result<(), NoMemory>
-    ensures { OnOk result (text.new ≡ text.old ++ spec.node_text names.now (seen node.now)) }
-{
-    add_rule(names, node.cert, text)?;
-    add_goal_there(names, node.goal.expr(), text)?;
-    add_spoken_of(names, node, text)?;
-    text.extend_from_slice(b")")
-}
-
 /// Adds the front of a certificate.
 fn add_rule(names: &NameTable, cert: &Cert, text: &mut Blob) -> Result<(), NoMemory>
     ensures { OnOk result (text.new ≡ text.old ++ (codes ": " ++ front names.now (view.cert cert.now))) }
@@ -293,25 +274,14 @@ fn add_spoken_of(names: &NameTable, node: &Node<'_>, text: &mut Blob) -> Result<
         Cert::Unpack(i, _) => add_named(names, node, *i, text),
         Cert::Cases(i, _, _) => add_named(names, node, *i, text),
         Cert::Fwd(i, _, _) | Cert::Rev(i, _, _) => add_named(names, node, *i, text),
-        Cert::Absurd(i, j) => add_named_pair(names, node, *i, *j, text),
+        Cert::Absurd(i, j) => {
+            add_named(names, node, *i, text)?;
+            add_named(names, node, *j, text)
+        }
         Cert::Auto | Cert::Calc | Cert::Refl | Cert::Ring | Cert::Range => Ok(()),
         Cert::And(..) | Cert::Left(_) | Cert::Right(_) | Cert::Split(..) | Cert::Have(..) => Ok(()),
         Cert::Not(_) | Cert::Contra(_) | Cert::Axiom(..) => Ok(()),
     }
-}
-
-/// Adds two hypotheses that a certificate names by their numbers.
-fn add_named_pair(
-    names: &NameTable,
-    node: &Node<'_>,
-    first: u32,
-    second: u32,
-    text: &mut Blob,
-) -> Result<(), NoMemory>
-    ensures { OnOk result (text.new ≡ text.old ++ (spec.hypothesis_phrase names.now first (numbered (seen node.now).hyps first) ++ spec.hypothesis_phrase names.now second (numbered (seen node.now).hyps second))) }
-{
-    add_named(names, node, first, text)?;
-    add_named(names, node, second, text)
 }
 
 /// Adds a hypothesis that a certificate names by its number, or that there is none.
@@ -325,16 +295,11 @@ fn add_named(
 {
     match node.hypothesis(number) {
         Some(h) => add_known(names, number, h.expr(), text),
-        None => add_missing(number, text),
+        None => {
+            text.extend_from_slice(b", and there is no hypothesis ")?;
+            add_number(number as usize, text)
+        }
     }
-}
-
-/// Adds that there is no hypothesis of a number.
-fn add_missing(number: u32, text: &mut Blob) -> Result<(), NoMemory>
-    ensures { OnOk result (text.new ≡ text.old ++ (codes ", and there is no hypothesis " ++ decimal number)) }
-{
-    text.extend_from_slice(b", and there is no hypothesis ")?;
-    add_number(number as usize, text)
 }
 
 /// Adds a hypothesis with its number.

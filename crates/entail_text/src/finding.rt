@@ -51,17 +51,12 @@ fn without_certificate(alloc: Global, hyps: &List<Expr>, goal: &Expr) -> Result<
 {
     match counterexample(alloc, hyps.as_slice(), goal)? {
         Some(m) => Ok(Finding::Broken(m)),
-        None => without_memory(alloc, hyps, goal),
-    }
-}
-
-/// What is found where no memory is either.
-fn without_memory(alloc: Global, hyps: &List<Expr>, goal: &Expr) -> Result<Finding, NoMemory>
-    ensures { IfOk result (λ found. spec.seen found ≡ spec.by_deeper (spec.deeper_suggested (map term hyps.now) (term goal.now))) }
-{
-    match deeper_suggested(alloc, hyps, goal)? {
-        Some(cert) => Ok(Finding::Shown(cert)),
-        None => Ok(Finding::Neither),
+        None => {
+            match deeper_suggested(alloc, hyps, goal)? {
+                Some(cert) => Ok(Finding::Shown(cert)),
+                None => Ok(Finding::Neither),
+            }
+        }
     }
 }
 
@@ -125,14 +120,7 @@ pub fn is_hopeless(
     let mut known = List::with_capacity(alloc, hyps.len())?;
     add_copies(alloc, hyps, &mut known)?;
     add_copies(alloc, more, &mut known)?;
-    is_broken(alloc, known.as_slice(), goal)
-}
-
-/// Whether a memory is found that breaks an entailment.
-fn is_broken(alloc: Global, hyps: &[Expr], goal: &Expr) -> Result<bool, NoMemory>
-    ensures { IfOk result (λ broken. broken ≡ is_some (breaking.counterexample (map term hyps.now) (term goal.now))) }
-{
-    let found = counterexample(alloc, hyps, goal)?;
+    let found = counterexample(alloc, known.as_slice(), goal)?;
     Ok(found.is_some())
 }
 

@@ -66,9 +66,17 @@ fn add_found(
         return add_replaced(names, number, cert, text);
     }
     if proofs.is_empty() {
-        add_first(names, number, cert, text)
+        text.extend_from_slice(b"by { ")?;
+        add_entry(names, number, cert, text)?;
+        text.extend_from_slice(
+            b" }\n                it is valid: write it at the end of the statement, in front of its `;` if it has one; all of a statement stand in one `by`, with commas\n",
+        )
     } else {
-        add_further(names, number, cert, text)
+        text.extend_from_slice(b", ")?;
+        add_entry(names, number, cert, text)?;
+        text.extend_from_slice(
+            b"\n                it is valid: write it last in the `by` of the statement\n",
+        )
     }
 }
 
@@ -100,28 +108,6 @@ fn add_replaced(
     add_entry(names, number, cert, text)?;
     text.extend_from_slice(
         b"\n                it is valid: write it in the place of the one that is given\n",
-    )
-}
-
-/// Adds a certificate that is the first of a statement.
-fn add_first(names: &NameTable, number: u32, cert: &Cert, text: &mut Blob) -> Result<(), NoMemory>
-    ensures { OnOk result (text.new ≡ text.old ++ spec.first names.now number (view.cert cert.now)) }
-{
-    text.extend_from_slice(b"by { ")?;
-    add_entry(names, number, cert, text)?;
-    text.extend_from_slice(
-        b" }\n                it is valid: write it at the end of the statement, in front of its `;` if it has one; all of a statement stand in one `by`, with commas\n",
-    )
-}
-
-/// Adds a certificate that is one more of a statement.
-fn add_further(names: &NameTable, number: u32, cert: &Cert, text: &mut Blob) -> Result<(), NoMemory>
-    ensures { OnOk result (text.new ≡ text.old ++ spec.further names.now number (view.cert cert.now)) }
-{
-    text.extend_from_slice(b", ")?;
-    add_entry(names, number, cert, text)?;
-    text.extend_from_slice(
-        b"\n                it is valid: write it last in the `by` of the statement\n",
     )
 }
 

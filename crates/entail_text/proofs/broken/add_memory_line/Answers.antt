@@ -8,7 +8,7 @@ returns c =
     let old = c.args.text.now in
     let head = codes "  breaks it:    " in
     let memory = memory_text c.args.names.now c.args.m.now in
-    let said = codes "\n                no certificate can show it: in such a memory all hypotheses hold and the goal doesn't\n" in
+    let said = codes "   (all hypotheses hold there, and the goal doesn't: no certificate can show it)\n" in
     on_ok_weaker c.extend_from_slice-2.result
     (λ is. is
     ∙ ap (λ s. s ++ said) (c.in_ok-add_memory.ensures ∙ ap (λ s. s ++ memory) c.in_ok-extend_from_slice.ensures.ok)
