@@ -67,13 +67,14 @@ abbrev pub is_always_high : Term → Bool
 is_always_high (const k) = k == 0
 is_always_high e = false
 
--- what is known of a variable of a class that no other thread may read
-abbrev pub hidden_text : Term → List ℕ
-hidden_text class = if is_always_high class then codes "0" else codes "0 (hidden from others; with `nowrite` in place of `hide` its class)"
+-- what is known of a variable that no other thread may read, by whether it is always high: its class, or nothing
+abbrev pub hidden_text : Plain → Names → (z : ℕ) → (is_high : Bool) → List ℕ
+hidden_text p names z true = class_text p names z
+hidden_text p names z false = codes "0 (hidden from others; with `nowrite` in place of `hide` its class)"
 
--- what is known of a variable without more: nothing where no other thread may read it, and else its class
+-- what is known of a variable without more, by whether no other thread may read it
 abbrev pub default_text : Plain → Names → (hidden : Bool) → (z : ℕ) → List ℕ
-default_text p names true z = hidden_text (class_of p z)
+default_text p names true z = hidden_text p names z (is_always_high (class_of p z))
 default_text p names false z = class_text p names z
 
 abbrev pub taken_text : Plain → Names → (z l : ℕ) → List ℕ

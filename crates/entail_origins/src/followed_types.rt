@@ -160,18 +160,13 @@ fn followed_value<'p>(source: TypeSource, step: Option<&Step<'p>>) -> Option<&'p
     ensures { option_map (λ e. term e.now) result ≡ spec.followed_value source (option_map (λ s. paths.step s.now) step.entry) }
 {
     match source {
-        TypeSource::Stored => value_in(step),
+        TypeSource::Stored => {
+            match step {
+                Some(Step::Passed(stmt)) => parts_of(&stmt.kind).untyped(),
+                Some(Step::Yes(_, _) | Step::No(_, _) | Step::Head(_, _)) | None => None,
+            }
+        }
         TypeSource::Taken(_) | TypeSource::Listed(_) | TypeSource::Unlisted(_) => None,
-    }
-}
-
-/// The value that a step stores, where its type is that of its variables.
-fn value_in<'p>(step: Option<&Step<'p>>) -> Option<&'p Expr>
-    ensures { option_map (λ e. term e.now) result ≡ spec.value_in (option_map (λ s. paths.step s.now) step.entry) }
-{
-    match step {
-        Some(Step::Passed(stmt)) => parts_of(&stmt.kind).untyped(),
-        Some(Step::Yes(_, _) | Step::No(_, _) | Step::Head(_, _)) | None => None,
     }
 }
 

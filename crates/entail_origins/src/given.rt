@@ -16,7 +16,7 @@ ghost use Rattle.entail_origins.specs.Origins as origins;
 use crate::hypothesis_origin::HypothesisSource;
 use cov_ast::{Program, State, StmtKind};
 use cov_expr::{Expr, List, NoMemory, Op, boxed, copy, same};
-use statement_parts::{Nested, Parts, parts_of};
+use statement_parts::{Nested, parts_of};
 use statement_paths::Step;
 use std::alloc::Global;
 
@@ -101,25 +101,20 @@ fn add_given_after_statement<'p>(
             GivenTerm::Equation(store.variable, store.value),
             all,
         ),
-        (None, Some(l), _) => add_invariant(l, invariant_of(p, l), all),
-        (None, None, Some(state)) => add_stated(&parts, state, all),
+        (None, Some(l), _) => {
+            match invariant_of(p, l) {
+                Some(e) => add_one(HypothesisSource::Invariant(l), GivenTerm::Written(e), all),
+                None => Ok(()),
+            }
+        }
+        (None, None, Some(state)) => {
+            if let Some(guard) = parts.left_guard() {
+                add_one(HypothesisSource::LoopLeft, GivenTerm::Negation(guard), all)?;
+            }
+            add_each(state_source(parts.nested), state, all)
+        }
         (None, None, None) => Ok(()),
     }
-}
-
-/// Adds what a state may give behind the statement that has it, and that the guard of a loop doesn't hold.
-fn add_stated<'p>(
-    parts: &Parts<'p>,
-    state: &'p State,
-    all: &mut List<Given<'p>>,
-) -> Result<(), NoMemory>
-    ensures { OnOk result (map spec.given all.new ≡ map spec.given all.old
-        ++ origins.given_stated (table.parts_of parts.now).nested (table.parts_of parts.now).guard (Some (view.state state.now))) }
-{
-    if let Some(guard) = parts.left_guard() {
-        add_one(HypothesisSource::LoopLeft, GivenTerm::Negation(guard), all)?;
-    }
-    add_each(state_source(parts.nested), state, all)
 }
 
 /// What gives the predicates of a state, by the blocks of the statement that has it.
@@ -156,20 +151,6 @@ fn add_each<'p>(
         add_one(source, GivenTerm::Written(pred), all)?;
     }
     Ok(())
-}
-
-/// Adds the invariant of a lock, if it has one.
-fn add_invariant<'p>(
-    l: u32,
-    invariant: Option<&'p Expr>,
-    all: &mut List<Given<'p>>,
-) -> Result<(), NoMemory>
-    ensures { OnOk result (map spec.given all.new ≡ map spec.given all.old ++ origins.by_invariant l (option_map (λ e. term e.now) invariant.entry)) }
-{
-    match invariant {
-        Some(e) => add_one(HypothesisSource::Invariant(l), GivenTerm::Written(e), all),
-        None => Ok(()),
-    }
 }
 
 /// The invariant of a lock, if it has one.

@@ -45,8 +45,8 @@ fn one(alloc: Global, z: u32) -> Result<List<u32>, NoMemory>
     Ok(made)
 }
 
-/// The variables of an expression, if there is one.
-fn vars_of(alloc: Global, e: Option<&Expr>) -> Result<List<u32>, NoMemory>
+/// The variables of an expression, if there is one, each once by first occurrence.
+pub fn vars_of(alloc: Global, e: Option<&Expr>) -> Result<List<u32>, NoMemory>
     ensures { IfOk result (λ made. made ≡ spec.vars_of (option_map (λ e. term e.now) e.entry)) }
 {
     match e {

@@ -6,7 +6,8 @@
 //! - [`add_given`]: the predicates that a step on the way to a statement may give ([`Given`], [`GivenTerm`], [`HypothesisSource`]), of a state by
 //!   [`state_source`]. [`remarks`]: a few words on each hypothesis, with the line of its origin, the last step that gives it ([`Origin`], [`origin_of`],
 //!   [`origin_at`]). [`add_origin`] and [`add_any_origin`]: the words on one.
-//! - [`variables_of`]: the variables whose types make up the goal of a question.
+//! - [`variables_of`]: the variables whose types make up the goal of a question. [`vars_of`]: those of an expression, if there is one. [`add_class`]: the words on the class of a variable,
+//!   and [`is_class`] whether an expression is one.
 //! - [`lock_over`]: the first lock that a variable is under.
 //! - [`add_type_lines`]: a line for each variable whose type makes up the goal: the last step on the way that sets it, and the last after it
 //!   that changed it, and what would set another; and where the first is an assignment, such lines for the variables of its value in front of it, and so on.
@@ -58,7 +59,7 @@ mod type_steps;
 mod type_words;
 
 pub use given::{Given, GivenTerm, add_given, state_source};
-pub use goal_variables::variables_of;
+pub use goal_variables::{variables_of, vars_of};
 pub use hypothesis_laws::predicates_have_origins;
 pub use hypothesis_origin::{HypothesisSource, Origin, origin_at, origin_of};
 pub use kinds::{Asked, End, Question};
@@ -68,6 +69,7 @@ pub use question_laws::{each_entailment_has_a_question, what_is_listed_is_asked}
 pub use question_lines::{add_question, add_question_line};
 pub use question_statements::questions;
 pub use remark::{add_any_origin, add_origin, remarks};
+pub use type_classes::{add_class, is_class};
 pub use type_laws::{
     goals_are_of_their_questions, goals_depend_on_their_variables, types_are_from_their_origins,
 };

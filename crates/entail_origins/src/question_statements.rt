@@ -1,6 +1,6 @@
 //! What is asked of a statement.
 
-ghost use Rattle.std.specs.Prelude.{◌≡◌, ◌<◌, ◌∷◌, ◌++◌, IfOk, OnOk, filter, length, map, not, option_map, option_to_list};
+ghost use Rattle.std.specs.Prelude.{◌≡◌, ◌<◌, ◌++◌, IfOk, OnOk, filter, length, map, not, option_map, option_to_list};
 ghost use Rattle.cov_expr.specs.View.{term};
 ghost use Rattle.cov_ast.specs.Declarations as declared;
 ghost use Rattle.cov_ast.specs.Plain.{plain};
@@ -55,27 +55,17 @@ fn add_stated(nested: Nested<'_>, state: &State, made: &mut List<Question>) -> R
 {
     match nested {
         Nested::None => add_state(End::Here, state, made),
-        Nested::Turn(_) => add_loop(state, made),
-        Nested::Either(_, _) => add_branch(state, made),
+        Nested::Turn(_) => {
+            add_state(End::Entry, state, made)?;
+            made.push(Question::HeadGuard)?;
+            add_state(End::Body, state, made)
+        }
+        Nested::Either(_, _) => {
+            made.push(Question::Guard)?;
+            add_state(End::FirstBlock, state, made)?;
+            add_state(End::SecondBlock, state, made)
+        }
     }
-}
-
-/// Adds what is asked of a branch: its guard, and what it states at the ends of its blocks.
-fn add_branch(join: &State, made: &mut List<Question>) -> Result<(), NoMemory>
-    ensures { OnOk result (made.new ≡ made.old ++ Question.Guard ∷ (spec.of_state End.FirstBlock (view.state join.now) ++ spec.of_state End.SecondBlock (view.state join.now))) }
-{
-    made.push(Question::Guard)?;
-    add_state(End::FirstBlock, join, made)?;
-    add_state(End::SecondBlock, join, made)
-}
-
-/// Adds what is asked of a loop: what it states in front of it, its guard, and what it states at the end of its block.
-fn add_loop(inv: &State, made: &mut List<Question>) -> Result<(), NoMemory>
-    ensures { OnOk result (made.new ≡ made.old ++ (spec.of_state End.Entry (view.state inv.now) ++ (Question.HeadGuard ∷ spec.of_state End.Body (view.state inv.now)))) }
-{
-    add_state(End::Entry, inv, made)?;
-    made.push(Question::HeadGuard)?;
-    add_state(End::Body, inv, made)
 }
 
 /// Adds what is asked where a lock is given back: its invariant, and what it hides no longer.

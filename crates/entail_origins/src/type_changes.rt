@@ -3,7 +3,6 @@
 ghost use Rattle.std.specs.Prelude.{◌≡◌, ℕ, IfOk, Option, map, option_copied, option_map};
 ghost use Rattle.cov_expr.specs.View.{term};
 ghost use Rattle.cov_ast.specs.Plain.{Plain};
-ghost use Rattle.cov_ast.specs.View as view;
 ghost use Rattle.point_law.specs.Point as law;
 ghost use Rattle.statement_paths.specs.Paths as paths;
 ghost use Rattle.typing_points.specs.Traces.{AreInRange, IsTrace, KeepsAny, plain_of};
@@ -12,7 +11,7 @@ ghost use Rattle.entail_origins.specs.TypeOrigins as origins;
 
 use crate::type_origin::{Later, TypeChange};
 use crate::type_steps::set_by;
-use cov_ast::{NumberSet, StmtKind};
+use cov_ast::NumberSet;
 use cov_expr::{Expr, NoMemory, copy, same};
 use mode_state::Mask;
 use statement_parts::parts_of;
@@ -58,22 +57,12 @@ fn watched(
         → option_map (option_map term) made ≡ spec.watched change z a) }
 {
     match change {
-        Some(_) => type_there(alloc, z, point),
-        None => Ok(None),
-    }
-}
-
-/// A copy of the type of a variable at a point, where there is a point.
-fn type_there(
-    alloc: Global,
-    z: u32,
-    point: &Option<Point>,
-) -> Result<Option<Option<Expr>>, NoMemory>
-    ensures { IfOk result (λ made. (p : Plain) → (t : ℕ) → (a : Option law.Point) → KeepsAny p t a point.now
-        → option_map (option_map term) made ≡ spec.type_there z a) }
-{
-    match point {
-        Some(point) => Ok(Some(copy_of(alloc, point.type_of(z))?)),
+        Some(_) => {
+            match point {
+                Some(point) => Ok(Some(copy_of(alloc, point.type_of(z))?)),
+                None => Ok(None),
+            }
+        }
         None => Ok(None),
     }
 }
@@ -95,16 +84,15 @@ fn seen(z: u32, front: &Option<Option<Expr>>, behind: &Option<Point>) -> Option<
         → result ≡ spec.seen (option_map (option_map term) front.now) (spec.type_there z b) }
 {
     match (front, behind) {
-        (Some(front), Some(behind)) => where_other(front, behind.type_of(z)),
+        (Some(front), Some(behind)) => {
+            if is_same_type(front, behind.type_of(z)) {
+                None
+            } else {
+                Some(true)
+            }
+        }
         (None, _) | (Some(_), None) => Some(false),
     }
-}
-
-/// That a type changed, unless the other is the same.
-fn where_other(q: &Option<Expr>, r: Option<&Expr>) -> Option<bool>
-    ensures { result ≡ spec.where_other (option_map term q.now) (option_map term (option_copied r.entry)) }
-{
-    if is_same_type(q, r) { None } else { Some(true) }
 }
 
 /// Whether two types are the same, or neither is there.
@@ -169,21 +157,16 @@ fn changed_by(controls: &Mask, step: &Step<'_>) -> Option<TypeChange>
     ensures { result ≡ spec.changed_by controls.now (paths.step step.now) }
 {
     match step {
-        Step::Passed(stmt) => changed_past(controls, &stmt.kind),
-        Step::Yes(_, _) | Step::No(_, _) | Step::Head(_, _) => None,
-    }
-}
-
-/// What may forget the type behind a statement.
-fn changed_past(controls: &Mask, kind: &StmtKind) -> Option<TypeChange>
-    ensures { result ≡ spec.changed_past controls.now (view.kind kind.now) }
-{
-    let parts = parts_of(kind);
-    match (parts.store, parts.returned) {
-        (Some(store), _) if controls.has(store.variable) => {
-            Some(TypeChange::ControlStored(store.variable))
+        Step::Passed(stmt) => {
+            let parts = parts_of(&stmt.kind);
+            match (parts.store, parts.returned) {
+                (Some(store), _) if controls.has(store.variable) => {
+                    Some(TypeChange::ControlStored(store.variable))
+                }
+                (Some(_), _) | (None, None) => None,
+                (None, Some(l)) => Some(TypeChange::Returned(l)),
+            }
         }
-        (Some(_), _) | (None, None) => None,
-        (None, Some(l)) => Some(TypeChange::Returned(l)),
+        Step::Yes(_, _) | Step::No(_, _) | Step::Head(_, _) => None,
     }
 }

@@ -1,16 +1,18 @@
 //! The words on a variable whose type is its class, which is spelled.
 
 ghost use Rattle.std.specs.Prelude.{◌≡◌, ◌++◌, OnOk};
-ghost use Rattle.cov_ast.specs.Declarations.{class_of, var_at};
+ghost use Rattle.cov_ast.specs.Declarations.{class_of};
 ghost use Rattle.cov_ast.specs.Plain.{class_term, plain};
 ghost use Rattle.cov_ast.specs.View as view;
+ghost use Rattle.cov_expr.specs.Term.{const};
+ghost use Rattle.cov_expr.specs.Trees as tree;
 ghost use Rattle.cov_expr.specs.View.{term};
 ghost use Rattle.cov_print.specs.Spelling.{whole};
 ghost use Rattle.entail_origins.specs.TypeLines as spec;
 
 use crate::type_lines::add_place;
 use cov_ast::{Class, NameTable, Program};
-use cov_expr::{Blob, Expr, NoMemory};
+use cov_expr::{Blob, Expr, NoMemory, same};
 use cov_print::add_expr;
 use text_parts::add_number;
 
@@ -25,14 +27,6 @@ pub fn add_shared(
     ensures { OnOk result (text.new ≡ text.old ++ spec.shared_text (plain (view.program p.now)) names.now bytes.now z) }
 {
     add_class(p, names, z, text)?;
-    add_why_shared(p, bytes, z, text)
-}
-
-/// Adds why that is its class: of one that is always high where it is declared.
-fn add_why_shared(p: &Program, bytes: &[u8], z: u32, text: &mut Blob) -> Result<(), NoMemory>
-    ensures { OnOk result (text.new ≡ text.old
-        ++ spec.shared_end bytes.now (var_at (plain (view.program p.now)) z).at (spec.is_always_high (class_of (plain (view.program p.now)) z))) }
-{
     match p.vars.as_slice().get(z as usize) {
         Some(var) => add_shared_end(bytes, var.at, is_always_high(&var.class), text),
         None => add_shared_end(bytes, 0, true, text),
@@ -87,31 +81,22 @@ pub fn add_default(
 ) -> Result<(), NoMemory>
     ensures { OnOk result (text.new ≡ text.old ++ spec.default_text (plain (view.program p.now)) names.now hidden z) }
 {
-    if hidden {
-        add_hidden(p, z, text)
+    if hidden && !is_secret(p, z) {
+        text.extend_from_slice(
+            b"0 (hidden from others; with `nowrite` in place of `hide` its class)",
+        )
     } else {
         add_class(p, names, z, text)
     }
 }
 
-/// Adds what is known of a variable that no other thread may read.
-fn add_hidden(p: &Program, z: u32, text: &mut Blob) -> Result<(), NoMemory>
-    ensures { OnOk result (text.new ≡ text.old ++ spec.hidden_text (class_of (plain (view.program p.now)) z)) }
+/// Whether a variable is high whatever the memory. Past the declarations all is high.
+fn is_secret(p: &Program, z: u32) -> bool
+    ensures { result ≡ spec.is_always_high (class_of (plain (view.program p.now)) z) }
 {
     match p.vars.as_slice().get(z as usize) {
-        Some(var) => text.extend_from_slice(hidden_text(&var.class).as_bytes()),
-        None => text.extend_from_slice(b"0"),
-    }
-}
-
-/// The words on one of a class.
-fn hidden_text(class: &Class) -> &'static str
-    ensures { result.now ≡ spec.hidden_text (class_term (view.class class.now)) }
-{
-    if is_always_high(class) {
-        "0"
-    } else {
-        "0 (hidden from others; with `nowrite` in place of `hide` its class)"
+        Some(var) => is_always_high(&var.class),
+        None => true,
     }
 }
 
@@ -122,17 +107,12 @@ fn is_always_high(class: &Class) -> bool
     match class {
         Class::Low => false,
         Class::High => true,
-        Class::When(e) => is_zero(e),
-    }
-}
-
-/// Whether an expression is the constant 0.
-fn is_zero(e: &Expr) -> bool
-    ensures { result ≡ spec.is_always_high (term e.now) }
-{
-    match e {
-        Expr::Const(k) => *k == 0,
-        Expr::Var(_) | Expr::Not(_) | Expr::Bin(..) => false,
+        Class::When(e) => {
+            match e {
+                Expr::Const(k) => *k == 0,
+                Expr::Var(_) | Expr::Not(_) | Expr::Bin(..) => false,
+            }
+        }
     }
 }
 
@@ -143,6 +123,27 @@ pub fn add_class(p: &Program, names: &NameTable, z: u32, text: &mut Blob) -> Res
     match p.vars.as_slice().get(z as usize) {
         Some(var) => add_spelled(names, &var.class, text),
         None => add_spelled(names, &Class::High, text),
+    }
+}
+
+/// Whether an expression is a class.
+pub fn is_class(class: &Class, q: &Expr) -> bool
+    ensures { result ≡ tree.same (term q.now) (class_term (view.class class.now)) }
+{
+    match class {
+        Class::Low => is_number(q, 1),
+        Class::High => is_number(q, 0),
+        Class::When(e) => same(q, e),
+    }
+}
+
+/// Whether an expression is a number.
+fn is_number(q: &Expr, k: u32) -> bool
+    ensures { result ≡ tree.same (term q.now) (const k) }
+{
+    match q {
+        Expr::Const(n) => *n == k,
+        Expr::Var(_) | Expr::Not(_) | Expr::Bin(..) => false,
     }
 }
 
@@ -170,17 +171,12 @@ fn level_part(class: &Class) -> &'static str
     match class {
         Class::Low => " (low)",
         Class::High => " (high)",
-        Class::When(e) => level_part_of(e),
-    }
-}
-
-/// The same of an expression.
-fn level_part_of(e: &Expr) -> &'static str
-    ensures { result.now ≡ spec.level_part (term e.now) }
-{
-    match e {
-        Expr::Const(k) => { if *k == 0 { " (high)" } else { " (low)" } }
-        Expr::Var(_) | Expr::Not(_) | Expr::Bin(..) => "",
+        Class::When(e) => {
+            match e {
+                Expr::Const(k) => { if *k == 0 { " (high)" } else { " (low)" } }
+                Expr::Var(_) | Expr::Not(_) | Expr::Bin(..) => "",
+            }
+        }
     }
 }
 

@@ -16,7 +16,7 @@ use crate::kinds::Question;
 use crate::known_types::{Known, known_after_steps};
 use crate::type_changes::change_along;
 use crate::type_classes::{add_class, add_default, add_shared, add_start};
-use crate::type_origin::{By, Later, TypeChange, TypeOrigin, TypeSource};
+use crate::type_origin::{Later, TypeChange, TypeOrigin, TypeSource};
 use crate::type_steps::{locks_over, origin_along};
 use crate::type_words::{
     add_stored, assignment_words, change_end, change_word, is_of_value, list_word, listed_text,
@@ -262,27 +262,13 @@ fn add_any_origin(
     ensures { OnOk result (text.new ≡ text.old ++ spec.origin_text (plain (view.program p.now)) names.now bytes.now (map paths.step steps.now) hidden z origin) }
 {
     match origin {
-        Some(origin) => add_origin(p, names, bytes, steps, hidden, z, origin, text),
+        Some(origin) => {
+            add_source(p, names, hidden, z, origin.source, text)?;
+            add_place(bytes, origin.at, text)?;
+            add_source_end(names, steps, origin.index, origin.source, text)
+        }
         None => add_start(p, names, z, text),
     }
-}
-
-/// Adds what sets the type of a variable, and its line.
-fn add_origin(
-    p: &Program,
-    names: &NameTable,
-    bytes: &[u8],
-    steps: &[Step<'_>],
-    hidden: bool,
-    z: u32,
-    origin: TypeOrigin,
-    text: &mut Blob,
-) -> Result<(), NoMemory>
-    ensures { OnOk result (text.new ≡ text.old ++ spec.set_text (plain (view.program p.now)) names.now bytes.now (map paths.step steps.now) hidden z origin) }
-{
-    add_source(p, names, hidden, z, origin.source, text)?;
-    add_place(bytes, origin.at, text)?;
-    add_source_end(names, steps, origin.index, origin.source, text)
 }
 
 /// Adds what stands behind the line of what sets a type, in the step with an index.
@@ -296,23 +282,14 @@ fn add_source_end(
     ensures { OnOk result (text.new ≡ text.old ++ spec.source_end names.now (map paths.step steps.now) index source) }
 {
     match source {
-        TypeSource::Stored => add_stored_in(names, steps.get(index), text),
+        TypeSource::Stored => {
+            match steps.get(index) {
+                Some(Step::Passed(stmt)) => add_stored(names, &stmt.kind, text),
+                Some(Step::Yes(_, _) | Step::No(_, _) | Step::Head(_, _)) | None => Ok(()),
+            }
+        }
         TypeSource::Taken(_) | TypeSource::Listed(_) => Ok(()),
         TypeSource::Unlisted(_) => text.extend_from_slice(b", doesn't list it"),
-    }
-}
-
-/// Adds the value that is stored in a step, or the type that is written for it.
-fn add_stored_in(
-    names: &NameTable,
-    step: Option<&Step<'_>>,
-    text: &mut Blob,
-) -> Result<(), NoMemory>
-    ensures { OnOk result (text.new ≡ text.old ++ spec.stored_in names.now (option_map (λ s. paths.step s.now) step.entry)) }
-{
-    match step {
-        Some(Step::Passed(stmt)) => add_stored(names, &stmt.kind, text),
-        Some(Step::Yes(_, _) | Step::No(_, _) | Step::Head(_, _)) | None => Ok(()),
     }
 }
 
@@ -329,41 +306,18 @@ fn add_source(
 {
     match source {
         TypeSource::Stored => text.extend_from_slice(b"from the assignment"),
-        TypeSource::Taken(l) => add_taken(p, names, z, l, text),
+        TypeSource::Taken(l) => {
+            add_class(p, names, z, text)?;
+            text.extend_from_slice(b", from the lock ")?;
+            add_lock_name(p, l, text)
+        }
         TypeSource::Listed(by) => text.extend_from_slice(listed_text(by).as_bytes()),
-        TypeSource::Unlisted(by) => add_unlisted(p, names, hidden, z, by, text),
+        TypeSource::Unlisted(by) => {
+            add_default(p, names, hidden, z, text)?;
+            text.extend_from_slice(b", since the ")?;
+            text.extend_from_slice(list_word(by).as_bytes())
+        }
     }
-}
-
-/// Adds that a lock is taken, which a variable is under.
-fn add_taken(
-    p: &Program,
-    names: &NameTable,
-    z: u32,
-    l: u32,
-    text: &mut Blob,
-) -> Result<(), NoMemory>
-    ensures { OnOk result (text.new ≡ text.old ++ spec.taken_text (plain (view.program p.now)) names.now z l) }
-{
-    add_class(p, names, z, text)?;
-    text.extend_from_slice(b", from the lock ")?;
-    add_lock_name(p, l, text)
-}
-
-/// Adds that the type of a variable isn't listed.
-fn add_unlisted(
-    p: &Program,
-    names: &NameTable,
-    hidden: bool,
-    z: u32,
-    by: By,
-    text: &mut Blob,
-) -> Result<(), NoMemory>
-    ensures { OnOk result (text.new ≡ text.old ++ spec.unlisted_text (plain (view.program p.now)) names.now hidden z by) }
-{
-    add_default(p, names, hidden, z, text)?;
-    text.extend_from_slice(b", since the ")?;
-    text.extend_from_slice(list_word(by).as_bytes())
 }
 
 /// Adds the line of a place.

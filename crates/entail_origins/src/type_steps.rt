@@ -1,11 +1,9 @@
 //! The steps that set the type of a variable.
 
-ghost use Rattle.std.specs.Prelude.{◌≡◌, ◌∷◌, IfOk, map};
-ghost use Rattle.cov_expr.specs.View.{term};
+ghost use Rattle.std.specs.Prelude.{◌≡◌, IfOk, map};
 ghost use Rattle.cov_ast.specs.Plain.{plain};
 ghost use Rattle.cov_ast.specs.View as view;
 ghost use Rattle.statement_paths.specs.Paths as paths;
-ghost use Rattle.statement_parts.specs.Parts.{nested_of};
 ghost use Rattle.entail_origins.specs.TypeOrigins as spec;
 
 use crate::type_origin::{By, TypeOrigin, TypeSource};
@@ -68,24 +66,25 @@ fn set_past(controls: &Mask, locks: &NumberSet, z: u32, kind: &StmtKind) -> Opti
 {
     let parts = parts_of(kind);
     match (parts.store, parts.taken, parts.state) {
-        (Some(store), _, _) => set_by_assignment(controls, z, store.variable, store.retypes),
+        (Some(store), _, _) => {
+            if controls.has(store.variable) {
+                where_true(is_retyped(store.retypes, z), TypeSource::Listed(By::Retype))
+            } else {
+                where_true(store.variable == z, TypeSource::Stored)
+            }
+        }
         (None, Some(l), _) => where_true(locks.has(l), TypeSource::Taken(l)),
-        (None, None, Some(state)) => set_where_stated(z, parts.nested, state),
+        (None, None, Some(state)) => {
+            match parts.nested {
+                Nested::None => where_true(
+                    is_listed(state.types.as_slice(), z),
+                    TypeSource::Listed(By::Noted),
+                ),
+                Nested::Turn(_) => Some(set_by_state(z, By::LoopState, state)),
+                Nested::Either(_, _) => Some(set_by_state(z, By::Join, state)),
+            }
+        }
         (None, None, None) => None,
-    }
-}
-
-/// What in a state sets the type: with blocks it sets every one, and a note those that it lists.
-fn set_where_stated(z: u32, nested: Nested<'_>, state: &State) -> Option<TypeSource>
-    ensures { result ≡ spec.set_where_stated z (nested_of nested.entry) (view.state state.now) }
-{
-    match nested {
-        Nested::None => where_true(
-            is_listed(state.types.as_slice(), z),
-            TypeSource::Listed(By::Noted),
-        ),
-        Nested::Turn(_) => Some(set_by_state(z, By::LoopState, state)),
-        Nested::Either(_, _) => Some(set_by_state(z, By::Join, state)),
     }
 }
 
@@ -94,17 +93,6 @@ fn where_true(holds: bool, source: TypeSource) -> Option<TypeSource>
     ensures { result ≡ spec.where_true holds source }
 {
     if holds { Some(source) } else { None }
-}
-
-/// What in an assignment to a variable sets the type.
-fn set_by_assignment(controls: &Mask, z: u32, x: u32, retypes: &[Retype]) -> Option<TypeSource>
-    ensures { result ≡ spec.set_by_assignment controls.now z x (map view.retype retypes.now) }
-{
-    if controls.has(x) {
-        where_true(is_retyped(retypes, z), TypeSource::Listed(By::Retype))
-    } else {
-        where_true(x == z, TypeSource::Stored)
-    }
 }
 
 /// The source in a state that sets every type.

@@ -1,9 +1,8 @@
 //! The words on an origin, and on a later change.
 
-ghost use Rattle.std.specs.Prelude.{◌≡◌, ◌++◌, OnOk, codes};
+ghost use Rattle.std.specs.Prelude.{◌≡◌, ◌++◌, OnOk};
 ghost use Rattle.cov_ast.specs.View as view;
 ghost use Rattle.cov_expr.specs.View.{term};
-ghost use Rattle.cov_print.specs.Spelling.{whole};
 ghost use Rattle.entail_origins.specs.TypeLines as spec;
 
 use crate::type_origin::{By, TypeChange, TypeOrigin, TypeSource};
@@ -89,18 +88,13 @@ pub fn is_of_value(origin: Option<TypeOrigin>) -> bool
     ensures { result ≡ spec.is_of_value origin }
 {
     match origin {
-        Some(origin) => is_stored(origin.source),
+        Some(origin) => {
+            match origin.source {
+                TypeSource::Stored => true,
+                TypeSource::Taken(_) | TypeSource::Listed(_) | TypeSource::Unlisted(_) => false,
+            }
+        }
         None => false,
-    }
-}
-
-/// Whether a value that is stored sets it.
-fn is_stored(source: TypeSource) -> bool
-    ensures { result ≡ spec.is_stored source }
-{
-    match source {
-        TypeSource::Stored => true,
-        TypeSource::Taken(_) | TypeSource::Listed(_) | TypeSource::Unlisted(_) => false,
     }
 }
 

@@ -1,11 +1,8 @@
 //! What is known at a point, as lines of text.
 
 ghost use Rattle.std.specs.Prelude.{◌≡◌, ◌≤◌, ◌++◌, Option, OnOk, length, map, option_copied, option_map};
-ghost use Rattle.cov_expr.specs.Term.{const};
-ghost use Rattle.cov_expr.specs.Trees as tree;
 ghost use Rattle.cov_expr.specs.View.{term};
 ghost use Rattle.cov_expr.specs.declared.limits.TheConstants.{MOST_VARIABLES};
-ghost use Rattle.cov_ast.specs.Plain.{class_term};
 ghost use Rattle.cov_ast.specs.View as view;
 ghost use Rattle.point_law.specs.Point as law;
 ghost use Rattle.statement_paths.specs.Paths as paths;
@@ -13,10 +10,10 @@ ghost use Rattle.typing_state.specs.KeptPoints.{AtPoint};
 ghost use Rattle.typing_points.specs.Traces.{AreInRange, IsTrace, KeepsAny, plain_of};
 ghost use Rattle.typing_trace.specs.KnownLines as spec;
 
-use cov_ast::{Class, NameTable, VarDecl};
-use cov_expr::{Blob, Expr, NoMemory, same};
+use cov_ast::{NameTable, VarDecl};
+use cov_expr::{Blob, Expr, NoMemory};
 use cov_print::add_expr;
-use entail_origins::remarks;
+use entail_origins::{is_class, remarks};
 use entail_text::add_hypotheses;
 use refusal_names::add_held;
 use statement_paths::Step;
@@ -153,25 +150,4 @@ fn add_typed(names: &NameTable, var: &VarDecl, q: &Expr, text: &mut Blob) -> Res
     text.extend_from_slice(b":  ")?;
     add_expr(names, false, q, text)?;
     text.extend_from_slice(b"\n")
-}
-
-/// Whether an expression is a class.
-fn is_class(class: &Class, q: &Expr) -> bool
-    ensures { result ≡ tree.same (term q.now) (class_term (view.class class.now)) }
-{
-    match class {
-        Class::Low => is_number(q, 1),
-        Class::High => is_number(q, 0),
-        Class::When(e) => same(q, e),
-    }
-}
-
-/// Whether an expression is a number.
-fn is_number(q: &Expr, k: u32) -> bool
-    ensures { result ≡ tree.same (term q.now) (const k) }
-{
-    match q {
-        Expr::Const(n) => *n == k,
-        Expr::Var(_) | Expr::Not(_) | Expr::Bin(..) => false,
-    }
 }
