@@ -124,33 +124,17 @@ fn add_parts(
             add_parts(alloc, hypotheses, left_out, kept, origin, state, b, found)
         }
         Expr::Const(_) | Expr::Var(_) | Expr::Not(_) | Expr::Bin(..) => {
-            add_part(alloc, hypotheses, left_out, kept, origin, state, e, found)
+            if is_forgotten(hypotheses, left_out, kept, found.as_slice(), e) {
+                let part = copy(alloc, e)?;
+                found.push(ForgottenPart {
+                    part,
+                    origin,
+                    state,
+                })?;
+            }
+            Ok(())
         }
     }
-}
-
-/// Adds a part, if a store forgot it.
-fn add_part(
-    alloc: Global,
-    hypotheses: &[Expr],
-    left_out: &[LeftOut],
-    kept: &NumberSet,
-    origin: Origin,
-    state: Option<StateAt>,
-    e: &Expr,
-    found: &mut List<ForgottenPart>,
-) -> Result<(), NoMemory>
-    ensures { OnOk result (map spec.seen found.new ≡ spec.with_part (map term hypotheses.now) (map left.seen left_out.now) kept.now origin state (term e.now) (map spec.seen found.old)) }
-{
-    if is_forgotten(hypotheses, left_out, kept, found.as_slice(), e) {
-        let part = copy(alloc, e)?;
-        found.push(ForgottenPart {
-            part,
-            origin,
-            state,
-        })?;
-    }
-    Ok(())
 }
 
 /// Whether a part was forgotten in front of steps that keep some variables.

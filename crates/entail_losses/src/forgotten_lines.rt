@@ -44,7 +44,10 @@ pub fn add_forgotten_line(
 {
     add_part(names, helps, &one.part, text)?;
     add_whole(p, bytes, one.origin, text)?;
-    add_advice(bytes, one.state, text)
+    text.extend_from_slice(
+        b": a store since to another variable of it forgets the whole in any case; this part would be kept, had a note right behind that line listed it",
+    )?;
+    add_states(bytes, one.state, text)
 }
 
 /// Adds the part.
@@ -73,16 +76,6 @@ fn add_whole(p: &Program, bytes: &[u8], origin: Origin, text: &mut Blob) -> Resu
     text.extend_from_slice(b"   (part of the ")?;
     add_origin(p, bytes, origin, text)?;
     text.extend_from_slice(b")")
-}
-
-/// Adds what forgot a part, and what would keep it.
-fn add_advice(bytes: &[u8], state: Option<StateAt>, text: &mut Blob) -> Result<(), NoMemory>
-    ensures { OnOk result (text.new ≡ text.old ++ spec.advice bytes.now state) }
-{
-    text.extend_from_slice(
-        b": a store since to another variable of it forgets the whole in any case; this part would be kept, had a note right behind that line listed it",
-    )?;
-    add_states(bytes, state, text)
 }
 
 /// Adds which states have to list a part, beside a note, and ends the line.

@@ -137,7 +137,12 @@ pub fn gives_nothing(source: HypothesisSource, e: &Expr) -> bool
     ensures { result ≡ spec.gives_nothing source (term e.now) }
 {
     match source {
-        HypothesisSource::Assigned => is_own(e),
+        HypothesisSource::Assigned => {
+            match e {
+                Expr::Bin(Op::Eq, a, b) => is_own_value(a, b),
+                Expr::Const(_) | Expr::Var(_) | Expr::Not(_) | Expr::Bin(..) => false,
+            }
+        }
         HypothesisSource::Invariant(_)
         | HypothesisSource::Join
         | HypothesisSource::LoopLeft
@@ -145,16 +150,6 @@ pub fn gives_nothing(source: HypothesisSource, e: &Expr) -> bool
         | HypothesisSource::Noted
         | HypothesisSource::GuardHolds
         | HypothesisSource::GuardFails => false,
-    }
-}
-
-/// Whether an expression is an equation that gives a variable a value over itself.
-fn is_own(e: &Expr) -> bool
-    ensures { result ≡ spec.is_own (term e.now) }
-{
-    match e {
-        Expr::Bin(Op::Eq, a, b) => is_own_value(a, b),
-        Expr::Const(_) | Expr::Var(_) | Expr::Not(_) | Expr::Bin(..) => false,
     }
 }
 

@@ -44,7 +44,8 @@ pub fn add_left_out_line(
 {
     add_predicate_part(names, helps, &one.term, text)?;
     add_origin_part(p, bytes, one.origin, text)?;
-    add_states_part(bytes, helps, one, text)
+    add_state_part(bytes, helps, one.state, text)?;
+    add_further_part(bytes, one.last, text)
 }
 
 /// Adds a predicate.
@@ -85,19 +86,6 @@ pub fn add_origin_part(
     text.extend_from_slice(b")")
 }
 
-/// Adds which states left a predicate out, and ends the line.
-fn add_states_part(
-    bytes: &[u8],
-    helps: bool,
-    one: &LeftOut,
-    text: &mut Blob,
-) -> Result<(), NoMemory>
-    ensures { OnOk result (text.new ≡ text.old ++ spec.states_part bytes.now helps (seen one.now)) }
-{
-    add_state_part(bytes, helps, one.state, text)?;
-    add_further_part(bytes, one.last, text)
-}
-
 /// Adds which state left a predicate out.
 fn add_state_part(
     bytes: &[u8],
@@ -136,18 +124,11 @@ fn state_label(helps: bool, kind: StateKind) -> &'static str
     ensures { result.now ≡ spec.state_label helps kind }
 {
     if helps {
-        helping_label(kind)
+        match kind {
+            StateKind::Join | StateKind::Note => ", left out by the ",
+            StateKind::Inv => ", if each turn keeps it; left out by the ",
+        }
     } else {
         ", by the "
-    }
-}
-
-/// What stands in front of a state that would help, if it listed a predicate.
-fn helping_label(kind: StateKind) -> &'static str
-    ensures { result.now ≡ spec.helping_label kind }
-{
-    match kind {
-        StateKind::Join | StateKind::Note => ", left out by the ",
-        StateKind::Inv => ", if each turn keeps it; left out by the ",
     }
 }

@@ -2,12 +2,10 @@
 
 ghost use Rattle.std.specs.Prelude.{◌≡◌, Some};
 ghost use Rattle.std.specs.Option.{option_or};
-ghost use Rattle.cov_ast.specs.View as view;
 ghost use Rattle.statement_parts.specs.Parts.{nested_of};
 ghost use Rattle.statement_paths.specs.Paths as paths;
 ghost use Rattle.entail_losses.specs.LeftOut as spec;
 
-use cov_ast::StmtKind;
 use statement_parts::{Nested, parts_of};
 use statement_paths::Step;
 
@@ -77,20 +75,15 @@ fn state_of_step(step: &Step<'_>) -> Option<StateAt>
     ensures { result ≡ spec.state_of_step (paths.step step.now) }
 {
     match step {
-        Step::Passed(stmt) => state_of_statement(stmt.at, &stmt.kind),
+        Step::Passed(stmt) => {
+            let parts = parts_of(&stmt.kind);
+            match parts.state {
+                Some(_) => state_at(kind_of_state(parts.nested), stmt.at),
+                None => None,
+            }
+        }
         Step::Yes(_, _) | Step::No(_, _) => None,
         Step::Head(at, _) => state_at(StateKind::Inv, *at),
-    }
-}
-
-/// The state of a statement that is passed, if it has one.
-fn state_of_statement(at: u32, kind: &StmtKind) -> Option<StateAt>
-    ensures { result ≡ spec.state_of_statement at (view.kind kind.now) }
-{
-    let parts = parts_of(kind);
-    match parts.state {
-        Some(_) => state_at(kind_of_state(parts.nested), at),
-        None => None,
     }
 }
 

@@ -8,7 +8,7 @@ ghost use Rattle.statement_parts.specs.Parts as table;
 ghost use Rattle.entail_losses.specs.About as spec;
 
 use crate::unknown_variables::is_mentioned;
-use cov_ast::{LockDecl, Program, State, Stmt, StmtKind};
+use cov_ast::{Program, State, Stmt, StmtKind};
 use cov_expr::{Expr, mentions};
 use statement_parts::{Parts, Store, parts_of};
 
@@ -79,7 +79,7 @@ fn is_taken_about(p: &Program, x: u32, taken: Option<u32>) -> bool
 {
     match taken {
         Some(l) => match p.locks.as_slice().get(l as usize) {
-            Some(lock) => is_lock_about(lock, x),
+            Some(lock) => { lock.lists(x) || is_in(lock.inv.as_ref(), x) }
             None => false,
         },
         None => false,
@@ -94,11 +94,4 @@ fn is_stated_about(state: Option<&State>, x: u32) -> bool
         Some(state) => is_mentioned(state.preds.as_slice(), x),
         None => false,
     }
-}
-
-/// Whether a lock lists a variable, or has an invariant that mentions it.
-fn is_lock_about(lock: &LockDecl, x: u32) -> bool
-    ensures { result ≡ spec.is_lock_about (view.lock lock.now) x }
-{
-    lock.lists(x) || is_in(lock.inv.as_ref(), x)
 }

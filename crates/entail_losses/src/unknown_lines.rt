@@ -1,6 +1,6 @@
 //! The lines of variables of which nothing is known.
 
-ghost use Rattle.std.specs.Prelude.{◌≡◌, ◌<◌, ◌++◌, OnOk, length, map, option_map};
+ghost use Rattle.std.specs.Prelude.{◌≡◌, ◌<◌, ◌++◌, OnOk, length, map};
 ghost use Rattle.cov_expr.specs.View.{term};
 ghost use Rattle.cov_ast.specs.Plain.{plain};
 ghost use Rattle.cov_ast.specs.View as view;
@@ -284,26 +284,14 @@ fn add_forgotten(
     add_expr(names, false, &e, text)?;
     add_origin_part(p, bytes, fact.origin, text)?;
     text.extend_from_slice(b" is forgotten: ")?;
-    add_loss(p, bytes, loss, text)
-}
-
-/// Adds what forgot a predicate, with its line.
-fn add_loss(p: &Program, bytes: &[u8], loss: Loss, text: &mut Blob) -> Result<(), NoMemory>
-    ensures { OnOk result (text.new ≡ text.old ++ spec.loss_text (plain (view.program p.now)) bytes.now loss) }
-{
     match loss {
-        Loss::Stored(at, x) => add_stored(p, bytes, at, x, text),
+        Loss::Stored(at, x) => {
+            add_variable_name(p, x, text)?;
+            add_in_line(b" is stored to, line ", bytes, at, text)?;
+            text.extend_from_slice(b"\n")
+        }
         Loss::Returned(at, l) => add_returned(p, bytes, at, l, text),
     }
-}
-
-/// Adds that a variable is stored to.
-fn add_stored(p: &Program, bytes: &[u8], at: u32, x: u32, text: &mut Blob) -> Result<(), NoMemory>
-    ensures { OnOk result (text.new ≡ text.old ++ spec.stored_text (plain (view.program p.now)) bytes.now at x) }
-{
-    add_variable_name(p, x, text)?;
-    add_in_line(b" is stored to, line ", bytes, at, text)?;
-    text.extend_from_slice(b"\n")
 }
 
 /// Adds that a lock is given back.

@@ -96,7 +96,13 @@ fn after_step<'p>(
     ensures { spec.seen result ≡ spec.after_step x stable.now (plain (view.program p.now)) (paths.step step.now) (spec.seen so_far.entry) }
 {
     match step {
-        Step::Passed(stmt) => after_statement(p, x, stable, stmt.at, &stmt.kind, so_far),
+        Step::Passed(stmt) => {
+            let parts = parts_of(&stmt.kind);
+            let stored = after_any_store(x, stable, stmt.at, parts.store, so_far);
+            let taken = after_taken(p, x, stmt.at, parts.taken, stored);
+            let returned = after_return(stable, stmt.at, parts.returned, taken);
+            after_stated(p, x, stable, stmt.at, &stmt.kind, &parts, returned)
+        }
         Step::Yes(at, guard) => after_guard(
             x,
             stable,
@@ -120,24 +126,6 @@ fn after_step<'p>(
             after_state(x, HypothesisSource::LoopState, *at, inv, otherwise)
         }
     }
-}
-
-/// The same of a statement that is passed.
-fn after_statement<'p>(
-    p: &'p Program,
-    x: u32,
-    stable: &NumberSet,
-    at: u32,
-    kind: &'p StmtKind,
-    so_far: Reason<'p>,
-) -> Reason<'p>
-    ensures { spec.seen result ≡ spec.after_statement x stable.now (plain (view.program p.now)) at (view.kind kind.now) (spec.seen so_far.entry) }
-{
-    let parts = parts_of(kind);
-    let stored = after_any_store(x, stable, at, parts.store, so_far);
-    let taken = after_taken(p, x, at, parts.taken, stored);
-    let returned = after_return(stable, at, parts.returned, taken);
-    after_stated(p, x, stable, at, kind, &parts, returned)
 }
 
 /// The same of what a statement states, if it states something: of a loop, also that its guard doesn't hold.
@@ -186,7 +174,13 @@ fn unless_listed<'p>(
     let kind = kind_of_state(nested);
     match nested {
         Nested::None => behind_state(kind, at, so_far),
-        Nested::Turn(_) | Nested::Either(_, _) => behind_blocks(p, x, kind, at, stmt, so_far),
+        Nested::Turn(_) | Nested::Either(_, _) => {
+            if is_statement_about(p, x, stmt) {
+                Reason::Unlisted(StateAt { kind, at })
+            } else {
+                behind_state(kind, at, so_far)
+            }
+        }
     }
 }
 
@@ -201,26 +195,20 @@ fn after_any_store<'p>(
     ensures { spec.seen result ≡ spec.after_any_store x stable.now at (option_map table.store_of store.entry) (spec.seen so_far.entry) }
 {
     match store {
-        Some(store) => after_assignment(x, stable, at, store.variable, store.value, so_far),
+        Some(store) => {
+            if store.variable == x {
+                after_own(x, stable, at, store.value)
+            } else if mentions(store.value, x)
+                && !mentions(store.value, store.variable)
+                && stable.has(store.variable)
+                && is_over(stable, store.value)
+            {
+                equation(at, store.variable, store.value)
+            } else {
+                after_store(at, store.variable, so_far)
+            }
+        }
         None => so_far,
-    }
-}
-
-/// The same of an assignment to a variable.
-fn after_assignment<'p>(
-    x: u32,
-    stable: &NumberSet,
-    at: u32,
-    y: u32,
-    value: &'p Expr,
-    so_far: Reason<'p>,
-) -> Reason<'p>
-    ensures { spec.seen result ≡ spec.after_assignment x stable.now at y (term value.now) (spec.seen so_far.entry) }
-{
-    if y == x {
-        after_own(x, stable, at, value)
-    } else {
-        after_other(x, stable, at, y, value, so_far)
     }
 }
 
@@ -237,24 +225,6 @@ fn after_own<'p>(x: u32, stable: &NumberSet, at: u32, value: &'p Expr) -> Reason
             Some(y) => Reason::NoEquation(at, y),
             None => equation(at, x, value),
         }
-    }
-}
-
-/// The same of an assignment to another variable.
-fn after_other<'p>(
-    x: u32,
-    stable: &NumberSet,
-    at: u32,
-    y: u32,
-    value: &'p Expr,
-    so_far: Reason<'p>,
-) -> Reason<'p>
-    ensures { spec.seen result ≡ spec.after_other x stable.now at y (term value.now) (spec.seen so_far.entry) }
-{
-    if mentions(value, x) && !mentions(value, y) && stable.has(y) && is_over(stable, value) {
-        equation(at, y, value)
-    } else {
-        after_store(at, y, so_far)
     }
 }
 
@@ -367,35 +337,23 @@ fn after_guard<'p>(
 {
     if mentions(guard, x) {
         match first_outside(guard, stable) {
-            Some(y) => without_guard(x, stable, at, y, so_far),
+            Some(y) => {
+                let first = if stable.has(x) { y } else { x };
+                match so_far {
+                    Reason::Known(_) => so_far,
+                    Reason::Unmentioned
+                    | Reason::Own(_)
+                    | Reason::NoEquation(_, _)
+                    | Reason::NoGuard(_, _)
+                    | Reason::Unlisted(_)
+                    | Reason::Taken(_, _)
+                    | Reason::Forgotten(_, _) => Reason::NoGuard(at, first),
+                }
+            }
             None => known(at, source, made),
         }
     } else {
         so_far
-    }
-}
-
-/// What a guard tells that gives no predicate, since this variable isn't stable, or the variable itself.
-fn without_guard<'p>(x: u32, stable: &NumberSet, at: u32, y: u32, so_far: Reason<'p>) -> Reason<'p>
-    ensures { spec.seen result ≡ spec.unless_known (spec.seen so_far.entry) (spec.no_guard at (spec.unstable_first x stable.now y)) }
-{
-    let first = if stable.has(x) { y } else { x };
-    unless_known(so_far, Reason::NoGuard(at, first))
-}
-
-/// What was told so far where a predicate is known, and else something other.
-fn unless_known<'p>(so_far: Reason<'p>, other: Reason<'p>) -> Reason<'p>
-    ensures { spec.seen result ≡ spec.unless_known (spec.seen so_far.entry) (spec.seen other.entry) }
-{
-    match so_far {
-        Reason::Known(_) => so_far,
-        Reason::Unmentioned
-        | Reason::Own(_)
-        | Reason::NoEquation(_, _)
-        | Reason::NoGuard(_, _)
-        | Reason::Unlisted(_)
-        | Reason::Taken(_, _)
-        | Reason::Forgotten(_, _) => other,
     }
 }
 
@@ -412,24 +370,6 @@ fn after_state<'p>(
     match first_about(x, state.preds.as_slice()) {
         Some(e) => known(at, source, GivenTerm::Written(e)),
         None => otherwise,
-    }
-}
-
-/// What is told behind the blocks of a statement whose state lists nothing of a variable.
-fn behind_blocks<'p>(
-    p: &Program,
-    x: u32,
-    kind: StateKind,
-    at: u32,
-    stmt: &StmtKind,
-    so_far: Reason<'p>,
-) -> Reason<'p>
-    ensures { spec.seen result ≡ spec.behind_blocks x (plain (view.program p.now)) kind at (view.kind stmt.now) (spec.seen so_far.entry) }
-{
-    if is_statement_about(p, x, stmt) {
-        Reason::Unlisted(StateAt { kind, at })
-    } else {
-        behind_state(kind, at, so_far)
     }
 }
 
