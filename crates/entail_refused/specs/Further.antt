@@ -8,17 +8,17 @@ use Rattle.entail_losses.specs.Losses.{losses}
 use Rattle.entail_origins.specs.TypeLines.{type_lines}
 use Rattle.entail_refused.specs.AskedBy.{asked_by}
 use Rattle.entail_refused.specs.Cleared.{cleared_line}
-use Rattle.entail_refused.specs.Readers.{reader_line}
-use Rattle.entail_refused.specs.Remarked.{known_of}
+use Rattle.entail_refused.specs.Noted.{noted_line}
+use Rattle.entail_refused.specs.Remarked.{asked_of, known_of}
 use Rattle.entail_refused.specs.Sites.{Site}
 use Rattle.entail_refused.specs.Unstored.{unstored_line}
 
--- which declaration asks, why where others may read a variable, what is mostly done, where the types come from that make up the goal, to which variables nothing is
--- stored, and which of what was lost on the way would help
+-- which declaration asks, what is mostly done, where the types come from that make up the goal, what could be noted in front, to which
+-- variables nothing is stored, and which of what was lost on the way would help
 abbrev pub further_at : Program → (t : ℕ) → (bytes : List ℕ) → Site → Entailment → List ℕ
 further_at p t bytes s g =
-    asked_by bytes p s.question ++ reader_line p t s.question ++ cleared_line p s.question ++ type_lines (plain p) t bytes s.steps s.question s.stm
-    ++ unstored_line p t s.question s.stm g.hyps g.goal ++ losses p t bytes s.steps (known_of s.question g.hyps) g.hyps g.goal
+    asked_by bytes p (asked_of s.question g.hyps) s.question ++ cleared_line p t s.steps s.question ++ type_lines (plain p) t bytes s.steps s.question s.stm
+    ++ noted_line (plain p) t bytes s g.goal ++ unstored_line p t s g.hyps g.goal ++ losses p t bytes s.steps (known_of s.question g.hyps) g.hyps g.goal
 
 -- nothing where a certificate is found
 abbrev pub unless_shown : Program → (t : ℕ) → (bytes : List ℕ) → Site → Finding → Entailment → List ℕ

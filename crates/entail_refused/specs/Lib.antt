@@ -5,6 +5,8 @@ pub mod AskedBy
 pub mod Cleared
 pub mod GivenElsewhere
 pub mod Remarked
+pub mod Noted
+pub mod OnTheWay
 pub mod Readers
 pub mod RefusedEntailment
 pub mod SiteHypotheses

@@ -1,13 +1,14 @@
--- Why something is asked of a variable that others may read: the thread assumes that no other writes it, and not that none reads it; or, of one to which nothing is stored, a lock lists it so.
-use Rattle.std.specs.Prelude.{ℕ, List, [], ◌++◌, Bool, not, ◌&&◌, codes, if◌then◌else◌, Option, Some, None}
+-- Why something is asked of a variable that others may read: the thread assumes that no other writes it, and not that none reads it; or, of one whose class depends on others, a lock lists it so.
+use Rattle.std.specs.Prelude.{ℕ, List, [], ◌++◌, Bool, true, false, not, ◌&&◌, codes, if◌then◌else◌, slice_get, Option, Some, None}
 use Rattle.cov_expr.specs.Trees.{has_number}
 use Rattle.cov_ast.specs.Declarations.{name_of, is_control}
 use Rattle.cov_ast.specs.Plain.{plain}
-use Rattle.cov_ast.specs.Syntax.{Lock, Program}
+use Rattle.cov_ast.specs.Syntax.{Class, low, high, when, Lock, Var, Program}
 use Rattle.entail_origins.specs.LocksOver.{lock_over}
 use Rattle.entail_origins.specs.declared.kinds.Question.{Question}
 use Rattle.entail_origins.specs.declared.kinds.Question.TheVariants as q
 use Rattle.mode_compat.specs.Compatible.{numbered}
+use Rattle.entail_refused.specs.Sites.{Site}
 
 -- whether a variable is in the first list, and not in the second
 abbrev pub is_unhidden : (nowrite hide : List ℕ) → (x : ℕ) → Bool
@@ -36,28 +37,44 @@ abbrev pub line_by_lock : Program → Option Lock → (x : ℕ) → List ℕ
 line_by_lock p None x = []
 line_by_lock p (Some l) x = if is_unhidden l.nowrite l.hide x then line_on p (Some l) x else []
 
+-- whether a class depends on the memory
+abbrev pub is_conditional : Class → Bool
+is_conditional low = false
+is_conditional high = false
+is_conditional (when e) = true
+
+-- the same of a variable, if there is one
+abbrev pub depends : Option Var → Bool
+depends None = false
+depends (Some v) = is_conditional v.class
+
 module _ (p : Program) (t : ℕ) where
   -- whether the thread assumes that of it
   abbrev pub is_kept : (x : ℕ) → Bool
   is_kept x = let modes = (numbered p t).modes in is_unhidden modes.assume_nowrite modes.assume_hide x
 
-  abbrev pub line_unless_hidden : (x : ℕ) → List ℕ
-  line_unless_hidden x = if is_kept x then line_on p None x else line_by_lock p (lock_over x p.locks) x
-
-  -- of a control it is asked where others may not read it too
+  -- Of a control it is asked where others may not read it too. A lock is told of a variable that is sometimes low.
   abbrev pub line_unless_control : (x : ℕ) → List ℕ
-  line_unless_control x = if not (is_control (plain p) x) && is_kept x then line_on p None x else []
+  line_unless_control x =
+      if is_control (plain p) x then [] else
+      if is_kept x then line_on p None x else
+      if depends (slice_get p.vars x) then line_by_lock p (lock_over x p.locks) x else []
 
   -- of what is asked where a variable is low behind an assignment
-  abbrev pub reader_line : Question → List ℕ
-  reader_line q.Written = []
-  reader_line (q.Shown x) = line_unless_control x
-  reader_line (q.Controlled y) = line_unless_hidden y
-  reader_line (q.Retyped z) = []
-  reader_line (q.Invariant l) = []
-  reader_line (q.Freed x) = []
-  reader_line q.Guard = []
-  reader_line q.HeadGuard = []
-  reader_line q.Printed = []
-  reader_line (q.Predicate end i) = []
-  reader_line (q.TypeOf end z) = []
+  abbrev pub line_by_question : Question → List ℕ
+  line_by_question q.Written = []
+  line_by_question (q.Shown x) = line_unless_control x
+  line_by_question (q.Controlled y) = line_unless_control y
+  line_by_question (q.Retyped z) = []
+  line_by_question (q.Invariant l) = []
+  line_by_question (q.Freed x) = []
+  line_by_question q.Guard = []
+  line_by_question q.HeadGuard = []
+  line_by_question q.Printed = []
+  line_by_question (q.Predicate end i) = []
+  line_by_question (q.TypeOf end z) = []
+
+  -- where it is known where something is asked
+  abbrev pub reader_line : Option Site → List ℕ
+  reader_line None = []
+  reader_line (Some s) = line_by_question s.question

@@ -1,22 +1,24 @@
--- Of which variables of what is asked no statement of the thread changes the value, or of the block at whose end it is asked.
-use Rattle.std.specs.Prelude.{ℕ, nat_lt, List, [], ◌∷◌, ◌++◌, ◌&&◌, length, flat_map, replicate, Bool, false, true, not, codes, if◌then◌else◌, slice_get, Option, Some, None, is_some, unwrap_or}
+-- To which variables of what is asked nothing is stored: in the block at whose end it is asked, or in front of the statement in the text, where the thread stores to them elsewhere.
+use Rattle.std.specs.Prelude.{ℕ, nat_lt, List, [], ◌∷◌, ◌++◌, ◌&&◌, length, flat_map, replicate, Bool, false, true, not, codes, if◌then◌else◌, Option, Some, None}
 use Rattle.cov_expr.specs.Term.{Term}
 use Rattle.cov_expr.specs.Trees.{has_number, vars}
-use Rattle.cov_ast.specs.Declarations.{name_of}
 use Rattle.cov_ast.specs.Plain.{plain}
-use Rattle.cov_ast.specs.Syntax.{Block, Class, low, high, when, Var, Stm, Program}
+use Rattle.cov_ast.specs.Syntax.{Block, Program}
 use Rattle.cov_ast.specs.Tables.{has, with_all}
 use Rattle.mode_compat.specs.Compatible.{numbered}
 use Rattle.statement_parts.specs.Parts.{assigned, collected_in, either, Nested, none, parts, turn}
-use Rattle.entail_origins.specs.AskedVariables.{variables_of}
+use Rattle.entail_origins.specs.AskedVariables.{variables_of, vars_of}
 use Rattle.entail_origins.specs.declared.kinds.End.{End}
 use Rattle.entail_origins.specs.declared.kinds.End.TheVariants as end
 use Rattle.entail_origins.specs.declared.kinds.Question.{Question}
 use Rattle.entail_origins.specs.declared.kinds.Question.TheVariants as q
+use Rattle.statement_paths.specs.VariableSets.{stable_after_steps}
+use Rattle.text_parts.specs.VariableNames.{spaced_name}
+use Rattle.entail_refused.specs.OnTheWay.{stored_before}
 use Rattle.entail_refused.specs.Remarked.{asked_of}
-use Rattle.entail_refused.specs.declared.unstored.TheConstants.{MOST_UNSTORED}
+use Rattle.entail_refused.specs.Sites.{Site}
 
--- What is stored to ----------------------------------------------------------------------------------------------
+-- The block -------------------------------------------------------------------------------------------------------
 
 -- the block inside a statement at whose end something is asked of its state, if it is at the end of one
 abbrev pub of_turn : End → Block → Option Block
@@ -43,69 +45,60 @@ asked_block (q.Predicate e i) blocks = block_at e blocks
 asked_block (q.TypeOf e z) blocks = block_at e blocks
 asked_block question blocks = None
 
--- that block, or else the body of the thread
-abbrev pub searched : Program → (t : ℕ) → Option Block → Block
-searched p t b = unwrap_or b (numbered p t).body
+-- Which are told --------------------------------------------------------------------------------------------------
 
 -- the set of the variables to which the statements of a block store
 abbrev pub stored : Program → Block → List Bool
 stored p b = with_all (replicate (length p.vars) false) (collected_in assigned b)
 
--- Which are told --------------------------------------------------------------------------------------------------
+abbrev pub is_within : Option (List Bool) → (x : ℕ) → Bool
+is_within None x = true
+is_within (Some marks) x = has marks x
 
-abbrev pub is_high : Class → Bool
-is_high low = false
-is_high high = true
-is_high (when e) = false
-
--- whether there is such a variable, and it is high at every moment
-abbrev pub is_secret : Option Var → Bool
-is_secret None = true
-is_secret (Some v) = is_high v.class
-
--- where these are stored to
-module _ (p : Program) (marks : List Bool) where
-  -- Whether a variable is to be told, beside those that were found. One that is always high is mostly an input, of which nothing else is to be expected.
+-- of those within some sets, if there are such, and not in another
+module _ (within also : Option (List Bool)) (without : List Bool) where
+  -- whether a variable is to be told, beside those that were found
   abbrev pub is_told : (found : List ℕ) → (x : ℕ) → Bool
-  is_told found x = nat_lt (length found) MOST_UNSTORED && not (has marks x) && not (is_secret (slice_get p.vars x)) && not (has_number found x)
+  is_told found x = nat_lt (length found) 4 && is_within within x && is_within also x && not (has without x) && not (has_number found x)
 
-  abbrev pub with_one_unstored : (found : List ℕ) → (x : ℕ) → List ℕ
-  with_one_unstored found x = if is_told found x then found ++ x ∷ [] else found
+  abbrev pub with_one : (found : List ℕ) → (x : ℕ) → List ℕ
+  with_one found x = if is_told found x then found ++ x ∷ [] else found
 
-  abbrev pub with_unstored : (found : List ℕ) → List ℕ → List ℕ
-  with_unstored found [] = found
-  with_unstored found (x ∷ xs) = with_unstored (with_one_unstored found x) xs
+  abbrev pub with_each : (found : List ℕ) → List ℕ → List ℕ
+  with_each found [] = found
+  with_each found (x ∷ xs) = with_each (with_one found x) xs
 
--- the variables of an expression, if there is one
-abbrev pub vars_of : Option Term → List ℕ
-vars_of None = []
-vars_of (Some e) = vars e
-
--- those of the variables of a goal, then of what is asked with it, and then of those whose types make it up
-abbrev pub unstored : Program → Block → Question → Stm → (asked : Option Term) → (goal : Term) → List ℕ
-unstored p b question s asked goal =
-    let marks = stored p b in
-    with_unstored p marks (with_unstored p marks (with_unstored p marks [] (vars goal)) (vars_of asked)) (variables_of question s)
+-- those of the variables of a goal, and then of what is asked with it
+abbrev pub with_asked : (within : Option (List Bool)) → (without : List Bool) → (asked : Option Term) → (goal : Term) → List ℕ
+with_asked within without asked goal = with_each within None without (with_each within None without [] (vars goal)) (vars_of asked)
 
 -- The line --------------------------------------------------------------------------------------------------------
 
-abbrev pub spaced_name : Program → (x : ℕ) → List ℕ
-spaced_name p x = codes " " ++ name_of (plain p) x
+-- of some variables, with words on where a store was looked for
+abbrev pub line_of : Program → List ℕ → (words : List ℕ) → List ℕ
+line_of p xs words = codes "  no store to: " ++ (flat_map (spaced_name (plain p)) xs ++ words)
 
--- where it was looked for
-abbrev pub where_text : (in_block : Bool) → List ℕ
-where_text true = codes "   (in this block)\n"
-where_text false = codes "   (in this thread)\n"
+abbrev pub unless_none : Program → List ℕ → (words : List ℕ) → List ℕ
+unless_none p [] words = []
+unless_none p (x ∷ xs) words = line_of p (x ∷ xs) words
 
-abbrev pub line_of : Program → (in_block : Bool) → List ℕ → List ℕ
-line_of p in_block xs = codes "  no store to: " ++ (flat_map (spaced_name p) xs ++ where_text in_block)
+-- Of a block, at whose end the type that is listed for a variable is asked, if the block stores to that. Of a predicate nothing is told: mostly it was lost in front of the block.
+abbrev pub block_line : Program → Block → Question → (asked : Option Term) → (goal : Term) → List ℕ
+block_line p b (q.TypeOf e z) asked goal =
+    if has (stored p b) z then unless_none p (with_asked None (stored p b) asked goal) (codes "   (in this block)\n") else []
+block_line p b question asked goal = []
 
-abbrev pub unless_none : Program → (in_block : Bool) → List ℕ → List ℕ
-unless_none p in_block [] = []
-unless_none p in_block (x ∷ xs) = line_of p in_block (x ∷ xs)
+-- what is asked of a statement of a thread; of the variables whose types make up the goal only those that no other thread writes there
+abbrev pub statement_line : Program → (t : ℕ) → Site → (asked : Option Term) → (goal : Term) → List ℕ
+statement_line p t s asked goal =
+    let within = Some (stored p (numbered p t).body) in
+    let stable = Some (stable_after_steps (plain p) t s.steps) in
+    let before = stored_before p s in
+    unless_none p (with_each within stable before (with_asked within before asked goal) (variables_of s.question s.stm)) (codes "   (in front of it, in the text; elsewhere the thread has one)\n")
 
-abbrev pub line_in : Program → (t : ℕ) → Option Block → Question → Stm → (asked : Option Term) → (goal : Term) → List ℕ
-line_in p t b question s asked goal = unless_none p (is_some b) (unstored p (searched p t b) question s asked goal)
+abbrev pub line_in : Program → (t : ℕ) → Option Block → Site → (asked : Option Term) → (goal : Term) → List ℕ
+line_in p t (Some b) s asked goal = block_line p b s.question asked goal
+line_in p t None s asked goal = statement_line p t s asked goal
 
-abbrev pub unstored_line : Program → (t : ℕ) → Question → Stm → (hypotheses : List Term) → (goal : Term) → List ℕ
-unstored_line p t question s hypotheses goal = line_in p t (asked_block question (parts s).nested) question s (asked_of question hypotheses) goal
+abbrev pub unstored_line : Program → (t : ℕ) → Site → (hypotheses : List Term) → (goal : Term) → List ℕ
+unstored_line p t s hypotheses goal = line_in p t (asked_block s.question (parts s.stm).nested) s (asked_of s.question hypotheses) goal

@@ -3,7 +3,7 @@
 ghost use Rattle.std.specs.Prelude.{◌≡◌, ◌<◌, ◌++◌, IfOk, OnOk, Some, length, option_map};
 ghost use Rattle.cov_ast.specs.View as view;
 ghost use Rattle.cov_ast.specs.WellFormed.{IsWellFormed};
-ghost use Rattle.entail_text.specs.Findings.{found_for, seen};
+ghost use Rattle.entail_text.specs.Findings.{found_for};
 ghost use Rattle.typing_law.specs.ThreadEntailments.{view_entail};
 ghost use Rattle.entail_refused.specs.Asked as spec;
 ghost use Rattle.entail_refused.specs.Sites as sites;
@@ -11,12 +11,13 @@ ghost use Rattle.entail_refused.specs.Sites.{IsSiteInRange};
 
 use crate::further::add_further;
 use crate::given::{add_given, cert_of};
+use crate::readers::add_reader_line;
 use crate::remarked::remarks_on;
 use crate::site::{Site, site_of};
 use cov_ast::{CheckFault, Detail, Program, Refusal, Rule};
 use cov_expr::{Blob, NoMemory};
 use entail_origins::add_question;
-use entail_text::{Finding, add_told, found_for};
+use entail_text::{add_told, found_for};
 use std::alloc::Global;
 use text_parts::variable_names;
 use typing_law::Entail;
@@ -147,26 +148,7 @@ fn add_searched(
     ensures { OnOk result (text.new ≡ text.old ++ spec.lines_of_finding (view.program p.now) bytes.now t (option_map sites.site site.now) (view_entail e.now) (found_for (view_entail e.now).entailment.hyps (view_entail e.now).entailment.goal)) }
 {
     let found = found_for(alloc, &e.hyps, &e.goal)?;
-    add_of_finding(alloc, p, bytes, t, site, e, &found, text)
-}
-
-/// Adds what is told of an entailment of a thread by what is found for it: where no certificate is given, for which entailments of the statement some are; that finding
-/// itself; and what is told of the point of which it asks.
-fn add_of_finding(
-    alloc: Global,
-    p: &Program,
-    bytes: &[u8],
-    t: u32,
-    site: &Option<Site<'_>>,
-    e: &Entail,
-    found: &Finding,
-    text: &mut Blob,
-) -> Result<(), NoMemory>
-    requires formed { IsWellFormed (view.program p.now) }
-    requires thread { t < length p.now.threads }
-    requires range { IsSiteInRange (length p.now.vars) (length p.now.locks) (option_map sites.site site.now) }
-    ensures { OnOk result (text.new ≡ text.old ++ spec.lines_of_finding (view.program p.now) bytes.now t (option_map sites.site site.now) (view_entail e.now) (seen found.now)) }
-{
-    add_given(alloc, p, t, e, found, text)?;
-    add_further(alloc, p, t, bytes, site, e, found, text)
+    add_reader_line(p, t, site, text)?;
+    add_given(alloc, p, t, e, &found, text)?;
+    add_further(alloc, p, t, bytes, site, e, &found, text)
 }

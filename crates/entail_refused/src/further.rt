@@ -11,8 +11,8 @@ ghost use Rattle.entail_refused.specs.Sites.{IsSiteInRange};
 
 use crate::asked_by::add_asked_by;
 use crate::cleared::add_cleared_line;
-use crate::readers::add_reader_line;
-use crate::remarked::known_of;
+use crate::noted::add_noted_line;
+use crate::remarked::{asked_of, known_of};
 use crate::site::Site;
 use crate::unstored::add_unstored_line;
 use cov_ast::Program;
@@ -23,8 +23,9 @@ use entail_text::Finding;
 use std::alloc::Global;
 use typing_law::Entail;
 
-/// Adds which declaration asks for an entailment of a thread and who may read, what is mostly done, where the types come from that make up its goal, to which variables nothing is stored, and
-/// which of the predicates that were lost on the way would help. Nothing is added where a certificate is found for it, or where it isn't known where it is asked. `bytes` are the text of the program.
+/// Adds which declaration asks for an entailment of a thread, what is mostly done, where the types come from that make up its goal, what could be noted in front, to which variables
+/// nothing is stored, and which of the predicates that were lost on the way would help. Nothing is added where a certificate is found for it, or where it isn't known where it is asked.
+/// `bytes` are the text of the program.
 pub fn add_further(
     alloc: Global,
     p: &Program,
@@ -41,60 +42,26 @@ pub fn add_further(
     ensures { OnOk result (text.new ≡ text.old ++ spec.further_lines (view.program p.now) t bytes.now (option_map sites.site site.now) (seen found.now) (view_entail e.now).entailment) }
 {
     match site {
-        Some(site) => add_unless_shown(alloc, p, t, bytes, site, e, found, text),
+        Some(site) => {
+            if found.is_shown() {
+                Ok(())
+            } else {
+                let steps = site.steps.as_slice();
+                let hyps = e.hyps.as_slice();
+                let unshown = Unshown {
+                    hyps,
+                    known: known_of(site.question, hyps),
+                    goal: &e.goal,
+                };
+                let asked = asked_of(site.question, hyps);
+                add_asked_by(alloc, p, bytes, site.question, asked, text)?;
+                add_cleared_line(alloc, p, t, steps, site.question, text)?;
+                add_type_lines(alloc, p, t, bytes, steps, site.question, site.kind, text)?;
+                add_noted_line(alloc, p, t, bytes, site, &e.goal, text)?;
+                add_unstored_line(alloc, p, t, site, hyps, &e.goal, text)?;
+                add_losses(alloc, p, t, bytes, steps, unshown, text)
+            }
+        }
         None => Ok(()),
     }
-}
-
-/// The same where it is known.
-fn add_unless_shown(
-    alloc: Global,
-    p: &Program,
-    t: u32,
-    bytes: &[u8],
-    site: &Site<'_>,
-    e: &Entail,
-    found: &Finding,
-    text: &mut Blob,
-) -> Result<(), NoMemory>
-    requires formed { IsWellFormed (view.program p.now) }
-    requires thread { t < length p.now.threads }
-    requires range { IsSiteInRange (length p.now.vars) (length p.now.locks) (Some (sites.site site.now)) }
-    ensures { OnOk result (text.new ≡ text.old ++ spec.unless_shown (view.program p.now) t bytes.now (sites.site site.now) (seen found.now) (view_entail e.now).entailment) }
-{
-    if found.is_shown() {
-        Ok(())
-    } else {
-        add_further_at(alloc, p, t, bytes, site, e, text)
-    }
-}
-
-/// The same where no certificate is found.
-fn add_further_at(
-    alloc: Global,
-    p: &Program,
-    t: u32,
-    bytes: &[u8],
-    site: &Site<'_>,
-    e: &Entail,
-    text: &mut Blob,
-) -> Result<(), NoMemory>
-    requires formed { IsWellFormed (view.program p.now) }
-    requires thread { t < length p.now.threads }
-    requires range { IsSiteInRange (length p.now.vars) (length p.now.locks) (Some (sites.site site.now)) }
-    ensures { OnOk result (text.new ≡ text.old ++ spec.further_at (view.program p.now) t bytes.now (sites.site site.now) (view_entail e.now).entailment) }
-{
-    let steps = site.steps.as_slice();
-    let hyps = e.hyps.as_slice();
-    let unshown = Unshown {
-        hyps,
-        known: known_of(site.question, hyps),
-        goal: &e.goal,
-    };
-    add_asked_by(p, bytes, site.question, text)?;
-    add_reader_line(p, t, site.question, text)?;
-    add_cleared_line(p, site.question, text)?;
-    add_type_lines(alloc, p, t, bytes, steps, site.question, site.kind, text)?;
-    add_unstored_line(alloc, p, t, site.question, site.kind, hyps, &e.goal, text)?;
-    add_losses(alloc, p, t, bytes, steps, unshown, text)
 }

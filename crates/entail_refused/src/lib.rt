@@ -1,9 +1,10 @@
 //! What a refusal for want of a valid certificate asked (V9), in plain text.
 //!
 //! - [`add_asked`]: of the entailment for which a program is refused what it asks, its goal, its hypotheses, each with
-//!   where it comes from (`entail_origins`), and its certificate (`entail_text`); then what is found for it (there too), a certificate or a memory that breaks it; and
-//!   where no certificate is, which declaration asks (`specs/AskedBy.antt`) and who may read (`specs/Readers.antt`), what is mostly done (`specs/Cleared.antt`), where the types come from that
-//!   make up the goal (`entail_origins`), to which variables nothing is stored (`specs/Unstored.antt`), and which of what was lost on the way would help (`entail_losses`).
+//!   where it comes from (`entail_origins`), and its certificate (`entail_text`); then what is found for it (there too), a certificate or a memory that breaks it; who may read
+//!   (`specs/Readers.antt`); and where no certificate is found, which declaration asks (`specs/AskedBy.antt`), what is mostly done (`specs/Cleared.antt`), where the types come from that
+//!   make up the goal (`entail_origins`), what could be noted in front (`specs/Noted.antt`), to which variables nothing is stored (`specs/Unstored.antt`, `specs/OnTheWay.antt`), and which of
+//!   what was lost on the way would help (`entail_losses`).
 //! - [`other_refusals`]: of its thread and of the threads behind it, the first refusal of each by a rule that isn't about certificates, and then the other entailments that have no
 //!   valid certificate, as refusals.
 //! - [`sort_refusals`]: refusals by whether a certificate is found for what was asked, each such with the certificate (`specs/Suggested.antt`).
@@ -24,6 +25,8 @@ mod entailment;
 mod further;
 mod given;
 mod laws;
+mod noted;
+mod on_the_way;
 mod others;
 mod readers;
 mod remarked;

@@ -1,12 +1,11 @@
 //! The other entailments for which a thread, and those behind it, would be refused by V9, and the first refusal of each by a rule that isn't about certificates.
 
 ghost use Rattle.std.specs.Prelude.{◌≡◌, ◌<◌, ◌≤◌, ◌++◌, IfOk, IsTrue, OnOk, length, map};
-ghost use Rattle.cov_ast.specs.Obligations.{all_hold, first_false};
+ghost use Rattle.cov_ast.specs.Obligations.{all_hold};
 ghost use Rattle.cov_ast.specs.View as view;
 ghost use Rattle.cov_ast.specs.WellFormed.{IsWellFormed};
 ghost use Rattle.cov_expr.specs.declared.limits.TheConstants.{MOST_THREADS};
 ghost use Rattle.mode_compat.specs.Declared.{declaration_obligations};
-ghost use Rattle.typing_rules.specs.Beside.{beside_certificates};
 ghost use Rattle.typing_rules.specs.Keeping.{view_searched};
 ghost use Rattle.entail_refused.specs.Inside.SearchedOthers.{listed};
 ghost use Rattle.entail_refused.specs.OtherRefusals as spec;
@@ -46,26 +45,14 @@ fn others_behind(
     ensures { IfOk result (λ made. made ≡ spec.others_behind (view.program p.now) thread place detail) }
 {
     match (thread, detail) {
-        (Some(t), Detail::Number(n)) => others_of(alloc, p, t, place, n),
+        (Some(t), Detail::Number(n)) => {
+            if (t as usize) < p.threads.len() {
+                others_declared(alloc, p, t, place, n)
+            } else {
+                Ok(List::new(alloc))
+            }
+        }
         _ => Ok(List::new(alloc)),
-    }
-}
-
-/// Those of a thread, where there is that thread and the declarations keep the rules.
-fn others_of(
-    alloc: Global,
-    p: &Program,
-    t: u32,
-    place: u32,
-    number: u32,
-) -> Result<List<Refusal>, NoMemory>
-    requires { IsWellFormed (view.program p.now) }
-    ensures { IfOk result (λ made. made ≡ spec.others_of (view.program p.now) t place number) }
-{
-    if (t as usize) < p.threads.len() {
-        others_declared(alloc, p, t, place, number)
-    } else {
-        Ok(List::new(alloc))
     }
 }
 
@@ -144,21 +131,11 @@ fn add_if_beside(
     if u < t {
         Ok(())
     } else {
-        add_beside(alloc, p, u, made)
-    }
-}
-
-/// Adds the first refusal of a thread by a rule that isn't about certificates, if there is one.
-fn add_beside(alloc: Global, p: &Program, t: u32, made: &mut List<Refusal>) -> Result<(), NoMemory>
-    requires formed { IsWellFormed (view.program p.now) }
-    requires declared { IsTrue (all_hold (declaration_obligations (view.program p.now))) }
-    requires thread { t < length p.now.threads }
-    ensures { OnOk result (made.new ≡ made.old ++ spec.if_any (first_false (beside_certificates (view.program p.now) t))) }
-{
-    match check_beside_certificates(alloc, p, t) {
-        Ok(()) => Ok(()),
-        Err(CheckFault::Refused(refusal)) => made.push(refusal),
-        Err(CheckFault::NoMemory) => Err(NoMemory),
+        match check_beside_certificates(alloc, p, u) {
+            Ok(()) => Ok(()),
+            Err(CheckFault::Refused(refusal)) => made.push(refusal),
+            Err(CheckFault::NoMemory) => Err(NoMemory),
+        }
     }
 }
 

@@ -1,29 +1,51 @@
 //! Why something is asked of a variable that others may read, where the thread or a lock keeps only others' writes from it.
 
-ghost use Rattle.std.specs.Prelude.{◌≡◌, ◌<◌, ◌++◌, OnOk, Some, length, option_map};
+ghost use Rattle.std.specs.Prelude.{◌≡◌, ◌<◌, ◌++◌, OnOk, Some, length, option_map, slice_get};
 ghost use Rattle.cov_ast.specs.View as view;
 ghost use Rattle.entail_refused.specs.Readers as spec;
+ghost use Rattle.entail_refused.specs.Sites as sites;
 
-use cov_ast::{LockDecl, Program};
+use crate::site::Site;
+use cov_ast::{Class, LockDecl, Program};
 use cov_expr::{Blob, NoMemory, has_number};
 use entail_origins::{Question, lock_over};
 use policy_class::is_control;
 use text_parts::add_variable_name;
 
-/// Adds that others may read the variable of which something is asked where it is low, where the thread assumes that no other writes it, and not that none reads it; or, of one to
-/// which nothing is stored, the first lock over it lists it so.
+/// Adds that others may read the variable of which something is asked where it is low, where the thread assumes that no other writes it, and not that none reads it; or, of one whose
+/// class depends on others, the first lock over it lists it so. Nothing is added where it isn't known where something is asked.
 pub fn add_reader_line(
     p: &Program,
     t: u32,
-    question: Question,
+    site: &Option<Site<'_>>,
     text: &mut Blob,
 ) -> Result<(), NoMemory>
     requires { t < length p.now.threads }
-    ensures { OnOk result (text.new ≡ text.old ++ spec.reader_line (view.program p.now) t question) }
+    ensures { OnOk result (text.new ≡ text.old ++ spec.reader_line (view.program p.now) t (option_map sites.site site.now)) }
+{
+    match site {
+        Some(site) => add_by_question(p, t, site.question, text),
+        None => Ok(()),
+    }
+}
+
+/// Adds that by what is asked.
+fn add_by_question(p: &Program, t: u32, question: Question, text: &mut Blob) -> Result<(), NoMemory>
+    requires { t < length p.now.threads }
+    ensures { OnOk result (text.new ≡ text.old ++ spec.line_by_question (view.program p.now) t question) }
 {
     match question {
-        Question::Shown(x) => add_unless_control(p, t, x, text),
-        Question::Controlled(y) => add_unless_hidden(p, t, y, text),
+        Question::Shown(x) | Question::Controlled(x) => {
+            if is_control(p, x) {
+                Ok(())
+            } else if is_kept(p, t, x) {
+                add_line(p, None, x, text)
+            } else if depends(p, x) {
+                add_by_lock(p, lock_over(x, p.locks.as_slice()), x, text)
+            } else {
+                Ok(())
+            }
+        }
         Question::Written
         | Question::Retyped(_)
         | Question::Invariant(_)
@@ -36,27 +58,13 @@ pub fn add_reader_line(
     }
 }
 
-/// Adds that of a variable that is stored to, of which it is asked wherever it is low where it is a control.
-fn add_unless_control(p: &Program, t: u32, x: u32, text: &mut Blob) -> Result<(), NoMemory>
-    requires { t < length p.now.threads }
-    ensures { OnOk result (text.new ≡ text.old ++ spec.line_unless_control (view.program p.now) t x) }
+/// Whether the class of a variable depends on the memory.
+fn depends(p: &Program, x: u32) -> bool
+    ensures { result ≡ spec.depends (slice_get (view.program p.now).vars x) }
 {
-    if !is_control(p, x) && is_kept(p, t, x) {
-        add_line(p, None, x, text)
-    } else {
-        Ok(())
-    }
-}
-
-/// Adds that of a variable.
-fn add_unless_hidden(p: &Program, t: u32, x: u32, text: &mut Blob) -> Result<(), NoMemory>
-    requires { t < length p.now.threads }
-    ensures { OnOk result (text.new ≡ text.old ++ spec.line_unless_hidden (view.program p.now) t x) }
-{
-    if is_kept(p, t, x) {
-        add_line(p, None, x, text)
-    } else {
-        add_by_lock(p, lock_over(x, p.locks.as_slice()), x, text)
+    match p.vars.as_slice().get(x as usize) {
+        Some(var) => matches!(var.class, Class::When(_)),
+        None => false,
     }
 }
 
@@ -124,18 +132,13 @@ fn add_keeper(keeper: Option<&LockDecl>, text: &mut Blob) -> Result<(), NoMemory
     ensures { OnOk result (text.new ≡ text.old ++ spec.keeper_text (option_map (λ l. view.lock l.now) keeper.entry)) }
 {
     match keeper {
-        Some(lock) => add_lock(lock, text),
+        Some(lock) => {
+            text.extend_from_slice(b"the lock ")?;
+            text.extend_from_slice(lock.name.text())?;
+            text.extend_from_slice(b" has")
+        }
         None => text.extend_from_slice(b"the thread assumes"),
     }
-}
-
-/// Adds that a lock does.
-fn add_lock(lock: &LockDecl, text: &mut Blob) -> Result<(), NoMemory>
-    ensures { OnOk result (text.new ≡ text.old ++ spec.keeper_text (Some (view.lock lock.now))) }
-{
-    text.extend_from_slice(b"the lock ")?;
-    text.extend_from_slice(lock.name.text())?;
-    text.extend_from_slice(b" has")
 }
 
 /// Adds in which list it is, and in which it isn't.

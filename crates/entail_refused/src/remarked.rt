@@ -26,29 +26,18 @@ pub fn remarks_on(
     ensures { IfOk result (λ made. made ≡ spec.remarks_on (plain (view.program p.now)) bytes.now (option_map sites.site site.now) (map term hypotheses.now)) }
 {
     match site {
-        Some(site) => remarks_at(alloc, p, bytes, site, hypotheses),
+        Some(site) => {
+            entail_origins::remarks(
+                alloc,
+                p,
+                bytes,
+                site.steps.as_slice(),
+                hypotheses,
+                asks_more(site.question),
+            )
+        }
         None => Ok(List::new(alloc)),
     }
-}
-
-/// A remark on each hypothesis of what is asked somewhere.
-fn remarks_at(
-    alloc: Global,
-    p: &Program,
-    bytes: &[u8],
-    site: &Site<'_>,
-    hypotheses: &[Expr],
-) -> Result<List<Blob>, NoMemory>
-    ensures { IfOk result (λ made. made ≡ spec.remarks_at (plain (view.program p.now)) bytes.now (sites.site site.now) (map term hypotheses.now)) }
-{
-    entail_origins::remarks(
-        alloc,
-        p,
-        bytes,
-        site.steps.as_slice(),
-        hypotheses,
-        asks_more(site.question),
-    )
 }
 
 /// The hypotheses of what is asked that are known: all but the one that is asked with the goal.

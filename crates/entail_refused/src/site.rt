@@ -76,7 +76,12 @@ fn add_steps_to_point<'p>(
     match question {
         Question::HeadGuard => add_to_head(at, kind, steps),
         Question::Predicate(end, _) | Question::TypeOf(end, _) => {
-            add_steps_to_end(end, at, kind, steps)
+            match end {
+                End::FirstBlock => add_to_first_end(at, kind, steps),
+                End::SecondBlock => add_to_second_end(at, kind, steps),
+                End::Body => add_to_body_end(at, kind, steps),
+                End::Here | End::Entry => Ok(()),
+            }
         }
         Question::Written
         | Question::Shown(_)
@@ -86,22 +91,5 @@ fn add_steps_to_point<'p>(
         | Question::Freed(_)
         | Question::Guard
         | Question::Printed => Ok(()),
-    }
-}
-
-/// Adds the steps from a statement to where a state is to be met.
-fn add_steps_to_end<'p>(
-    end: End,
-    at: u32,
-    kind: &'p StmtKind,
-    steps: &mut List<Step<'p>>,
-) -> Result<(), NoMemory>
-    ensures { OnOk result (map paths.step steps.new ≡ map paths.step steps.old ++ spec.steps_to_end end at (view.kind kind.now)) }
-{
-    match end {
-        End::FirstBlock => add_to_first_end(at, kind, steps),
-        End::SecondBlock => add_to_second_end(at, kind, steps),
-        End::Body => add_to_body_end(at, kind, steps),
-        End::Here | End::Entry => Ok(()),
     }
 }

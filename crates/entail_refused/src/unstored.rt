@@ -1,42 +1,64 @@
-//! Of which variables of what is asked no statement of the thread changes the value, or of the block at whose end it is asked.
+//! To which variables of what is asked nothing is stored: in the block at whose end it is asked, or in front of the statement in the text, where the thread stores to them elsewhere.
 
-ghost use Rattle.std.specs.Prelude.{◌≡◌, ◌<◌, ◌++◌, IfOk, OnOk, flat_map, length, map, option_map, slice_get};
+ghost use Rattle.std.specs.Prelude.{◌≡◌, ◌<◌, ◌++◌, IfOk, OnOk, length, map, option_map};
 ghost use Rattle.cov_expr.specs.View.{term};
 ghost use Rattle.cov_ast.specs.View as view;
+ghost use Rattle.cov_ast.specs.WellFormed.{IsWellFormed};
 ghost use Rattle.statement_parts.specs.Parts.{nested_of};
+ghost use Rattle.entail_origins.specs.declared.kinds.End.{End};
+ghost use Rattle.entail_refused.specs.Sites as sites;
 ghost use Rattle.entail_refused.specs.Unstored as spec;
 
+use crate::on_the_way::stored_before;
 use crate::remarked::asked_of;
-use cov_ast::{Class, NumberSet, Program, Stmt, StmtKind};
+use crate::site::Site;
+use cov_ast::{NumberSet, Program, Stmt};
 use cov_expr::{Blob, Expr, List, NoMemory, has_number, vars};
-use entail_origins::{End, Question, variables_of};
+use entail_origins::{End, Question, variables_of, vars_of};
 use statement_parts::{Nested, add_assigned, parts_of};
+use statement_paths::stable_after_steps;
 use std::alloc::Global;
-use text_parts::add_variable_name;
+use text_parts::add_variable_names;
 
 /// Of how many variables is told at most.
-pub const MOST_UNSTORED: usize = 4;
+const MOST_UNSTORED: usize = 4;
 
-/// Adds a line of the first variables of a goal, of what is asked with it, and of those whose types make it up, to which no statement stores of the block at whose end it is asked, or
-/// else of the thread, if there are such; one that is always high isn't told. These statements are gone through once.
+/// Adds a line of the first variables to which nothing is stored, if there are such. At the end of a block that stores to a variable of which a type is listed these are variables of the goal,
+/// and of what is asked with it, to which no statement of the block stores; of a statement those to which the thread stores, but no statement in front of it, nor it itself, and then such
+/// ones whose types make up the goal and that are stable. The statements of the thread are gone through twice.
 pub fn add_unstored_line(
     alloc: Global,
     p: &Program,
     t: u32,
-    question: Question,
-    kind: &StmtKind,
+    site: &Site<'_>,
     hypotheses: &[Expr],
     goal: &Expr,
     text: &mut Blob,
 ) -> Result<(), NoMemory>
-    requires { t < length p.now.threads }
-    ensures { OnOk result (text.new ≡ text.old
-        ++ spec.unstored_line (view.program p.now) t question (view.kind kind.now) (map term hypotheses.now) (term goal.now)) }
+    requires formed { IsWellFormed (view.program p.now) }
+    requires thread { t < length p.now.threads }
+    ensures { OnOk result (text.new ≡ text.old ++ spec.unstored_line (view.program p.now) t (sites.site site.now) (map term hypotheses.now) (term goal.now)) }
 {
-    let block = asked_block(question, parts_of(kind).nested);
-    let asked = asked_of(question, hypotheses);
-    let found = unstored(alloc, p, searched(p, t, block), question, kind, asked, goal)?;
-    add_unless_none(p, block.is_some(), found.as_slice(), text)
+    let asked = asked_of(site.question, hypotheses);
+    match asked_block(site.question, parts_of(site.kind).nested) {
+        Some(block) => add_of_block(alloc, p, block, site.question, asked, goal, text),
+        None => {
+            let stored = stored(alloc, p, p.body_of(t))?;
+            let before = stored_before(alloc, p, site)?;
+            let stable = stable_after_steps(alloc, p, t, site.steps.as_slice())?;
+            let mut found = asked_among(alloc, Some(&stored), &before, asked, goal)?;
+            let of_types = variables_of(alloc, site.question, site.kind)?;
+            add_each(
+                Some(&stored),
+                Some(&stable),
+                &before,
+                of_types.as_slice(),
+                &mut found,
+            )?;
+            let words = b"   (in front of it, in the text; elsewhere the thread has one)\n";
+            add_unless_none(p, found.as_slice(), words, text)
+        }
+    }
 }
 
 /// The block inside a statement at whose end something is asked of its state, if it is at the end of one.
@@ -76,99 +98,39 @@ fn block_at<'a>(end: End, blocks: Nested<'a>) -> Option<&'a [Stmt]>
     }
 }
 
-/// A block, or else the body of a thread.
-fn searched<'a>(p: &'a Program, t: u32, block: Option<&'a [Stmt]>) -> &'a [Stmt]
-    requires { t < length p.now.threads }
-    ensures { view.block result.now ≡ spec.searched (view.program p.now) t (option_map (λ b. view.block b.now) block.entry) }
-{
-    match block {
-        Some(b) => b,
-        None => p.threads.as_slice()[t as usize].body.as_slice(),
-    }
-}
-
-/// Those variables.
-fn unstored(
+/// Adds the line of what is asked at the end of a block, where that is a type of a variable to which the block stores.
+fn add_of_block(
     alloc: Global,
     p: &Program,
     block: &[Stmt],
     question: Question,
-    kind: &StmtKind,
     asked: Option<&Expr>,
     goal: &Expr,
-) -> Result<List<u32>, NoMemory>
-    ensures { IfOk result (λ made. made
-        ≡ spec.unstored (view.program p.now) (view.block block.now) question (view.kind kind.now) (option_map (λ e. term e.now) asked.entry) (term goal.now)) }
-{
-    let stored = stored(alloc, p, block)?;
-    let mut found = List::new(alloc);
-    let of_goal = vars(alloc, goal)?;
-    add_each(p, &stored, of_goal.as_slice(), &mut found)?;
-    let of_asked = vars_of(alloc, asked)?;
-    add_each(p, &stored, of_asked.as_slice(), &mut found)?;
-    let of_types = variables_of(alloc, question, kind)?;
-    add_each(p, &stored, of_types.as_slice(), &mut found)?;
-    Ok(found)
-}
-
-/// The variables of an expression, if there is one.
-fn vars_of(alloc: Global, e: Option<&Expr>) -> Result<List<u32>, NoMemory>
-    ensures { IfOk result (λ made. made ≡ spec.vars_of (option_map (λ e. term e.now) e.entry)) }
-{
-    match e {
-        Some(e) => vars(alloc, e),
-        None => Ok(List::new(alloc)),
-    }
-}
-
-/// Adds those of some variables that are to be told.
-fn add_each(
-    p: &Program,
-    stored: &NumberSet,
-    xs: &[u32],
-    found: &mut List<u32>,
+    text: &mut Blob,
 ) -> Result<(), NoMemory>
-    ensures { OnOk result (found.new ≡ spec.with_unstored (view.program p.now) stored.now found.old xs.now) }
+    ensures { OnOk result (text.new ≡ text.old
+        ++ spec.block_line (view.program p.now) (view.block block.now) question (option_map (λ e. term e.now) asked.entry) (term goal.now)) }
 {
-    for x in xs {
-        add_if_told(p, stored, *x, found)?;
-    }
-    Ok(())
-}
-
-/// Adds a variable, if it is to be told.
-fn add_if_told(
-    p: &Program,
-    stored: &NumberSet,
-    x: u32,
-    found: &mut List<u32>,
-) -> Result<(), NoMemory>
-    ensures { OnOk result (found.new ≡ spec.with_one_unstored (view.program p.now) stored.now found.old x) }
-{
-    let is_told = found.len() < MOST_UNSTORED
-        && !stored.has(x)
-        && !is_secret(p, x)
-        && !has_number(found.as_slice(), x);
-    if is_told { found.push(x) } else { Ok(()) }
-}
-
-/// Whether a variable is high at every moment; a number that no variable has counts as one that is.
-fn is_secret(p: &Program, x: u32) -> bool
-    ensures { result ≡ spec.is_secret (slice_get (view.program p.now).vars x) }
-{
-    match p.vars.as_slice().get(x as usize) {
-        Some(var) => is_high(&var.class),
-        None => true,
-    }
-}
-
-/// Whether a class is written `high`.
-fn is_high(class: &Class) -> bool
-    ensures { result ≡ spec.is_high (view.class class.now) }
-{
-    match class {
-        Class::High => true,
-        Class::Low | Class::When(_) => false,
+    match question {
+        Question::TypeOf(_, z) => {
+            let stored = stored(alloc, p, block)?;
+            if stored.has(z) {
+                let found = asked_among(alloc, None, &stored, asked, goal)?;
+                add_unless_none(p, found.as_slice(), b"   (in this block)\n", text)
+            } else {
+                Ok(())
+            }
+        }
+        Question::Predicate(_, _)
+        | Question::Written
+        | Question::Shown(_)
+        | Question::Controlled(_)
+        | Question::Retyped(_)
+        | Question::Freed(_)
+        | Question::Invariant(_)
+        | Question::Guard
+        | Question::HeadGuard
+        | Question::Printed => Ok(()),
     }
 }
 
@@ -181,51 +143,85 @@ fn stored(alloc: Global, p: &Program, block: &[Stmt]) -> Result<NumberSet, NoMem
     Ok(stored)
 }
 
-/// Adds the line of some variables, if there are some.
-fn add_unless_none(p: &Program, in_block: bool, xs: &[u32], text: &mut Blob) -> Result<(), NoMemory>
-    ensures { OnOk result (text.new ≡ text.old ++ spec.unless_none (view.program p.now) in_block xs.now) }
+/// Those of the variables of a goal, and of what is asked with it, that are to be told.
+fn asked_among(
+    alloc: Global,
+    within: Option<&NumberSet>,
+    without: &NumberSet,
+    asked: Option<&Expr>,
+    goal: &Expr,
+) -> Result<List<u32>, NoMemory>
+    ensures { IfOk result (λ made. made
+        ≡ spec.with_asked (option_map (λ s. s.now) within.entry) without.now (option_map (λ e. term e.now) asked.entry) (term goal.now)) }
 {
-    if xs.is_empty() {
-        Ok(())
-    } else {
-        add_line(p, in_block, xs, text)
-    }
+    let mut found = List::new(alloc);
+    let of_goal = vars(alloc, goal)?;
+    add_each(within, None, without, of_goal.as_slice(), &mut found)?;
+    let of_asked = vars_of(alloc, asked)?;
+    add_each(within, None, without, of_asked.as_slice(), &mut found)?;
+    Ok(found)
 }
 
-/// Adds the line of some variables.
-fn add_line(p: &Program, in_block: bool, xs: &[u32], text: &mut Blob) -> Result<(), NoMemory>
-    ensures { OnOk result (text.new ≡ text.old ++ spec.line_of (view.program p.now) in_block xs.now) }
-{
-    text.extend_from_slice(b"  no store to: ")?;
-    add_names(p, xs, text)?;
-    text.extend_from_slice(where_text(in_block).as_bytes())
-}
-
-/// Where a store was looked for.
-fn where_text(in_block: bool) -> &'static str
-    ensures { result.now ≡ spec.where_text in_block }
-{
-    if in_block {
-        "   (in this block)\n"
-    } else {
-        "   (in this thread)\n"
-    }
-}
-
-/// Adds the names of variables, each behind a blank.
-fn add_names(p: &Program, xs: &[u32], text: &mut Blob) -> Result<(), NoMemory>
-    ensures { OnOk result (text.new ≡ text.old ++ flat_map (spec.spaced_name (view.program p.now)) xs.now) }
+/// Adds those of some variables that are to be told.
+fn add_each(
+    within: Option<&NumberSet>,
+    also: Option<&NumberSet>,
+    without: &NumberSet,
+    xs: &[u32],
+    found: &mut List<u32>,
+) -> Result<(), NoMemory>
+    ensures { OnOk result (found.new ≡ spec.with_each (option_map (λ s. s.now) within.entry) (option_map (λ s. s.now) also.entry) without.now found.old xs.now) }
 {
     for x in xs {
-        add_spaced_name(p, *x, text)?;
+        add_if_told(within, also, without, *x, found)?;
     }
     Ok(())
 }
 
-/// Adds the name of a variable behind a blank.
-fn add_spaced_name(p: &Program, x: u32, text: &mut Blob) -> Result<(), NoMemory>
-    ensures { OnOk result (text.new ≡ text.old ++ spec.spaced_name (view.program p.now) x) }
+/// Adds a variable, if it is to be told.
+fn add_if_told(
+    within: Option<&NumberSet>,
+    also: Option<&NumberSet>,
+    without: &NumberSet,
+    x: u32,
+    found: &mut List<u32>,
+) -> Result<(), NoMemory>
+    ensures { OnOk result (found.new ≡ spec.with_one (option_map (λ s. s.now) within.entry) (option_map (λ s. s.now) also.entry) without.now found.old x) }
 {
-    text.extend_from_slice(b" ")?;
-    add_variable_name(p, x, text)
+    let is_told = found.len() < MOST_UNSTORED
+        && is_within(within, x)
+        && is_within(also, x)
+        && !without.has(x)
+        && !has_number(found.as_slice(), x);
+    if is_told { found.push(x) } else { Ok(()) }
+}
+
+/// Whether a variable is in a set, if there is one.
+fn is_within(set: Option<&NumberSet>, x: u32) -> bool
+    ensures { result ≡ spec.is_within (option_map (λ s. s.now) set.entry) x }
+{
+    match set {
+        Some(set) => set.has(x),
+        None => true,
+    }
+}
+
+/// Adds the line of some variables, if there are some, with these words on where a store was looked for.
+fn add_unless_none(p: &Program, xs: &[u32], words: &[u8], text: &mut Blob) -> Result<(), NoMemory>
+    ensures { OnOk result (text.new ≡ text.old ++ spec.unless_none (view.program p.now) xs.now words.now) }
+{
+    if xs.is_empty() {
+        Ok(())
+    } else {
+        add_line(p, xs, words, text)
+    }
+}
+
+/// Adds the line of some variables.
+fn add_line(p: &Program, xs: &[u32], words: &[u8], text: &mut Blob) -> Result<(), NoMemory>
+    ensures { OnOk result (text.new ≡ text.old ++ spec.line_of (view.program p.now) xs.now words.now) }
+{
+    text.extend_from_slice(b"  no store to: ")?;
+    add_variable_names(p, xs, text)?;
+    text.extend_from_slice(words)
 }
