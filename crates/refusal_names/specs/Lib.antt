@@ -6,6 +6,7 @@ pub mod NameLines
 pub mod LockedControls
 pub mod MissingGuarantees
 pub mod ForbiddenAccess
+pub mod UnaskedStores
 pub mod UnstableVariables
 pub mod ToldPredicates
 pub mod ToldReads

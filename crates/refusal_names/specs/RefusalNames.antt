@@ -1,5 +1,5 @@
 -- What a refusal is about, by name: by its rule, its thread, its place, at which a statement stands, and what it shows.
-use Rattle.std.specs.Prelude.{ℕ, nat_lt, List, [], Bool, false, true, length, if◌then◌else◌, Option, Some, None}
+use Rattle.std.specs.Prelude.{ℕ, nat_lt, List, [], ◌++◌, Bool, false, true, length, if◌then◌else◌, Option, Some, None}
 use Rattle.cov_ast.specs.Plain.{plain}
 use Rattle.cov_ast.specs.Syntax.{Program, Stm, Proof}
 use Rattle.cov_ast.specs.declared.refusal.Rule.{Rule}
@@ -22,6 +22,7 @@ use Rattle.refusal_names.specs.MissingGuarantees.{guarantee_line}
 use Rattle.refusal_names.specs.NameLines.{reads_line, types_line, ends_line, predicates_line, added_line}
 use Rattle.refusal_names.specs.SpokenParts.{evaluated_expression}
 use Rattle.refusal_names.specs.StableSets.{stable_controls, held_where_stated}
+use Rattle.refusal_names.specs.UnaskedStores.{unasked_line}
 use Rattle.refusal_names.specs.UnstableVariables.{shown_cause, unstable_line, unstable_part_line}
 use Rattle.refusal_names.specs.WideExpressions.{width_line}
 use Rattle.statement_paths.specs.Paths.{Step, Way, way_to}
@@ -56,10 +57,12 @@ line_of p bytes t V15 detail steps held s proofs = added_line (plain p) (variabl
 line_of p bytes t V16 detail steps held s proofs = large_line p.vars (variable_names p.vars) bytes (hidden (plain p) t held) steps s
 line_of p bytes t rule detail steps held s proofs = []
 
--- of the statement at the end of a way, if there is one
+-- of the statement at the end of a way, if there is one, and behind it that nothing is asked of it
 abbrev pub line_of_way : Program → (bytes : List ℕ) → (t : ℕ) → Rule → Detail → Option Way → List ℕ
 line_of_way p bytes t rule detail None = []
-line_of_way p bytes t rule detail (Some w) = line_of p bytes t rule detail w.steps (held_along w.steps (no_locks (plain p))) w.stm w.proofs
+line_of_way p bytes t rule detail (Some w) =
+    let held = held_along w.steps (no_locks (plain p)) in
+    line_of p bytes t rule detail w.steps held w.stm w.proofs ++ unasked_line p t rule held w.stm
 
 -- of the statement at a place of a thread, where the program has so many threads
 abbrev pub line_at : Program → (bytes : List ℕ) → (t : ℕ) → Rule → (place : ℕ) → Detail → List ℕ

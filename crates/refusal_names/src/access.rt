@@ -56,7 +56,10 @@ fn add_cause(
         ++ spec.access_line names.now bytes.now (view.thread t.now) (map view.lock locks.now) (modes.now).held writes x) }
 {
     match guarantee_forbidding(t, writes, x) {
-        Some(word) => add_guaranteed(names, bytes, t, word, x, text),
+        Some(word) => {
+            add_declared(bytes, b"thread", t.name, t.at, text)?;
+            add_list(names, b", has `guarantee ", word, x, b"`\n", text)
+        }
         None => match first_forbidding(locks, modes, writes, x) {
             Some((lock, word)) => {
                 add_lock_with_held(alloc, names, bytes, locks, modes, lock, word, x, text)
@@ -117,21 +120,6 @@ pub fn first_forbidding<'p>(
         }
     }
     None
-}
-
-/// Adds the line of a guarantee.
-fn add_guaranteed(
-    names: &NameTable,
-    bytes: &[u8],
-    t: &ThreadDecl,
-    word: &[u8],
-    x: u32,
-    text: &mut Blob,
-) -> Result<(), NoMemory>
-    ensures { OnOk result (text.new ≡ text.old ++ spec.guarantee_text names.now bytes.now (view.thread t.now) word.now x) }
-{
-    add_declared(bytes, b"thread", t.name, t.at, text)?;
-    add_list(names, b", has `guarantee ", word, x, b"`\n", text)
 }
 
 /// Adds the line of a lock that isn't held, with those that are.

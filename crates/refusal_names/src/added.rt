@@ -1,7 +1,6 @@
 //! The line of V15: the predicate that is one too many.
 
 ghost use Rattle.std.specs.Prelude.{◌≡◌, ◌++◌, OnOk, Some};
-ghost use Rattle.cov_ast.specs.Declarations.{lock_at};
 ghost use Rattle.cov_ast.specs.Plain.{plain};
 ghost use Rattle.cov_ast.specs.View as view;
 ghost use Rattle.cov_expr.specs.View.{term};
@@ -25,7 +24,15 @@ pub fn add_added(
     let parts = parts_of(kind);
     match (parts.store, parts.taken, parts.guard) {
         (Some(store), _, _) => add_equation(names, store.variable, store.value, text),
-        (None, Some(l), _) => add_lock(p, names, l, text),
+        (None, Some(l), _) => {
+            match p.locks.as_slice().get(l as usize) {
+                Some(lock) => match &lock.inv {
+                    Some(e) => add_invariant(names, lock.name, e, text),
+                    None => Ok(()),
+                },
+                None => Ok(()),
+            }
+        }
         (None, None, Some(guard)) => add_guard(names, guard, text),
         (None, None, None) => Ok(()),
     }
@@ -40,19 +47,6 @@ fn add_equation(names: &NameTable, x: u32, e: &Expr, text: &mut Blob) -> Result<
     text.extend_from_slice(b" == ")?;
     add_expr(names, true, e, text)?;
     text.extend_from_slice(b"`\n")
-}
-
-/// Adds the line of the invariant of a lock, if it has one.
-fn add_lock(p: &Program, names: &NameTable, l: u32, text: &mut Blob) -> Result<(), NoMemory>
-    ensures { OnOk result (text.new ≡ text.old ++ spec.lock_line names.now (lock_at (plain (view.program p.now)) l)) }
-{
-    match p.locks.as_slice().get(l as usize) {
-        Some(lock) => match &lock.inv {
-            Some(e) => add_invariant(names, lock.name, e, text),
-            None => Ok(()),
-        },
-        None => Ok(()),
-    }
 }
 
 /// Adds the line of an invariant.

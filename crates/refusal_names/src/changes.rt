@@ -55,7 +55,12 @@ fn add_if_apart(
     if agree(held, held_there) {
         Ok(())
     } else {
-        add_change_line(bytes, name, wanted, held, held_there, a, other, text)
+        text.extend_from_slice(b"  ")?;
+        text.extend_from_slice(name.text())?;
+        text.extend_from_slice(first_front(other))?;
+        add_change(bytes, held, last_change(wanted, a), text)?;
+        add_second(bytes, wanted, held_there, other, text)?;
+        text.extend_from_slice(b"\n")
     }
 }
 
@@ -64,28 +69,6 @@ fn agree(a: bool, b: bool) -> bool
     ensures { result ≡ rules.agree a b }
 {
     if a { b } else { !b }
-}
-
-/// Adds the line of a lock.
-fn add_change_line(
-    bytes: &[u8],
-    name: Name,
-    wanted: u32,
-    held: bool,
-    held_there: bool,
-    a: &[Stmt],
-    other: Option<&[Stmt]>,
-    text: &mut Blob,
-) -> Result<(), NoMemory>
-    ensures { OnOk result (text.new ≡ text.old
-        ++ spec.change_line bytes.now name wanted held held_there (view.block a.now) (option_map (λ b. view.block b.now) other.entry)) }
-{
-    text.extend_from_slice(b"  ")?;
-    text.extend_from_slice(name.text())?;
-    text.extend_from_slice(first_front(other))?;
-    add_change(bytes, held, last_change(wanted, a), text)?;
-    add_second(bytes, wanted, held_there, other, text)?;
-    text.extend_from_slice(b"\n")
 }
 
 /// What stands in front of the words for the first block, or the only one.

@@ -63,33 +63,15 @@ fn add_of_statement(
             add_with_words(names, store.variable, words, text)
         }
         (Some(_), _) | (None, Some(_)) => {
-            add_type(alloc, names, bytes, locks, modes, known, z, text)
+            if known.controls.has(z) {
+                add_with_words(names, z, b" is a control, and has no type\n", text)
+            } else if known.stable.has(z) {
+                add_with_words(names, z, b" is listed twice\n", text)
+            } else {
+                add_untracked(alloc, names, bytes, locks, modes, z, text)
+            }
         }
         (None, None) => Ok(()),
-    }
-}
-
-/// Adds why a variable may not be given a type.
-fn add_type(
-    alloc: Global,
-    names: &NameTable,
-    bytes: &[u8],
-    locks: &[LockDecl],
-    modes: &ModeState,
-    known: &Known,
-    z: u32,
-    text: &mut Blob,
-) -> Result<(), NoMemory>
-    requires { length locks.now ≤ MOST_LOCKS }
-    ensures { OnOk result (text.new ≡ text.old
-        ++ spec.type_line names.now (unstable_line names.now bytes.now (map view.lock locks.now) (modes.now).held) known.now.stable known.now.controls z) }
-{
-    if known.controls.has(z) {
-        add_with_words(names, z, b" is a control, and has no type\n", text)
-    } else if known.stable.has(z) {
-        add_with_words(names, z, b" is listed twice\n", text)
-    } else {
-        add_untracked(alloc, names, bytes, locks, modes, z, text)
     }
 }
 

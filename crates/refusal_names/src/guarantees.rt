@@ -35,7 +35,22 @@ pub fn add_guarantee(
         thread_named(threads, other),
     );
     match names.find(variable) {
-        Some(x) => add_missing_of_both(&names, bytes, t, u, x, text),
+        Some(x) => {
+            match t {
+                Some(t) => match u {
+                    Some(u) => add_missing(
+                        &names,
+                        bytes,
+                        u,
+                        missing(&t.modes, &u.modes, x),
+                        x,
+                        text,
+                    ),
+                    None => Ok(()),
+                },
+                None => Ok(()),
+            }
+        }
         None => Ok(()),
     }
 }
@@ -59,27 +74,6 @@ fn is_named(t: &ThreadDecl, wanted: Name) -> bool
     t.name == wanted
 }
 
-/// Adds which guarantee a thread lacks, where both threads are there.
-fn add_missing_of_both(
-    names: &NameTable,
-    bytes: &[u8],
-    t: Option<&ThreadDecl>,
-    u: Option<&ThreadDecl>,
-    x: u32,
-    text: &mut Blob,
-) -> Result<(), NoMemory>
-    ensures { OnOk result (text.new ≡ text.old
-        ++ spec.missing_of_both names.now bytes.now (option_map (λ t. view.thread t.now) t.entry) (option_map (λ u. view.thread u.now) u.entry) x) }
-{
-    match t {
-        Some(t) => match u {
-            Some(u) => add_missing(names, bytes, u, missing(&t.modes, &u.modes, x), x, text),
-            None => Ok(()),
-        },
-        None => Ok(()),
-    }
-}
-
 /// Adds where a thread stands and which guarantee it lacks, if it lacks one.
 fn add_missing(
     names: &NameTable,
@@ -94,7 +88,11 @@ fn add_missing(
     match word {
         Some(word) => {
             add_stands(bytes, u, text)?;
-            add_needs(names, word, x, text)
+            text.extend_from_slice(b" and needs `guarantee ")?;
+            text.extend_from_slice(word)?;
+            text.extend_from_slice(b" ")?;
+            add_variable(names, x, text)?;
+            text.extend_from_slice(b"`\n")
         }
         None => Ok(()),
     }
@@ -140,15 +138,4 @@ fn add_stands(bytes: &[u8], t: &ThreadDecl, text: &mut Blob) -> Result<(), NoMem
     text.extend_from_slice(t.name.text())?;
     text.extend_from_slice(b" stands in line ")?;
     add_line_of(bytes, t.at, text)
-}
-
-/// Adds which guarantee a thread needs.
-fn add_needs(names: &NameTable, word: &[u8], x: u32, text: &mut Blob) -> Result<(), NoMemory>
-    ensures { OnOk result (text.new ≡ text.old ++ spec.needs_text names.now word.now x) }
-{
-    text.extend_from_slice(b" and needs `guarantee ")?;
-    text.extend_from_slice(word)?;
-    text.extend_from_slice(b" ")?;
-    add_variable(names, x, text)?;
-    text.extend_from_slice(b"`\n")
 }

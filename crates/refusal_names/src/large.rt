@@ -1,7 +1,7 @@
 //! The line of V16: what has too many nodes.
 
 ghost use Rattle.cov_expr.specs.declared.limits.TheConstants.{MOST_VARIABLES};
-ghost use Rattle.std.specs.Prelude.{◌≡◌, ◌≤◌, [], ◌++◌, OnOk, Some, length, map, option_map};
+ghost use Rattle.std.specs.Prelude.{◌≡◌, ◌≤◌, ◌++◌, OnOk, Some, length, map, option_map};
 ghost use Rattle.cov_expr.specs.View.{term};
 ghost use Rattle.cov_ast.specs.Plain.{class_term};
 ghost use Rattle.cov_ast.specs.View as view;
@@ -36,9 +36,17 @@ pub fn add_large(
     let parts = parts_of(kind);
     match parts.store {
         Some(store) => match large_class(vars, hidden, store.variable, store.value) {
-            Some(y) => add_class(names, store.variable, y, text),
+            Some(y) => {
+                text.extend_from_slice(b"  the class of ")?;
+                add_variable(names, y, text)?;
+                add_with_value(names, store.variable, text)
+            }
             None => match large_retype(store.retypes, store.variable, store.value) {
-                Some(y) => add_retype(names, store.variable, y, text),
+                Some(y) => {
+                    text.extend_from_slice(b"  the type by `retype` of ")?;
+                    add_variable(names, y, text)?;
+                    add_with_value(names, store.variable, text)
+                }
                 None => add_made_or_value(bytes, steps, text),
             },
         },
@@ -124,20 +132,15 @@ fn made_after_statement(stmt: &Stmt) -> Option<Made>
 {
     let parts = parts_of(&stmt.kind);
     match (parts.store, parts.left_guard()) {
-        (Some(store), _) => large_equation(stmt.at, store.variable, store.value),
+        (Some(store), _) => {
+            if nodes_at_most(store.value, MOST_NODES - 2) {
+                None
+            } else {
+                Some((stmt.at, b"equation of the assignment"))
+            }
+        }
         (None, Some(guard)) => large_negation(stmt.at, guard),
         (None, None) => None,
-    }
-}
-
-/// The equation of an assignment, where it is too large: whatever the variable, it has two nodes more than the value.
-fn large_equation(at: u32, _x: u32, value: &Expr) -> Option<Made>
-    ensures { option_map (λ m. (m.0, m.1.now)) result ≡ spec.large_equation at _x (term value.now) }
-{
-    if nodes_at_most(value, MOST_NODES - 2) {
-        None
-    } else {
-        Some((at, b"equation of the assignment"))
     }
 }
 
@@ -170,38 +173,15 @@ fn add_made_or(
     ensures { OnOk result (text.new ≡ text.old ++ spec.made_or bytes.now (option_map (λ m. (m.0, m.1.now)) made.entry) later.now) }
 {
     match made {
-        Some((at, words)) => add_made(bytes, at, words, text),
+        Some((at, words)) => {
+            text.extend_from_slice(b"  the ")?;
+            text.extend_from_slice(words)?;
+            text.extend_from_slice(b" in line ")?;
+            add_line_of(bytes, at, text)?;
+            text.extend_from_slice(b" has more than 1,000 nodes\n")
+        }
         None => text.extend_from_slice(later),
     }
-}
-
-/// Adds what is made at a place.
-fn add_made(bytes: &[u8], at: u32, words: &[u8], text: &mut Blob) -> Result<(), NoMemory>
-    ensures { OnOk result (text.new ≡ text.old ++ spec.made_or bytes.now (Some (at, words.now)) []) }
-{
-    text.extend_from_slice(b"  the ")?;
-    text.extend_from_slice(words)?;
-    text.extend_from_slice(b" in line ")?;
-    add_line_of(bytes, at, text)?;
-    text.extend_from_slice(b" has more than 1,000 nodes\n")
-}
-
-/// Adds that the class of a variable is too large.
-fn add_class(names: &NameTable, x: u32, y: u32, text: &mut Blob) -> Result<(), NoMemory>
-    ensures { OnOk result (text.new ≡ text.old ++ spec.class_text names.now x y) }
-{
-    text.extend_from_slice(b"  the class of ")?;
-    add_variable(names, y, text)?;
-    add_with_value(names, x, text)
-}
-
-/// Adds that the type which a variable is given is too large.
-fn add_retype(names: &NameTable, x: u32, y: u32, text: &mut Blob) -> Result<(), NoMemory>
-    ensures { OnOk result (text.new ≡ text.old ++ spec.retype_text names.now x y) }
-{
-    text.extend_from_slice(b"  the type by `retype` of ")?;
-    add_variable(names, y, text)?;
-    add_with_value(names, x, text)
 }
 
 /// Adds in the place of which variable a value stands.

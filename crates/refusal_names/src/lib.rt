@@ -33,6 +33,7 @@
 //! | | `ToldPredicates` | what the line of V12 tells of |
 //! | `given_types` | `GivenTypes` | the line of V14 |
 //! | `given_numbers` | `GivenNumbers` | the line of V13 |
+//! | `unasked` | `UnaskedStores` | behind that of V13: that nothing is asked of a store, and what hides the variable |
 //! | `unstable` | `UnstableVariables` | the line of V5, and behind those of V3, V4, V12 and V14: why a variable isn't stable |
 //! | | `ToldReads` | what the line of V3 tells of |
 //! | | `ToldTypes` | what the line of V4 tells of |
@@ -67,6 +68,7 @@ mod sets;
 mod size_laws;
 mod type_laws;
 mod types;
+mod unasked;
 mod unstable;
 mod wide;
 

@@ -57,7 +57,9 @@ fn add_lock(bytes: &[u8], lock: &LockDecl, control: Name, text: &mut Blob) -> Re
     ensures { OnOk result (text.new ≡ text.old ++ spec.locked_text bytes.now (view.lock lock.now) control) }
 {
     add_control(control, text)?;
-    add_where(bytes, lock, text)
+    text.extend_from_slice(lock.name.text())?;
+    text.extend_from_slice(b", line ")?;
+    add_line_of(bytes, lock.at, text)
 }
 
 /// Adds that a control is under a lock.
@@ -67,15 +69,6 @@ fn add_control(control: Name, text: &mut Blob) -> Result<(), NoMemory>
     text.extend_from_slice(b"  ")?;
     text.extend_from_slice(control.text())?;
     text.extend_from_slice(b" is under the lock ")
-}
-
-/// Adds which lock it is, and in which line.
-fn add_where(bytes: &[u8], lock: &LockDecl, text: &mut Blob) -> Result<(), NoMemory>
-    ensures { OnOk result (text.new ≡ text.old ++ spec.lock_where bytes.now (view.lock lock.now)) }
-{
-    text.extend_from_slice(lock.name.text())?;
-    text.extend_from_slice(b", line ")?;
-    add_line_of(bytes, lock.at, text)
 }
 
 /// Adds what is mostly done.

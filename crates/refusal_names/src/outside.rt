@@ -2,7 +2,7 @@
 
 ghost use Rattle.std.specs.Prelude.{◌≡◌, ◌++◌, OnOk, map, option_map};
 ghost use Rattle.cov_ast.specs.Declarations.{class_of};
-ghost use Rattle.cov_ast.specs.Plain.{class_term, plain};
+ghost use Rattle.cov_ast.specs.Plain.{plain};
 ghost use Rattle.cov_ast.specs.View as view;
 ghost use Rattle.cov_expr.specs.Trees.{occurrences};
 ghost use Rattle.cov_expr.specs.View.{term};
@@ -106,17 +106,12 @@ fn first_control(p: &Program, y: u32, set: &NumberSet) -> Option<u32>
     ensures { result ≡ spec.outside set.now (class_of (plain (view.program p.now)) y) }
 {
     match p.vars.as_slice().get(y as usize) {
-        Some(var) => first_of_class(&var.class, set),
+        Some(var) => {
+            match &var.class {
+                Class::Low | Class::High => None,
+                Class::When(e) => first_outside(e, set),
+            }
+        }
         None => None,
-    }
-}
-
-/// The first variable of a class outside of a set.
-fn first_of_class(class: &Class, set: &NumberSet) -> Option<u32>
-    ensures { result ≡ spec.outside set.now (class_term (view.class class.now)) }
-{
-    match class {
-        Class::Low | Class::High => None,
-        Class::When(e) => first_outside(e, set),
     }
 }

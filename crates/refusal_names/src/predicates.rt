@@ -37,28 +37,12 @@ pub fn add_predicates(
         return Ok(());
     };
     match first_expr(state.preds.as_slice(), stable) {
-        Some((e, x)) => add_predicate(alloc, names, bytes, locks, modes, e, x, text),
+        Some((e, x)) => {
+            add_predicate_text(names, e, x, text)?;
+            add_unstable(alloc, names, bytes, locks, modes, x, text)
+        }
         None => Ok(()),
     }
-}
-
-/// Adds the lines of a predicate with a variable that isn't stable.
-fn add_predicate(
-    alloc: Global,
-    names: &NameTable,
-    bytes: &[u8],
-    locks: &[LockDecl],
-    modes: &ModeState,
-    e: &Expr,
-    x: u32,
-    text: &mut Blob,
-) -> Result<(), NoMemory>
-    requires { length locks.now ≤ MOST_LOCKS }
-    ensures { OnOk result (text.new ≡ text.old
-        ++ spec.predicate_line names.now (unstable_line names.now bytes.now (map view.lock locks.now) (modes.now).held) (Some (term e.now, x))) }
-{
-    add_predicate_text(names, e, x, text)?;
-    add_unstable(alloc, names, bytes, locks, modes, x, text)
 }
 
 /// Adds which predicate it is, with its variable.

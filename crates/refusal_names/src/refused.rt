@@ -1,21 +1,18 @@
 //! The line of a refusal, by its rule and its place.
 
-ghost use Rattle.std.specs.Prelude.{◌≡◌, ◌<◌, ◌++◌, ℕ, List, Bool, IfOk, OnOk, length, map};
+ghost use Rattle.std.specs.Prelude.{◌≡◌, ◌<◌, ◌++◌, ℕ, List, Bool, IfOk, OnOk, Some, length, map};
 ghost use Rattle.cov_ast.specs.Plain.{plain};
 ghost use Rattle.cov_ast.specs.View as view;
 ghost use Rattle.cov_ast.specs.WellFormed.{IsStmInRange, IsWellFormed};
 ghost use Rattle.entail_origins.specs.Questions as asked;
 ghost use Rattle.point_law.specs.Point.{controls_of};
 ghost use Rattle.text_parts.specs.VariableNames as spelled;
-ghost use Rattle.cov_ast.specs.LocksAlong.{no_locks};
-ghost use Rattle.statement_paths.specs.LocksHeld.{held_along};
 ghost use Rattle.statement_paths.specs.VariableSets as variables;
 ghost use Rattle.mode_compat.specs.Compatible.{numbered};
 ghost use Rattle.mode_state.specs.Sets.{modes_at};
 ghost use Rattle.statement_paths.specs.Paths.{way, way_to};
 ghost use Rattle.refusal_names.specs.ForbiddenAccess.{shown_access};
 ghost use Rattle.refusal_names.specs.GivenNumbers.{shown_number};
-ghost use Rattle.refusal_names.specs.GivenTypes.{shown_line};
 ghost use Rattle.refusal_names.specs.LargeTerms.{large_line};
 ghost use Rattle.refusal_names.specs.NameLines as lines;
 ghost use Rattle.refusal_names.specs.RefusalNames as spec;
@@ -35,6 +32,7 @@ use crate::predicates::add_predicates;
 use crate::reads::add_reads;
 use crate::sets::{known_at, pass_to_state};
 use crate::types::add_types;
+use crate::unasked::add_unasked;
 use crate::unstable::add_shown_cause;
 use crate::wide::add_width;
 use cov_ast::{Detail, NameTable, Program, Refusal, Rule, Stmt, StmtKind};
@@ -138,12 +136,12 @@ fn add_of_way(
     requires formed { IsWellFormed (view.program p.now) }
     requires thread { t < length p.now.threads }
     requires range { IsStmInRange (length p.now.vars) (length p.now.locks) (view.kind found.now.stmt.now.kind) }
-    ensures { let w = way found.now in
-        OnOk result (text.new ≡ text.old ++ spec.line_of (view.program p.now) bytes.now t refusal.now.rule refusal.now.detail w.steps (held_along w.steps (no_locks (plain (view.program p.now)))) w.stm w.proofs) }
+    ensures { OnOk result (text.new ≡ text.old ++ spec.line_of_way (view.program p.now) bytes.now t refusal.now.rule refusal.now.detail (Some (way found.now))) }
 {
     let mut modes = modes_along(alloc, p, t, found.steps.as_slice())?;
     let names = variable_names(alloc, p)?;
-    add_line(alloc, p, &names, bytes, t, refusal, &mut modes, found, text)
+    add_line(alloc, p, &names, bytes, t, refusal, &mut modes, found, text)?;
+    add_unasked(alloc, p, t, refusal.rule, found, text)
 }
 
 /// Adds the line of the statement at the end of a way, by the modes in front of it.
@@ -175,9 +173,21 @@ fn add_line(
         Rule::V5 => add_shown_cause(alloc, names, bytes, p.locks.as_slice(), modes, detail, text),
         Rule::V8 => add_ends(alloc, bytes, p.locks.as_slice(), modes, kind, text),
         Rule::V10 => add_width(kind, text),
-        Rule::V12 => add_bad_predicate(alloc, p, names, bytes, modes, kind, text),
+        Rule::V12 => {
+            pass_to_state(kind, modes);
+            let stable = stable_set(alloc, p, modes)?;
+            let locks = p.locks.as_slice();
+            add_predicates(alloc, names, bytes, locks, modes, &stable, kind, text)
+        }
         Rule::V13 => add_bad_number(alloc, p, modes, found.stmt, detail, text),
-        Rule::V14 => add_bad_given(alloc, p, names, bytes, modes, kind, detail, text),
+        Rule::V14 => {
+            pass_to_state(kind, modes);
+            let known = known_at(alloc, p, modes)?;
+            let locks = p.locks.as_slice();
+            add_given(
+                alloc, names, bytes, locks, modes, &known, kind, detail, text,
+            )
+        }
         Rule::V15 => add_added(p, names, kind, text),
         Rule::V16 => add_too_large(alloc, p, names, bytes, modes, found, text),
         _ => Ok(()),
@@ -235,28 +245,6 @@ fn add_unstable_reads(
     add_reads(alloc, names, bytes, locks, modes, &stable, kind, text)
 }
 
-/// Adds the first predicate that a statement states and that isn't over stable variables, and why it isn't.
-fn add_bad_predicate(
-    alloc: Global,
-    p: &Program,
-    names: &NameTable,
-    bytes: &[u8],
-    modes: &mut ModeState,
-    kind: &StmtKind,
-    text: &mut Blob,
-) -> Result<(), NoMemory>
-    requires { IsWellFormed (view.program p.now) }
-    ensures { (t : ℕ) (held : List Bool) → modes.old ≡ modes_at (plain (view.program p.now)) t held
-        → OnOk result (text.new ≡ text.old ++ lines.predicates_line names.now
-        (unstable_line names.now bytes.now (view.program p.now).locks (sets.held_where_stated (view.kind kind.now) (modes.old).held))
-        (variables.stable (plain (view.program p.now)) t (sets.held_where_stated (view.kind kind.now) held)) (view.kind kind.now)) }
-{
-    pass_to_state(kind, modes);
-    let stable = stable_set(alloc, p, modes)?;
-    let locks = p.locks.as_slice();
-    add_predicates(alloc, names, bytes, locks, modes, &stable, kind, text)
-}
-
 /// Adds the first type of a statement that isn't over stable controls, and why it isn't.
 fn add_bad_type(
     alloc: Global,
@@ -300,7 +288,7 @@ fn add_bad_number(
 }
 
 /// How many entailments a statement has.
-fn entailment_count(
+pub fn entailment_count(
     alloc: Global,
     p: &Program,
     modes: &ModeState,
@@ -314,32 +302,6 @@ fn entailment_count(
     let hidden = hidden_set(alloc, p, modes)?;
     let all = questions(alloc, p, &hidden, kind)?;
     Ok(all.len())
-}
-
-/// Adds why a statement may not give a type to the variable that a refusal shows.
-fn add_bad_given(
-    alloc: Global,
-    p: &Program,
-    names: &NameTable,
-    bytes: &[u8],
-    modes: &mut ModeState,
-    kind: &StmtKind,
-    detail: Detail,
-    text: &mut Blob,
-) -> Result<(), NoMemory>
-    requires { IsWellFormed (view.program p.now) }
-    ensures { (t : ℕ) (held : List Bool) → modes.old ≡ modes_at (plain (view.program p.now)) t held
-        → OnOk result (let q = plain (view.program p.now) in let there = sets.held_where_stated (view.kind kind.now) held in
-        text.new ≡ text.old ++ shown_line names.now
-        (unstable_line names.now bytes.now (view.program p.now).locks (sets.held_where_stated (view.kind kind.now) (modes.old).held))
-        (variables.stable q t there) (controls_of q) (view.kind kind.now) detail) }
-{
-    pass_to_state(kind, modes);
-    let known = known_at(alloc, p, modes)?;
-    let locks = p.locks.as_slice();
-    add_given(
-        alloc, names, bytes, locks, modes, &known, kind, detail, text,
-    )
 }
 
 /// Adds what of a statement is too large, or of the way to it.

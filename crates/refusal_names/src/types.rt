@@ -111,17 +111,12 @@ fn add_first_type(
 {
     match first_type(kind, &known.stable_controls) {
         Some((q, x)) => {
-            add_type(
-                alloc,
-                names,
-                bytes,
-                locks,
-                modes,
-                &known.controls,
-                q,
-                x,
-                text,
-            )
+            add_type_text(names, &known.controls, q, x, text)?;
+            if known.controls.has(x) {
+                add_unstable(alloc, names, bytes, locks, modes, x, text)
+            } else {
+                Ok(())
+            }
         }
         None => Ok(()),
     }
@@ -136,30 +131,6 @@ fn first_type<'p>(kind: &'p StmtKind, set: &NumberSet) -> Option<(&'p Expr, u32)
         (Some(store), _) => first_written(store.written, store.retypes, set),
         (None, Some(state)) => first_listed(state.types.as_slice(), set),
         (None, None) => None,
-    }
-}
-
-/// Adds the lines of a type with a variable that may not be there, and why it isn't stable, where it is a control.
-fn add_type(
-    alloc: Global,
-    names: &NameTable,
-    bytes: &[u8],
-    locks: &[LockDecl],
-    modes: &ModeState,
-    controls: &Mask,
-    q: &Expr,
-    x: u32,
-    text: &mut Blob,
-) -> Result<(), NoMemory>
-    requires { length locks.now ≤ MOST_LOCKS }
-    ensures { OnOk result (text.new ≡ text.old
-        ++ spec.type_line names.now (unstable_line names.now bytes.now (map view.lock locks.now) (modes.now).held) controls.now (Some (term q.now, x))) }
-{
-    add_type_text(names, controls, q, x, text)?;
-    if controls.has(x) {
-        add_unstable(alloc, names, bytes, locks, modes, x, text)
-    } else {
-        Ok(())
     }
 }
 

@@ -72,18 +72,13 @@ fn add_unstable_part(
         Some((lock, word)) => {
             add_lock_with_held(alloc, names, bytes, locks, modes, lock, word, x, text)
         }
-        None => add_copied(names, x, text),
+        None => {
+            add_assumption(names, x, text)?;
+            text.extend_from_slice(
+                b"  copy it first into a variable of which the thread assumes `nowrite`, and assign that\n",
+            )
+        }
     }
-}
-
-/// Adds the lines of a variable that is under no lock and is to be copied.
-fn add_copied(names: &NameTable, x: u32, text: &mut Blob) -> Result<(), NoMemory>
-    ensures { OnOk result (text.new ≡ text.old ++ (spec.assumption_text names.now x ++ spec.copy_text)) }
-{
-    add_assumption(names, x, text)?;
-    text.extend_from_slice(
-        b"  copy it first into a variable of which the thread assumes `nowrite`, and assign that\n",
-    )
 }
 
 /// Adds the line of a variable that is under no lock.
