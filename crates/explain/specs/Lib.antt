@@ -19,3 +19,4 @@ pub mod ExpectedLines
 pub mod OpenBraces
 pub mod ByteSentences
 pub mod OtherTellings
+pub mod UnassumedVariables

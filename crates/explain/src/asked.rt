@@ -40,27 +40,20 @@ pub fn beside_of(names: &[String]) -> Beside
     ensures { result ≡ spec.beside_of (map string_bytes names.now) }
 {
     if 1 < names.len() && names[0].as_str() == "--points" {
-        points_by(names)
+        if names.len() == 2 {
+            return Beside::Points;
+        }
+        if names.len() != 3 {
+            return Beside::Remarks;
+        }
+        match line_number(names[2].as_bytes()) {
+            Some(number) => Beside::PointsOf(number),
+            None => Beside::Remarks,
+        }
     } else if asks_for_code(names) {
         Beside::Code
     } else {
         Beside::Remarks
-    }
-}
-
-/// Which points words ask for, of which the first is `--points`.
-fn points_by(names: &[String]) -> Beside
-    ensures { result ≡ spec.points_by (map string_bytes names.now) }
-{
-    if names.len() == 2 {
-        return Beside::Points;
-    }
-    if names.len() != 3 {
-        return Beside::Remarks;
-    }
-    match line_number(names[2].as_bytes()) {
-        Some(number) => Beside::PointsOf(number),
-        None => Beside::Remarks,
     }
 }
 
@@ -87,25 +80,15 @@ pub fn files_by(beside: Beside, names: &[String]) -> &[String]
     ensures { map string_bytes result.now ≡ spec.files_by beside (map string_bytes names.now) }
 {
     match beside {
-        Beside::Remarks => without_first(names),
-        Beside::Points | Beside::PointsOf(_) | Beside::Code => second(names),
+        Beside::Remarks => {
+            if asks_for_first(names) {
+                &names[1..]
+            } else {
+                names
+            }
+        }
+        Beside::Points | Beside::PointsOf(_) | Beside::Code => {
+            if 1 < names.len() { &names[1..2] } else { &[] }
+        }
     }
-}
-
-/// The files that words name which ask for neither points nor code.
-fn without_first(names: &[String]) -> &[String]
-    ensures { map string_bytes result.now ≡ spec.files_by Beside.Remarks (map string_bytes names.now) }
-{
-    if asks_for_first(names) {
-        &names[1..]
-    } else {
-        names
-    }
-}
-
-/// The second of some words, if it is there.
-fn second(names: &[String]) -> &[String]
-    ensures { map string_bytes result.now ≡ spec.files_by Beside.Points (map string_bytes names.now) }
-{
-    if 1 < names.len() { &names[1..2] } else { &[] }
 }

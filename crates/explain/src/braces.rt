@@ -58,18 +58,14 @@ fn is_outside(rest: &[u8]) -> bool
 {
     match rest {
         [] => true,
-        [_, ..] => begins_declared(word_run(rest)),
+        [_, ..] => {
+            let word = word_run(rest);
+            word == b"thread".as_slice()
+                || word == b"lock".as_slice()
+                || word == b"var".as_slice()
+                || word == b"level".as_slice()
+        }
     }
-}
-
-/// Whether a declaration begins with a word, which no block has.
-fn begins_declared(word: &[u8]) -> bool
-    ensures { result ≡ spec.begins_declared word.now }
-{
-    word == b"thread".as_slice()
-        || word == b"lock".as_slice()
-        || word == b"var".as_slice()
-        || word == b"level".as_slice()
 }
 
 /// Adds the line of an `else`, by the tokens in front of it.
@@ -77,7 +73,14 @@ fn add_else(bytes: &[u8], tokens: &[Token], text: &mut Blob) -> Result<(), NoMem
     ensures { OnOk result (text.new ≡ text.old ++ spec.else_line bytes.now tokens.now) }
 {
     if ends_closed(tokens) {
-        add_closed(bytes, open_brace(all_but_last(tokens)), text)
+        match open_brace(all_but_last(tokens)) {
+            Some(place) => {
+                let front = "  the `}` in front of it closes the `{` of line ";
+                let back = ", to which no `else` belongs: a `}` may be missing between them\n";
+                add_line_text(front, back, bytes, place as usize, text)
+            }
+            None => Ok(()),
+        }
     } else {
         add_open(bytes, open_brace(tokens), text)
     }
@@ -88,36 +91,12 @@ fn add_open(bytes: &[u8], brace: Option<u32>, text: &mut Blob) -> Result<(), NoM
     ensures { OnOk result (text.new ≡ text.old ++ spec.open_line bytes.now brace) }
 {
     match brace {
-        Some(place) => add_open_text(bytes, place as usize, text),
+        Some(place) => {
+            let front = "  a `}` may be missing: the `{` of line ";
+            add_line_text(front, " is open here\n", bytes, place as usize, text)
+        }
         None => Ok(()),
     }
-}
-
-/// Adds a line that says that the `{` at a place is open.
-fn add_open_text(bytes: &[u8], place: usize, text: &mut Blob) -> Result<(), NoMemory>
-    ensures { OnOk result (text.new ≡ text.old ++ spec.open_text bytes.now place) }
-{
-    let front = "  a `}` may be missing: the `{` of line ";
-    add_line_text(front, " is open here\n", bytes, place, text)
-}
-
-/// Adds a line that says that a `}` in front of an `else` closes a `{`, by the place of that, if there is one.
-fn add_closed(bytes: &[u8], brace: Option<u32>, text: &mut Blob) -> Result<(), NoMemory>
-    ensures { OnOk result (text.new ≡ text.old ++ spec.closed_line bytes.now brace) }
-{
-    match brace {
-        Some(place) => add_closed_text(bytes, place as usize, text),
-        None => Ok(()),
-    }
-}
-
-/// Adds a line that says that a `}` in front of an `else` closes the `{` at a place.
-fn add_closed_text(bytes: &[u8], place: usize, text: &mut Blob) -> Result<(), NoMemory>
-    ensures { OnOk result (text.new ≡ text.old ++ spec.closed_text bytes.now place) }
-{
-    let front = "  the `}` in front of it closes the `{` of line ";
-    let back = ", to which no `else` belongs: a `}` may be missing between them\n";
-    add_line_text(front, back, bytes, place, text)
 }
 
 /// Adds the line of a place, between words.

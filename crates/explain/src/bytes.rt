@@ -19,36 +19,24 @@ fn byte_hint(rest: &[u8]) -> &'static str
 {
     match rest {
         [] => "",
-        [first, others @ ..] => hint_of(*first, others),
-    }
-}
-
-/// The same by the first byte and what stands behind it.
-fn hint_of(first: u8, others: &[u8]) -> &'static str
-    ensures { result.now ≡ spec.hint_of first others.now }
-{
-    if first == b'>' {
-        greater_hint(others)
-    } else if first == b'=' {
-        "; an assignment is written `x := e`, and that two are equal `a == b`"
-    } else if first == b'/' {
-        "; a comment begins with `//`, and nothing is divided"
-    } else if is_upper(first) {
-        "; names and words have small letters"
-    } else if first == 239 && is_mark_behind(others) {
-        "; it is that of a byte order mark, without which the text is to be saved"
-    } else {
-        ""
-    }
-}
-
-/// How a comparison is written that has the greater side first.
-fn greater_hint(others: &[u8]) -> &'static str
-    ensures { result.now ≡ spec.greater_hint others.now }
-{
-    match others {
-        [second, ..] if *second == b'=' => "; `a >= b` is written `b <= a`",
-        _ => "; `a > b` is written `b < a`",
+        [first, others @ ..] => {
+            if *first == b'>' {
+                match others {
+                    [second, ..] if *second == b'=' => "; `a >= b` is written `b <= a`",
+                    _ => "; `a > b` is written `b < a`",
+                }
+            } else if *first == b'=' {
+                "; an assignment is written `x := e`, and that two are equal `a == b`"
+            } else if *first == b'/' {
+                "; a comment begins with `//`, and nothing is divided"
+            } else if is_upper(*first) {
+                "; names and words have small letters"
+            } else if *first == 239 && is_mark_behind(others) {
+                "; it is that of a byte order mark, without which the text is to be saved"
+            } else {
+                ""
+            }
+        }
     }
 }
 

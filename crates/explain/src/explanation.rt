@@ -23,30 +23,18 @@ pub fn add_explanation(
     ensures { OnOk result (text.new ≡ text.old ++ spec.explanation name.now bytes.now (seen answer.entry)) }
 {
     match place_of(&answer) {
-        Some(place) => add_told(alloc, name, bytes, place, answer, text),
+        Some(place) => {
+            let mut sentence = List::new(alloc);
+            add_sentence_of(bytes, &answer, &mut sentence)?;
+            add_where(name, bytes, place as usize, text)?;
+            add_report(alloc, answer, text)?;
+            add_excerpt(bytes, place as usize, text)?;
+            text.extend_from_slice(b"  ")?;
+            text.extend_from_slice(sentence.as_slice())?;
+            text.extend_from_slice(b"\n")
+        }
         None => add_report(alloc, answer, text),
     }
-}
-
-/// Adds what is told of a place.
-fn add_told(
-    alloc: Global,
-    name: &str,
-    bytes: &[u8],
-    place: u32,
-    answer: Answer<'_>,
-    text: &mut Blob,
-) -> Result<(), NoMemory>
-    ensures { OnOk result (text.new ≡ text.old ++ spec.explanation_at name.now bytes.now (seen answer.entry) (Some place)) }
-{
-    let mut sentence = List::new(alloc);
-    add_sentence_of(bytes, &answer, &mut sentence)?;
-    add_where(name, bytes, place as usize, text)?;
-    add_report(alloc, answer, text)?;
-    add_excerpt(bytes, place as usize, text)?;
-    text.extend_from_slice(b"  ")?;
-    text.extend_from_slice(sentence.as_slice())?;
-    text.extend_from_slice(b"\n")
 }
 
 /// The place that an answer names.

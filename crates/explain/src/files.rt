@@ -1,6 +1,6 @@
 //! What is told of each file, and the status of them all.
 
-ghost use Rattle.std.specs.Prelude.{◌≡◌, ◌++◌, ◌≤◌, ℕ, List, IfOk, OnOk, length, map, string_bytes};
+ghost use Rattle.std.specs.Prelude.{◌≡◌, ◌++◌, ◌≤◌, IfOk, OnOk, length, map, string_bytes};
 ghost use Rattle.call_inputs.specs.Readings.{Reads, took};
 ghost use Rattle.call_inputs.specs.Steps as step;
 ghost use Rattle.call_judge.specs.Findings.{Finds};
@@ -12,7 +12,7 @@ ghost use Rattle.cov_expr.specs.declared.limits.TheConstants.{MOST_BYTES};
 ghost use Rattle.explain.specs.FileCalls as spec;
 ghost use Rattle.explain.specs.FileCalls.{TellsAll};
 ghost use Rattle.explain.specs.Inside.Told.{AddsTold, IsLeft, outcome_of};
-ghost use Rattle.explain.specs.Tellings.{accepted_front, name_front};
+ghost use Rattle.explain.specs.Tellings.{name_front};
 
 use crate::beside::add_beside;
 use crate::explanation::{add_explanation, add_report};
@@ -119,21 +119,14 @@ fn add_name(named: bool, name: &str, answer: &Answer<'_>, text: &mut Blob) -> Re
     ensures { OnOk result (text.new ≡ text.old ++ name_front named name.now (seen answer.now)) }
 {
     if named {
-        add_accepted_name(name, answer, text)
+        match answer {
+            Answer::Accepted(_) => {
+                text.extend_from_slice(name.as_bytes())?;
+                text.extend_from_slice(b": ")
+            }
+            _ => Ok(()),
+        }
     } else {
         Ok(())
-    }
-}
-
-/// Adds the name of a file that is accepted.
-fn add_accepted_name(name: &str, answer: &Answer<'_>, text: &mut Blob) -> Result<(), NoMemory>
-    ensures { OnOk result (text.new ≡ text.old ++ accepted_front name.now (seen answer.now)) }
-{
-    match answer {
-        Answer::Accepted(_) => {
-            text.extend_from_slice(name.as_bytes())?;
-            text.extend_from_slice(b": ")
-        }
-        _ => Ok(()),
     }
 }

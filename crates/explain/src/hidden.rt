@@ -69,39 +69,27 @@ fn by_first(first: u8, rest: &[u8]) -> Option<Cause>
     ensures { result ≡ spec.by_first first rest.now }
 {
     match first {
-        b'\r' => after_return(rest),
+        b'\r' => {
+            match rest {
+                [b'\n', ..] => None,
+                _ => Some(Cause::LoneReturn),
+            }
+        }
         b'\t' | b'\n' => None,
         0..=31 | 127 => Some(Cause::Control(first)),
-        194 => after_194(rest),
-        216 => after_216(rest),
+        194 => {
+            match rest {
+                [byte @ 128..=159, ..] => Some(Cause::Control(*byte)),
+                _ => None,
+            }
+        }
+        216 => {
+            match rest {
+                [156, ..] => Some(Cause::Direction),
+                _ => None,
+            }
+        }
         226 => after_226(rest),
-        _ => None,
-    }
-}
-
-fn after_return(rest: &[u8]) -> Option<Cause>
-    ensures { result ≡ spec.after_return rest.now }
-{
-    match rest {
-        [b'\n', ..] => None,
-        _ => Some(Cause::LoneReturn),
-    }
-}
-
-fn after_194(rest: &[u8]) -> Option<Cause>
-    ensures { result ≡ spec.after_194 rest.now }
-{
-    match rest {
-        [byte @ 128..=159, ..] => Some(Cause::Control(*byte)),
-        _ => None,
-    }
-}
-
-fn after_216(rest: &[u8]) -> Option<Cause>
-    ensures { result ≡ spec.after_216 rest.now }
-{
-    match rest {
-        [156, ..] => Some(Cause::Direction),
         _ => None,
     }
 }
@@ -110,27 +98,19 @@ fn after_226(rest: &[u8]) -> Option<Cause>
     ensures { result ≡ spec.after_226 rest.now }
 {
     match rest {
-        [128, rest @ ..] => after_226_128(rest),
-        [129, rest @ ..] => after_226_129(rest),
-        _ => None,
-    }
-}
-
-fn after_226_128(rest: &[u8]) -> Option<Cause>
-    ensures { result ≡ spec.after_226_128 rest.now }
-{
-    match rest {
-        [142..=143 | 170..=174, ..] => Some(Cause::Direction),
-        [168..=169, ..] => Some(Cause::Separator),
-        _ => None,
-    }
-}
-
-fn after_226_129(rest: &[u8]) -> Option<Cause>
-    ensures { result ≡ spec.after_226_129 rest.now }
-{
-    match rest {
-        [166..=169, ..] => Some(Cause::Direction),
+        [128, rest @ ..] => {
+            match rest {
+                [142..=143 | 170..=174, ..] => Some(Cause::Direction),
+                [168..=169, ..] => Some(Cause::Separator),
+                _ => None,
+            }
+        }
+        [129, rest @ ..] => {
+            match rest {
+                [166..=169, ..] => Some(Cause::Direction),
+                _ => None,
+            }
+        }
         _ => None,
     }
 }

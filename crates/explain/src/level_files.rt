@@ -167,25 +167,13 @@ fn add_fault_lines(
     ensures { OnOk result (text.new ≡ text.old ++ spec.fault_lines name.now bytes.now fault) }
 {
     match fault_place(&fault) {
-        Some(place) => add_placed_lines(alloc, name, bytes, fault, place, text),
+        Some(place) => {
+            add_where(name, bytes, place as usize, text)?;
+            add_report(alloc, Answer::Malformed(name, fault), text)?;
+            add_excerpt(bytes, place as usize, text)
+        }
         None => add_report(alloc, Answer::Malformed(name, fault), text),
     }
-}
-
-/// Adds the report of a text with a fault at a place, with the line of that.
-fn add_placed_lines(
-    alloc: Global,
-    name: &str,
-    bytes: &[u8],
-    fault: Fault,
-    place: u32,
-    text: &mut Blob,
-) -> Result<(), NoMemory>
-    ensures { OnOk result (text.new ≡ text.old ++ spec.fault_lines_at name.now bytes.now fault (Some place)) }
-{
-    add_where(name, bytes, place as usize, text)?;
-    add_report(alloc, Answer::Malformed(name, fault), text)?;
-    add_excerpt(bytes, place as usize, text)
 }
 
 /// The place of a fault.

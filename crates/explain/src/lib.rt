@@ -31,6 +31,7 @@
 //! | `explanation` | `Explanations` | what is told of the bytes of a file |
 //! | `beside`, `more` | `Tellings` | what is told beside it: what could stand at the place of a token, and what a refusal is about |
 //! | `others` | `OtherTellings` | what is told of the other entailments for which a thread would be refused, and which of them is to be looked at first |
+//! | `unassumed` | `UnassumedVariables` | the line that says what every other thread guarantees, and the thread of a refusal doesn't assume |
 //! | `level_files`, `observers` | `FileCalls`, `LevelTellings` | how a program and levels are read, and what is told of them |
 //! | `suggested` | `SuggestedTexts` | what is told of a program for which certificates are searched |
 //! | `next`, `fronts`, `places`, `line` | `ExpectedTokens`, `ExpectedLines` | what could stand at a place, in the order of the table of spellings, and the line that says so |
@@ -69,6 +70,7 @@ mod places;
 mod rules;
 mod sentences;
 mod suggested;
+mod unassumed;
 mod unreached;
 mod unused;
 mod uses;

@@ -17,14 +17,7 @@ pub fn add_expected(alloc: Global, bytes: &[u8], at: u32, text: &mut Blob) -> Re
 {
     let of_version = is_behind_version(alloc, bytes, at)?;
     let found = expected(alloc, bytes, at)?;
-    add_line(of_version, found.as_slice(), text)
-}
-
-/// Adds a line that has what could stand at a place.
-fn add_line(of_version: bool, found: &[Next], text: &mut Blob) -> Result<(), NoMemory>
-    ensures { OnOk result (text.new ≡ text.old ++ spec.line_of of_version found.now) }
-{
-    match found {
+    match found.as_slice() {
         [] => Ok(()),
         [first, others @ ..] => {
             add_line_front(text)?;
@@ -59,24 +52,19 @@ fn add_phrase(of_version: bool, next: Next, text: &mut Blob) -> Result<(), NoMem
     ensures { OnOk result (text.new ≡ text.old ++ spec.phrase of_version next) }
 {
     match next {
-        Next::Token(kind) => add_kind(of_version, kind, text),
+        Next::Token(kind) => {
+            if is(Kind::Name, kind) {
+                return text.extend_from_slice(b"a name");
+            }
+            if is(Kind::Number, kind) {
+                return text.extend_from_slice(number_phrase(of_version).as_bytes());
+            }
+            text.extend_from_slice(b"`")?;
+            text.extend_from_slice(spelling_of(kind))?;
+            text.extend_from_slice(b"`")
+        }
         Next::End => text.extend_from_slice(b"the end of the text"),
     }
-}
-
-/// Adds the words for a token of a kind.
-fn add_kind(of_version: bool, kind: Kind, text: &mut Blob) -> Result<(), NoMemory>
-    ensures { OnOk result (text.new ≡ text.old ++ spec.kind_phrase of_version kind) }
-{
-    if is(Kind::Name, kind) {
-        return text.extend_from_slice(b"a name");
-    }
-    if is(Kind::Number, kind) {
-        return text.extend_from_slice(number_phrase(of_version).as_bytes());
-    }
-    text.extend_from_slice(b"`")?;
-    text.extend_from_slice(spelling_of(kind))?;
-    text.extend_from_slice(b"`")
 }
 
 /// The words for a number.

@@ -15,6 +15,7 @@ ghost use Rattle.explain.specs.HiddenText.{text_warnings};
 use crate::braces::add_brace_line;
 use crate::line::add_expected;
 use crate::others::add_others_unless;
+use crate::unassumed::add_unassumed_line;
 use crate::warnings::{add_text_warnings, add_warnings};
 use call_inputs::parse_text;
 use call_judge::judge::Judged;
@@ -102,8 +103,8 @@ pub fn add_refused(
     add_text_warnings(alloc, name, bytes, text)
 }
 
-/// Adds what a refusal of a program is about: of W8, W9, V1 to V5, V8, V12 and V14 to V16 names, of V9 the entailment and others of the thread, of other
-/// rules nothing.
+/// Adds what a refusal of a program is about: of W8, W9, V1 to V5, V8, V12 and V14 to V16 names; then what its thread doesn't assume though every other guarantees it; and of V9 the
+/// entailment and others of the thread.
 fn add_refusal_lines(
     alloc: Global,
     first: bool,
@@ -117,6 +118,7 @@ fn add_refusal_lines(
     ensures { OnOk result (text.new ≡ text.old ++ spec.refusal_lines first name.now (view.program program.now) bytes.now refusal.now) }
 {
     add_names(alloc, program, bytes, refusal, text)?;
+    add_unassumed_line(alloc, program, refusal.thread, text)?;
     add_asked(alloc, program, bytes, refusal, text)?;
     add_others_unless(alloc, first, name, bytes, refusal, program, text)
 }

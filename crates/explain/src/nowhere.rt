@@ -20,17 +20,10 @@ pub fn holds_nowhere(alloc: Global, e: &Expr) -> Result<bool, NoMemory>
 {
     let mut parts = List::new(alloc);
     add_conjuncts(alloc, e, &mut parts)?;
-    deny_each_other(alloc, &parts)
-}
-
-/// Whether expressions can't all hold.
-fn deny_each_other(alloc: Global, hyps: &List<Expr>) -> Result<bool, NoMemory>
-    ensures { IfOk result (λ found. found ≡ spec.deny_each_other (map term hyps.now)) }
-{
-    if have_no_value(hyps) {
+    if have_no_value(&parts) {
         return Ok(true);
     }
-    let found = find(alloc, hyps, &Expr::Const(0), 0)?;
+    let found = find(alloc, &parts, &Expr::Const(0), 0)?;
     Ok(found.is_some())
 }
 

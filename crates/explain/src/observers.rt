@@ -200,15 +200,8 @@ fn add_mark(
     ensures { OnOk result (text.new ≡ text.old ++ spec.mark_line seen.now names.now (view.var var.now)) }
 {
     let number = mark(seen, names, var);
-    add_mark_text(var.name, number, text)
-}
-
-/// Adds the number that stands for a name, if one does.
-fn add_mark_text(name: Name, number: Option<u32>, text: &mut Blob) -> Result<(), NoMemory>
-    ensures { OnOk result (text.new ≡ text.old ++ spec.mark_text name number) }
-{
     match number {
-        Some(number) => add_stands(name, number, text),
+        Some(number) => add_stands(var.name, number, text),
         None => Ok(()),
     }
 }

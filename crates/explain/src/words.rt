@@ -13,7 +13,13 @@ pub fn add_token_sentence(rest: &[u8], text: &mut Blob) -> Result<(), NoMemory>
 {
     match rest {
         [] => text.extend_from_slice(b"the text ends here, and no program is whole"),
-        [first, ..] if is_lower(*first) => add_word_sentence(word_run(rest), text),
+        [first, ..] if is_lower(*first) => {
+            let word = word_run(rest);
+            text.extend_from_slice(word_front(word).as_bytes())?;
+            text.extend_from_slice(word)?;
+            text.extend_from_slice(word_end(word).as_bytes())?;
+            text.extend_from_slice(word_hint(word).as_bytes())
+        }
         [first, others @ ..] => add_sign_sentence(*first, others, text),
     }
 }
@@ -47,16 +53,6 @@ fn is_assigned(others: &[u8]) -> bool
         [first, ..] => *first == b'=',
         [] => false,
     }
-}
-
-/// Adds the sentence of a word.
-fn add_word_sentence(word: &[u8], text: &mut Blob) -> Result<(), NoMemory>
-    ensures { OnOk result (text.new ≡ text.old ++ spec.word_sentence word.now) }
-{
-    text.extend_from_slice(word_front(word).as_bytes())?;
-    text.extend_from_slice(word)?;
-    text.extend_from_slice(word_end(word).as_bytes())?;
-    text.extend_from_slice(word_hint(word).as_bytes())
 }
 
 /// What stands in front of a word in its sentence.
