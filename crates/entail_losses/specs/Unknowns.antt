@@ -52,7 +52,7 @@ pub data Reason : Type 0 where
   no_equation : (at y : ℕ) → Reason
   -- a guard that mentions it and gives no predicate, for the same reason
   no_guard : (at y : ℕ) → Reason
-  -- a state that lists nothing that mentions it
+  -- a state that lists no predicate that mentions it
   unlisted : StateAt → Reason
   -- a lock that it is under, and whose invariant doesn't mention it
   taken : (at l : ℕ) → Reason

@@ -252,7 +252,7 @@ fn add_unlisted(bytes: &[u8], state: StateAt, text: &mut Blob) -> Result<(), NoM
     add_kind(state.kind, text)?;
     add_in_line(b", line ", bytes, state.at, text)?;
     text.extend_from_slice(
-        b", lists nothing that mentions it, and keeps no predicate that it doesn't list\n",
+        b", lists no predicate that mentions it, and keeps no predicate that it doesn't list\n",
     )
 }
 

@@ -52,7 +52,7 @@ pub enum Reason<'p> {
     NoEquation(u32, u32),
     /// A guard that mentions it and gives no predicate, for the same reason.
     NoGuard(u32, u32),
-    /// A state that lists nothing that mentions it.
+    /// A state that lists no predicate that mentions it.
     Unlisted(StateAt),
     /// This lock, which it is under, and whose invariant doesn't mention it.
     Taken(u32, u32),
