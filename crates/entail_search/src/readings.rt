@@ -112,6 +112,17 @@ fn derived(alloc: Global, e: Expr, says: Expr, c: Cert) -> Result<Option<Fact>, 
     Ok(Some(Fact { says, shown }))
 }
 
+/// The fact of a comparison that is a conjunct of a hypothesis.
+fn itself(alloc: Global, op: Op, a: &Expr, b: &Expr) -> Result<Option<Fact>, NoMemory>
+    ensures { IfOk result (λ made. option_map fact made ≡ Some (spec.itself (tree.bin op (term a.now) (term b.now)))) }
+{
+    let says = nodes::pair(alloc, op, a, b)?;
+    Ok(Some(Fact {
+        says,
+        shown: Cert::Auto,
+    }))
+}
+
 fn is_zero(e: &Expr) -> bool
     ensures { result ≡ spec.is_zero (term e.now) }
 {
@@ -119,6 +130,34 @@ fn is_zero(e: &Expr) -> bool
         Expr::Const(k) => *k == 0,
         Expr::Var(_) | Expr::Not(_) | Expr::Bin(..) => false,
     }
+}
+
+/// `a <= b`, of `a == b`.
+fn below_of_equal(alloc: Global, n: u32, a: &Expr, b: &Expr) -> Result<Option<Fact>, NoMemory>
+    requires { n ≤ MOST_NUMBERED }
+    ensures { IfOk result (λ made. option_map fact made ≡ spec.fact_of_comparison n Eq (term a.now) (term b.now)) }
+{
+    let why = by_axiom(alloc, 11, n + 1, n + 2, a, b)?;
+    let given = nodes::pair(alloc, Op::Eq, a, b)?;
+    derived(alloc, given, nodes::pair(alloc, Op::Le, a, b)?, why)
+}
+
+/// `0 < a`, of `a != b` where `b` is 0.
+fn positive_of_other(alloc: Global, n: u32, a: &Expr, b: &Expr) -> Result<Option<Fact>, NoMemory>
+    requires { n ≤ MOST_NUMBERED }
+    ensures { IfOk result (λ made. option_map fact made ≡ spec.fact_of_comparison n Ne (term a.now) (term b.now)) }
+{
+    if !is_zero(b) {
+        return Ok(None);
+    }
+    let why = other_than_zero(alloc, n, a)?;
+    let given = nodes::pair(alloc, Op::Ne, a, b)?;
+    derived(
+        alloc,
+        given,
+        nodes::pair(alloc, Op::Lt, &Expr::Const(0), a)?,
+        why,
+    )
 }
 
 /// The fact that a comparison gives.
@@ -133,31 +172,9 @@ fn fact_of_comparison(
     ensures { IfOk result (λ made. option_map fact made ≡ spec.fact_of_comparison n op (term a.now) (term b.now)) }
 {
     match op {
-        Op::Lt | Op::Le => {
-            let says = nodes::pair(alloc, op, a, b)?;
-            Ok(Some(Fact {
-                says,
-                shown: Cert::Auto,
-            }))
-        }
-        Op::Eq => {
-            let why = by_axiom(alloc, 11, n + 1, n + 2, a, b)?;
-            let given = nodes::pair(alloc, Op::Eq, a, b)?;
-            derived(alloc, given, nodes::pair(alloc, Op::Le, a, b)?, why)
-        }
-        Op::Ne => {
-            if !is_zero(b) {
-                return Ok(None);
-            }
-            let why = other_than_zero(alloc, n, a)?;
-            let given = nodes::pair(alloc, Op::Ne, a, b)?;
-            derived(
-                alloc,
-                given,
-                nodes::pair(alloc, Op::Lt, &Expr::Const(0), a)?,
-                why,
-            )
-        }
+        Op::Lt | Op::Le => itself(alloc, op, a, b),
+        Op::Eq => below_of_equal(alloc, n, a, b),
+        Op::Ne => positive_of_other(alloc, n, a, b),
         Op::Add | Op::Sub | Op::Mul | Op::And | Op::Or | Op::Xor => Ok(None),
         Op::Both | Op::Either => Ok(None),
     }
@@ -169,6 +186,44 @@ fn denial(alloc: Global, op: Op, a: &Expr, b: &Expr) -> Result<Expr, NoMemory>
 {
     let inside = nodes::pair(alloc, op, a, b)?;
     Ok(Expr::Not(boxed(alloc, inside)?))
+}
+
+/// `b <= a`, of `!(a < b)`.
+fn above_of_not_less(alloc: Global, n: u32, a: &Expr, b: &Expr) -> Result<Option<Fact>, NoMemory>
+    requires { n ≤ MOST_NUMBERED }
+    ensures { IfOk result (λ made. option_map fact made ≡ spec.fact_of_denial n Lt (term a.now) (term b.now)) }
+{
+    let why = not_less(alloc, n, a, b)?;
+    let given = denial(alloc, Op::Lt, a, b)?;
+    derived(alloc, given, nodes::pair(alloc, Op::Le, b, a)?, why)
+}
+
+/// `b < a`, of `!(a <= b)`.
+fn above_of_not_at_most(alloc: Global, n: u32, a: &Expr, b: &Expr) -> Result<Option<Fact>, NoMemory>
+    requires { n ≤ MOST_NUMBERED }
+    ensures { IfOk result (λ made. option_map fact made ≡ spec.fact_of_denial n Le (term a.now) (term b.now)) }
+{
+    let why = not_at_most(alloc, n, a, b)?;
+    let given = denial(alloc, Op::Le, a, b)?;
+    derived(alloc, given, nodes::pair(alloc, Op::Lt, b, a)?, why)
+}
+
+/// `0 < a`, of `!(a == b)` where `b` is 0.
+fn positive_of_not_zero(alloc: Global, n: u32, a: &Expr, b: &Expr) -> Result<Option<Fact>, NoMemory>
+    requires { n ≤ MOST_NUMBERED }
+    ensures { IfOk result (λ made. option_map fact made ≡ spec.fact_of_denial n Eq (term a.now) (term b.now)) }
+{
+    if !is_zero(b) {
+        return Ok(None);
+    }
+    let why = not_zero(alloc, n, a)?;
+    let given = denial(alloc, Op::Eq, a, b)?;
+    derived(
+        alloc,
+        given,
+        nodes::pair(alloc, Op::Lt, &Expr::Const(0), a)?,
+        why,
+    )
 }
 
 /// The fact that the negation of a comparison gives.
@@ -183,29 +238,9 @@ fn fact_of_denial(
     ensures { IfOk result (λ made. option_map fact made ≡ spec.fact_of_denial n op (term a.now) (term b.now)) }
 {
     match op {
-        Op::Lt => {
-            let why = not_less(alloc, n, a, b)?;
-            let given = denial(alloc, Op::Lt, a, b)?;
-            derived(alloc, given, nodes::pair(alloc, Op::Le, b, a)?, why)
-        }
-        Op::Le => {
-            let why = not_at_most(alloc, n, a, b)?;
-            let given = denial(alloc, Op::Le, a, b)?;
-            derived(alloc, given, nodes::pair(alloc, Op::Lt, b, a)?, why)
-        }
-        Op::Eq => {
-            if !is_zero(b) {
-                return Ok(None);
-            }
-            let why = not_zero(alloc, n, a)?;
-            let given = denial(alloc, Op::Eq, a, b)?;
-            derived(
-                alloc,
-                given,
-                nodes::pair(alloc, Op::Lt, &Expr::Const(0), a)?,
-                why,
-            )
-        }
+        Op::Lt => above_of_not_less(alloc, n, a, b),
+        Op::Le => above_of_not_at_most(alloc, n, a, b),
+        Op::Eq => positive_of_not_zero(alloc, n, a, b),
         Op::Ne | Op::Add | Op::Sub | Op::Mul | Op::And | Op::Or | Op::Xor => Ok(None),
         Op::Both | Op::Either => Ok(None),
     }
@@ -234,19 +269,36 @@ fn fact_of(alloc: Global, n: u32, e: &Expr) -> Result<Option<Fact>, NoMemory>
     }
 }
 
+/// `b <= a`, of `a == b`.
+fn above_of_equal(alloc: Global, n: u32, a: &Expr, b: &Expr) -> Result<Option<Fact>, NoMemory>
+    requires { n ≤ MOST_NUMBERED }
+    ensures { IfOk result (λ made. option_map fact made ≡ spec.turned_of n (Some (term a.now, term b.now))) }
+{
+    let why = equal_above(alloc, n, a, b)?;
+    let given = nodes::pair(alloc, Op::Eq, a, b)?;
+    derived(alloc, given, nodes::pair(alloc, Op::Le, b, a)?, why)
+}
+
 /// The other fact that an equation gives.
 fn turned_of(alloc: Global, n: u32, e: &Expr) -> Result<Option<Fact>, NoMemory>
     requires { n ≤ MOST_NUMBERED }
     ensures { IfOk result (λ made. option_map fact made ≡ spec.turned_of n (valid.operands Eq (term e.now))) }
 {
     match operands(Op::Eq, e) {
-        Some((a, b)) => {
-            let why = equal_above(alloc, n, a, b)?;
-            let given = nodes::pair(alloc, Op::Eq, a, b)?;
-            derived(alloc, given, nodes::pair(alloc, Op::Le, b, a)?, why)
-        }
+        Some((a, b)) => above_of_equal(alloc, n, a, b),
         None => Ok(None),
     }
+}
+
+/// Adds the facts of a conjunct of a hypothesis.
+fn gather_one(alloc: Global, n: u32, facts: &mut List<Fact>, e: &Expr) -> Result<(), NoMemory>
+    requires { n ≤ MOST_NUMBERED }
+    ensures { OnOk result (map fact facts.new ≡ spec.gathered_one n (map fact facts.old) (term e.now)) }
+{
+    let made = fact_of(alloc, n, e)?;
+    add_any(facts, made)?;
+    let turned = turned_of(alloc, n, e)?;
+    add_any(facts, turned)
 }
 
 /// Adds the facts of each conjunct of a hypothesis.
@@ -260,10 +312,7 @@ fn gather(alloc: Global, n: u32, facts: &mut List<Fact>, e: &Expr) -> Result<(),
             gather(alloc, n, facts, b)
         }
         Expr::Const(_) | Expr::Var(_) | Expr::Not(_) | Expr::Bin(..) => {
-            let made = fact_of(alloc, n, e)?;
-            add_any(facts, made)?;
-            let turned = turned_of(alloc, n, e)?;
-            add_any(facts, turned)
+            gather_one(alloc, n, facts, e)
         }
     }
 }
