@@ -78,7 +78,7 @@ abbrev unstable_part : s.Program → (variable : List ℕ) → List ℕ
 unstable_part p x = spec.refusal_names p (codes "first\nsecond\n") V5 (Some 0) 90 (One x)
 
 copied_part : unstable_part (without_locks (s.assign 0 (var 2) None [])) (codes "c")
-    ≡ codes "  c is under no lock, and the thread doesn't assume `nowrite c`\n  copy it first into a variable of which the thread assumes `nowrite`, and assign that\n"
+    ≡ codes "  c is under no lock, and the thread doesn't assume `nowrite c`\n  assign a constant in each branch of a test of it, or a copy of it in a variable of which the thread assumes `nowrite`\n"
 copied_part = refl
 
 locked_part : unstable_part (alone (s.assign 0 (var 1) None [])) (codes "b") ≡ codes "  lock l, line 3, has `hide b`, and isn't held here; held: none\n"

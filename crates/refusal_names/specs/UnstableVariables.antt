@@ -28,7 +28,7 @@ unstable_line names bytes locks held x = lock_or_assumption names bytes (first_f
 
 -- of a variable of the value for a control: where it is under no lock, also what is mostly done
 abbrev pub copy_text : List ℕ
-copy_text = codes "  copy it first into a variable of which the thread assumes `nowrite`, and assign that\n"
+copy_text = codes "  assign a constant in each branch of a test of it, or a copy of it in a variable of which the thread assumes `nowrite`\n"
 
 abbrev pub lock_or_copy : Names → (bytes : List ℕ) → Option (Lock × List ℕ) → (x : ℕ) → (held : List ℕ) → List ℕ
 lock_or_copy names bytes None x held = assumption_text names x ++ copy_text

@@ -75,7 +75,7 @@ fn add_unstable_part(
         None => {
             add_assumption(names, x, text)?;
             text.extend_from_slice(
-                b"  copy it first into a variable of which the thread assumes `nowrite`, and assign that\n",
+                b"  assign a constant in each branch of a test of it, or a copy of it in a variable of which the thread assumes `nowrite`\n",
             )
         }
     }
