@@ -3,19 +3,25 @@ use Rattle.std.proofs.Common.{◌≡◌, [], ◌∷◌, Some, None, refl, codes,
 use Rattle.std.proofs.lemmas.Fmt.{decimal_digit}
 use Rattle.cov_expr.specs.Term.{const, var}
 use Rattle.cov_ast.specs.Declarations.{no_modes}
+use Rattle.cov_ast.specs.LocksAlong.{no_locks}
 use Rattle.cov_ast.specs.Obligations.{first_false}
-use Rattle.cov_ast.specs.Syntax.{Block, Program, assign, branch, calc, done, high, low, more, range, ring}
+use Rattle.cov_ast.specs.Plain.{plain}
+use Rattle.cov_ast.specs.Syntax.{Block, Lock, Program, assign, branch, calc, done, high, low, more, range, ring}
 use Rattle.cov_ast.specs.declared.refusal.Detail.TheVariants.{Nothing, Number}
 use Rattle.cov_ast.specs.declared.refusal.Refusal.{Refusal}
-use Rattle.cov_ast.specs.declared.refusal.Rule.TheVariants.{V8, V9}
+use Rattle.cov_ast.specs.declared.refusal.Rule.TheVariants.{V8, V9, V13}
 use Rattle.entail_counter.specs.Counterexamples.{counterexample}
 use Rattle.entail_text.specs.Findings.{suggested}
 use Rattle.typing_law.specs.ThreadEntailments.{PlacedEntailment, thread_entailments}
+use Rattle.statement_paths.specs.Paths.{yes, no}
 use Rattle.typing_law.specs.Accepted.{program_obligations}
 use Rattle.entail_refused.specs.Asked.{asked}
 use Rattle.entail_refused.specs.GivenCertificates.{cert_of}
 use Rattle.entail_refused.specs.GivenElsewhere.{line_without}
+use Rattle.entail_refused.specs.InvariantsWithout.{line_by_lock}
+use Rattle.entail_refused.specs.OtherRefusals.{other_refusals}
 use Rattle.entail_refused.specs.RefusedEntailment.{has_valid_certificate}
+use Rattle.entail_refused.specs.UnknownGuards.{lines_along}
 
 -- var a: low; var s: high; thread t { a := 0; a := s by { 1: calc }; }
 abbrev shows_secret : Program
@@ -100,3 +106,26 @@ not_given = refl
 
 no_statement : cert_of branching 1 1 ≡ None
 no_statement = refl
+
+-- of guards around: of `if a { .. }` and of the else block of `if 1 { } else { .. }`, where nothing keeps others from writing a
+guard_without_hypothesis : lines_along (plain shows_secret) 0 [] (no_locks (plain shows_secret)) (yes 7 (var 0) ∷ no 9 (const 1) ∷ [])
+    ≡ codes "  not known:    a   (guard, line 1: a isn't stable there)\n"
+guard_without_hypothesis = simp (decimal_digit 1 (lit< tt))
+
+-- lock l nowrite a, s inv a: it speaks of a, and not of s
+abbrev half_spoken : Lock
+half_spoken = record { name = codes "l"; at = 5; nowrite = 0 ∷ 1 ∷ []; hide = []; inv = Some (var 0) }
+
+invariant_without : line_by_lock shows_secret [] (Some half_spoken) 1 ≡ codes "  no invariant: s   (the lock l, line 1, has none that mentions it)\n"
+invariant_without = simp (decimal_digit 1 (lit< tt))
+
+-- a lock without an invariant
+invariant_of_none : line_by_lock shows_secret [] (Some (record half_spoken { inv = None })) 1 ≡ codes "  no invariant: s   (the lock l, line 1, has none that mentions it)\n"
+invariant_of_none = simp (decimal_digit 1 (lit< tt))
+
+invariant_with : line_by_lock shows_secret [] (Some half_spoken) 0 ≡ []
+invariant_with = refl
+
+-- behind a number that is that of no entailment
+behind_wrong_number : other_refusals shows_secret (record { rule = V13; thread = Some 0; place = 44; detail = Number 5 }) ≡ unproved_at_44 ∷ []
+behind_wrong_number = refl

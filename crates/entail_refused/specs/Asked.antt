@@ -21,6 +21,7 @@ use Rattle.entail_refused.specs.GivenElsewhere.{given_lines}
 use Rattle.entail_refused.specs.Readers.{reader_line}
 use Rattle.entail_refused.specs.Remarked.{remarks_on}
 use Rattle.entail_refused.specs.Sites.{Site, site_of}
+use Rattle.entail_refused.specs.UnknownGuards.{guard_lines}
 
 -- the entailment of a number at a place of a thread, of a program whose declarations keep the rules
 abbrev pub entailment_in : (p : Program) → (t place number : ℕ) → Option PlacedEntailment
@@ -33,10 +34,10 @@ module _ (p : Program) (bytes : List ℕ) where
   entailment_lines t site g =
       entailment_text (variable_names p.vars) g.entailment.hyps (remarks_on (plain p) bytes site g.entailment.hyps) g.entailment.goal (cert_of (numbered p t).body g.place g.number)
 
-  -- why it is asked, where that is since others may read a variable; where no certificate is given for it, for which entailments of the statement some are; what is found for it; and what is
+  -- which guards around give no predicate; why it is asked, where that is since others may read a variable; where no certificate is given for it, for which entailments of the statement some are; what is found for it; and what is
   -- told of the point
   abbrev pub lines_of_finding : (t : ℕ) → Option Site → PlacedEntailment → Finding → List ℕ
-  lines_of_finding t site g found = reader_line p t site ++ given_lines p t found g ++ further_lines p t bytes site found g.entailment
+  lines_of_finding t site g found = guard_lines (plain p) t bytes site ++ reader_line p t site ++ given_lines p t found g ++ further_lines p t bytes site found g.entailment
 
   -- what is told of an entailment that is asked there
   abbrev pub lines_at_site : (t : ℕ) → Option Site → PlacedEntailment → List ℕ

@@ -8,6 +8,7 @@ use Rattle.entail_losses.specs.Losses.{losses}
 use Rattle.entail_origins.specs.TypeLines.{type_lines}
 use Rattle.entail_refused.specs.AskedBy.{asked_by}
 use Rattle.entail_refused.specs.Cleared.{cleared_line}
+use Rattle.entail_refused.specs.InvariantsWithout.{invariant_lines}
 use Rattle.entail_refused.specs.Noted.{noted_line}
 use Rattle.entail_refused.specs.Remarked.{asked_of, known_of}
 use Rattle.entail_refused.specs.Sites.{Site}
@@ -18,7 +19,7 @@ use Rattle.entail_refused.specs.Unstored.{unstored_line}
 abbrev pub further_at : Program → (t : ℕ) → (bytes : List ℕ) → Site → Entailment → List ℕ
 further_at p t bytes s g =
     asked_by bytes p (asked_of s.question g.hyps) s.question ++ cleared_line p t s.steps s.question ++ type_lines (plain p) t bytes s.steps s.question s.stm
-    ++ noted_line (plain p) t bytes s g.goal ++ unstored_line p t s g.hyps g.goal ++ losses p t bytes s.steps (known_of s.question g.hyps) g.hyps g.goal
+    ++ noted_line (plain p) t bytes s g.goal ++ invariant_lines p bytes g.hyps s.question g.goal ++ unstored_line p t s g.hyps g.goal ++ losses p t bytes s.steps (known_of s.question g.hyps) g.hyps g.goal
 
 -- nothing where a certificate is found
 abbrev pub unless_shown : Program → (t : ℕ) → (bytes : List ℕ) → Site → Finding → Entailment → List ℕ

@@ -6,6 +6,7 @@ pub mod Cleared
 pub mod GivenElsewhere
 pub mod Remarked
 pub mod Noted
+pub mod InvariantsWithout
 pub mod OnTheWay
 pub mod Readers
 pub mod RefusedEntailment
@@ -13,5 +14,6 @@ pub mod SiteHypotheses
 pub mod GivenCertificates
 pub mod OtherRefusals
 pub mod Suggested
+pub mod UnknownGuards
 pub mod Unstored
 pub mod Inside

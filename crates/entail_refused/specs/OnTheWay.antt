@@ -1,5 +1,5 @@
 -- To which variables is stored in front of a statement, in the text, by the steps to it.
-use Rattle.std.specs.Prelude.{ℕ, List, [], ◌∷◌, Bool, true, false, length, replicate, set, Option, Some, None}
+use Rattle.std.specs.Prelude.{List, [], ◌∷◌, Bool, true, false, length, replicate, set, Option, Some, None}
 use Rattle.cov_ast.specs.Syntax.{Stm, Program}
 use Rattle.cov_ast.specs.Tables.{with_all}
 use Rattle.statement_parts.specs.Parts.{assigned, collected_in, either, Nested, none, parts, Store, turn}

@@ -8,7 +8,7 @@ use Rattle.cov_ast.specs.declared.refusal.Detail.{Detail}
 use Rattle.cov_ast.specs.declared.refusal.Detail.TheVariants.{Number}
 use Rattle.cov_ast.specs.declared.refusal.Refusal.{Refusal}
 use Rattle.cov_ast.specs.declared.refusal.Rule.{Rule}
-use Rattle.cov_ast.specs.declared.refusal.Rule.TheVariants.{V9}
+use Rattle.cov_ast.specs.declared.refusal.Rule.TheVariants.{V9, V13}
 use Rattle.mode_compat.specs.Compatible.{numbered}
 use Rattle.mode_compat.specs.Declared.{declaration_obligations}
 use Rattle.typing_law.specs.ThreadEntailments.{PlacedEntailment, is_proved_in, thread_entailments}
@@ -67,9 +67,10 @@ abbrev pub others_behind : Program → (thread : Option ℕ) → (place : ℕ) �
 others_behind p (Some t) place (Number n) = others_of p t place n
 others_behind p thread place detail = []
 
--- beside a refusal for a rule: of V9, those
+-- beside a refusal for a rule: of V9, those; and of V13, which says that numbers of certificates are wrong, all of its thread, since no entailment has the number 0
 abbrev pub others_by : Program → Rule → (thread : Option ℕ) → (place : ℕ) → Detail → List Refusal
 others_by p V9 thread place detail = others_behind p thread place detail
+others_by p V13 thread place detail = others_behind p thread 0 (Number 0)
 others_by p rule thread place detail = []
 
 abbrev pub other_refusals : Program → Refusal → List Refusal

@@ -27,7 +27,7 @@ abbrev pub listed_as : Program → (front : List ℕ) → (x : ℕ) → List ℕ
 listed_as p front x = front ++ (name_of (plain p) x ++ codes "`")
 
 abbrev pub reader_end : Program → (x : ℕ) → List ℕ
-reader_end p x = listed_as p (codes " `nowrite ") x ++ (listed_as p (codes ", and not `hide ") x ++ codes "\n")
+reader_end p x = listed_as p (codes " `nowrite ") x ++ (listed_as p (codes "; with `hide ") x ++ codes " in its place it wouldn't be asked\n")
 
 abbrev pub line_on : Program → Option Lock → (x : ℕ) → List ℕ
 line_on p keeper x = reader_front p x ++ (keeper_text keeper ++ reader_end p x)

@@ -14,6 +14,7 @@ use crate::given::{add_given, cert_of};
 use crate::readers::add_reader_line;
 use crate::remarked::remarks_on;
 use crate::site::{Site, site_of};
+use crate::unknown_guards::add_guard_lines;
 use cov_ast::{CheckFault, Detail, Program, Refusal, Rule};
 use cov_expr::{Blob, NoMemory};
 use entail_origins::add_question;
@@ -148,6 +149,7 @@ fn add_searched(
     ensures { OnOk result (text.new ≡ text.old ++ spec.lines_of_finding (view.program p.now) bytes.now t (option_map sites.site site.now) (view_entail e.now) (found_for (view_entail e.now).entailment.hyps (view_entail e.now).entailment.goal)) }
 {
     let found = found_for(alloc, &e.hyps, &e.goal)?;
+    add_guard_lines(alloc, p, t, bytes, site, text)?;
     add_reader_line(p, t, site, text)?;
     add_given(alloc, p, t, e, &found, text)?;
     add_further(alloc, p, t, bytes, site, e, &found, text)

@@ -11,6 +11,7 @@ ghost use Rattle.entail_refused.specs.Sites.{IsSiteInRange};
 
 use crate::asked_by::add_asked_by;
 use crate::cleared::add_cleared_line;
+use crate::invariants_without::add_invariant_lines;
 use crate::noted::add_noted_line;
 use crate::remarked::{asked_of, known_of};
 use crate::site::Site;
@@ -23,7 +24,7 @@ use entail_text::Finding;
 use std::alloc::Global;
 use typing_law::Entail;
 
-/// Adds which declaration asks for an entailment of a thread, what is mostly done, where the types come from that make up its goal, what could be noted in front, to which variables
+/// Adds which declaration asks for an entailment of a thread, what is mostly done, where the types come from that make up its goal, what could be noted in front, which of its variables no invariant mentions, to which variables
 /// nothing is stored, and which of the predicates that were lost on the way would help. Nothing is added where a certificate is found for it, or where it isn't known where it is asked.
 /// `bytes` are the text of the program.
 pub fn add_further(
@@ -58,6 +59,7 @@ pub fn add_further(
                 add_cleared_line(alloc, p, t, steps, site.question, text)?;
                 add_type_lines(alloc, p, t, bytes, steps, site.question, site.kind, text)?;
                 add_noted_line(alloc, p, t, bytes, site, &e.goal, text)?;
+                add_invariant_lines(alloc, p, bytes, site.question, hyps, &e.goal, text)?;
                 add_unstored_line(alloc, p, t, site, hyps, &e.goal, text)?;
                 add_losses(alloc, p, t, bytes, steps, unshown, text)
             }

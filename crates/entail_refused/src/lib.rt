@@ -1,9 +1,9 @@
 //! What a refusal for want of a valid certificate asked (V9), in plain text.
 //!
 //! - [`add_asked`]: of the entailment for which a program is refused what it asks, its goal, its hypotheses, each with
-//!   where it comes from (`entail_origins`), and its certificate (`entail_text`); then what is found for it (there too), a certificate or a memory that breaks it; who may read
+//!   where it comes from (`entail_origins`), and its certificate (`entail_text`); then what is found for it (there too), a certificate or a memory that breaks it; which guards give no predicate (`specs/UnknownGuards.antt`), who may read
 //!   (`specs/Readers.antt`); and where no certificate is found, which declaration asks (`specs/AskedBy.antt`), what is mostly done (`specs/Cleared.antt`), where the types come from that
-//!   make up the goal (`entail_origins`), what could be noted in front (`specs/Noted.antt`), to which variables nothing is stored (`specs/Unstored.antt`, `specs/OnTheWay.antt`), and which of
+//!   make up the goal (`entail_origins`), what could be noted in front (`specs/Noted.antt`), what no invariant mentions (`specs/InvariantsWithout.antt`), to which variables nothing is stored (`specs/Unstored.antt`, `specs/OnTheWay.antt`), and which of
 //!   what was lost on the way would help (`entail_losses`).
 //! - [`other_refusals`]: of its thread and of the threads behind it, the first refusal of each by a rule that isn't about certificates, and then the other entailments that have no
 //!   valid certificate, as refusals.
@@ -24,6 +24,7 @@ mod cleared;
 mod entailment;
 mod further;
 mod given;
+mod invariants_without;
 mod laws;
 mod noted;
 mod on_the_way;
@@ -33,6 +34,7 @@ mod remarked;
 mod site;
 mod site_laws;
 mod suggested;
+mod unknown_guards;
 mod unstored;
 
 pub use entailment::add_asked;

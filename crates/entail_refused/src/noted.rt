@@ -59,7 +59,7 @@ pub fn add_noted_line(
 }
 
 /// Whether what is asked is that a predicate holds.
-fn is_predicate(question: Question) -> bool
+pub fn is_predicate(question: Question) -> bool
     ensures { result ≡ spec.is_predicate question }
 {
     match question {

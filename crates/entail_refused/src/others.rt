@@ -16,7 +16,7 @@ use std::alloc::Global;
 use typing_rules::{Searched, check_beside_certificates, searched_entailments};
 use verify::check_declared;
 
-/// Of the thread of a refusal by V9 and of those behind it, the first refusal of each by a rule other than V9 and V13, if one fails; and then the other refusals by V9 of these
+/// Of the thread of a refusal by V9 or V13 and of those behind it, the first refusal of each by a rule other than V9 and V13, if one fails; and then the other refusals by V9 of these
 /// threads, in the order in which entailments are tried: those that are tried where no such rule fails before in their thread. None of a refusal for another rule.
 /// It takes twice the time of a check of these threads, and memory for the refusals.
 pub fn other_refusals(
@@ -29,6 +29,7 @@ pub fn other_refusals(
 {
     match refusal.rule {
         Rule::V9 => others_behind(alloc, p, refusal.thread, refusal.place, refusal.detail),
+        Rule::V13 => others_behind(alloc, p, refusal.thread, 0, Detail::Number(0)),
         _ => Ok(List::new(alloc)),
     }
 }

@@ -141,13 +141,13 @@ fn add_keeper(keeper: Option<&LockDecl>, text: &mut Blob) -> Result<(), NoMemory
     }
 }
 
-/// Adds in which list it is, and in which it isn't.
+/// Adds in which list it is, and in which it wouldn't be asked.
 fn add_end(p: &Program, x: u32, text: &mut Blob) -> Result<(), NoMemory>
     ensures { OnOk result (text.new ≡ text.old ++ spec.reader_end (view.program p.now) x) }
 {
     add_listed(p, b" `nowrite ", x, text)?;
-    add_listed(p, b", and not `hide ", x, text)?;
-    text.extend_from_slice(b"\n")
+    add_listed(p, b"; with `hide ", x, text)?;
+    text.extend_from_slice(b" in its place it wouldn't be asked\n")
 }
 
 /// Adds a list, with the variable in it.
