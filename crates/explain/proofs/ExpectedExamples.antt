@@ -7,7 +7,7 @@ use Rattle.cov_grammar.specs.LookAhead.{kind_is}
 use Rattle.cov_grammar.specs.Reading.{rule_of}
 use Rattle.cov_grammar.specs.Grammar.{names, atom, template_atom, unary, prod, sum, band, bxor, bor, cmp, both, either, part, arguments, last_certs, more_certs, certificate, proof, proofs, types, state, retype, assigned, branched, looped, statement, braces, class, var_decl, lock_decl, modes_behind, two_modes, thread_decl, version, program, body}
 use Rattle.explain.specs.ExpectedTokens.{token_of, candidates, is_front, is_whole}
-use Rattle.explain.specs.ExpectedLines.{line_of, line_front, spelling_of}
+use Rattle.explain.specs.ExpectedLines.{line_of, line_front, semicolon_line, semicolon_text, spelling_of}
 use Rattle.explain.specs.Inside.Following.{could_follow}
 use Rattle.explain.specs.declared.next.Next.TheVariants as n
 
@@ -70,3 +70,21 @@ none = refl
 two : line_of true (n.Token k.Number ∷ []) ≡ codes "  here could stand: the number 2\n"
 unfolding kind_is spellings spelling_of line_front
 two = refl
+
+-- where a `;` could stand, in front of `unlock`, of `}` and of a sign
+missing : semicolon_line (codes "unlock l;") (n.Token k.Name ∷ n.Token k.Semicolon ∷ n.End ∷ []) ≡ codes "  a `;` may be missing in front of it\n"
+unfolding kind_is
+missing = refl
+
+missing_in_block : semicolon_line (codes "}") (n.Token k.Semicolon ∷ []) ≡ semicolon_text
+unfolding kind_is
+missing_in_block = refl
+
+another : semicolon_line (codes "= b") (n.Token k.Semicolon ∷ []) ≡ []
+unfolding kind_is
+another = refl
+
+-- where none could
+elsewhere : semicolon_line (codes "unlock l;") (n.Token k.Name ∷ n.End ∷ []) ≡ []
+unfolding kind_is
+elsewhere = refl

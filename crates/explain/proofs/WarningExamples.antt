@@ -11,6 +11,7 @@ use Rattle.explain.specs.HiddenText.{at_front, text_warnings}
 use Rattle.explain.specs.HoldsNowhere.{holds_nowhere}
 use Rattle.explain.specs.NeverReached.{of_block}
 use Rattle.explain.specs.Unused.{is_false, warned}
+use Rattle.explain.specs.UnreadVariables.{with_unread}
 use Rattle.explain.specs.Warnings.{of_program, warnings}
 use Rattle.explain.specs.declared.warning.Cause.TheVariants as c
 
@@ -180,3 +181,9 @@ in_order : warnings (program (Some (const 0)) none) (9 ∷ 27 ∷ 97 ∷ 97 ∷ 
     ≡ warned 1 (c.Control 27) ∷ warned 4 (c.NeverRead (97 ∷ [])) ∷ warned 4 (c.NeverWritten (97 ∷ []))
     ∷ warned 16 (c.Control 7) ∷ warned 30 (c.FalseInvariant (108 ∷ [])) ∷ []
 in_order = refl
+
+-- Never read --------------------------------------------------------------------------------------------------------
+
+-- of two variables to which is stored and of which the second is read, and of a third to which nothing is
+one_unread : with_unread (false ∷ true ∷ false ∷ []) (true ∷ true ∷ false ∷ []) [] (0 ∷ 1 ∷ 2 ∷ []) ≡ 0 ∷ []
+one_unread = refl

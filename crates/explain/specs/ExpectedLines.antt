@@ -1,5 +1,7 @@
--- What could stand at a place, in plain words: one line.
-use Rattle.std.specs.Prelude.{ℕ, List, [], ◌∷◌, ◌++◌, take, Bool, false, flat_map, codes, if◌then◌else◌}
+-- What could stand at a place, in plain words: one line, and in front of it one that says that a `;` may be missing.
+use Rattle.std.specs.Prelude.{ℕ, ◌==◌, List, [], ◌∷◌, ◌++◌, take, drop, Bool, true, false, ◌&&◌, ◌||◌, flat_map, codes, if◌then◌else◌}
+use Rattle.std.specs.List.{list_any}
+use Rattle.cov_expr.specs.Bytes.{is_lower}
 use Rattle.cov_expr.specs.Spellings.{spellings}
 use Rattle.cov_expr.specs.declared.kind.Kind.{Kind}
 use Rattle.cov_expr.specs.declared.kind.Kind.TheVariants as k
@@ -53,6 +55,30 @@ are_version [] = false
 are_version (t ∷ []) = kind_is k.Version t.kind
 are_version (t ∷ u ∷ us) = false
 
--- a line of all that could stand at a place of a text; none where nothing could
+-- A missing semicolon -----------------------------------------------------------------------------------------
+
+abbrev pub is_semicolon : Next → Bool
+is_semicolon (n.Token j) = kind_is k.Semicolon j
+is_semicolon n.End = false
+
+-- whether a text ends, or begins with a word or with `}`, which is the byte 125, as what stands behind a statement does
+abbrev pub begins_behind : (rest : List ℕ) → Bool
+begins_behind [] = true
+begins_behind (b ∷ bs) = is_lower b || b == 125
+
+abbrev pub semicolon_text : List ℕ
+semicolon_text = codes "  a `;` may be missing in front of it\n"
+
+-- by the text from a token on, and what could stand in its place
+abbrev pub semicolon_line : (rest : List ℕ) → List Next → List ℕ
+semicolon_line rest nexts = if begins_behind rest && list_any is_semicolon nexts then semicolon_text else []
+
+-- All ----------------------------------------------------------------------------------------------------------
+
+-- by the text from a token on: that a `;` may be missing, and a line of all that could stand in its place; none where nothing could
+abbrev pub lines_of : (of_version : Bool) → (rest : List ℕ) → List Next → List ℕ
+lines_of of_version rest nexts = semicolon_line rest nexts ++ line_of of_version nexts
+
+-- the lines of a place of a text
 abbrev pub expected_line : (bytes : List ℕ) (at : ℕ) → List ℕ
-expected_line bytes at = line_of (are_version (words_of (take at bytes))) (expected bytes at)
+expected_line bytes at = lines_of (are_version (words_of (take at bytes))) (drop at bytes) (expected bytes at)

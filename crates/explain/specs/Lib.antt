@@ -20,3 +20,4 @@ pub mod OpenBraces
 pub mod ByteSentences
 pub mod OtherTellings
 pub mod UnassumedVariables
+pub mod UnreadVariables

@@ -18,6 +18,7 @@ use Rattle.refusal_names.specs.RefusalNames.{refusal_names}
 use Rattle.explain.specs.Explanations.{explanation}
 use Rattle.explain.specs.OtherTellings.{others_unless}
 use Rattle.explain.specs.UnassumedVariables.{unassumed_line}
+use Rattle.explain.specs.UnreadVariables.{unread_line}
 use Rattle.explain.specs.WarningSentences.{warning_lines}
 use Rattle.explain.specs.declared.manner.Manner.{Manner}
 use Rattle.explain.specs.declared.manner.Beside.{Beside}
@@ -30,12 +31,16 @@ use Rattle.call_reports.specs.declared.answers.Fault.{Fault}
 use Rattle.call_reports.specs.declared.answers.Fault.TheVariants as f
 use Rattle.call_reports.specs.declared.answers.FaultKind.TheVariants as k
 
--- what a refusal of a program is about: by name; what its thread doesn't assume though every other guarantees it; and where a certificate isn't valid, what was asked, and what is told of others
+-- what is told of the thread of a refusal: what it doesn't assume though every other guarantees it, and what it stores to and no statement reads
+abbrev pub thread_lines : Program → (thread : Option ℕ) → List ℕ
+thread_lines p thread = unassumed_line p thread ++ unread_line p thread
+
+-- what a refusal of a program is about: by name; what is told of its thread; and where a certificate isn't valid, what was asked, and what is told of others
 -- of the thread that aren't, unless the first alone is to be told; the bytes are those of its text
 abbrev pub refusal_lines : (first : Bool) (name : List ℕ) → Program → (bytes : List ℕ) → Refusal → List ℕ
 refusal_lines first name p bytes refusal =
     refusal_names p bytes refusal.rule refusal.thread refusal.place refusal.detail
-    ++ (unassumed_line p refusal.thread ++ (asked p bytes refusal.rule refusal.thread refusal.place refusal.detail ++ others_unless first name bytes p refusal))
+    ++ (thread_lines p refusal.thread ++ (asked p bytes refusal.rule refusal.thread refusal.place refusal.detail ++ others_unless first name bytes p refusal))
 
 -- what a refusal of a text is about whose names aren't in order: of one that isn't declared, the nearest declared one
 abbrev pub unnamed_asked : Parsed → Refusal → List ℕ

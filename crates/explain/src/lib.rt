@@ -32,6 +32,7 @@
 //! | `beside`, `more` | `Tellings` | what is told beside it: what could stand at the place of a token, and what a refusal is about |
 //! | `others` | `OtherTellings` | what is told of the other entailments for which a thread would be refused, and which of them is to be looked at first |
 //! | `unassumed` | `UnassumedVariables` | the line that says what every other thread guarantees, and the thread of a refusal doesn't assume |
+//! | `unread` | `UnreadVariables` | the line that says what that thread stores to and no statement reads |
 //! | `level_files`, `observers` | `FileCalls`, `LevelTellings` | how a program and levels are read, and what is told of them |
 //! | `suggested` | `SuggestedTexts` | what is told of a program for which certificates are searched |
 //! | `next`, `fronts`, `places`, `line` | `ExpectedTokens`, `ExpectedLines` | what could stand at a place, in the order of the table of spellings, and the line that says so |
@@ -72,6 +73,7 @@ mod sentences;
 mod suggested;
 mod unassumed;
 mod unreached;
+mod unread;
 mod unused;
 mod uses;
 mod warning;

@@ -1,23 +1,77 @@
-//! The line that says what could stand at a place.
+//! The lines that say what could stand at a place.
 
 ghost use Rattle.std.specs.Prelude.{◌≡◌, ◌≤◌, ◌++◌, length, map, flat_map, OnOk};
+ghost use Rattle.std.specs.List.{list_any};
 ghost use Rattle.cov_expr.specs.declared.limits.TheConstants.{MOST_BYTES};
 ghost use Rattle.explain.specs.ExpectedLines as spec;
 
 use crate::next::Next;
 use crate::places::{expected, is_behind_version};
-use cov_expr::{Blob, Kind, NoMemory, SPELLINGS};
+use cov_expr::{Blob, Kind, NoMemory, SPELLINGS, is_lower};
 use cov_grammar::is;
 use std::alloc::Global;
+use text_parts::halves;
 
-/// Adds a line that says what could stand at a place of a text of at most 1 MiB; none where nothing could.
+/// Adds a line that says what could stand at a place of a text of at most 1 MiB, and none where nothing could; in front of it one that says that a `;` may be missing.
 pub fn add_expected(alloc: Global, bytes: &[u8], at: u32, text: &mut Blob) -> Result<(), NoMemory>
     requires { length bytes.now ≤ MOST_BYTES }
     ensures { OnOk result (text.new ≡ text.old ++ spec.expected_line bytes.now at) }
 {
     let of_version = is_behind_version(alloc, bytes, at)?;
     let found = expected(alloc, bytes, at)?;
-    match found.as_slice() {
+    let (_, rest) = halves(bytes, at as usize);
+    add_semicolon_line(rest, found.as_slice(), text)?;
+    add_line(of_version, found.as_slice(), text)
+}
+
+/// Adds that a `;` may be missing in front of a token with which a text goes on, where it is a word, a `}` or the end and a `;` is among what could stand there.
+fn add_semicolon_line(rest: &[u8], nexts: &[Next], text: &mut Blob) -> Result<(), NoMemory>
+    ensures { OnOk result (text.new ≡ text.old ++ spec.semicolon_line rest.now nexts.now) }
+{
+    if begins_behind(rest) && has_semicolon(nexts) {
+        text.extend_from_slice(b"  a `;` may be missing in front of it\n")
+    } else {
+        Ok(())
+    }
+}
+
+/// Whether a text ends, or begins with a word or with `}`.
+fn begins_behind(rest: &[u8]) -> bool
+    ensures { result ≡ spec.begins_behind rest.now }
+{
+    match rest {
+        [] => true,
+        [first, ..] => is_lower(*first) || *first == b'}',
+    }
+}
+
+/// Whether a `;` is among what could stand at a place.
+fn has_semicolon(nexts: &[Next]) -> bool
+    ensures { result ≡ list_any spec.is_semicolon nexts.now }
+{
+    for next in nexts {
+        if is_semicolon(*next) {
+            return true;
+        }
+    }
+    false
+}
+
+/// Whether that is a `;`.
+fn is_semicolon(next: Next) -> bool
+    ensures { result ≡ spec.is_semicolon next }
+{
+    match next {
+        Next::Token(kind) => is(Kind::Semicolon, kind),
+        Next::End => false,
+    }
+}
+
+/// Adds a line of all that could stand at a place; none where nothing could.
+fn add_line(of_version: bool, nexts: &[Next], text: &mut Blob) -> Result<(), NoMemory>
+    ensures { OnOk result (text.new ≡ text.old ++ spec.line_of of_version nexts.now) }
+{
+    match nexts {
         [] => Ok(()),
         [first, others @ ..] => {
             add_line_front(text)?;

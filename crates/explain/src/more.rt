@@ -16,6 +16,7 @@ use crate::braces::add_brace_line;
 use crate::line::add_expected;
 use crate::others::add_others_unless;
 use crate::unassumed::add_unassumed_line;
+use crate::unread::add_unread_line;
 use crate::warnings::{add_text_warnings, add_warnings};
 use call_inputs::parse_text;
 use call_judge::judge::Judged;
@@ -103,8 +104,8 @@ pub fn add_refused(
     add_text_warnings(alloc, name, bytes, text)
 }
 
-/// Adds what a refusal of a program is about: of W8, W9, V1 to V5, V8, V12 and V14 to V16 names; then what its thread doesn't assume though every other guarantees it; and of V9 the
-/// entailment and others of the thread.
+/// Adds what a refusal of a program is about: of W8, W9, V1 to V5, V8, V12 and V14 to V16 names; then what is told of its thread; and of V9 the
+/// entailment, and of V9 and V13 others of the thread.
 fn add_refusal_lines(
     alloc: Global,
     first: bool,
@@ -118,9 +119,23 @@ fn add_refusal_lines(
     ensures { OnOk result (text.new ≡ text.old ++ spec.refusal_lines first name.now (view.program program.now) bytes.now refusal.now) }
 {
     add_names(alloc, program, bytes, refusal, text)?;
-    add_unassumed_line(alloc, program, refusal.thread, text)?;
+    add_thread_lines(alloc, program, refusal.thread, text)?;
     add_asked(alloc, program, bytes, refusal, text)?;
     add_others_unless(alloc, first, name, bytes, refusal, program, text)
+}
+
+/// Adds what the thread of a refusal doesn't assume though every other guarantees it, and what it stores to and no statement reads.
+fn add_thread_lines(
+    alloc: Global,
+    program: &Program,
+    thread: Option<u32>,
+    text: &mut Blob,
+) -> Result<(), NoMemory>
+    requires { IsWellFormed (view.program program.now) }
+    ensures { OnOk result (text.new ≡ text.old ++ spec.thread_lines (view.program program.now) thread) }
+{
+    add_unassumed_line(alloc, program, thread, text)?;
+    add_unread_line(alloc, program, thread, text)
 }
 
 /// Adds what could stand at the place of a fault, if that is a token with which no program goes on, and in front of it which brace is open there.

@@ -58,7 +58,7 @@ fn add_threads(threads: &[ThreadDecl], read: &mut NumberSet, written: &mut Numbe
 
 /// Adds what the statements of a block read.
 #[cycle(blocks)]
-fn add_block(body: &[Stmt], read: &mut NumberSet)
+pub fn add_block(body: &[Stmt], read: &mut NumberSet)
     ensures { read.new ≡ with_all read.old (block_reads (view.block body.now)) }
 {
     for stmt in body {
