@@ -97,11 +97,11 @@ module _ (name these : List ℕ) (p : Parsed) (over old new : List ℕ) where
 
   pub fault_over : (given : List ℕ) (fault : LevelFault) (shows : Option Fault) (r : Result Status NoMemory) → level_reads.Reads given p (Err fault)
       → shows ≡ level_fault_shown fault
-      → IfOk r (λ status. (found : Fault) × (shows ≡ Some found) × (status ≡ s.Malformed) × (new ≡ old ++ fault_lines over given found))
+      → IfOk r (λ status. (found : Fault) × (shows ≡ Some found) × (status ≡ s.Malformed) × (new ≡ old ++ fault_lines over given p found))
       → AddsOver name these p over (took given) old new r
   fault_over given fault shows (Ok status) reads shown (found, some, is, more) =
       let e : level_fault_shown fault ≡ Some found = sym shown ∙ some in
-      (malformed over found, fault_lines over given found, inr (found, (fault, first_of_text given fault reads found e, e), refl, refl), is, more)
+      (malformed over found, fault_lines over given p found, inr (found, (fault, first_of_text given fault reads found e, e), refl, refl), is, more)
   fault_over given fault shows (Err e) reads shown h = tt
 
 -- Parts --------------------------------------------------------------------------------------------------------

@@ -1,6 +1,7 @@
 -- What is told of a program that is shown to an observer at each of some levels, by what `levels` finds of it: of the first observer for whom it is
 -- refused all that is told of a refused program, of the program as that observer is shown it.
-use Rattle.std.specs.Prelude.{◌≡◌, ◌⊎◌, ℕ, List, [], ◌++◌, length, get_or, flat_map, Bool, false, codes, decimal, Option, Some, None}
+use Rattle.std.specs.Prelude.{◌≡◌, ◌⊎◌, ℕ, List, [], ◌++◌, drop, length, get_or, flat_map, Bool, false, codes, decimal, Option, Some, None}
+use Rattle.std.specs.List.{take_while}
 use Rattle.call_inputs.specs.Readings.{End, lacks, stops, took}
 use Rattle.call_inputs.specs.Rejections.{UnlessRejected}
 use Rattle.call_judge.specs.Check.{name_in, name_rejection, totals}
@@ -8,11 +9,14 @@ use Rattle.call_reports.specs.Replies.{Reply, malformed, refused}
 use Rattle.call_reports.specs.Reports.{report_of}
 use Rattle.call_reports.specs.declared.answers.Fault.{Fault}
 use Rattle.call_reports.specs.declared.answers.Fault.TheVariants as f
+use Rattle.call_reports.specs.declared.answers.Misfit.{Misfit}
+use Rattle.call_reports.specs.declared.answers.Misfit.TheVariants as m
 use Rattle.call_verdicts.specs.Levels.{AcceptsForAll, IsShownLevelFault, LevelsInput, level_rejection, levels_words}
 use Rattle.cov_ast.specs.Obligations.{first_false}
 use Rattle.cov_ast.specs.Plain.{plain}
 use Rattle.cov_ast.specs.Syntax.{Parsed, Program, Var}
 use Rattle.cov_ast.specs.declared.refusal.Refusal.{Refusal}
+use Rattle.cov_expr.specs.Bytes.{is_word}
 use Rattle.explain.specs.Explanations.{explanation, where_is}
 use Rattle.explain.specs.HiddenText.{text_warnings}
 use Rattle.explain.specs.Tellings.{refusal_lines, stand_lines, unnamed_asked}
@@ -23,6 +27,7 @@ use Rattle.level_text.specs.LevelReads.{GivesLevels}
 use Rattle.levels.specs.Accepted.{first_refused}
 use Rattle.levels.specs.Order.{seen_by}
 use Rattle.levels.specs.Projection.{mark_of, projected}
+use Rattle.nearest_name.specs.NearestLines.{nearest_variable_line}
 use Rattle.policy_class.specs.Resolved.{name_obligations, resolved}
 use Rattle.text_parts.specs.Excerpts.{excerpt}
 
@@ -102,9 +107,25 @@ abbrev pub fault_lines_at : (name bytes : List ℕ) → Fault → (place : Optio
 fault_lines_at name bytes fault None = report_of (malformed name fault)
 fault_lines_at name bytes fault (Some place) = where_is name bytes place ++ report_of (malformed name fault) ++ excerpt bytes place
 
--- what is told of bytes that give no levels, with their fault
-abbrev pub fault_lines : (name bytes : List ℕ) → Fault → List ℕ
-fault_lines name bytes fault = fault_lines_at name bytes fault (fault_place fault)
+-- what a fault beyond the grammar and the limits is, in one sentence
+abbrev pub misfit_sentence : Misfit → List ℕ
+misfit_sentence m.Unknown = codes "  no level that is declared in front of it, or no variable of the program, has the name that is used as such here\n"
+misfit_sentence m.Same = codes "  a level is declared, or a variable is listed, a second time here\n"
+misfit_sentence m.Marker = codes "  a level has the name of a variable that is more than a marker\n"
+misfit_sentence what = []
+
+-- of a name that isn't known, the nearest one of a variable
+abbrev pub nearest_part : Parsed → (rest : List ℕ) → Misfit → List ℕ
+nearest_part p rest m.Unknown = nearest_variable_line p (take_while is_word rest)
+nearest_part p rest what = []
+
+abbrev pub misfit_lines : Parsed → (bytes : List ℕ) → Fault → List ℕ
+misfit_lines p bytes (f.Misfit what at) = misfit_sentence what ++ nearest_part p (drop at bytes) what
+misfit_lines p bytes fault = []
+
+-- what is told of bytes that give no levels for a text, with their fault
+abbrev pub fault_lines : (name bytes : List ℕ) → Parsed → Fault → List ℕ
+fault_lines name bytes p fault = fault_lines_at name bytes fault (fault_place fault) ++ misfit_lines p bytes fault
 
 -- Replies ------------------------------------------------------------------------------------------------------
 
@@ -118,6 +139,6 @@ abbrev pub TellsOver : (name bytes : List ℕ) → Parsed → (over : List ℕ) 
 TellsOver name bytes p over (took these) reply text =
     ((l : Levels) × GivesLevels these p l × RepliesFor (record { program = p; levels = l }) reply
     × (text ≡ level_lines name bytes (record { program = p; levels = l })))
-    ⊎ ((fault : Fault) × IsShownLevelFault p these fault × (reply ≡ malformed over fault) × (text ≡ fault_lines over these fault))
+    ⊎ ((fault : Fault) × IsShownLevelFault p these fault × (reply ≡ malformed over fault) × (text ≡ fault_lines over these p fault))
 TellsOver name bytes p over (stops other) reply text = (reply ≡ other) × (text ≡ report_of reply)
 TellsOver name bytes p over lacks reply text = ⊥

@@ -3,6 +3,8 @@
 use Rattle.std.specs.Prelude.{ℕ, ◌-◌, ◌==◌, List, [], ◌∷◌, ◌++◌, Bool, true, false, Option, Some, None, length, take, flat_map, codes, decimal, if◌then◌else◌}
 use Rattle.cov_ast.specs.Syntax.{Program}
 use Rattle.cov_ast.specs.declared.refusal.Refusal.{Refusal}
+use Rattle.cov_ast.specs.declared.refusal.Rule.{Rule}
+use Rattle.cov_ast.specs.declared.refusal.Rule.TheVariants.{V13}
 use Rattle.call_judge.specs.Check.{name_in}
 use Rattle.call_reports.specs.Replies.{refused}
 use Rattle.call_reports.specs.Reports.{report_of}
@@ -64,9 +66,15 @@ other_place bytes own place = if own == place then codes "the next refusal of th
 abbrev pub look_text : (bytes : List ℕ) → (own place : ℕ) → List ℕ
 look_text bytes own place = codes "  look first at " ++ (other_place bytes own place ++ look_end)
 
--- that, where of a refusal itself nothing is wanted but a certificate
+-- whether a rule is about the numbers of certificates
+abbrev pub is_of_numbers : Rule → Bool
+is_of_numbers V13 = true
+is_of_numbers rule = false
+
+-- that, where of a refusal itself nothing is wanted but a certificate, or the number of one is wrong
 unfoldable pub look_unless_open : (bytes : List ℕ) → Program → Refusal → (place : ℕ) → List ℕ
-look_unless_open bytes p r place = if length (found_among p (r ∷ [])) == 0 then [] else look_text bytes r.place place
+look_unless_open bytes p r place =
+    if is_of_numbers r.rule then look_text bytes r.place place else (if length (found_among p (r ∷ [])) == 0 then [] else look_text bytes r.place place)
 
 -- that place is the first of those of the same thread for which none is found, if there is one
 abbrev pub look_line : (bytes : List ℕ) → Program → Refusal → (others : List Refusal) → List ℕ

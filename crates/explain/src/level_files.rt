@@ -17,14 +17,16 @@ use crate::explanation::{add_explanation, add_report, add_where};
 use crate::files::tell_unread;
 use crate::more::add_stand_lines;
 use crate::observers::tell_text;
+use crate::words::word_run;
 use call_inputs::{fetch, parse_text, text_fault};
 use call_reports::{Answer, Fault, FaultKind, Misfit, Status, Stop};
 use cov_ast::Parsed;
 use cov_expr::{Blob, MOST_BYTES, NoMemory};
 use cov_io::Shelf;
 use level_text::{LevelFault, read_levels};
+use nearest_name::add_nearest_variable;
 use std::alloc::Global;
-use text_parts::add_excerpt;
+use text_parts::{add_excerpt, halves};
 
 /// Adds what is told of a program and of levels for it, and gives the status that `levels` has for them.
 pub fn tell_levels<S: Shelf>(
@@ -119,7 +121,7 @@ fn tell_given(
 {
     match read_levels(alloc, given, &parsed) {
         Ok(l) => tell_text(alloc, name, bytes, parsed, &l, text),
-        Err(fault) => tell_fault(alloc, over, given, level_fault(fault), text),
+        Err(fault) => tell_fault(alloc, &parsed, over, given, level_fault(fault), text),
     }
 }
 
@@ -137,42 +139,110 @@ fn level_fault(fault: LevelFault) -> Option<Fault>
     }
 }
 
-/// Adds what is told of bytes that give no levels; where they have no fault, memory ran out.
+/// Adds what is told of bytes that give no levels for a text; where they have no fault, memory ran out.
 fn tell_fault(
     alloc: Global,
+    p: &Parsed,
     over: &str,
     given: &[u8],
     fault: Option<Fault>,
     text: &mut Blob,
 ) -> Result<Status, NoMemory>
-    ensures { IfOk result (λ status. (found : Fault) × (fault ≡ Some found) × (status ≡ s.Malformed) × (text.new ≡ text.old ++ spec.fault_lines over.now given.now found)) }
+    ensures { IfOk result (λ status. (found : Fault) × (fault ≡ Some found) × (status ≡ s.Malformed) × (text.new ≡ text.old ++ spec.fault_lines over.now given.now (view.parsed p.now) found)) }
 {
     match fault {
         Some(fault) => {
-            add_fault_lines(alloc, over, given, fault, text)?;
+            add_fault_lines(alloc, p, over, given, &fault, text)?;
             Ok(Status::Malformed)
         }
         None => Err(NoMemory),
     }
 }
 
-/// Adds the report of a text with a fault, and where that is.
+/// Adds what is told of bytes with a fault.
 fn add_fault_lines(
+    alloc: Global,
+    p: &Parsed,
+    name: &str,
+    bytes: &[u8],
+    fault: &Fault,
+    text: &mut Blob,
+) -> Result<(), NoMemory>
+    ensures { OnOk result (text.new ≡ text.old ++ spec.fault_lines name.now bytes.now (view.parsed p.now) fault.now) }
+{
+    add_fault_at(alloc, name, bytes, fault, text)?;
+    add_misfit_lines(alloc, p, bytes, fault, text)
+}
+
+/// Adds the report of a text with a fault, and where that is.
+fn add_fault_at(
     alloc: Global,
     name: &str,
     bytes: &[u8],
-    fault: Fault,
+    fault: &Fault,
     text: &mut Blob,
 ) -> Result<(), NoMemory>
-    ensures { OnOk result (text.new ≡ text.old ++ spec.fault_lines name.now bytes.now fault) }
+    ensures { OnOk result (text.new ≡ text.old ++ spec.fault_lines_at name.now bytes.now fault.now (spec.fault_place fault.now)) }
 {
-    match fault_place(&fault) {
+    match fault_place(fault) {
         Some(place) => {
             add_where(name, bytes, place as usize, text)?;
-            add_report(alloc, Answer::Malformed(name, fault), text)?;
+            add_report(alloc, Answer::Malformed(name, *fault), text)?;
             add_excerpt(bytes, place as usize, text)
         }
-        None => add_report(alloc, Answer::Malformed(name, fault), text),
+        None => add_report(alloc, Answer::Malformed(name, *fault), text),
+    }
+}
+
+/// Adds what a fault beyond the grammar and the limits is, and of a name that isn't known the nearest one of a variable.
+fn add_misfit_lines(
+    alloc: Global,
+    p: &Parsed,
+    bytes: &[u8],
+    fault: &Fault,
+    text: &mut Blob,
+) -> Result<(), NoMemory>
+    ensures { OnOk result (text.new ≡ text.old ++ spec.misfit_lines (view.parsed p.now) bytes.now fault.now) }
+{
+    match fault {
+        Fault::Misfit(what, at) => {
+            text.extend_from_slice(misfit_sentence(*what).as_bytes())?;
+            let (_, rest) = halves(bytes, *at as usize);
+            add_nearest_part(alloc, p, rest, *what, text)
+        }
+        _ => Ok(()),
+    }
+}
+
+/// What a fault beyond the grammar and the limits is, in one sentence.
+fn misfit_sentence(what: Misfit) -> &'static str
+    ensures { result.now ≡ spec.misfit_sentence what }
+{
+    match what {
+        Misfit::Unknown => {
+            "  no level that is declared in front of it, or no variable of the program, has the name that is used as such here\n"
+        }
+        Misfit::Same => "  a level is declared, or a variable is listed, a second time here\n",
+        Misfit::Marker => "  a level has the name of a variable that is more than a marker\n",
+        Misfit::Version | Misfit::Declares | Misfit::Thread => "",
+    }
+}
+
+/// Adds the nearest name of a variable to the one with which a text begins, where that isn't known.
+fn add_nearest_part(
+    alloc: Global,
+    p: &Parsed,
+    rest: &[u8],
+    what: Misfit,
+    text: &mut Blob,
+) -> Result<(), NoMemory>
+    ensures { OnOk result (text.new ≡ text.old ++ spec.nearest_part (view.parsed p.now) rest.now what) }
+{
+    match what {
+        Misfit::Unknown => add_nearest_variable(alloc, p, word_run(rest), text),
+        Misfit::Version | Misfit::Declares | Misfit::Thread | Misfit::Same | Misfit::Marker => {
+            Ok(())
+        }
     }
 }
 

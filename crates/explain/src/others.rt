@@ -8,7 +8,7 @@ ghost use Rattle.explain.specs.OtherTellings as spec;
 use crate::explanation::{add_explanation, add_report, add_where};
 use call_judge::check::thread_name;
 use call_reports::Answer;
-use cov_ast::{Program, Refusal};
+use cov_ast::{Program, Refusal, Rule};
 use cov_expr::{Blob, NoMemory};
 use entail_refused::{Found, add_asked, other_refusals, sort_refusals};
 use refusal_names::add_names;
@@ -118,7 +118,7 @@ fn add_sought(
     add_suggested(alloc, name, bytes, parts.found.as_slice(), program, text)
 }
 
-/// Adds where to look first, where nothing is wanted of a refusal but a certificate: at the first of those of its thread for which none is found.
+/// Adds where to look first, where nothing is wanted of a refusal but a certificate, or the number of one is wrong: at the first of those of its thread for which none is found.
 fn add_look(
     alloc: Global,
     bytes: &[u8],
@@ -152,7 +152,14 @@ fn is_of_thread(t: Option<u32>, u: Option<u32>) -> bool
     }
 }
 
-/// Adds a place to look at first, where a certificate is found for a refusal.
+/// Whether a rule is about the numbers of certificates.
+fn is_of_numbers(rule: Rule) -> bool
+    ensures { result ≡ spec.is_of_numbers rule }
+{
+    matches!(rule, Rule::V13)
+}
+
+/// Adds a place to look at first, where a certificate is found for a refusal, or the number of one is wrong.
 #[tactic(auto, unfolding(crate::specs::OtherTellings::look_unless_open))]
 fn add_look_unless_open(
     alloc: Global,
@@ -165,6 +172,9 @@ fn add_look_unless_open(
     requires { IsWellFormed (view.program program.now) }
     ensures { OnOk result (text.new ≡ text.old ++ spec.look_unless_open bytes.now (view.program program.now) refusal.now place) }
 {
+    if is_of_numbers(refusal.rule) {
+        return add_look_text(bytes, refusal.place, place, text);
+    }
     let one = [*refusal];
     let parts = sort_refusals(alloc, program, &one)?;
     if parts.found.is_empty() {
