@@ -242,16 +242,16 @@ a_low_variable : type_lines program 0 text [] q.Printed (s.output (var 3)) ≡ c
 a_low_variable = simp (decimal_digit 1 (lit< tt))
 
 -- under its lock nobody else reads `buf`
-hidden : type_lines program 0 text (taken ∷ joined [] ∷ []) (q.Freed 1) (s.unlock 0) ≡ codes "  type of buf:  0 (hidden from others; with `nowrite` in place of `hide` its class), since the join of the `if`, line 4, doesn't list it\n"
+hidden : type_lines program 0 text (taken ∷ joined [] ∷ []) (q.Freed 1) (s.unlock 0) ≡ codes "  type of buf:  0 (its class doesn't count while it is hidden from others; under `nowrite` it would), since no join of the `if`, line 4, lists it\n"
 hidden = simp (decimal_digit 4 (lit< tt))
 
 not_hidden : type_lines program 0 text (joined [] ∷ returned ∷ []) (q.Retyped 2) s.skip
-    ≡ codes "  type of o:  its class `0` (high), since the join of the `if`, line 4, doesn't list it\n"
+    ≡ codes "  type of o:  its class `0` (high), since no join of the `if`, line 4, lists it\n"
 not_hidden = simp (decimal_digit 0 (lit< tt), decimal_digit 4 (lit< tt))
 
 -- under its lock a type that is forgotten says nothing
 forgotten_where_hidden : type_lines program 0 text (taken ∷ passed 3 (s.assign 0 (const 1) None []) ∷ []) (q.Controlled 1) s.skip
-    ≡ codes "  type of buf:  its class `m == 0`, from the lock l, line 2; then m is stored to, line 3, which it mentions, so that it becomes 0 (hidden from others; with `nowrite` in place of `hide` its class); another is set by a store to it in front, or by `retype buf as ..` there, where that is shown\n"
+    ≡ codes "  type of buf:  its class `m == 0`, from the lock l, line 2; then m is stored to, line 3, which it mentions, so that it becomes 0 (its class doesn't count while it is hidden from others; under `nowrite` it would); another is set by a store to it in front, or by `retype buf as ..` there, where that is shown\n"
 forgotten_where_hidden = simp (decimal_digit 0 (lit< tt), decimal_digit 2 (lit< tt), decimal_digit 3 (lit< tt))
 
 -- others may read `o`

@@ -70,7 +70,7 @@ is_always_high e = false
 -- what is known of a variable that no other thread may read, by whether it is always high: its class, or nothing
 abbrev pub hidden_text : Plain → Names → (z : ℕ) → (is_high : Bool) → List ℕ
 hidden_text p names z true = class_text p names z
-hidden_text p names z false = codes "0 (hidden from others; with `nowrite` in place of `hide` its class)"
+hidden_text p names z false = codes "0 (its class doesn't count while it is hidden from others; under `nowrite` it would)"
 
 -- what is known of a variable without more, by whether no other thread may read it
 abbrev pub default_text : Plain → Names → (hidden : Bool) → (z : ℕ) → List ℕ
@@ -81,7 +81,7 @@ abbrev pub taken_text : Plain → Names → (z l : ℕ) → List ℕ
 taken_text p names z l = class_text p names z ++ codes ", from the lock " ++ (lock_at p l).name
 
 abbrev pub unlisted_text : Plain → Names → (hidden : Bool) → (z : ℕ) → By → List ℕ
-unlisted_text p names hidden z by = default_text p names hidden z ++ codes ", since the " ++ list_word by
+unlisted_text p names hidden z by = default_text p names hidden z ++ codes ", since no " ++ list_word by
 
 -- what sets the type of a variable, in front of the line of it
 abbrev pub source_text : Plain → Names → (hidden : Bool) → (z : ℕ) → TypeSource → List ℕ
@@ -120,7 +120,7 @@ abbrev pub source_end : Names → List Step → (index : ℕ) → TypeSource →
 source_end names steps index source.Stored = stored_in names (slice_get steps index)
 source_end names steps index (source.Taken l) = []
 source_end names steps index (source.Listed by) = []
-source_end names steps index (source.Unlisted by) = codes ", doesn't list it"
+source_end names steps index (source.Unlisted by) = codes ", lists it"
 
 -- the line of a place of the program's text
 abbrev pub place_text : (bytes : List ℕ) → (at : ℕ) → List ℕ

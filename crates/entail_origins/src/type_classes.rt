@@ -83,7 +83,7 @@ pub fn add_default(
 {
     if hidden && !is_secret(p, z) {
         text.extend_from_slice(
-            b"0 (hidden from others; with `nowrite` in place of `hide` its class)",
+            b"0 (its class doesn't count while it is hidden from others; under `nowrite` it would)",
         )
     } else {
         add_class(p, names, z, text)

@@ -289,7 +289,7 @@ fn add_source_end(
             }
         }
         TypeSource::Taken(_) | TypeSource::Listed(_) => Ok(()),
-        TypeSource::Unlisted(_) => text.extend_from_slice(b", doesn't list it"),
+        TypeSource::Unlisted(_) => text.extend_from_slice(b", lists it"),
     }
 }
 
@@ -314,7 +314,7 @@ fn add_source(
         TypeSource::Listed(by) => text.extend_from_slice(listed_text(by).as_bytes()),
         TypeSource::Unlisted(by) => {
             add_default(p, names, hidden, z, text)?;
-            text.extend_from_slice(b", since the ")?;
+            text.extend_from_slice(b", since no ")?;
             text.extend_from_slice(list_word(by).as_bytes())
         }
     }
