@@ -55,7 +55,7 @@ no_guard_text p bytes at y = in_line (codes "the guard in line ") bytes at ++ co
 
 abbrev pub unlisted_text : (bytes : List ℕ) → StateAt → List ℕ
 unlisted_text bytes s =
-    codes "the " ++ kind_text s.kind ++ in_line (codes ", line ") bytes s.at ++ codes ", lists no predicate that mentions it, and keeps no predicate that it doesn't list\n"
+    codes "no predicate in the " ++ kind_text s.kind ++ in_line (codes ", line ") bytes s.at ++ codes ", mentions it, and only what is listed there is kept\n"
 
 abbrev pub taken_text : Plain → (bytes : List ℕ) → (at l : ℕ) → List ℕ
 taken_text p bytes at l =

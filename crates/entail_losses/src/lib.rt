@@ -4,6 +4,7 @@
 //!   it, with what gives it and which states left it out: in front of these, or, of a `join`, in both blocks; and for each part of a predicate that a store forgot, and that
 //!   a note in front of the store would have kept. Where one alone would help (`entail_text`), and isn't contrary to what is known, only such are told; and none where all together wouldn't. Then
 //!   a line for each of the first variables of the goal that no hypothesis mentions: why nothing is known of it.
+//! - [`is_mentioned`]: whether one of some predicates mentions a variable.
 //!
 //! Laws have no body: [`left_out_would_be_known`], [`joined_would_be_known`], [`forgotten_would_be_kept`]; [`unknown_variables_are_told`], that there is such a line for each; and
 //! [`few_are_found`], how many are shown.
@@ -42,3 +43,4 @@ pub use left_out_laws::{
     unknown_variables_are_told,
 };
 pub use losses::{Unshown, add_losses};
+pub use unknown_variables::is_mentioned;

@@ -248,12 +248,10 @@ fn add_unstable(p: &Program, y: u32, text: &mut Blob) -> Result<(), NoMemory>
 fn add_unlisted(bytes: &[u8], state: StateAt, text: &mut Blob) -> Result<(), NoMemory>
     ensures { OnOk result (text.new ≡ text.old ++ spec.unlisted_text bytes.now state) }
 {
-    text.extend_from_slice(b"the ")?;
+    text.extend_from_slice(b"no predicate in the ")?;
     add_kind(state.kind, text)?;
     add_in_line(b", line ", bytes, state.at, text)?;
-    text.extend_from_slice(
-        b", lists no predicate that mentions it, and keeps no predicate that it doesn't list\n",
-    )
+    text.extend_from_slice(b", mentions it, and only what is listed there is kept\n")
 }
 
 /// Adds that a lock that was taken says nothing of it.

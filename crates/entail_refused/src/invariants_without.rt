@@ -3,12 +3,12 @@
 ghost use Rattle.std.specs.Prelude.{◌≡◌, ◌++◌, OnOk, map, option_map};
 ghost use Rattle.cov_ast.specs.View as view;
 ghost use Rattle.cov_expr.specs.View.{term};
-ghost use Rattle.entail_losses.specs.About as about;
 ghost use Rattle.entail_refused.specs.InvariantsWithout as spec;
 
 use crate::noted::is_predicate;
 use cov_ast::{LockDecl, Program};
 use cov_expr::{Blob, Expr, NoMemory, mentions, vars};
+use entail_losses::is_mentioned;
 use entail_origins::{Question, lock_over};
 use std::alloc::Global;
 use text_parts::{add_line_of, add_variable_name};
@@ -68,18 +68,6 @@ fn add_if_mentioned(
     } else {
         Ok(())
     }
-}
-
-/// Whether one of some predicates mentions a variable.
-fn is_mentioned(preds: &[Expr], x: u32) -> bool
-    ensures { result ≡ about.is_mentioned (map term preds.now) x }
-{
-    for e in preds {
-        if mentions(e, x) {
-            return true;
-        }
-    }
-    false
 }
 
 /// Adds the line of a variable under a lock, unless that has an invariant that mentions it.
