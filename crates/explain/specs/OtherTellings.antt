@@ -55,31 +55,37 @@ abbrev pub is_of_thread : (t u : Option ℕ) → Bool
 is_of_thread (Some t) (Some u) = t == u
 is_of_thread t u = false
 
--- another place to look at first
-abbrev pub look_end : List ℕ
-look_end = codes ", for which no certificate is found: what is mended there may move the numbers of this one\n"
+-- another place to look at first, of the same thread or of one behind it
+abbrev pub look_end : (is_own : Bool) → List ℕ
+look_end is_own =
+    if is_own then codes ", for which no certificate is found: what is mended there may move the numbers of this one\n"
+    else codes ", in another thread, for which no certificate is found\n"
 
 -- the line of a place, or that it is that of the same statement
 abbrev pub other_place : (bytes : List ℕ) → (own place : ℕ) → List ℕ
 other_place bytes own place = if own == place then codes "the next refusal of this statement" else codes "line " ++ decimal (line bytes place)
 
-abbrev pub look_text : (bytes : List ℕ) → (own place : ℕ) → List ℕ
-look_text bytes own place = codes "  look first at " ++ (other_place bytes own place ++ look_end)
+abbrev pub look_text : (bytes : List ℕ) → (is_own : Bool) → (own place : ℕ) → List ℕ
+look_text bytes is_own own place = codes "  look first at " ++ (other_place bytes own place ++ look_end is_own)
+
+abbrev pub look_if_own : (bytes : List ℕ) → (is_own : Bool) → (own place : ℕ) → List ℕ
+look_if_own bytes is_own own place = if is_own then look_text bytes is_own own place else []
 
 -- whether a rule is about the numbers of certificates
 abbrev pub is_of_numbers : Rule → Bool
 is_of_numbers V13 = true
 is_of_numbers rule = false
 
--- that, where of a refusal itself nothing is wanted but a certificate, or the number of one is wrong
-unfoldable pub look_unless_open : (bytes : List ℕ) → Program → Refusal → (place : ℕ) → List ℕ
-look_unless_open bytes p r place =
-    if is_of_numbers r.rule then look_text bytes r.place place else (if length (found_among p (r ∷ [])) == 0 then [] else look_text bytes r.place place)
+-- that, where of a refusal itself nothing is wanted but a certificate, or the number of one is wrong and the place is of the same thread
+unfoldable pub look_unless_open : (bytes : List ℕ) → (is_own : Bool) → Program → Refusal → (place : ℕ) → List ℕ
+look_unless_open bytes is_own p r place =
+    if is_of_numbers r.rule then look_if_own bytes is_own r.place place
+    else (if length (found_among p (r ∷ [])) == 0 then [] else look_text bytes is_own r.place place)
 
--- that place is the first of those of the same thread for which none is found, if there is one
+-- that place is the first of those for which none is found, if there is one
 abbrev pub look_line : (bytes : List ℕ) → Program → Refusal → (others : List Refusal) → List ℕ
 look_line bytes p r [] = []
-look_line bytes p r (o ∷ os) = if is_of_thread o.thread r.thread then look_unless_open bytes p r o.place else []
+look_line bytes p r (o ∷ os) = look_unless_open bytes (is_of_thread o.thread r.thread) p r o.place
 
 -- of those that are looked at, beside a refusal
 unfoldable pub sought_lines : (name bytes : List ℕ) → Program → Refusal → List Refusal → List ℕ

@@ -118,7 +118,7 @@ fn add_sought(
     add_suggested(alloc, name, bytes, parts.found.as_slice(), program, text)
 }
 
-/// Adds where to look first, where nothing is wanted of a refusal but a certificate, or the number of one is wrong: at the first of those of its thread for which none is found.
+/// Adds where to look first, where nothing is wanted of a refusal but a certificate, or the number of one is wrong: at the first of those for which none is found.
 fn add_look(
     alloc: Global,
     bytes: &[u8],
@@ -133,11 +133,8 @@ fn add_look(
     match open {
         [] => Ok(()),
         [next, ..] => {
-            if is_of_thread(next.thread, refusal.thread) {
-                add_look_unless_open(alloc, bytes, refusal, next.place, program, text)
-            } else {
-                Ok(())
-            }
+            let is_own = is_of_thread(next.thread, refusal.thread);
+            add_look_unless_open(alloc, bytes, is_own, refusal, next.place, program, text)
         }
     }
 }
@@ -159,40 +156,75 @@ fn is_of_numbers(rule: Rule) -> bool
     matches!(rule, Rule::V13)
 }
 
-/// Adds a place to look at first, where a certificate is found for a refusal, or the number of one is wrong.
+/// Adds a place to look at first, where a certificate is found for a refusal, or the number of one is wrong and the place is of the same thread.
 #[tactic(auto, unfolding(crate::specs::OtherTellings::look_unless_open))]
 fn add_look_unless_open(
     alloc: Global,
     bytes: &[u8],
+    is_own: bool,
     refusal: &Refusal,
     place: u32,
     program: &Program,
     text: &mut Blob,
 ) -> Result<(), NoMemory>
     requires { IsWellFormed (view.program program.now) }
-    ensures { OnOk result (text.new ≡ text.old ++ spec.look_unless_open bytes.now (view.program program.now) refusal.now place) }
+    ensures { OnOk result (text.new ≡ text.old ++ spec.look_unless_open bytes.now is_own (view.program program.now) refusal.now place) }
 {
     if is_of_numbers(refusal.rule) {
-        return add_look_text(bytes, refusal.place, place, text);
+        return add_look_if_own(bytes, is_own, refusal.place, place, text);
     }
     let one = [*refusal];
     let parts = sort_refusals(alloc, program, &one)?;
     if parts.found.is_empty() {
         Ok(())
     } else {
-        add_look_text(bytes, refusal.place, place, text)
+        add_look_text(bytes, is_own, refusal.place, place, text)
     }
 }
 
-/// Adds another place to look at first.
-fn add_look_text(bytes: &[u8], own: u32, place: u32, text: &mut Blob) -> Result<(), NoMemory>
-    ensures { OnOk result (text.new ≡ text.old ++ spec.look_text bytes.now own place) }
+/// Adds another place to look at first, if it is of the same thread.
+fn add_look_if_own(
+    bytes: &[u8],
+    is_own: bool,
+    own: u32,
+    place: u32,
+    text: &mut Blob,
+) -> Result<(), NoMemory>
+    ensures { OnOk result (text.new ≡ text.old ++ spec.look_if_own bytes.now is_own own place) }
+{
+    if is_own {
+        add_look_text(bytes, is_own, own, place, text)
+    } else {
+        Ok(())
+    }
+}
+
+/// Adds another place to look at first, with whether it is of the same thread.
+fn add_look_text(
+    bytes: &[u8],
+    is_own: bool,
+    own: u32,
+    place: u32,
+    text: &mut Blob,
+) -> Result<(), NoMemory>
+    ensures { OnOk result (text.new ≡ text.old ++ spec.look_text bytes.now is_own own place) }
 {
     text.extend_from_slice(b"  look first at ")?;
     add_other_place(bytes, own, place, text)?;
-    text.extend_from_slice(
-        b", for which no certificate is found: what is mended there may move the numbers of this one\n",
-    )
+    add_look_end(is_own, text)
+}
+
+/// Adds why that place is to be looked at first.
+fn add_look_end(is_own: bool, text: &mut Blob) -> Result<(), NoMemory>
+    ensures { OnOk result (text.new ≡ text.old ++ spec.look_end is_own) }
+{
+    if is_own {
+        text.extend_from_slice(
+            b", for which no certificate is found: what is mended there may move the numbers of this one\n",
+        )
+    } else {
+        text.extend_from_slice(b", in another thread, for which no certificate is found\n")
+    }
 }
 
 /// Adds the line of a place, or that it is that of the same statement.
