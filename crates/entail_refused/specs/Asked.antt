@@ -10,7 +10,7 @@ use Rattle.cov_ast.specs.declared.refusal.Detail.{Detail}
 use Rattle.cov_ast.specs.declared.refusal.Detail.TheVariants.{Number}
 use Rattle.entail_origins.specs.QuestionLines.{question_line}
 use Rattle.entail_text.specs.EntailmentLines.{entailment_text}
-use Rattle.entail_text.specs.Findings.{Finding, found_for}
+use Rattle.entail_text.specs.Findings.{Finding, found_for, is_shown}
 use Rattle.text_parts.specs.VariableNames.{variable_names}
 use Rattle.mode_compat.specs.Compatible.{numbered}
 use Rattle.mode_compat.specs.Declared.{declaration_obligations}
@@ -37,7 +37,7 @@ module _ (p : Program) (bytes : List ℕ) where
   -- which guards around give no predicate; why it is asked, where that is since others may read a variable; where no certificate is given for it, for which entailments of the statement some are; what is found for it; and what is
   -- told of the point
   abbrev pub lines_of_finding : (t : ℕ) → Option Site → PlacedEntailment → Finding → List ℕ
-  lines_of_finding t site g found = guard_lines (plain p) t bytes site ++ reader_line p t site ++ given_lines p t found g ++ further_lines p t bytes site found g.entailment
+  lines_of_finding t site g found = guard_lines (plain p) t bytes site ++ reader_line p t (is_shown found) site ++ given_lines p t found g ++ further_lines p t bytes site found g.entailment
 
   -- what is told of an entailment that is asked there
   abbrev pub lines_at_site : (t : ℕ) → Option Site → PlacedEntailment → List ℕ

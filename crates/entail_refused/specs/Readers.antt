@@ -26,16 +26,23 @@ reader_front p x = codes "  asked since others may read " ++ (name_of (plain p) 
 abbrev pub listed_as : Program → (front : List ℕ) → (x : ℕ) → List ℕ
 listed_as p front x = front ++ (name_of (plain p) x ++ codes "`")
 
-abbrev pub reader_end : Program → (x : ℕ) → List ℕ
-reader_end p x = listed_as p (codes " `nowrite ") x ++ (listed_as p (codes "; with `hide ") x ++ codes " in its place it wouldn't be asked\n")
+-- in which list it isn't, or in which it wouldn't be asked
+abbrev pub hide_front : (is_mend : Bool) → List ℕ
+hide_front is_mend = if is_mend then codes "; with `hide " else codes ", and not `hide "
 
-abbrev pub line_on : Program → Option Lock → (x : ℕ) → List ℕ
-line_on p keeper x = reader_front p x ++ (keeper_text keeper ++ reader_end p x)
+abbrev pub hide_end : (is_mend : Bool) → List ℕ
+hide_end is_mend = if is_mend then codes " in its place it wouldn't be asked\n" else codes "\n"
+
+abbrev pub reader_end : Program → (is_mend : Bool) → (x : ℕ) → List ℕ
+reader_end p is_mend x = listed_as p (codes " `nowrite ") x ++ (listed_as p (hide_front is_mend) x ++ hide_end is_mend)
+
+abbrev pub line_on : Program → (is_mend : Bool) → Option Lock → (x : ℕ) → List ℕ
+line_on p is_mend keeper x = reader_front p x ++ (keeper_text keeper ++ reader_end p is_mend x)
 
 -- where a lock lists it so
-abbrev pub line_by_lock : Program → Option Lock → (x : ℕ) → List ℕ
-line_by_lock p None x = []
-line_by_lock p (Some l) x = if is_unhidden l.nowrite l.hide x then line_on p (Some l) x else []
+abbrev pub line_by_lock : Program → (is_mend : Bool) → Option Lock → (x : ℕ) → List ℕ
+line_by_lock p is_mend None x = []
+line_by_lock p is_mend (Some l) x = if is_unhidden l.nowrite l.hide x then line_on p is_mend (Some l) x else []
 
 -- whether a class depends on the memory
 abbrev pub is_conditional : Class → Bool
@@ -54,27 +61,28 @@ module _ (p : Program) (t : ℕ) where
   is_kept x = let modes = (numbered p t).modes in is_unhidden modes.assume_nowrite modes.assume_hide x
 
   -- Of a control it is asked where others may not read it too. A lock is told of a variable that is sometimes low.
-  abbrev pub line_unless_control : (x : ℕ) → List ℕ
-  line_unless_control x =
+  abbrev pub line_unless_control : (is_mend : Bool) → (x : ℕ) → List ℕ
+  line_unless_control is_mend x =
       if is_control (plain p) x then [] else
-      if is_kept x then line_on p None x else
-      if depends (slice_get p.vars x) then line_by_lock p (lock_over x p.locks) x else []
+      if is_kept x then line_on p is_mend None x else
+      if depends (slice_get p.vars x) then line_by_lock p is_mend (lock_over x p.locks) x else []
 
-  -- of what is asked where a variable is low behind an assignment
-  abbrev pub line_by_question : Question → List ℕ
-  line_by_question q.Written = []
-  line_by_question (q.Shown x) = line_unless_control x
-  line_by_question (q.Controlled y) = line_unless_control y
-  line_by_question (q.Retyped z) = []
-  line_by_question (q.Invariant l) = []
-  line_by_question (q.Freed x) = []
-  line_by_question q.Guard = []
-  line_by_question q.HeadGuard = []
-  line_by_question q.Printed = []
-  line_by_question (q.Predicate end i) = []
-  line_by_question (q.TypeOf end z) = []
+  -- Of what is asked where a variable is low behind an assignment. What would mend it is told of a control that is assigned, and of a value where a certificate is found: a value that may not
+  -- be public mostly shouldn't be stored.
+  abbrev pub line_by_question : (is_shown : Bool) → Question → List ℕ
+  line_by_question is_shown q.Written = []
+  line_by_question is_shown (q.Shown x) = line_unless_control is_shown x
+  line_by_question is_shown (q.Controlled y) = line_unless_control true y
+  line_by_question is_shown (q.Retyped z) = []
+  line_by_question is_shown (q.Invariant l) = []
+  line_by_question is_shown (q.Freed x) = []
+  line_by_question is_shown q.Guard = []
+  line_by_question is_shown q.HeadGuard = []
+  line_by_question is_shown q.Printed = []
+  line_by_question is_shown (q.Predicate end i) = []
+  line_by_question is_shown (q.TypeOf end z) = []
 
   -- where it is known where something is asked
-  abbrev pub reader_line : Option Site → List ℕ
-  reader_line None = []
-  reader_line (Some s) = line_by_question s.question
+  abbrev pub reader_line : (is_shown : Bool) → Option Site → List ℕ
+  reader_line is_shown None = []
+  reader_line is_shown (Some s) = line_by_question is_shown s.question

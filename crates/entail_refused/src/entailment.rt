@@ -150,7 +150,7 @@ fn add_searched(
 {
     let found = found_for(alloc, &e.hyps, &e.goal)?;
     add_guard_lines(alloc, p, t, bytes, site, text)?;
-    add_reader_line(p, t, site, text)?;
+    add_reader_line(p, t, found.is_shown(), site, text)?;
     add_given(alloc, p, t, e, &found, text)?;
     add_further(alloc, p, t, bytes, site, e, &found, text)
 }

@@ -17,35 +17,33 @@ use text_parts::add_variable_name;
 pub fn add_reader_line(
     p: &Program,
     t: u32,
+    is_shown: bool,
     site: &Option<Site<'_>>,
     text: &mut Blob,
 ) -> Result<(), NoMemory>
     requires { t < length p.now.threads }
-    ensures { OnOk result (text.new ≡ text.old ++ spec.reader_line (view.program p.now) t (option_map sites.site site.now)) }
+    ensures { OnOk result (text.new ≡ text.old ++ spec.reader_line (view.program p.now) t is_shown (option_map sites.site site.now)) }
 {
     match site {
-        Some(site) => add_by_question(p, t, site.question, text),
+        Some(site) => add_by_question(p, t, is_shown, site.question, text),
         None => Ok(()),
     }
 }
 
 /// Adds that by what is asked.
-fn add_by_question(p: &Program, t: u32, question: Question, text: &mut Blob) -> Result<(), NoMemory>
+fn add_by_question(
+    p: &Program,
+    t: u32,
+    is_shown: bool,
+    question: Question,
+    text: &mut Blob,
+) -> Result<(), NoMemory>
     requires { t < length p.now.threads }
-    ensures { OnOk result (text.new ≡ text.old ++ spec.line_by_question (view.program p.now) t question) }
+    ensures { OnOk result (text.new ≡ text.old ++ spec.line_by_question (view.program p.now) t is_shown question) }
 {
     match question {
-        Question::Shown(x) | Question::Controlled(x) => {
-            if is_control(p, x) {
-                Ok(())
-            } else if is_kept(p, t, x) {
-                add_line(p, None, x, text)
-            } else if depends(p, x) {
-                add_by_lock(p, lock_over(x, p.locks.as_slice()), x, text)
-            } else {
-                Ok(())
-            }
-        }
+        Question::Shown(x) => add_unless_control(p, t, is_shown, x, text),
+        Question::Controlled(y) => add_unless_control(p, t, true, y, text),
         Question::Written
         | Question::Retyped(_)
         | Question::Invariant(_)
@@ -55,6 +53,28 @@ fn add_by_question(p: &Program, t: u32, question: Question, text: &mut Blob) -> 
         | Question::Printed
         | Question::Predicate(_, _)
         | Question::TypeOf(_, _) => Ok(()),
+    }
+}
+
+/// Adds that of a variable, unless it is a control, with whether what would mend it is told.
+fn add_unless_control(
+    p: &Program,
+    t: u32,
+    is_mend: bool,
+    x: u32,
+    text: &mut Blob,
+) -> Result<(), NoMemory>
+    requires { t < length p.now.threads }
+    ensures { OnOk result (text.new ≡ text.old ++ spec.line_unless_control (view.program p.now) t is_mend x) }
+{
+    if is_control(p, x) {
+        Ok(())
+    } else if is_kept(p, t, x) {
+        add_line(p, is_mend, None, x, text)
+    } else if depends(p, x) {
+        add_by_lock(p, is_mend, lock_over(x, p.locks.as_slice()), x, text)
+    } else {
+        Ok(())
     }
 }
 
@@ -84,16 +104,17 @@ fn is_kept(p: &Program, t: u32, x: u32) -> bool
 /// Adds that of a variable that a lock keeps from others' writes, and not from their reads.
 fn add_by_lock(
     p: &Program,
+    is_mend: bool,
     lock: Option<&LockDecl>,
     x: u32,
     text: &mut Blob,
 ) -> Result<(), NoMemory>
-    ensures { OnOk result (text.new ≡ text.old ++ spec.line_by_lock (view.program p.now) (option_map (λ l. view.lock l.now) lock.entry) x) }
+    ensures { OnOk result (text.new ≡ text.old ++ spec.line_by_lock (view.program p.now) is_mend (option_map (λ l. view.lock l.now) lock.entry) x) }
 {
     match lock {
         Some(l) => {
             if is_unhidden(l.nowrite.as_slice(), l.hide.as_slice(), x) {
-                add_line(p, Some(l), x, text)
+                add_line(p, is_mend, Some(l), x, text)
             } else {
                 Ok(())
             }
@@ -110,12 +131,18 @@ fn is_unhidden(nowrite: &[u32], hide: &[u32], x: u32) -> bool
 }
 
 /// Adds the line.
-fn add_line(p: &Program, keeper: Option<&LockDecl>, x: u32, text: &mut Blob) -> Result<(), NoMemory>
-    ensures { OnOk result (text.new ≡ text.old ++ spec.line_on (view.program p.now) (option_map (λ l. view.lock l.now) keeper.entry) x) }
+fn add_line(
+    p: &Program,
+    is_mend: bool,
+    keeper: Option<&LockDecl>,
+    x: u32,
+    text: &mut Blob,
+) -> Result<(), NoMemory>
+    ensures { OnOk result (text.new ≡ text.old ++ spec.line_on (view.program p.now) is_mend (option_map (λ l. view.lock l.now) keeper.entry) x) }
 {
     add_front(p, x, text)?;
     add_keeper(keeper, text)?;
-    add_end(p, x, text)
+    add_end(p, is_mend, x, text)
 }
 
 /// Adds who may read it.
@@ -141,13 +168,35 @@ fn add_keeper(keeper: Option<&LockDecl>, text: &mut Blob) -> Result<(), NoMemory
     }
 }
 
-/// Adds in which list it is, and in which it wouldn't be asked.
-fn add_end(p: &Program, x: u32, text: &mut Blob) -> Result<(), NoMemory>
-    ensures { OnOk result (text.new ≡ text.old ++ spec.reader_end (view.program p.now) x) }
+/// Adds in which list it is, and in which it isn't, or in which it wouldn't be asked.
+fn add_end(p: &Program, is_mend: bool, x: u32, text: &mut Blob) -> Result<(), NoMemory>
+    ensures { OnOk result (text.new ≡ text.old ++ spec.reader_end (view.program p.now) is_mend x) }
 {
     add_listed(p, b" `nowrite ", x, text)?;
-    add_listed(p, b"; with `hide ", x, text)?;
-    text.extend_from_slice(b" in its place it wouldn't be asked\n")
+    add_listed(p, hide_front(is_mend).as_bytes(), x, text)?;
+    text.extend_from_slice(hide_end(is_mend).as_bytes())
+}
+
+/// What stands in front of the list in which it isn't.
+fn hide_front(is_mend: bool) -> &'static str
+    ensures { result.now ≡ spec.hide_front is_mend }
+{
+    if is_mend {
+        "; with `hide "
+    } else {
+        ", and not `hide "
+    }
+}
+
+/// What stands behind it.
+fn hide_end(is_mend: bool) -> &'static str
+    ensures { result.now ≡ spec.hide_end is_mend }
+{
+    if is_mend {
+        " in its place it wouldn't be asked\n"
+    } else {
+        "\n"
+    }
 }
 
 /// Adds a list, with the variable in it.
