@@ -1,6 +1,6 @@
 //! Laws of the lines that stand under a statement: functions with no body.
 
-ghost use Rattle.std.specs.Prelude.{◌≡◌, ◌++◌, ◌≤◌, ◌<◌, ℕ, [], List, get_or, length};
+ghost use Rattle.std.specs.Prelude.{◌≡◌, ◌++◌, ◌<◌, ℕ, [], List, get_or, length};
 ghost use Rattle.code_lines.specs.CodeLines.{bodies_of};
 ghost use Rattle.code_lines.specs.CodeShares.{behind_block, block_shares};
 ghost use Rattle.code_lines.specs.CompiledShares.{AreInRow, cmds_shares, lines_of};

@@ -1,8 +1,7 @@
 //! The comment above lines of code: the first words of a statement, or what the lines do for it.
 
-ghost use Rattle.std.specs.Prelude.{◌≡◌, ◌++◌, OnOk, drop, map, take};
+ghost use Rattle.std.specs.Prelude.{◌≡◌, ◌++◌, OnOk};
 ghost use Rattle.code_lines.specs.CodeLines as spec;
-ghost use Rattle.text_parts.specs.Excerpts.{shown};
 
 use crate::walk::Role;
 use cov_expr::{Blob, NoMemory};
@@ -46,7 +45,17 @@ fn add_source(stop: u8, bytes: &[u8], at: usize, text: &mut Blob) -> Result<(), 
 {
     let (_, rest) = halves(bytes, at);
     let (front, _) = halves(rest, MOST_SOURCE);
-    add_shown(to_stop(stop, front), text)
+    let bytes = to_stop(stop, front);
+    for byte in bytes {
+        let shown_as = match *byte {
+            b'\t' => *byte,
+            0..=31 | 127 => b' ',
+            128..=255 => b'?',
+            _ => *byte,
+        };
+        text.push(shown_as)?;
+    }
+    Ok(())
 }
 
 /// The bytes up to this one, with it, or up to the end of the line.
@@ -62,26 +71,4 @@ fn to_stop(stop: u8, bytes: &[u8]) -> &[u8]
         }
     }
     bytes
-}
-
-/// Adds bytes as they are shown.
-fn add_shown(bytes: &[u8], text: &mut Blob) -> Result<(), NoMemory>
-    ensures { OnOk result (text.new ≡ text.old ++ map shown bytes.now) }
-{
-    for byte in bytes {
-        text.push(shown_as(*byte))?;
-    }
-    Ok(())
-}
-
-/// A byte as it is shown.
-fn shown_as(byte: u8) -> u8
-    ensures { result ≡ shown byte }
-{
-    match byte {
-        b'\t' => byte,
-        0..=31 | 127 => b' ',
-        128..=255 => b'?',
-        _ => byte,
-    }
 }

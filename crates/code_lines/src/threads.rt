@@ -1,6 +1,6 @@
 //! The code of each thread of a program.
 
-ghost use Rattle.std.specs.Prelude.{◌≡◌, ◌++◌, All, OnOk, get_or, length, map};
+ghost use Rattle.std.specs.Prelude.{◌≡◌, ◌++◌, All, OnOk, get_or};
 ghost use Rattle.cov_ast.specs.Syntax.{done};
 ghost use Rattle.cov_ast.specs.View as view;
 ghost use Rattle.code_lines.specs.CodeLines as spec;

@@ -1,6 +1,6 @@
 //! The walk over the statements of a thread beside its code.
 
-ghost use Rattle.std.specs.Prelude.{◌≡◌, ◌≤◌, ◌++◌, IfOk, OnOk, [], ◌∷◌, drop, length, take};
+ghost use Rattle.std.specs.Prelude.{◌≡◌, ◌++◌, IfOk, OnOk, [], ◌∷◌, drop, take};
 ghost use Rattle.cov_ast.specs.View as view;
 ghost use Rattle.code_lines.specs.CodeShares as spec;
 ghost use Rattle.code_lines.specs.Inside.{AreLeft, IsSeen, told};
@@ -39,27 +39,14 @@ fn own_count(lines: &[Line]) -> usize
     ensures { result ≡ spec.own_count lines.now }
 {
     for (i, line) in lines.iter().enumerate() {
-        if !makes_value(line.instr) {
+        if !matches!(
+            line.instr,
+            Instr::Load(_, _) | Instr::MovC(_, _) | Instr::MovR(_, _) | Instr::Bin(_, _, _)
+        ) {
             return i + 1;
         }
     }
     lines.len()
-}
-
-/// Whether an instruction makes a value in a register, and does nothing else.
-fn makes_value(instr: Instr) -> bool
-    ensures { result ≡ spec.makes_value instr }
-{
-    match instr {
-        Instr::Load(_, _) | Instr::MovC(_, _) | Instr::MovR(_, _) | Instr::Bin(_, _, _) => true,
-        Instr::Store(_, _)
-        | Instr::Jump(_)
-        | Instr::Jz(_, _)
-        | Instr::Nop
-        | Instr::Acquire(_)
-        | Instr::Release(_)
-        | Instr::Out(_) => false,
-    }
 }
 
 /// The first so many lines, and those behind them.

@@ -20,7 +20,9 @@ pub fn common(alloc: Global, hyps: &[Expr], goal: &Expr) -> Result<List<u32>, No
     add(0, &mut found)?;
     add(1, &mut found)?;
     add_numbers(goal, &mut found)?;
-    add_numbers_of(hyps, &mut found)?;
+    for h in hyps {
+        add_numbers(h, &mut found)?;
+    }
     add(u32::MAX, &mut found)?;
     Ok(found)
 }
@@ -39,7 +41,9 @@ pub fn candidates(
     let mut found = List::new(alloc);
     add_tight(goal, x, m, &mut found)?;
     add_tight_of(hyps, x, m, &mut found)?;
-    add_all(more, &mut found)?;
+    for v in more {
+        add(*v, &mut found)?;
+    }
     Ok(found)
 }
 
@@ -51,16 +55,6 @@ fn add(v: u32, found: &mut List<u32>) -> Result<(), NoMemory>
         return Ok(());
     }
     found.push(v)
-}
-
-/// Adds values.
-fn add_all(values: &[u32], found: &mut List<u32>) -> Result<(), NoMemory>
-    ensures { OnOk result (found.new ≡ spec.all_added found.old values.now) }
-{
-    for v in values {
-        add(*v, found)?;
-    }
-    Ok(())
 }
 
 /// Adds a word, the next one and the one before.
@@ -87,16 +81,6 @@ fn add_numbers(e: &Expr, found: &mut List<u32>) -> Result<(), NoMemory>
     }
 }
 
-/// Adds those next to the numbers of expressions.
-fn add_numbers_of(hyps: &[Expr], found: &mut List<u32>) -> Result<(), NoMemory>
-    ensures { OnOk result (found.new ≡ spec.with_all_numbers found.old (map term hyps.now)) }
-{
-    for h in hyps {
-        add_numbers(h, found)?;
-    }
-    Ok(())
-}
-
 /// Adds those of a variable next to where the sides of a comparison in an expression are equal.
 fn add_tight(e: &Expr, x: u32, m: &[Binding], found: &mut List<u32>) -> Result<(), NoMemory>
     ensures { OnOk result (found.new ≡ spec.with_tight x m.now found.old (term e.now)) }
@@ -106,7 +90,7 @@ fn add_tight(e: &Expr, x: u32, m: &[Binding], found: &mut List<u32>) -> Result<(
         Expr::Var(_) => Ok(()),
         Expr::Not(a) => add_tight(a, x, m, found),
         Expr::Bin(op, a, b) => {
-            if is_comparison(*op) {
+            if matches!(*op, Op::Eq | Op::Ne | Op::Lt | Op::Le) {
                 match crossing(as_line(x, m, a), as_line(x, m, b)) {
                     Some(v) => add_near(v, found),
                     None => Ok(()),
@@ -127,14 +111,4 @@ fn add_tight_of(hyps: &[Expr], x: u32, m: &[Binding], found: &mut List<u32>) -> 
         add_tight(h, x, m, found)?;
     }
     Ok(())
-}
-
-/// Whether an operator compares.
-fn is_comparison(op: Op) -> bool
-    ensures { result ≡ spec.is_comparison op }
-{
-    match op {
-        Op::Eq | Op::Ne | Op::Lt | Op::Le => true,
-        Op::Add | Op::Sub | Op::Mul | Op::And | Op::Or | Op::Xor | Op::Both | Op::Either => false,
-    }
 }

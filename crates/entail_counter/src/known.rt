@@ -15,25 +15,16 @@ pub fn known(e: &Expr, m: &[Binding]) -> Option<u32>
     match e {
         Expr::Const(k) => Some(*k),
         Expr::Var(x) => bound(m, *x),
-        Expr::Not(a) => {
-            match known(a, m) {
-                Some(v) => Some((v == 0) as u32),
-                None => None,
-            }
-        }
-        Expr::Bin(op, a, b) => combined(*op, known(a, m), known(b, m)),
-    }
-}
-
-/// What an operator gives.
-fn combined(op: Op, a: Option<u32>, b: Option<u32>) -> Option<u32>
-    ensures { result ≡ spec.combined op a b }
-{
-    match (a, b) {
-        (Some(v), Some(w)) => Some(apply(op, v, w)),
-        (Some(v), None) => decided(op, v),
-        (None, Some(w)) => decided(op, w),
-        (None, None) => None,
+        Expr::Not(a) => match known(a, m) {
+            Some(v) => Some((v == 0) as u32),
+            None => None,
+        },
+        Expr::Bin(op, a, b) => match (known(a, m), known(b, m)) {
+            (Some(v), Some(w)) => Some(apply(*op, v, w)),
+            (Some(v), None) => decided(*op, v),
+            (None, Some(w)) => decided(*op, w),
+            (None, None) => None,
+        },
     }
 }
 

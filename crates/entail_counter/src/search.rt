@@ -1,6 +1,6 @@
 //! The search for bindings.
 
-ghost use Rattle.std.specs.Prelude.{◌≡◌, ◌∷◌, ◌++◌, [], IfOk, map};
+ghost use Rattle.std.specs.Prelude.{◌≡◌, IfOk, map};
 ghost use Rattle.std.specs.List.{list_any};
 ghost use Rattle.cov_expr.specs.View.{term};
 ghost use Rattle.entail_counter.specs.Known as what;
@@ -35,23 +35,12 @@ pub fn search(
 {
     let choice = chosen(hyps, goal, m);
     if depth == 0 {
-        return if_settled(alloc, choice, m);
+        return match choice {
+            Some(_) => Ok(None),
+            None => Ok(Some(copied(alloc, m)?)),
+        };
     }
     onward(alloc, hyps, goal, more, depth - 1, choice, m, left)
-}
-
-/// The bindings, where no variable is free.
-fn if_settled(
-    alloc: Global,
-    choice: Option<u32>,
-    m: &[Binding],
-) -> Result<Option<List<Binding>>, NoMemory>
-    ensures { IfOk result (λ found. found ≡ spec.if_settled choice m.now) }
-{
-    match choice {
-        Some(_) => Ok(None),
-        None => Ok(Some(copied(alloc, m)?)),
-    }
 }
 
 /// Where no variable is free the bindings, and else the same with each value of the one that is chosen.
@@ -135,7 +124,9 @@ fn tried(
         return Ok(None);
     }
     *left -= 1;
-    let longer = with_one(alloc, m, b)?;
+    let mut longer = List::with_capacity(alloc, m.len().saturating_add(1))?;
+    longer.extend_from_slice(m)?;
+    longer.push(b)?;
     if may_break(hyps, goal, longer.as_slice()) {
         search(alloc, hyps, goal, more, below, longer.as_slice(), left)
     } else {
@@ -149,16 +140,6 @@ fn copied(alloc: Global, m: &[Binding]) -> Result<List<Binding>, NoMemory>
 {
     let mut made = List::with_capacity(alloc, m.len())?;
     made.extend_from_slice(m)?;
-    Ok(made)
-}
-
-/// Bindings and one more.
-fn with_one(alloc: Global, m: &[Binding], b: Binding) -> Result<List<Binding>, NoMemory>
-    ensures { IfOk result (λ made. made ≡ m.now ++ b ∷ []) }
-{
-    let mut made = List::with_capacity(alloc, m.len().saturating_add(1))?;
-    made.extend_from_slice(m)?;
-    made.push(b)?;
     Ok(made)
 }
 

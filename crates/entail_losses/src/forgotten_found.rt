@@ -73,34 +73,14 @@ fn add_of_each(
     ensures { OnOk result (map spec.seen found.new ≡ spec.with_wholes (map term hypotheses.now) (map left.seen left_out.now) steady.now kept.now at state (map given all.now) (map spec.seen found.old)) }
 {
     for one in all {
-        add_of_whole(
-            alloc, hypotheses, left_out, steady, kept, at, state, one, found,
-        )?;
-    }
-    Ok(())
-}
-
-/// The same of one predicate.
-fn add_of_whole(
-    alloc: Global,
-    hypotheses: &[Expr],
-    left_out: &[LeftOut],
-    steady: &NumberSet,
-    kept: &NumberSet,
-    at: u32,
-    state: Option<StateAt>,
-    one: &Given<'_>,
-    found: &mut List<ForgottenPart>,
-) -> Result<(), NoMemory>
-    ensures { OnOk result (map spec.seen found.new ≡ spec.with_whole (map term hypotheses.now) (map left.seen left_out.now) steady.now kept.now at state (given one.now) (map spec.seen found.old)) }
-{
-    let whole = one.term.made(alloc)?;
-    let source = one.source;
-    if is_over(steady, &whole) && !is_over(kept, &whole) && !is_known(hypotheses, &whole) {
-        let origin = Origin { source, at };
-        add_parts(
-            alloc, hypotheses, left_out, kept, origin, state, &whole, found,
-        )?;
+        let whole = one.term.made(alloc)?;
+        let source = one.source;
+        if is_over(steady, &whole) && !is_over(kept, &whole) && !is_known(hypotheses, &whole) {
+            let origin = Origin { source, at };
+            add_parts(
+                alloc, hypotheses, left_out, kept, origin, state, &whole, found,
+            )?;
+        }
     }
     Ok(())
 }
@@ -124,7 +104,13 @@ fn add_parts(
             add_parts(alloc, hypotheses, left_out, kept, origin, state, b, found)
         }
         Expr::Const(_) | Expr::Var(_) | Expr::Not(_) | Expr::Bin(..) => {
-            if is_forgotten(hypotheses, left_out, kept, found.as_slice(), e) {
+            if found.len() < MOST_FOUND
+                && !closed(e)
+                && is_over(kept, e)
+                && !is_known(hypotheses, e)
+                && !is_found(left_out, e)
+                && !is_found_part(found.as_slice(), e)
+            {
                 let part = copy(alloc, e)?;
                 found.push(ForgottenPart {
                     part,
@@ -135,24 +121,6 @@ fn add_parts(
             Ok(())
         }
     }
-}
-
-/// Whether a part was forgotten in front of steps that keep some variables.
-fn is_forgotten(
-    hypotheses: &[Expr],
-    left_out: &[LeftOut],
-    kept: &NumberSet,
-    found: &[ForgottenPart],
-    e: &Expr,
-) -> bool
-    ensures { result ≡ spec.is_forgotten (map term hypotheses.now) (map left.seen left_out.now) kept.now (map spec.seen found.now) (term e.now) }
-{
-    found.len() < MOST_FOUND
-        && !closed(e)
-        && is_over(kept, e)
-        && !is_known(hypotheses, e)
-        && !is_found(left_out, e)
-        && !is_found_part(found, e)
 }
 
 /// Whether a part was found already.

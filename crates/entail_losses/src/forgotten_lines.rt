@@ -1,7 +1,6 @@
 //! The lines of what stores forgot.
 
 ghost use Rattle.std.specs.Prelude.{◌≡◌, ◌++◌, OnOk, Some, map};
-ghost use Rattle.cov_expr.specs.View.{term};
 ghost use Rattle.cov_ast.specs.Plain.{plain};
 ghost use Rattle.cov_ast.specs.View as view;
 ghost use Rattle.entail_losses.specs.Forgotten.{seen};
@@ -11,9 +10,9 @@ use crate::forgotten_found::ForgottenPart;
 use crate::left_out_states::StateAt;
 use crate::state_words::{add_kind, add_line_part};
 use cov_ast::{NameTable, Program};
-use cov_expr::{Blob, Expr, NoMemory};
+use cov_expr::{Blob, NoMemory};
 use cov_print::add_expr;
-use entail_origins::{Origin, add_origin};
+use entail_origins::add_origin;
 
 /// Adds a line for each part of a predicate that a store forgot: the part, what gives the whole, and what would keep it.
 pub fn add_forgotten_lines(
@@ -42,20 +41,15 @@ pub fn add_forgotten_line(
 ) -> Result<(), NoMemory>
     ensures { OnOk result (text.new ≡ text.old ++ spec.forgotten_line (plain (view.program p.now)) names.now bytes.now helps (seen one.now)) }
 {
-    add_part(names, helps, &one.part, text)?;
-    add_whole(p, bytes, one.origin, text)?;
+    text.extend_from_slice(label(helps).as_bytes())?;
+    add_expr(names, false, &one.part, text)?;
+    text.extend_from_slice(b"   (part of the ")?;
+    add_origin(p, bytes, one.origin, text)?;
+    text.extend_from_slice(b")")?;
     text.extend_from_slice(
         b": a store since to another variable of it forgets the whole in any case; this part would be kept, had a note right behind that line listed it",
     )?;
     add_states(bytes, one.state, text)
-}
-
-/// Adds the part.
-fn add_part(names: &NameTable, helps: bool, e: &Expr, text: &mut Blob) -> Result<(), NoMemory>
-    ensures { OnOk result (text.new ≡ text.old ++ spec.part_text names.now helps (term e.now)) }
-{
-    text.extend_from_slice(label(helps).as_bytes())?;
-    add_expr(names, false, e, text)
 }
 
 /// What stands in front of a part.
@@ -69,30 +63,16 @@ fn label(helps: bool) -> &'static str
     }
 }
 
-/// Adds what gives the whole, and its line.
-fn add_whole(p: &Program, bytes: &[u8], origin: Origin, text: &mut Blob) -> Result<(), NoMemory>
-    ensures { OnOk result (text.new ≡ text.old ++ spec.whole_text (plain (view.program p.now)) bytes.now origin) }
-{
-    text.extend_from_slice(b"   (part of the ")?;
-    add_origin(p, bytes, origin, text)?;
-    text.extend_from_slice(b")")
-}
-
 /// Adds which states have to list a part, beside a note, and ends the line.
 fn add_states(bytes: &[u8], state: Option<StateAt>, text: &mut Blob) -> Result<(), NoMemory>
     ensures { OnOk result (text.new ≡ text.old ++ spec.states_text bytes.now state) }
 {
     match state {
-        Some(state) => add_first_state(bytes, state, text),
+        Some(state) => {
+            text.extend_from_slice(b", and each state since, such as the ")?;
+            add_kind(state.kind, text)?;
+            add_line_part(bytes, state.at, text)
+        }
         None => text.extend_from_slice(b"\n"),
     }
-}
-
-/// Adds that the states have to list a part, of which this is one.
-fn add_first_state(bytes: &[u8], state: StateAt, text: &mut Blob) -> Result<(), NoMemory>
-    ensures { OnOk result (text.new ≡ text.old ++ spec.states_text bytes.now (Some state)) }
-{
-    text.extend_from_slice(b", and each state since, such as the ")?;
-    add_kind(state.kind, text)?;
-    add_line_part(bytes, state.at, text)
 }

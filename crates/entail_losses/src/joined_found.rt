@@ -123,41 +123,21 @@ fn add_unjoined(
     ensures { OnOk result (map left.seen found.new ≡ spec.with_unjoined (map term hypotheses.now) (map (λ g. g.term) (map spec.seen branch.entry.second.now)) (map term branch.entry.listed.now) branch.entry.states (map spec.seen first.now) (map left.seen found.old)) }
 {
     for one in first {
-        add_if_unjoined(alloc, hypotheses, branch, one, found)?;
+        if found.len() < MOST_LEFT_OUT
+            && !closed(&one.term)
+            && is_given_too(branch.second, &one.term)
+            && !has_same(branch.listed, &one.term)
+            && !is_known(hypotheses, &one.term)
+            && !is_found(found.as_slice(), &one.term)
+        {
+            let term = copy(alloc, &one.term)?;
+            found.push(LeftOut {
+                term,
+                origin: one.origin,
+                state: branch.states.first,
+                last: branch.states.last,
+            })?;
+        }
     }
     Ok(())
-}
-
-/// Adds one of them, if its join left it out.
-fn add_if_unjoined(
-    alloc: Global,
-    hypotheses: &[Expr],
-    branch: Branch<'_>,
-    one: &StillGiven,
-    found: &mut List<LeftOut>,
-) -> Result<(), NoMemory>
-    ensures { OnOk result (map left.seen found.new ≡ spec.with_one_unjoined (map term hypotheses.now) (map (λ g. g.term) (map spec.seen branch.entry.second.now)) (map term branch.entry.listed.now) branch.entry.states (spec.seen one.now) (map left.seen found.old)) }
-{
-    if is_unjoined(hypotheses, branch, found.as_slice(), &one.term) {
-        let term = copy(alloc, &one.term)?;
-        found.push(LeftOut {
-            term,
-            origin: one.origin,
-            state: branch.states.first,
-            last: branch.states.last,
-        })?;
-    }
-    Ok(())
-}
-
-/// Whether a predicate that the first block of a branch still gives is one that its join left out.
-fn is_unjoined(hypotheses: &[Expr], branch: Branch<'_>, found: &[LeftOut], e: &Expr) -> bool
-    ensures { result ≡ spec.is_unjoined (map term hypotheses.now) (map (λ g. g.term) (map spec.seen branch.entry.second.now)) (map term branch.entry.listed.now) (map left.seen found.now) (term e.now) }
-{
-    found.len() < MOST_LEFT_OUT
-        && !closed(e)
-        && is_given_too(branch.second, e)
-        && !has_same(branch.listed, e)
-        && !is_known(hypotheses, e)
-        && !is_found(found, e)
 }

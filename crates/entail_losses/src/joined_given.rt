@@ -79,26 +79,12 @@ fn add_each(
     ensures { OnOk result (map spec.seen found.new ≡ spec.with_still_given kept.now at (map given all.now) (map spec.seen found.old)) }
 {
     for one in all {
-        add_if_still_given(alloc, kept, at, one, found)?;
-    }
-    Ok(())
-}
-
-/// Adds one predicate, if it is given still.
-fn add_if_still_given(
-    alloc: Global,
-    kept: &NumberSet,
-    at: u32,
-    one: &Given<'_>,
-    found: &mut List<StillGiven>,
-) -> Result<(), NoMemory>
-    ensures { OnOk result (map spec.seen found.new ≡ spec.with_one_given kept.now at (given one.now) (map spec.seen found.old)) }
-{
-    let term = one.term.made(alloc)?;
-    let source = one.source;
-    if found.len() < MOST_GIVEN && !gives_nothing(source, &term) && is_over(kept, &term) {
-        let origin = Origin { source, at };
-        found.push(StillGiven { term, origin })?;
+        let term = one.term.made(alloc)?;
+        let source = one.source;
+        if found.len() < MOST_GIVEN && !gives_nothing(source, &term) && is_over(kept, &term) {
+            let origin = Origin { source, at };
+            found.push(StillGiven { term, origin })?;
+        }
     }
     Ok(())
 }

@@ -66,46 +66,25 @@ fn add_each(
     ensures { OnOk result (map spec.seen found.new ≡ spec.with_each (map term hypotheses.now) kept.now at states (map given all.now) (map spec.seen found.old)) }
 {
     for one in all {
-        add_if_left_out(alloc, hypotheses, kept, at, states, one, found)?;
+        let term = one.term.made(alloc)?;
+        let source = one.source;
+        if !gives_nothing(source, &term)
+            && found.len() < MOST_FOUND
+            && !closed(&term)
+            && is_over(kept, &term)
+            && !is_known(hypotheses, &term)
+            && !is_found(found.as_slice(), &term)
+        {
+            let origin = Origin { source, at };
+            found.push(LeftOut {
+                term,
+                origin,
+                state: states.first,
+                last: states.last,
+            })?;
+        }
     }
     Ok(())
-}
-
-/// Adds a predicate, if a state left it out.
-fn add_if_left_out(
-    alloc: Global,
-    hypotheses: &[Expr],
-    kept: &NumberSet,
-    at: u32,
-    states: States,
-    one: &Given<'_>,
-    found: &mut List<LeftOut>,
-) -> Result<(), NoMemory>
-    ensures { OnOk result (map spec.seen found.new ≡ spec.with_given (map term hypotheses.now) kept.now at states (given one.now) (map spec.seen found.old)) }
-{
-    let term = one.term.made(alloc)?;
-    let source = one.source;
-    if !gives_nothing(source, &term) && is_left_out(hypotheses, kept, found.as_slice(), &term) {
-        let origin = Origin { source, at };
-        found.push(LeftOut {
-            term,
-            origin,
-            state: states.first,
-            last: states.last,
-        })?;
-    }
-    Ok(())
-}
-
-/// Whether a predicate was left out in front of steps that keep some variables.
-fn is_left_out(hypotheses: &[Expr], kept: &NumberSet, found: &[LeftOut], e: &Expr) -> bool
-    ensures { result ≡ spec.is_left_out (map term hypotheses.now) kept.now (map spec.seen found.now) (term e.now) }
-{
-    found.len() < MOST_FOUND
-        && !closed(e)
-        && is_over(kept, e)
-        && !is_known(hypotheses, e)
-        && !is_found(found, e)
 }
 
 /// Whether a predicate is a hypothesis, or both sides of an `&&` are known.

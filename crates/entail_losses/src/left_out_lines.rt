@@ -11,7 +11,7 @@ use crate::left_out_found::LeftOut;
 use crate::left_out_states::{StateAt, StateKind};
 use crate::state_words::{add_kind, add_line, add_line_part};
 use cov_ast::{NameTable, Program};
-use cov_expr::{Blob, Expr, NoMemory};
+use cov_expr::{Blob, NoMemory};
 use cov_print::add_expr;
 use entail_origins::{Origin, add_origin};
 
@@ -42,23 +42,21 @@ pub fn add_left_out_line(
 ) -> Result<(), NoMemory>
     ensures { OnOk result (text.new ≡ text.old ++ spec.left_out_line (plain (view.program p.now)) names.now bytes.now helps (seen one.now)) }
 {
-    add_predicate_part(names, helps, &one.term, text)?;
-    add_origin_part(p, bytes, one.origin, text)?;
-    add_state_part(bytes, helps, one.state, text)?;
-    add_further_part(bytes, one.last, text)
-}
-
-/// Adds a predicate.
-fn add_predicate_part(
-    names: &NameTable,
-    helps: bool,
-    e: &Expr,
-    text: &mut Blob,
-) -> Result<(), NoMemory>
-    ensures { OnOk result (text.new ≡ text.old ++ spec.predicate_part names.now helps (term e.now)) }
-{
     text.extend_from_slice(label(helps).as_bytes())?;
-    add_expr(names, false, e, text)
+    add_expr(names, false, &one.term, text)?;
+    add_origin_part(p, bytes, one.origin, text)?;
+    let state_label = if helps {
+        match one.state.kind {
+            StateKind::Join | StateKind::Note => ", left out by the ",
+            StateKind::Inv => ", if each turn keeps it; left out by the ",
+        }
+    } else {
+        ", by the "
+    };
+    text.extend_from_slice(state_label.as_bytes())?;
+    add_kind(one.state.kind, text)?;
+    add_line(bytes, one.state.at, text)?;
+    add_further_part(bytes, one.last, text)
 }
 
 /// What stands in front of a predicate.
@@ -86,49 +84,16 @@ pub fn add_origin_part(
     text.extend_from_slice(b")")
 }
 
-/// Adds which state left a predicate out.
-fn add_state_part(
-    bytes: &[u8],
-    helps: bool,
-    state: StateAt,
-    text: &mut Blob,
-) -> Result<(), NoMemory>
-    ensures { OnOk result (text.new ≡ text.old ++ spec.state_part bytes.now helps state) }
-{
-    text.extend_from_slice(state_label(helps, state.kind).as_bytes())?;
-    add_kind(state.kind, text)?;
-    add_line(bytes, state.at, text)
-}
-
 /// Adds that the states behind that one have to list a predicate too, if there are some, and ends the line.
 fn add_further_part(bytes: &[u8], last: Option<StateAt>, text: &mut Blob) -> Result<(), NoMemory>
     ensures { OnOk result (text.new ≡ text.old ++ spec.further_part bytes.now last) }
 {
     match last {
-        Some(last) => add_last_state(bytes, last, text),
-        None => text.extend_from_slice(b"\n"),
-    }
-}
-
-/// Adds that further states have to list a predicate too, of which this one is the last.
-fn add_last_state(bytes: &[u8], last: StateAt, text: &mut Blob) -> Result<(), NoMemory>
-    ensures { OnOk result (text.new ≡ text.old ++ spec.further_part bytes.now (Some last)) }
-{
-    text.extend_from_slice(b"; each state since has to list it too, up to the ")?;
-    add_kind(last.kind, text)?;
-    add_line_part(bytes, last.at, text)
-}
-
-/// What stands in front of a state.
-fn state_label(helps: bool, kind: StateKind) -> &'static str
-    ensures { result.now ≡ spec.state_label helps kind }
-{
-    if helps {
-        match kind {
-            StateKind::Join | StateKind::Note => ", left out by the ",
-            StateKind::Inv => ", if each turn keeps it; left out by the ",
+        Some(last) => {
+            text.extend_from_slice(b"; each state since has to list it too, up to the ")?;
+            add_kind(last.kind, text)?;
+            add_line_part(bytes, last.at, text)
         }
-    } else {
-        ", by the "
+        None => text.extend_from_slice(b"\n"),
     }
 }

@@ -212,11 +212,18 @@ fn add_unless_hopeless(
 ) -> Result<(), NoMemory>
     ensures { OnOk result (text.new ≡ text.old ++ spec.unless_hopeless (map term e.entry.hyps.now) (term e.entry.goal.now) (spec.lost_terms (map left.seen lost.entry.found.now) (map forgotten.seen lost.entry.parts.now)) (spec.all_lines (plain (view.program p.now)) names.now bytes.now (map left.seen lost.entry.found.now) (map forgotten.seen lost.entry.parts.now))) }
 {
-    let more = lost_terms(alloc, lost)?;
+    let mut more = List::new(alloc);
+    let found = lost.found;
+    for one in found {
+        let e = copy(alloc, &one.term)?;
+        more.push(e)?;
+    }
+    add_parts(alloc, lost.parts, &mut more)?;
     if is_without_use(alloc, e.hyps, e.goal, more.as_slice())? {
         Ok(())
     } else {
-        add_all(p, names, bytes, lost, text)
+        add_left_out_lines(p, names, bytes, lost.found, text)?;
+        add_forgotten_lines(p, names, bytes, lost.parts, text)
     }
 }
 
@@ -234,41 +241,6 @@ fn is_without_use(
     } else {
         is_hopeless(alloc, hyps, goal, more)
     }
-}
-
-/// Adds a line for each.
-fn add_all(
-    p: &Program,
-    names: &NameTable,
-    bytes: &[u8],
-    lost: Lost<'_>,
-    text: &mut Blob,
-) -> Result<(), NoMemory>
-    ensures { OnOk result (text.new ≡ text.old ++ spec.all_lines (plain (view.program p.now)) names.now bytes.now (map left.seen lost.entry.found.now) (map forgotten.seen lost.entry.parts.now)) }
-{
-    add_left_out_lines(p, names, bytes, lost.found, text)?;
-    add_forgotten_lines(p, names, bytes, lost.parts, text)
-}
-
-/// What was lost, as expressions.
-fn lost_terms(alloc: Global, lost: Lost<'_>) -> Result<List<Expr>, NoMemory>
-    ensures { IfOk result (λ made. map term made ≡ spec.lost_terms (map left.seen lost.entry.found.now) (map forgotten.seen lost.entry.parts.now)) }
-{
-    let mut made = List::new(alloc);
-    add_terms(alloc, lost.found, &mut made)?;
-    add_parts(alloc, lost.parts, &mut made)?;
-    Ok(made)
-}
-
-/// Adds the predicates that states left out.
-fn add_terms(alloc: Global, found: &[LeftOut], made: &mut List<Expr>) -> Result<(), NoMemory>
-    ensures { OnOk result (map term made.new ≡ map term made.old ++ map (λ o. o.term) (map left.seen found.now)) }
-{
-    for one in found {
-        let e = copy(alloc, &one.term)?;
-        made.push(e)?;
-    }
-    Ok(())
 }
 
 /// Adds the parts that stores forgot.

@@ -11,18 +11,12 @@ use text_parts::{add_number, position};
 pub fn add_kind(kind: StateKind, text: &mut Blob) -> Result<(), NoMemory>
     ensures { OnOk result (text.new ≡ text.old ++ spec.kind_text kind) }
 {
-    text.extend_from_slice(kind_text(kind).as_bytes())
-}
-
-/// What a state is, with the statement that it is of, which gives its line.
-fn kind_text(kind: StateKind) -> &'static str
-    ensures { result.now ≡ spec.kind_text kind }
-{
-    match kind {
+    let kind_text = match kind {
         StateKind::Join => "join of the `if`",
         StateKind::Inv => "inv of the `while`",
         StateKind::Note => "note",
-    }
+    };
+    text.extend_from_slice(kind_text.as_bytes())
 }
 
 /// Adds the line of a state.

@@ -10,7 +10,7 @@ ghost use Rattle.entail_losses.specs.About as spec;
 use crate::unknown_variables::is_mentioned;
 use cov_ast::{Program, State, Stmt, StmtKind};
 use cov_expr::{Expr, mentions};
-use statement_parts::{Parts, Store, parts_of};
+use statement_parts::{Store, parts_of};
 
 /// Whether a statement says something of a variable: it stores to it, may give a predicate that mentions it, or takes a lock that it is under, also in its blocks.
 /// Each statement of them is looked at once.
@@ -18,7 +18,19 @@ use statement_parts::{Parts, Store, parts_of};
 pub fn is_statement_about(p: &Program, x: u32, kind: &StmtKind) -> bool
     ensures { result ≡ spec.is_statement_about (plain (view.program p.now)) x (view.kind kind.now) }
 {
-    if is_own_about(p, x, &parts_of(kind)) {
+    let parts = &parts_of(kind);
+    let is_taken_about = match parts.taken {
+        Some(l) => match p.locks.as_slice().get(l as usize) {
+            Some(lock) => { lock.lists(x) || is_in(lock.inv.as_ref(), x) }
+            None => false,
+        },
+        None => false,
+    };
+    if is_store_about(parts.store, x)
+        || is_in(parts.guard, x)
+        || is_taken_about
+        || is_stated_about(parts.state, x)
+    {
         return true;
     }
     match kind {
@@ -43,16 +55,6 @@ fn is_block_about(p: &Program, x: u32, body: &[Stmt]) -> bool
     false
 }
 
-/// Whether a statement says something of a variable by its own parts.
-fn is_own_about(p: &Program, x: u32, parts: &Parts<'_>) -> bool
-    ensures { result ≡ spec.is_own_about (plain (view.program p.now)) x (table.parts_of parts.now) }
-{
-    is_store_about(parts.store, x)
-        || is_in(parts.guard, x)
-        || is_taken_about(p, x, parts.taken)
-        || is_stated_about(parts.state, x)
-}
-
 /// Whether a store is one to a variable, or of a value that mentions it.
 fn is_store_about(store: Option<Store<'_>>, x: u32) -> bool
     ensures { result ≡ spec.is_store_about (option_map table.store_of store.entry) x }
@@ -69,19 +71,6 @@ fn is_in(e: Option<&Expr>, x: u32) -> bool
 {
     match e {
         Some(e) => mentions(e, x),
-        None => false,
-    }
-}
-
-/// Whether a lock that is taken lists a variable, or has an invariant that mentions it.
-fn is_taken_about(p: &Program, x: u32, taken: Option<u32>) -> bool
-    ensures { result ≡ spec.is_taken_about (plain (view.program p.now)) x taken }
-{
-    match taken {
-        Some(l) => match p.locks.as_slice().get(l as usize) {
-            Some(lock) => { lock.lists(x) || is_in(lock.inv.as_ref(), x) }
-            None => false,
-        },
         None => false,
     }
 }

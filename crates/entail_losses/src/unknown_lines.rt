@@ -15,7 +15,7 @@ use crate::left_out_states::StateAt;
 use crate::state_words::add_kind;
 use crate::unknown_reasons::{Fact, Loss, Reason, reason_of};
 use crate::unknown_variables::unknown_variables;
-use cov_ast::{LockDecl, NameTable, NumberSet, Program};
+use cov_ast::{NameTable, NumberSet, Program};
 use cov_expr::{Blob, Expr, NoMemory};
 use cov_print::add_expr;
 use entail_origins::lock_over;
@@ -119,35 +119,16 @@ fn add_shared(p: &Program, x: u32, text: &mut Blob) -> Result<(), NoMemory>
     text.extend_from_slice(
         b"it isn't stable here, so that no predicate that mentions it is known: ",
     )?;
-    add_cause(p, x, text)
-}
-
-/// Adds the first lock that has a variable in a list, as one that isn't held, or that there is none.
-fn add_cause(p: &Program, x: u32, text: &mut Blob) -> Result<(), NoMemory>
-    ensures { OnOk result (text.new ≡ text.old ++ spec.cause_text (lock_over x (plain (view.program p.now)).locks)) }
-{
     match lock_over(x, p.locks.as_slice()) {
-        Some(lock) => add_unheld(lock, text),
-        None => add_free(text),
+        Some(lock) => {
+            text.extend_from_slice(b"the lock ")?;
+            text.extend_from_slice(lock.name.text())?;
+            text.extend_from_slice(b", that it is under, isn't held\n")
+        }
+        None => text.extend_from_slice(
+            b"it is under no lock, and the thread doesn't assume that no other writes it\n",
+        ),
     }
-}
-
-/// Adds that a variable is under no lock, and nothing is assumed of it.
-fn add_free(text: &mut Blob) -> Result<(), NoMemory>
-    ensures { OnOk result (text.new ≡ text.old ++ spec.free_text) }
-{
-    text.extend_from_slice(
-        b"it is under no lock, and the thread doesn't assume that no other writes it\n",
-    )
-}
-
-/// Adds that a lock isn't held.
-fn add_unheld(lock: &LockDecl, text: &mut Blob) -> Result<(), NoMemory>
-    ensures { OnOk result (text.new ≡ text.old ++ spec.unheld_text (view.lock lock.now)) }
-{
-    text.extend_from_slice(b"the lock ")?;
-    text.extend_from_slice(lock.name.text())?;
-    text.extend_from_slice(b", that it is under, isn't held\n")
 }
 
 /// Adds the line of a variable that is stable, by what the steps tell of it.
@@ -186,7 +167,11 @@ fn add_reason(
         ),
         Reason::Own(at) => add_own(bytes, at, text),
         Reason::NoEquation(at, y) => add_no_equation(p, bytes, at, y, text),
-        Reason::NoGuard(at, y) => add_no_guard(p, bytes, at, y, text),
+        Reason::NoGuard(at, y) => {
+            add_in_line(b"the guard in line ", bytes, at, text)?;
+            text.extend_from_slice(b", which mentions it, gives no predicate: ")?;
+            add_unstable(p, y, text)
+        }
         Reason::Unlisted(state) => add_unlisted(bytes, state, text),
         Reason::Taken(at, l) => add_taken(p, bytes, at, l, text),
         Reason::Known(_) => Ok(()),
@@ -224,15 +209,6 @@ fn add_no_equation(
 {
     add_in_line(b"the assignment in line ", bytes, at, text)?;
     text.extend_from_slice(b" gives no equation: ")?;
-    add_unstable(p, y, text)
-}
-
-/// Adds that a guard gives no predicate, since this variable isn't stable there.
-fn add_no_guard(p: &Program, bytes: &[u8], at: u32, y: u32, text: &mut Blob) -> Result<(), NoMemory>
-    ensures { OnOk result (text.new ≡ text.old ++ spec.no_guard_text (plain (view.program p.now)) bytes.now at y) }
-{
-    add_in_line(b"the guard in line ", bytes, at, text)?;
-    text.extend_from_slice(b", which mentions it, gives no predicate: ")?;
     add_unstable(p, y, text)
 }
 

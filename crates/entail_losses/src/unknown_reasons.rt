@@ -255,7 +255,11 @@ fn after_store(at: u32, y: u32, so_far: Reason<'_>) -> Reason<'_>
 {
     match so_far {
         Reason::Known(fact) => {
-            if is_about(fact.term, y) {
+            let is_about = match fact.term {
+                GivenTerm::Written(e) | GivenTerm::Negation(e) => mentions(e, y),
+                GivenTerm::Equation(x, value) => x == y || mentions(value, y),
+            };
+            if is_about {
                 Reason::Forgotten(fact, Loss::Stored(at, y))
             } else {
                 so_far
@@ -298,16 +302,6 @@ fn after_return<'p>(
         | Reason::Unlisted(_)
         | Reason::Taken(_, _)
         | Reason::Forgotten(_, _) => so_far,
-    }
-}
-
-/// Whether a predicate mentions a variable.
-fn is_about(made: GivenTerm<'_>, y: u32) -> bool
-    ensures { result ≡ tree.mentions (given_term made.entry) y }
-{
-    match made {
-        GivenTerm::Written(e) | GivenTerm::Negation(e) => mentions(e, y),
-        GivenTerm::Equation(x, value) => x == y || mentions(value, y),
     }
 }
 

@@ -242,8 +242,8 @@ a_low_variable : type_lines program 0 text [] q.Printed (s.output (var 3)) ≡ c
 a_low_variable = simp (decimal_digit 1 (lit< tt))
 
 -- under its lock nobody else reads `buf`
-hidden : type_lines program 0 text (taken ∷ joined [] ∷ []) (q.Freed 1) (s.unlock 0) ≡ codes "  type of buf:  0 (its class doesn't count while it is hidden from others; under `nowrite` it would), since no join of the `if`, line 4, lists it\n"
-hidden = simp (decimal_digit 4 (lit< tt))
+hidden : type_lines program 0 text (taken ∷ joined [] ∷ []) (q.Freed 1) (s.unlock 0) ≡ codes "  type of buf:  0 (the lock l, line 1, hides it: under `nowrite` its class would count), since no join of the `if`, line 4, lists it\n"
+hidden = simp (decimal_digit 1 (lit< tt), decimal_digit 4 (lit< tt))
 
 not_hidden : type_lines program 0 text (joined [] ∷ returned ∷ []) (q.Retyped 2) s.skip
     ≡ codes "  type of o:  its class `0` (high), since no join of the `if`, line 4, lists it\n"
@@ -251,8 +251,8 @@ not_hidden = simp (decimal_digit 0 (lit< tt), decimal_digit 4 (lit< tt))
 
 -- under its lock a type that is forgotten says nothing
 forgotten_where_hidden : type_lines program 0 text (taken ∷ passed 3 (s.assign 0 (const 1) None []) ∷ []) (q.Controlled 1) s.skip
-    ≡ codes "  type of buf:  its class `m == 0`, from the lock l, line 2; then m is stored to, line 3, which it mentions, so that it becomes 0 (its class doesn't count while it is hidden from others; under `nowrite` it would); another is set by a store to it in front, or by `retype buf as ..` there, where that is shown\n"
-forgotten_where_hidden = simp (decimal_digit 0 (lit< tt), decimal_digit 2 (lit< tt), decimal_digit 3 (lit< tt))
+    ≡ codes "  type of buf:  its class `m == 0`, from the lock l, line 2; then m is stored to, line 3, which it mentions, so that it becomes 0 (the lock l, line 1, hides it: under `nowrite` its class would count); another is set by a store to it in front, or by `retype buf as ..` there, where that is shown\n"
+forgotten_where_hidden = simp (decimal_digit 0 (lit< tt), decimal_digit 1 (lit< tt), decimal_digit 2 (lit< tt), decimal_digit 3 (lit< tt))
 
 -- others may read `o`
 forgotten_by_return : type_lines program 0 text (taken ∷ stored ∷ returned ∷ []) q.Printed (s.output (var 2))

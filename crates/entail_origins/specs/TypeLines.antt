@@ -5,7 +5,7 @@ use Rattle.std.specs.List.{slice_get}
 use Rattle.cov_expr.specs.Term.{Term, const}
 use Rattle.cov_ast.specs.Declarations.{class_of, lock_at, name_of, var_at}
 use Rattle.cov_ast.specs.Plain.{Plain}
-use Rattle.cov_ast.specs.Syntax.{Stm}
+use Rattle.cov_ast.specs.Syntax.{Lock, Stm}
 use Rattle.cov_ast.specs.Tables.{has}
 use Rattle.cov_print.specs.Spelling.{Names, whole}
 use Rattle.entail_origins.specs.declared.kinds.Question.{Question}
@@ -17,6 +17,7 @@ use Rattle.text_parts.specs.Lines.{line}
 use Rattle.entail_origins.specs.AskedVariables.{variables_of}
 use Rattle.entail_origins.specs.FollowedTypes.{at_point, followed}
 use Rattle.entail_origins.specs.KnownTypes.{known_after_steps}
+use Rattle.entail_origins.specs.LocksOver.{lock_over}
 use Rattle.entail_origins.specs.TypeChanges.{change_along}
 use Rattle.entail_origins.specs.TypeOrigins.{locks_over, origin_along}
 use Rattle.entail_origins.specs.declared.followed_types.VariableAt.{VariableAt}
@@ -67,28 +68,43 @@ abbrev pub is_always_high : Term → Bool
 is_always_high (const k) = k == 0
 is_always_high e = false
 
+-- the line of a place of the program's text
+abbrev pub place_text : (bytes : List ℕ) → (at : ℕ) → List ℕ
+place_text bytes at = codes ", line " ++ decimal (line bytes at)
+
+-- nothing, of a variable that no other thread may read, with what hides it: the first lock that lists it, and else the thread
+abbrev pub hidden_by_lock : (bytes : List ℕ) → Lock → List ℕ
+hidden_by_lock bytes l = codes "0 (the lock " ++ (l.name ++ (place_text bytes l.at ++ codes ", hides it: under `nowrite` its class would count)"))
+
+abbrev pub hidden_by_thread : List ℕ
+hidden_by_thread = codes "0 (the thread hides it: under `nowrite` its class would count)"
+
+abbrev pub hider_text : (bytes : List ℕ) → Option Lock → List ℕ
+hider_text bytes None = hidden_by_thread
+hider_text bytes (Some l) = hidden_by_lock bytes l
+
 -- what is known of a variable that no other thread may read, by whether it is always high: its class, or nothing
-abbrev pub hidden_text : Plain → Names → (z : ℕ) → (is_high : Bool) → List ℕ
-hidden_text p names z true = class_text p names z
-hidden_text p names z false = codes "0 (its class doesn't count while it is hidden from others; under `nowrite` it would)"
+abbrev pub hidden_text : Plain → Names → (bytes : List ℕ) → (z : ℕ) → (is_high : Bool) → List ℕ
+hidden_text p names bytes z true = class_text p names z
+hidden_text p names bytes z false = hider_text bytes (lock_over z p.locks)
 
 -- what is known of a variable without more, by whether no other thread may read it
-abbrev pub default_text : Plain → Names → (hidden : Bool) → (z : ℕ) → List ℕ
-default_text p names true z = hidden_text p names z (is_always_high (class_of p z))
-default_text p names false z = class_text p names z
+abbrev pub default_text : Plain → Names → (bytes : List ℕ) → (hidden : Bool) → (z : ℕ) → List ℕ
+default_text p names bytes true z = hidden_text p names bytes z (is_always_high (class_of p z))
+default_text p names bytes false z = class_text p names z
 
 abbrev pub taken_text : Plain → Names → (z l : ℕ) → List ℕ
 taken_text p names z l = class_text p names z ++ codes ", from the lock " ++ (lock_at p l).name
 
-abbrev pub unlisted_text : Plain → Names → (hidden : Bool) → (z : ℕ) → By → List ℕ
-unlisted_text p names hidden z by = default_text p names hidden z ++ codes ", since no " ++ list_word by
+abbrev pub unlisted_text : Plain → Names → (bytes : List ℕ) → (hidden : Bool) → (z : ℕ) → By → List ℕ
+unlisted_text p names bytes hidden z by = default_text p names bytes hidden z ++ codes ", since no " ++ list_word by
 
 -- what sets the type of a variable, in front of the line of it
-abbrev pub source_text : Plain → Names → (hidden : Bool) → (z : ℕ) → TypeSource → List ℕ
-source_text p names hidden z source.Stored = codes "from the assignment"
-source_text p names hidden z (source.Taken l) = taken_text p names z l
-source_text p names hidden z (source.Listed by) = listed_text by
-source_text p names hidden z (source.Unlisted by) = unlisted_text p names hidden z by
+abbrev pub source_text : Plain → Names → (bytes : List ℕ) → (hidden : Bool) → (z : ℕ) → TypeSource → List ℕ
+source_text p names bytes hidden z source.Stored = codes "from the assignment"
+source_text p names bytes hidden z (source.Taken l) = taken_text p names z l
+source_text p names bytes hidden z (source.Listed by) = listed_text by
+source_text p names bytes hidden z (source.Unlisted by) = unlisted_text p names bytes hidden z by
 
 -- an expression in quotes, behind some words that begin them
 abbrev pub quoted : Names → (words : List ℕ) → (e : Term) → List ℕ
@@ -122,13 +138,9 @@ source_end names steps index (source.Taken l) = []
 source_end names steps index (source.Listed by) = []
 source_end names steps index (source.Unlisted by) = codes ", lists it"
 
--- the line of a place of the program's text
-abbrev pub place_text : (bytes : List ℕ) → (at : ℕ) → List ℕ
-place_text bytes at = codes ", line " ++ decimal (line bytes at)
-
 abbrev pub set_text : Plain → Names → (bytes : List ℕ) → List Step → (hidden : Bool) → (z : ℕ) → TypeOrigin → List ℕ
 set_text p names bytes steps hidden z o =
-    source_text p names hidden z o.source ++ place_text bytes o.at ++ source_end names steps o.index o.source
+    source_text p names bytes hidden z o.source ++ place_text bytes o.at ++ source_end names steps o.index o.source
 
 abbrev pub is_stored : TypeSource → Bool
 is_stored source.Stored = true
@@ -168,13 +180,13 @@ change_end true (change.Returned l) = codes ", and it mentions what that protect
 change_end false (change.Returned l) = codes ", and it may mention what that protects, so that it may become "
 
 -- what is known of a variable without more behind steps
-abbrev pub default_behind : Plain → (t : ℕ) → Names → List Step → (z : ℕ) → List ℕ
-default_behind p t names steps z = default_text p names (has (hidden_after_steps p t steps) z) z
+abbrev pub default_behind : Plain → (t : ℕ) → Names → (bytes : List ℕ) → List Step → (z : ℕ) → List ℕ
+default_behind p t names bytes steps z = default_text p names bytes (has (hidden_after_steps p t steps) z) z
 
 -- a change, and what the type becomes by it, behind the last of the steps that it counts
 abbrev pub changed_text : Plain → (t : ℕ) → Names → (bytes : List ℕ) → List Step → (z : ℕ) → Later → List ℕ
 changed_text p t names bytes steps z c =
-    change_text p c.change ++ place_text bytes c.at ++ change_end c.is_known c.change ++ default_behind p t names (take c.steps steps) z
+    change_text p c.change ++ place_text bytes c.at ++ change_end c.is_known c.change ++ default_behind p t names bytes (take c.steps steps) z
 
 -- the last change of a type since it was set, if there is one
 abbrev pub later_text : Plain → (t : ℕ) → Names → (bytes : List ℕ) → List Step → (z : ℕ) → Option Later → List ℕ

@@ -26,49 +26,18 @@ pub fn add_assignment(
     requires { length p.now.vars ≤ MOST_VARIABLES }
     ensures { OnOk result (made.new ≡ made.old ++ spec.of_assignment (plain (view.program p.now)) (has hidden.now) x (option_map (λ e. term e.now) written.entry) (map view.retype retypes.now)) }
 {
-    add_written(written, made)?;
-    add_shown(p, hidden, x, made)?;
-    add_controlled(p, hidden, x, made)?;
-    add_retypes(retypes, made)
-}
-
-/// Adds that the type that is written gives that of the value, where one is written.
-fn add_written(written: Option<&Expr>, made: &mut List<Question>) -> Result<(), NoMemory>
-    ensures { OnOk result (made.new ≡ made.old ++ spec.of_written (option_map (λ e. term e.now) written.entry)) }
-{
     match written {
-        Some(_) => made.push(Question::Written),
-        None => Ok(()),
+        Some(_) => made.push(Question::Written)?,
+        None => {}
     }
-}
-
-/// Adds that the class of the variable gives the type of the value, where the variable is a control or others may read it.
-fn add_shown(
-    p: &Program,
-    hidden: &NumberSet,
-    x: u32,
-    made: &mut List<Question>,
-) -> Result<(), NoMemory>
-    ensures { OnOk result (made.new ≡ made.old ++ spec.of_shown (plain (view.program p.now)) (has hidden.now) x) }
-{
     if is_control(p, x) || !hidden.has(x) {
         made.push(Question::Shown(x))?;
     }
-    Ok(())
-}
-
-/// Adds what is asked of the variables of which a control decides.
-fn add_controlled(
-    p: &Program,
-    hidden: &NumberSet,
-    x: u32,
-    made: &mut List<Question>,
-) -> Result<(), NoMemory>
-    requires { length p.now.vars ≤ MOST_VARIABLES }
-    ensures { OnOk result (made.new ≡ made.old ++ spec.of_controlled (plain (view.program p.now)) (has hidden.now) x) }
-{
     if is_control(p, x) {
         add_each_controlled(p, hidden, x, made)?;
+    }
+    for retype in retypes {
+        made.push(Question::Retyped(retype.var))?;
     }
     Ok(())
 }
@@ -102,16 +71,6 @@ fn add_controlled_by(
 {
     if controls(p, x, y) && !hidden.has(y) {
         made.push(Question::Controlled(y))?;
-    }
-    Ok(())
-}
-
-/// Adds that each new type gives the type before.
-fn add_retypes(retypes: &[Retype], made: &mut List<Question>) -> Result<(), NoMemory>
-    ensures { OnOk result (made.new ≡ made.old ++ map (λ r. Question.Retyped r.0) (map view.retype retypes.now)) }
-{
-    for retype in retypes {
-        made.push(Question::Retyped(retype.var))?;
     }
     Ok(())
 }

@@ -8,7 +8,7 @@ ghost use Rattle.cov_expr.specs.View.{term};
 ghost use Rattle.statement_paths.specs.Paths as paths;
 ghost use Rattle.entail_origins.specs.FollowedTypes as spec;
 
-use crate::known_types::{Known, known_after_steps};
+use crate::known_types::known_after_steps;
 use crate::type_origin::{TypeOrigin, TypeSource};
 use crate::type_steps::{locks_over, origin_along};
 use cov_ast::Program;
@@ -69,29 +69,12 @@ pub fn follow(
     ensures { OnOk result (all.new ≡ spec.followed (plain (view.program p.now)) t most (map paths.step steps.now) most all.old) }
 {
     for n in 0..most {
-        add_next(alloc, p, t, most, steps, n, all)?;
+        match all.as_slice().get(n).copied() {
+            Some(v) => add_behind(alloc, p, t, most, first_steps(steps, v.steps), v.var, all)?,
+            None => {}
+        }
     }
     Ok(())
-}
-
-/// Adds those behind the type of one of the variables, if there are so many.
-fn add_next(
-    alloc: Global,
-    p: &Program,
-    t: u32,
-    most: usize,
-    steps: &[Step<'_>],
-    n: usize,
-    all: &mut List<VariableAt>,
-) -> Result<(), NoMemory>
-    requires formed { IsWellFormed (view.program p.now) }
-    requires thread { t < length p.now.threads }
-    ensures { OnOk result (all.new ≡ spec.with_next (plain (view.program p.now)) t most (map paths.step steps.now) n all.old) }
-{
-    match all.as_slice().get(n).copied() {
-        Some(v) => add_behind(alloc, p, t, most, first_steps(steps, v.steps), v.var, all),
-        None => Ok(()),
-    }
 }
 
 /// Adds those behind the type of a variable behind steps.
@@ -109,29 +92,17 @@ fn add_behind(
     ensures { OnOk result (all.new ≡ spec.with_behind (plain (view.program p.now)) t most (map paths.step steps.now) all.old z) }
 {
     let known = known_after_steps(alloc, p, t, steps)?;
-    match origin_of(alloc, p, steps, &known, z)? {
-        Some(origin) => add_origin(alloc, most, &known.controls, steps, origin, all),
-        None => Ok(()),
-    }
-}
-
-/// Where the type of a variable behind steps comes from, if it is tracked there.
-fn origin_of(
-    alloc: Global,
-    p: &Program,
-    steps: &[Step<'_>],
-    known: &Known,
-    z: u32,
-) -> Result<Option<TypeOrigin>, NoMemory>
-    ensures { IfOk result (λ found. found ≡ spec.origin_of (plain (view.program p.now)) (map paths.step steps.now) known.now z) }
-{
-    if known.controls.has(z) {
-        Ok(None)
+    let origin_of = if known.controls.has(z) {
+        None
     } else if known.stable.has(z) {
         let locks = locks_over(alloc, p, z)?;
-        Ok(origin_along(&known.controls, &locks, z, steps))
+        origin_along(&known.controls, &locks, z, steps)
     } else {
-        Ok(None)
+        None
+    };
+    match origin_of {
+        Some(origin) => add_origin(alloc, most, &known.controls, steps, origin, all),
+        None => Ok(()),
     }
 }
 
@@ -181,26 +152,11 @@ fn add_variables(
     ensures { OnOk result (all.new ≡ spec.with_variables most controls.now steps all.old variables.now) }
 {
     for z in variables {
-        add_variable(most, controls, steps, *z, all)?;
+        if !(controls.has(*z) || most < all.len() || is_there(all.as_slice(), steps, *z)) {
+            all.push(VariableAt { var: *z, steps })?;
+        }
     }
     Ok(())
-}
-
-/// Adds a variable, unless it is a control or is there at that point already, and there aren't enough.
-fn add_variable(
-    most: usize,
-    controls: &Mask,
-    steps: usize,
-    z: u32,
-    all: &mut List<VariableAt>,
-) -> Result<(), NoMemory>
-    ensures { OnOk result (all.new ≡ spec.with_variable most controls.now steps all.old z) }
-{
-    if controls.has(z) || most < all.len() || is_there(all.as_slice(), steps, z) {
-        Ok(())
-    } else {
-        all.push(VariableAt { var: z, steps })
-    }
 }
 
 /// Whether a variable is there at a point.

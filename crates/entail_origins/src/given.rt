@@ -1,7 +1,7 @@
 //! What a step may give.
 
 ghost use Rattle.std.specs.Prelude.{◌≡◌, [], ◌∷◌, ◌++◌, IfOk, OnOk, Some, map, option_map};
-ghost use Rattle.cov_expr.specs.Term.{bin, neg, var};
+ghost use Rattle.cov_expr.specs.Term.{var};
 ghost use Rattle.cov_expr.specs.Trees as tree;
 ghost use Rattle.cov_expr.specs.View.{term};
 ghost use Rattle.cov_expr.specs.declared.expr.Op.TheVariants.{Eq};
@@ -45,8 +45,14 @@ impl GivenTerm<'_> {
     {
         match self {
             GivenTerm::Written(made) => same(made, e),
-            GivenTerm::Negation(of) => is_negation(of, e),
-            GivenTerm::Equation(x, value) => is_equation(*x, value, e),
+            GivenTerm::Negation(of) => match e {
+                Expr::Not(inner) => same(of, inner),
+                Expr::Const(_) | Expr::Var(_) | Expr::Bin(..) => false,
+            },
+            GivenTerm::Equation(x, value) => match e {
+                Expr::Bin(Op::Eq, left, right) => is_variable(*x, left) && same(value, right),
+                Expr::Const(_) | Expr::Var(_) | Expr::Not(_) | Expr::Bin(..) => false,
+            },
         }
     }
 
@@ -56,8 +62,15 @@ impl GivenTerm<'_> {
     {
         match self {
             GivenTerm::Written(e) => copy(alloc, e),
-            GivenTerm::Negation(e) => negation(alloc, e),
-            GivenTerm::Equation(x, value) => equation(alloc, *x, value),
+            GivenTerm::Negation(e) => {
+                let inner = boxed(alloc, copy(alloc, e)?)?;
+                Ok(Expr::Not(inner))
+            }
+            GivenTerm::Equation(x, value) => {
+                let left = boxed(alloc, Expr::Var(*x))?;
+                let right = boxed(alloc, copy(alloc, value)?)?;
+                Ok(Expr::Bin(Op::Eq, left, right))
+            }
         }
     }
 }
@@ -163,26 +176,6 @@ fn invariant_of(p: &Program, l: u32) -> Option<&Expr>
     }
 }
 
-/// Whether an expression is the negation of another.
-fn is_negation(of: &Expr, e: &Expr) -> bool
-    ensures { result ≡ tree.same (neg (term of.now)) (term e.now) }
-{
-    match e {
-        Expr::Not(inner) => same(of, inner),
-        Expr::Const(_) | Expr::Var(_) | Expr::Bin(..) => false,
-    }
-}
-
-/// Whether an expression is the equation of a variable and a value.
-fn is_equation(x: u32, value: &Expr, e: &Expr) -> bool
-    ensures { result ≡ tree.same (bin Eq (var x) (term value.now)) (term e.now) }
-{
-    match e {
-        Expr::Bin(Op::Eq, left, right) => is_variable(x, left) && same(value, right),
-        Expr::Const(_) | Expr::Var(_) | Expr::Not(_) | Expr::Bin(..) => false,
-    }
-}
-
 /// Whether an expression is a variable.
 fn is_variable(x: u32, e: &Expr) -> bool
     ensures { result ≡ tree.same (var x) (term e.now) }
@@ -191,21 +184,4 @@ fn is_variable(x: u32, e: &Expr) -> bool
         Expr::Var(y) => x == *y,
         Expr::Const(_) | Expr::Not(_) | Expr::Bin(..) => false,
     }
-}
-
-/// The negation of an expression.
-fn negation(alloc: Global, of: &Expr) -> Result<Expr, NoMemory>
-    ensures { IfOk result (λ made. term made ≡ neg (term of.now)) }
-{
-    let inner = boxed(alloc, copy(alloc, of)?)?;
-    Ok(Expr::Not(inner))
-}
-
-/// The equation of a variable and a value.
-fn equation(alloc: Global, x: u32, value: &Expr) -> Result<Expr, NoMemory>
-    ensures { IfOk result (λ made. term made ≡ bin Eq (var x) (term value.now)) }
-{
-    let left = boxed(alloc, Expr::Var(x))?;
-    let right = boxed(alloc, copy(alloc, value)?)?;
-    Ok(Expr::Bin(Op::Eq, left, right))
 }

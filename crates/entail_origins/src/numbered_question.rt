@@ -1,6 +1,6 @@
 //! What is asked by the place of a statement and the number of an entailment.
 
-ghost use Rattle.std.specs.Prelude.{◌≡◌, ◌<◌, IfOk, length, MatchOption, ◌≤◌, ◌-◌};
+ghost use Rattle.std.specs.Prelude.{◌≡◌, ◌<◌, IfOk, length, ◌-◌};
 ghost use Rattle.cov_ast.specs.View as view;
 ghost use Rattle.cov_ast.specs.WellFormed.{IsWellFormed};
 ghost use Rattle.entail_origins.specs.Questions as spec;
@@ -39,16 +39,9 @@ pub fn question(
 fn asked_among(all: &[Question], number: u32) -> Option<Asked>
     ensures { result ≡ spec.asked_among all.now number }
 {
-    let question = all.get(index_of(number)?)?;
+    let question = all.get((number as usize).checked_sub(1)?)?;
     Some(Asked {
         question: *question,
         of: all.len(),
     })
-}
-
-/// The index, counted from 0, of what has this number, counted from 1.
-fn index_of(number: u32) -> Option<usize>
-    ensures { MatchOption result (number ≡ 0) (λ index. (1 ≤ number) × (index ≡ number - 1)) }
-{
-    (number as usize).checked_sub(1)
 }

@@ -42,20 +42,13 @@ pub fn add_question_line(
 ) -> Result<(), NoMemory>
     ensures { OnOk result (text.new ≡ text.old ++ spec.line_of (plain (view.program p.now)) number (Some asked.now)) }
 {
-    add_numbers(number, asked.of, text)?;
-    add_sentence(p, asked.question, text)?;
-    text.extend_from_slice(b"\n")
-}
-
-/// Adds which entailment it is, of how many.
-fn add_numbers(number: usize, of: usize, text: &mut Blob) -> Result<(), NoMemory>
-    ensures { OnOk result (text.new ≡ text.old ++ spec.numbers number of) }
-{
     text.extend_from_slice(b"  entailment ")?;
     add_number(number, text)?;
     text.extend_from_slice(b" of ")?;
-    add_number(of, text)?;
-    text.extend_from_slice(b" asks: ")
+    add_number(asked.of, text)?;
+    text.extend_from_slice(b" asks: ")?;
+    add_sentence(p, asked.question, text)?;
+    text.extend_from_slice(b"\n")
 }
 
 /// Adds what is asked, as a sentence.
@@ -63,23 +56,17 @@ fn add_sentence(p: &Program, question: Question, text: &mut Blob) -> Result<(), 
     ensures { OnOk result (text.new ≡ text.old ++ spec.sentence (plain (view.program p.now)) question) }
 {
     text.extend_from_slice(question_front(question).as_bytes())?;
-    add_subject(p, question, text)?;
-    text.extend_from_slice(question_end(question).as_bytes())
-}
-
-/// Adds the name of the variable or of the lock, or the number of the predicate.
-fn add_subject(p: &Program, question: Question, text: &mut Blob) -> Result<(), NoMemory>
-    ensures { OnOk result (text.new ≡ text.old ++ spec.subject (plain (view.program p.now)) question) }
-{
     match question {
-        Question::Written | Question::Guard | Question::HeadGuard | Question::Printed => Ok(()),
-        Question::Shown(x) | Question::Controlled(x) | Question::Retyped(x) => {
-            add_variable_name(p, x, text)
-        }
-        Question::Freed(x) | Question::TypeOf(_, x) => add_variable_name(p, x, text),
-        Question::Invariant(l) => add_lock_name(p, l, text),
-        Question::Predicate(_, i) => add_number(i, text),
+        Question::Written | Question::Guard | Question::HeadGuard | Question::Printed => {}
+        Question::Shown(x)
+        | Question::Controlled(x)
+        | Question::Retyped(x)
+        | Question::Freed(x)
+        | Question::TypeOf(_, x) => add_variable_name(p, x, text)?,
+        Question::Invariant(l) => add_lock_name(p, l, text)?,
+        Question::Predicate(_, i) => add_number(i, text)?,
     }
+    text.extend_from_slice(question_end(question).as_bytes())
 }
 
 /// What stands in front of the name or of the number; all of it where there is none.
@@ -110,34 +97,20 @@ fn question_end(question: Question) -> &'static str
         Question::Retyped(_) => " holds after the assignment, that variable is public before",
         Question::Invariant(_) => " holds",
         Question::Freed(_) => " is low, it is public, since the lock hides it no longer",
-        Question::Predicate(end, _) => predicate_end(end),
-        Question::TypeOf(end, _) => type_end(end),
+        Question::Predicate(end, _) => match end {
+            End::Here => " of the note holds",
+            End::Entry => " of `inv` holds where the loop is entered",
+            End::FirstBlock => " of `join` holds at the end of the first block",
+            End::SecondBlock => " of `join` holds at the end of the `else` block",
+            End::Body => " of `inv` holds at the end of the block",
+        },
+        Question::TypeOf(end, _) => match end {
+            End::Here => " holds, that variable is public here",
+            End::Entry => " holds, that variable is public where the loop is entered",
+            End::FirstBlock => " holds, that variable is public at the end of the first block",
+            End::SecondBlock => " holds, that variable is public at the end of the `else` block",
+            End::Body => " holds, that variable is public at the end of the block",
+        },
         Question::Written | Question::Guard | Question::HeadGuard | Question::Printed => "",
-    }
-}
-
-/// Where a predicate is to hold.
-fn predicate_end(end: End) -> &'static str
-    ensures { result.now ≡ spec.predicate_end end }
-{
-    match end {
-        End::Here => " of the note holds",
-        End::Entry => " of `inv` holds where the loop is entered",
-        End::FirstBlock => " of `join` holds at the end of the first block",
-        End::SecondBlock => " of `join` holds at the end of the `else` block",
-        End::Body => " of `inv` holds at the end of the block",
-    }
-}
-
-/// Where a variable is to be public.
-fn type_end(end: End) -> &'static str
-    ensures { result.now ≡ spec.type_end end }
-{
-    match end {
-        End::Here => " holds, that variable is public here",
-        End::Entry => " holds, that variable is public where the loop is entered",
-        End::FirstBlock => " holds, that variable is public at the end of the first block",
-        End::SecondBlock => " holds, that variable is public at the end of the `else` block",
-        End::Body => " holds, that variable is public at the end of the block",
     }
 }

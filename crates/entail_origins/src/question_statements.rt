@@ -1,8 +1,6 @@
 //! What is asked of a statement.
 
-ghost use Rattle.std.specs.Prelude.{◌≡◌, ◌<◌, ◌++◌, IfOk, OnOk, filter, length, map, not, option_map, option_to_list};
-ghost use Rattle.cov_expr.specs.View.{term};
-ghost use Rattle.cov_ast.specs.Declarations as declared;
+ghost use Rattle.std.specs.Prelude.{◌≡◌, ◌<◌, ◌++◌, IfOk, OnOk, length};
 ghost use Rattle.cov_ast.specs.Plain.{plain};
 ghost use Rattle.cov_ast.specs.Tables.{has};
 ghost use Rattle.cov_ast.specs.View as view;
@@ -14,7 +12,7 @@ use crate::assignments::add_assignment;
 use crate::kinds::{End, Question};
 use crate::question_states::add_state;
 use cov_ast::{NumberSet, Program, State, StmtKind};
-use cov_expr::{Expr, List, NoMemory};
+use cov_expr::{List, NoMemory};
 use policy_class::is_control;
 use statement_parts::{Nested, parts_of};
 use std::alloc::Global;
@@ -41,7 +39,19 @@ pub fn questions(
             store.retypes,
             &mut made,
         )?,
-        (None, Some(l), _, _) => add_returned(p, l, &mut made)?,
+        (None, Some(l), _, _) => {
+            let lock = &p.locks.as_slice()[l as usize];
+            match &lock.inv {
+                Some(_) => made.push(Question::Invariant(l))?,
+                None => {}
+            }
+            let hide = lock.hide.as_slice();
+            for x in hide {
+                if !is_control(p, *x) {
+                    made.push(Question::Freed(*x))?;
+                }
+            }
+        }
         (None, None, Some(_), _) => made.push(Question::Printed)?,
         (None, None, None, Some(state)) => add_stated(parts.nested, state, &mut made)?,
         (None, None, None, None) => {}
@@ -66,36 +76,4 @@ fn add_stated(nested: Nested<'_>, state: &State, made: &mut List<Question>) -> R
             add_state(End::SecondBlock, state, made)
         }
     }
-}
-
-/// Adds what is asked where a lock is given back: its invariant, and what it hides no longer.
-fn add_returned(p: &Program, l: u32, made: &mut List<Question>) -> Result<(), NoMemory>
-    requires { l < length p.now.locks }
-    ensures { OnOk result (made.new ≡ made.old ++ spec.of_returned (plain (view.program p.now)) l) }
-{
-    let lock = &p.locks.as_slice()[l as usize];
-    add_invariant(l, &lock.inv, made)?;
-    add_freed(p, lock.hide.as_slice(), made)
-}
-
-/// Adds that the invariant of a lock holds, where it has one.
-fn add_invariant(l: u32, inv: &Option<Expr>, made: &mut List<Question>) -> Result<(), NoMemory>
-    ensures { OnOk result (made.new ≡ made.old ++ map (λ r. Question.Invariant l) (option_to_list (option_map term inv.now))) }
-{
-    match inv {
-        Some(_) => made.push(Question::Invariant(l)),
-        None => Ok(()),
-    }
-}
-
-/// Adds that the class of each variable that a lock hides gives its type, of those that aren't controls.
-fn add_freed(p: &Program, hide: &[u32], made: &mut List<Question>) -> Result<(), NoMemory>
-    ensures { OnOk result (made.new ≡ made.old ++ map Question.Freed (filter (λ x. not (declared.is_control (plain (view.program p.now)) x)) hide.now)) }
-{
-    for x in hide {
-        if !is_control(p, *x) {
-            made.push(Question::Freed(*x))?;
-        }
-    }
-    Ok(())
 }

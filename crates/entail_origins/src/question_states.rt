@@ -14,7 +14,11 @@ pub fn add_state(end: End, state: &State, made: &mut List<Question>) -> Result<(
     ensures { OnOk result (made.new ≡ made.old ++ spec.of_state end (view.state state.now)) }
 {
     add_preds(end, state.preds.as_slice(), made)?;
-    add_types(end, state.types.as_slice(), made)
+    let types = state.types.as_slice();
+    for (z, _) in types {
+        made.push(Question::TypeOf(end, *z))?;
+    }
+    Ok(())
 }
 
 /// Adds that each predicate holds.
@@ -23,16 +27,6 @@ fn add_preds(end: End, preds: &[Expr], made: &mut List<Question>) -> Result<(), 
 {
     for (i, _) in preds.iter().enumerate() {
         made.push(Question::Predicate(end, i + 1))?;
-    }
-    Ok(())
-}
-
-/// Adds that each type that is listed gives the one that its variable has.
-fn add_types(end: End, types: &[(u32, Expr)], made: &mut List<Question>) -> Result<(), NoMemory>
-    ensures { OnOk result (made.new ≡ made.old ++ map (λ r. Question.TypeOf end r.0) (map view.typed types.now)) }
-{
-    for (z, _) in types {
-        made.push(Question::TypeOf(end, *z))?;
     }
     Ok(())
 }

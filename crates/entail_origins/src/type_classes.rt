@@ -1,17 +1,18 @@
 //! The words on a variable whose type is its class, which is spelled.
 
 ghost use Rattle.std.specs.Prelude.{◌≡◌, ◌++◌, OnOk};
-ghost use Rattle.cov_ast.specs.Declarations.{class_of};
 ghost use Rattle.cov_ast.specs.Plain.{class_term, plain};
 ghost use Rattle.cov_ast.specs.View as view;
 ghost use Rattle.cov_expr.specs.Term.{const};
 ghost use Rattle.cov_expr.specs.Trees as tree;
 ghost use Rattle.cov_expr.specs.View.{term};
 ghost use Rattle.cov_print.specs.Spelling.{whole};
+ghost use Rattle.entail_origins.specs.LocksOver.{lock_over};
 ghost use Rattle.entail_origins.specs.TypeLines as spec;
 
+use crate::locks::lock_over;
 use crate::type_lines::add_place;
-use cov_ast::{Class, NameTable, Program};
+use cov_ast::{Class, LockDecl, NameTable, Program};
 use cov_expr::{Blob, Expr, NoMemory, same};
 use cov_print::add_expr;
 use text_parts::add_number;
@@ -37,67 +38,64 @@ pub fn add_shared(
 fn add_shared_end(bytes: &[u8], at: u32, is_high: bool, text: &mut Blob) -> Result<(), NoMemory>
     ensures { OnOk result (text.new ≡ text.old ++ spec.shared_end bytes.now at is_high) }
 {
-    add_declared(bytes, at, is_high, text)?;
-    text.extend_from_slice(unstable_words(is_high).as_bytes())
-}
-
-/// Adds the line of a declaration, where it is to be told.
-fn add_declared(bytes: &[u8], at: u32, is_told: bool, text: &mut Blob) -> Result<(), NoMemory>
-    ensures { OnOk result (text.new ≡ text.old ++ spec.declared_text bytes.now at is_told) }
-{
-    if is_told {
-        add_place(bytes, at, text)
-    } else {
-        Ok(())
-    }
-}
-
-/// The words on a variable that isn't stable.
-fn unstable_words(is_high: bool) -> &'static str
-    ensures { result.now ≡ spec.unstable_words is_high }
-{
     if is_high {
+        add_place(bytes, at, text)?;
+    }
+    let unstable_words = if is_high {
         "; it isn't stable here"
     } else {
         ", since it isn't stable here: the thread doesn't assume that no other writes it, and holds no lock that it is under"
-    }
+    };
+    text.extend_from_slice(unstable_words.as_bytes())
 }
 
-/// Adds the type of a variable that no step sets.
-pub fn add_start(p: &Program, names: &NameTable, z: u32, text: &mut Blob) -> Result<(), NoMemory>
-    ensures { OnOk result (text.new ≡ text.old ++ spec.start_text (plain (view.program p.now)) names.now z) }
-{
-    add_class(p, names, z, text)?;
-    text.extend_from_slice(b", from the start of the thread")
-}
-
-/// Adds what is known of a variable without more.
+/// Adds what is known of a variable without more. `bytes` are the text of the program.
 pub fn add_default(
     p: &Program,
     names: &NameTable,
+    bytes: &[u8],
     hidden: bool,
     z: u32,
     text: &mut Blob,
 ) -> Result<(), NoMemory>
-    ensures { OnOk result (text.new ≡ text.old ++ spec.default_text (plain (view.program p.now)) names.now hidden z) }
+    ensures { OnOk result (text.new ≡ text.old ++ spec.default_text (plain (view.program p.now)) names.now bytes.now hidden z) }
 {
-    if hidden && !is_secret(p, z) {
-        text.extend_from_slice(
-            b"0 (its class doesn't count while it is hidden from others; under `nowrite` it would)",
-        )
+    let is_secret = match p.vars.as_slice().get(z as usize) {
+        Some(var) => is_always_high(&var.class),
+        None => true,
+    };
+    if hidden && !is_secret {
+        add_hider(p, bytes, z, text)
     } else {
         add_class(p, names, z, text)
     }
 }
 
-/// Whether a variable is high whatever the memory. Past the declarations all is high.
-fn is_secret(p: &Program, z: u32) -> bool
-    ensures { result ≡ spec.is_always_high (class_of (plain (view.program p.now)) z) }
+/// Adds that nothing is known of a variable, with what hides it.
+fn add_hider(p: &Program, bytes: &[u8], z: u32, text: &mut Blob) -> Result<(), NoMemory>
+    ensures { OnOk result (text.new ≡ text.old ++ spec.hider_text bytes.now (lock_over z (view.program p.now).locks)) }
 {
-    match p.vars.as_slice().get(z as usize) {
-        Some(var) => is_always_high(&var.class),
-        None => true,
+    match lock_over(z, p.locks.as_slice()) {
+        Some(lock) => add_hider_lock(bytes, lock, text),
+        None => add_hider_thread(text),
     }
+}
+
+/// Adds that a lock hides a variable.
+fn add_hider_lock(bytes: &[u8], lock: &LockDecl, text: &mut Blob) -> Result<(), NoMemory>
+    ensures { OnOk result (text.new ≡ text.old ++ spec.hidden_by_lock bytes.now (view.lock lock.now)) }
+{
+    text.extend_from_slice(b"0 (the lock ")?;
+    text.extend_from_slice(lock.name.text())?;
+    add_place(bytes, lock.at, text)?;
+    text.extend_from_slice(b", hides it: under `nowrite` its class would count)")
+}
+
+/// Adds that the thread hides it.
+fn add_hider_thread(text: &mut Blob) -> Result<(), NoMemory>
+    ensures { OnOk result (text.new ≡ text.old ++ spec.hidden_by_thread) }
+{
+    text.extend_from_slice(b"0 (the thread hides it: under `nowrite` its class would count)")
 }
 
 /// Whether a class is high whatever the memory.
@@ -153,13 +151,6 @@ fn add_spelled(names: &NameTable, class: &Class, text: &mut Blob) -> Result<(), 
 {
     text.extend_from_slice(b"its class `")?;
     add_term(names, class, text)?;
-    add_class_end(class, text)
-}
-
-/// Adds what stands behind a class.
-fn add_class_end(class: &Class, text: &mut Blob) -> Result<(), NoMemory>
-    ensures { OnOk result (text.new ≡ text.old ++ spec.class_end (class_term (view.class class.now))) }
-{
     text.extend_from_slice(b"`")?;
     text.extend_from_slice(level_part(class).as_bytes())
 }

@@ -13,15 +13,13 @@ ghost use Rattle.entail_origins.specs.TypeOrigins.{locks_over};
 use crate::followed_types::{VariableAt, at_point, first_steps, follow};
 use crate::goal_variables::variables_of;
 use crate::kinds::Question;
-use crate::known_types::{Known, known_after_steps};
+use crate::known_types::known_after_steps;
 use crate::type_changes::change_along;
-use crate::type_classes::{add_class, add_default, add_shared, add_start};
-use crate::type_origin::{Later, TypeChange, TypeOrigin, TypeSource};
+use crate::type_classes::{add_class, add_default, add_shared};
+use crate::type_origin::{By, Later, TypeChange, TypeOrigin, TypeSource};
 use crate::type_steps::{locks_over, origin_along};
-use crate::type_words::{
-    add_stored, assignment_words, change_end, change_word, is_of_value, list_word, listed_text,
-};
-use cov_ast::{NameTable, NumberSet, Program, StmtKind};
+use crate::type_words::{add_stored, assignment_words, change_end, change_word, list_word};
+use cov_ast::{NameTable, Program, StmtKind};
 use cov_expr::{Blob, NoMemory};
 use statement_paths::{Step, hidden_after_steps};
 use std::alloc::Global;
@@ -121,25 +119,12 @@ fn add_line(
     ensures { OnOk result (text.new ≡ text.old ++ spec.type_line (plain_of trace.now) trace.now.thread names.now bytes.now (map paths.step steps.now) v.now) }
 {
     let front = first_steps(steps, v.steps);
-    add_label(trace.program, bytes, steps, v, text)?;
+    text.extend_from_slice(b"  type of ")?;
+    add_variable_name(trace.program, v.var, text)?;
+    add_point_behind(bytes, steps, v.steps, text)?;
+    text.extend_from_slice(b":  ")?;
     add_type_behind(trace, names, bytes, front, v.var, text)?;
     text.extend_from_slice(b"\n")
-}
-
-/// Adds what stands in front of the words on a variable.
-fn add_label(
-    p: &Program,
-    bytes: &[u8],
-    steps: &[Step<'_>],
-    v: &VariableAt,
-    text: &mut Blob,
-) -> Result<(), NoMemory>
-    ensures { OnOk result (text.new ≡ text.old ++ spec.label (plain (view.program p.now)) bytes.now (map paths.step steps.now) v.now) }
-{
-    text.extend_from_slice(b"  type of ")?;
-    add_variable_name(p, v.var, text)?;
-    add_point_behind(bytes, steps, v.steps, text)?;
-    text.extend_from_slice(b":  ")
 }
 
 /// Adds where a type is looked at behind so many of the steps.
@@ -181,71 +166,19 @@ fn add_type_behind(
     ensures { OnOk result (text.new ≡ text.old ++ spec.behind_text (plain_of trace.now) trace.now.thread names.now bytes.now (map paths.step steps.now) z) }
 {
     let known = known_after_steps(trace.alloc, trace.program, trace.thread, steps)?;
-    add_type(trace, names, bytes, steps, &known, z, text)
-}
-
-/// Adds where the type of a variable comes from.
-fn add_type(
-    trace: &Trace<'_>,
-    names: &NameTable,
-    bytes: &[u8],
-    steps: &[Step<'_>],
-    known: &Known,
-    z: u32,
-    text: &mut Blob,
-) -> Result<(), NoMemory>
-    requires trace { IsTrace trace.now }
-    requires range { AreInRange trace.now (map paths.step steps.now) }
-    ensures { OnOk result (text.new ≡ text.old ++ spec.type_text (plain_of trace.now) trace.now.thread names.now bytes.now (map paths.step steps.now) known.now z) }
-{
     if known.controls.has(z) {
         text.extend_from_slice(b"1, as that of every control")
     } else if known.stable.has(z) {
-        add_tracked(trace, names, bytes, steps, known, z, text)
+        let locks = locks_over(trace.alloc, trace.program, z)?;
+        let (p, hidden) = (trace.program, known.hidden.has(z));
+        let origin = origin_along(&known.controls, &locks, z, steps);
+        add_any_origin(p, names, bytes, steps, hidden, z, origin, text)?;
+        let later = change_along(trace, &known.controls, &locks, z, steps)?;
+        add_any_later(trace, names, bytes, steps, z, later, text)?;
+        add_mend(p, z, origin, later, text)
     } else {
         add_shared(trace.program, names, bytes, z, text)
     }
-}
-
-/// Adds where the type of a variable comes from that is tracked.
-fn add_tracked(
-    trace: &Trace<'_>,
-    names: &NameTable,
-    bytes: &[u8],
-    steps: &[Step<'_>],
-    known: &Known,
-    z: u32,
-    text: &mut Blob,
-) -> Result<(), NoMemory>
-    requires trace { IsTrace trace.now }
-    requires range { AreInRange trace.now (map paths.step steps.now) }
-    ensures { OnOk result (text.new ≡ text.old ++ spec.history_text (plain_of trace.now) trace.now.thread names.now bytes.now (map paths.step steps.now) known.now z (locks_over (plain_of trace.now) z)) }
-{
-    let locks = locks_over(trace.alloc, trace.program, z)?;
-    add_history(trace, names, bytes, steps, known, z, &locks, text)
-}
-
-/// Adds where the type of a variable comes from that is under some locks, and what changed it since.
-fn add_history(
-    trace: &Trace<'_>,
-    names: &NameTable,
-    bytes: &[u8],
-    steps: &[Step<'_>],
-    known: &Known,
-    z: u32,
-    locks: &NumberSet,
-    text: &mut Blob,
-) -> Result<(), NoMemory>
-    requires trace { IsTrace trace.now }
-    requires range { AreInRange trace.now (map paths.step steps.now) }
-    ensures { OnOk result (text.new ≡ text.old ++ spec.history_text (plain_of trace.now) trace.now.thread names.now bytes.now (map paths.step steps.now) known.now z locks.now) }
-{
-    let (p, hidden) = (trace.program, known.hidden.has(z));
-    let origin = origin_along(&known.controls, locks, z, steps);
-    add_any_origin(p, names, bytes, steps, hidden, z, origin, text)?;
-    let later = change_along(trace, &known.controls, locks, z, steps)?;
-    add_any_later(trace, names, bytes, steps, z, later, text)?;
-    add_mend(p, z, origin, later, text)
 }
 
 /// Adds where the type of a variable comes from.
@@ -263,33 +196,21 @@ fn add_any_origin(
 {
     match origin {
         Some(origin) => {
-            add_source(p, names, hidden, z, origin.source, text)?;
+            add_source(p, names, bytes, hidden, z, origin.source, text)?;
             add_place(bytes, origin.at, text)?;
-            add_source_end(names, steps, origin.index, origin.source, text)
-        }
-        None => add_start(p, names, z, text),
-    }
-}
-
-/// Adds what stands behind the line of what sets a type, in the step with an index.
-fn add_source_end(
-    names: &NameTable,
-    steps: &[Step<'_>],
-    index: usize,
-    source: TypeSource,
-    text: &mut Blob,
-) -> Result<(), NoMemory>
-    ensures { OnOk result (text.new ≡ text.old ++ spec.source_end names.now (map paths.step steps.now) index source) }
-{
-    match source {
-        TypeSource::Stored => {
-            match steps.get(index) {
-                Some(Step::Passed(stmt)) => add_stored(names, &stmt.kind, text),
-                Some(Step::Yes(_, _) | Step::No(_, _) | Step::Head(_, _)) | None => Ok(()),
+            match origin.source {
+                TypeSource::Stored => match steps.get(origin.index) {
+                    Some(Step::Passed(stmt)) => add_stored(names, &stmt.kind, text),
+                    Some(Step::Yes(_, _) | Step::No(_, _) | Step::Head(_, _)) | None => Ok(()),
+                },
+                TypeSource::Taken(_) | TypeSource::Listed(_) => Ok(()),
+                TypeSource::Unlisted(_) => text.extend_from_slice(b", lists it"),
             }
         }
-        TypeSource::Taken(_) | TypeSource::Listed(_) => Ok(()),
-        TypeSource::Unlisted(_) => text.extend_from_slice(b", lists it"),
+        None => {
+            add_class(p, names, z, text)?;
+            text.extend_from_slice(b", from the start of the thread")
+        }
     }
 }
 
@@ -297,12 +218,13 @@ fn add_source_end(
 fn add_source(
     p: &Program,
     names: &NameTable,
+    bytes: &[u8],
     hidden: bool,
     z: u32,
     source: TypeSource,
     text: &mut Blob,
 ) -> Result<(), NoMemory>
-    ensures { OnOk result (text.new ≡ text.old ++ spec.source_text (plain (view.program p.now)) names.now hidden z source) }
+    ensures { OnOk result (text.new ≡ text.old ++ spec.source_text (plain (view.program p.now)) names.now bytes.now hidden z source) }
 {
     match source {
         TypeSource::Stored => text.extend_from_slice(b"from the assignment"),
@@ -311,9 +233,17 @@ fn add_source(
             text.extend_from_slice(b", from the lock ")?;
             add_lock_name(p, l, text)
         }
-        TypeSource::Listed(by) => text.extend_from_slice(listed_text(by).as_bytes()),
+        TypeSource::Listed(by) => {
+            let listed_text = match by {
+                By::Join => "listed by the join of the `if`",
+                By::LoopState => "listed by the inv of the `while`",
+                By::Noted => "listed by the note",
+                By::Retype => "from the retype",
+            };
+            text.extend_from_slice(listed_text.as_bytes())
+        }
         TypeSource::Unlisted(by) => {
-            add_default(p, names, hidden, z, text)?;
+            add_default(p, names, bytes, hidden, z, text)?;
             text.extend_from_slice(b", since no ")?;
             text.extend_from_slice(list_word(by).as_bytes())
         }
@@ -342,43 +272,25 @@ fn add_any_later(
     ensures { OnOk result (text.new ≡ text.old ++ spec.later_text (plain_of trace.now) trace.now.thread names.now bytes.now (map paths.step steps.now) z later) }
 {
     match later {
-        Some(later) => add_later(trace, names, bytes, steps, z, later, text),
+        Some(later) => {
+            text.extend_from_slice(b"; then ")?;
+            match later.change {
+                TypeChange::ControlStored(x) => add_variable_name(trace.program, x, text)?,
+                TypeChange::Returned(l) => add_lock_name(trace.program, l, text)?,
+            }
+            text.extend_from_slice(change_word(later.change).as_bytes())?;
+            add_place(bytes, later.at, text)?;
+            text.extend_from_slice(change_end(later.is_known, later.change).as_bytes())?;
+            let hidden = hidden_after_steps(
+                trace.alloc,
+                trace.program,
+                trace.thread,
+                first_steps(steps, later.steps),
+            )?;
+            add_default(trace.program, names, bytes, hidden.has(z), z, text)
+        }
         None => Ok(()),
     }
-}
-
-/// Adds what changed the type of a variable since, its line, and what the type is then.
-fn add_later(
-    trace: &Trace<'_>,
-    names: &NameTable,
-    bytes: &[u8],
-    steps: &[Step<'_>],
-    z: u32,
-    later: Later,
-    text: &mut Blob,
-) -> Result<(), NoMemory>
-    requires { IsTrace trace.now }
-    ensures { OnOk result (text.new ≡ text.old ++ spec.changed_text (plain_of trace.now) trace.now.thread names.now bytes.now (map paths.step steps.now) z later) }
-{
-    add_change(trace.program, later.change, text)?;
-    add_place(bytes, later.at, text)?;
-    text.extend_from_slice(change_end(later.is_known, later.change).as_bytes())?;
-    add_default_behind(trace, names, first_steps(steps, later.steps), z, text)
-}
-
-/// Adds what is known of a variable without more behind steps.
-fn add_default_behind(
-    trace: &Trace<'_>,
-    names: &NameTable,
-    steps: &[Step<'_>],
-    z: u32,
-    text: &mut Blob,
-) -> Result<(), NoMemory>
-    requires { IsTrace trace.now }
-    ensures { OnOk result (text.new ≡ text.old ++ spec.default_behind (plain_of trace.now) trace.now.thread names.now (map paths.step steps.now) z) }
-{
-    let hidden = hidden_after_steps(trace.alloc, trace.program, trace.thread, steps)?;
-    add_default(trace.program, names, hidden.has(z), z, text)
 }
 
 /// Adds what sets another type where a later change is told, if a statement can.
@@ -392,33 +304,26 @@ fn add_mend(
     ensures { OnOk result (text.new ≡ text.old ++ spec.mend_text (plain (view.program p.now)) z origin later) }
 {
     match later {
-        Some(later) => add_mend_of(p, is_of_value(origin), z, later.change, text),
+        Some(later) => match later.change {
+            TypeChange::ControlStored(_) => {
+                add_retype(p, z, text)?;
+                let is_of_value = match origin {
+                    Some(origin) => {
+                        match origin.source {
+                            TypeSource::Stored => true,
+                            TypeSource::Taken(_)
+                            | TypeSource::Listed(_)
+                            | TypeSource::Unlisted(_) => false,
+                        }
+                    }
+                    None => false,
+                };
+                add_there(is_of_value, text)
+            }
+            TypeChange::Returned(_) => Ok(()),
+        },
         None => Ok(()),
     }
-}
-
-/// Adds what sets another type than a change does.
-fn add_mend_of(
-    p: &Program,
-    of_value: bool,
-    z: u32,
-    change: TypeChange,
-    text: &mut Blob,
-) -> Result<(), NoMemory>
-    ensures { OnOk result (text.new ≡ text.old ++ spec.mend_of (plain (view.program p.now)) of_value z change) }
-{
-    match change {
-        TypeChange::ControlStored(_) => add_setters(p, of_value, z, text),
-        TypeChange::Returned(_) => Ok(()),
-    }
-}
-
-/// Adds that a `retype` sets another type of a variable, or an assignment.
-fn add_setters(p: &Program, of_value: bool, z: u32, text: &mut Blob) -> Result<(), NoMemory>
-    ensures { OnOk result (text.new ≡ text.old ++ spec.setters (plain (view.program p.now)) of_value z) }
-{
-    add_retype(p, z, text)?;
-    add_there(of_value, text)
 }
 
 /// Adds the `retype` of a variable.
@@ -435,23 +340,4 @@ fn add_there(of_value: bool, text: &mut Blob) -> Result<(), NoMemory>
 {
     text.extend_from_slice(b" as ..` there, where that is shown")?;
     text.extend_from_slice(assignment_words(of_value).as_bytes())
-}
-
-/// Adds what is done that may forget a type.
-fn add_change(p: &Program, change: TypeChange, text: &mut Blob) -> Result<(), NoMemory>
-    ensures { OnOk result (text.new ≡ text.old ++ spec.change_text (plain (view.program p.now)) change) }
-{
-    text.extend_from_slice(b"; then ")?;
-    add_subject(p, change, text)?;
-    text.extend_from_slice(change_word(change).as_bytes())
-}
-
-/// Adds the name of the control that is stored to, or of the lock that is given back.
-fn add_subject(p: &Program, change: TypeChange, text: &mut Blob) -> Result<(), NoMemory>
-    ensures { OnOk result (text.new ≡ text.old ++ spec.change_subject (plain (view.program p.now)) change) }
-{
-    match change {
-        TypeChange::ControlStored(x) => add_variable_name(p, x, text),
-        TypeChange::Returned(l) => add_lock_name(p, l, text),
-    }
 }

@@ -7,7 +7,7 @@ ghost use Rattle.statement_paths.specs.Paths as paths;
 ghost use Rattle.entail_origins.specs.TypeOrigins as spec;
 
 use crate::type_origin::{By, TypeOrigin, TypeSource};
-use cov_ast::{NumberSet, Program, Retype, State, StmtKind};
+use cov_ast::{NumberSet, Program, Retype, State};
 use cov_expr::{Expr, List, NoMemory};
 use mode_state::Mask;
 use statement_parts::{Nested, parts_of};
@@ -54,37 +54,32 @@ pub fn set_by(controls: &Mask, locks: &NumberSet, z: u32, step: &Step<'_>) -> Op
     ensures { result ≡ spec.set_by controls.now locks.now z (paths.step step.now) }
 {
     match step {
-        Step::Passed(stmt) => set_past(controls, locks, z, &stmt.kind),
+        Step::Passed(stmt) => {
+            let parts = parts_of(&stmt.kind);
+            match (parts.store, parts.taken, parts.state) {
+                (Some(store), _, _) => {
+                    if controls.has(store.variable) {
+                        where_true(is_retyped(store.retypes, z), TypeSource::Listed(By::Retype))
+                    } else {
+                        where_true(store.variable == z, TypeSource::Stored)
+                    }
+                }
+                (None, Some(l), _) => where_true(locks.has(l), TypeSource::Taken(l)),
+                (None, None, Some(state)) => {
+                    match parts.nested {
+                        Nested::None => where_true(
+                            is_listed(state.types.as_slice(), z),
+                            TypeSource::Listed(By::Noted),
+                        ),
+                        Nested::Turn(_) => Some(set_by_state(z, By::LoopState, state)),
+                        Nested::Either(_, _) => Some(set_by_state(z, By::Join, state)),
+                    }
+                }
+                (None, None, None) => None,
+            }
+        }
         Step::Yes(_, _) | Step::No(_, _) => None,
         Step::Head(_, inv) => Some(set_by_state(z, By::LoopState, inv)),
-    }
-}
-
-/// What in a statement sets the type behind it.
-fn set_past(controls: &Mask, locks: &NumberSet, z: u32, kind: &StmtKind) -> Option<TypeSource>
-    ensures { result ≡ spec.set_past controls.now locks.now z (view.kind kind.now) }
-{
-    let parts = parts_of(kind);
-    match (parts.store, parts.taken, parts.state) {
-        (Some(store), _, _) => {
-            if controls.has(store.variable) {
-                where_true(is_retyped(store.retypes, z), TypeSource::Listed(By::Retype))
-            } else {
-                where_true(store.variable == z, TypeSource::Stored)
-            }
-        }
-        (None, Some(l), _) => where_true(locks.has(l), TypeSource::Taken(l)),
-        (None, None, Some(state)) => {
-            match parts.nested {
-                Nested::None => where_true(
-                    is_listed(state.types.as_slice(), z),
-                    TypeSource::Listed(By::Noted),
-                ),
-                Nested::Turn(_) => Some(set_by_state(z, By::LoopState, state)),
-                Nested::Either(_, _) => Some(set_by_state(z, By::Join, state)),
-            }
-        }
-        (None, None, None) => None,
     }
 }
 

@@ -5,7 +5,7 @@ ghost use Rattle.cov_ast.specs.View as view;
 ghost use Rattle.cov_expr.specs.View.{term};
 ghost use Rattle.entail_origins.specs.TypeLines as spec;
 
-use crate::type_origin::{By, TypeChange, TypeOrigin, TypeSource};
+use crate::type_origin::{By, TypeChange};
 use cov_ast::{NameTable, StmtKind};
 use cov_expr::{Blob, Expr, NoMemory};
 use cov_print::add_expr;
@@ -20,18 +20,6 @@ pub fn list_word(by: By) -> &'static str
         By::LoopState => "inv of the `while`",
         By::Noted => "note",
         By::Retype => "retype",
-    }
-}
-
-/// That a type is listed there.
-pub fn listed_text(by: By) -> &'static str
-    ensures { result.now ≡ spec.listed_text by }
-{
-    match by {
-        By::Join => "listed by the join of the `if`",
-        By::LoopState => "listed by the inv of the `while`",
-        By::Noted => "listed by the note",
-        By::Retype => "from the retype",
     }
 }
 
@@ -80,21 +68,6 @@ pub fn change_end(is_known: bool, change: TypeChange) -> &'static str
         (false, TypeChange::Returned(_)) => {
             ", and it may mention what that protects, so that it may become "
         }
-    }
-}
-
-/// Whether a type is that of a value that is stored.
-pub fn is_of_value(origin: Option<TypeOrigin>) -> bool
-    ensures { result ≡ spec.is_of_value origin }
-{
-    match origin {
-        Some(origin) => {
-            match origin.source {
-                TypeSource::Stored => true,
-                TypeSource::Taken(_) | TypeSource::Listed(_) | TypeSource::Unlisted(_) => false,
-            }
-        }
-        None => false,
     }
 }
 

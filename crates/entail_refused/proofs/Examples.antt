@@ -65,7 +65,7 @@ second_unproved : has_valid_certificate shows_secret 0 unproved_secret ≡ false
 second_unproved = refl
 
 told_of_second : asked shows_secret [] V9 (Some 0) 44 (Number 1)
-    ≡ codes "  entailment 1 of 1 asks: where a is low, the value is public\n  goal:         0\n  hypotheses:   1  1   (asked with the goal)\n  certificate:  given; fails at the root: calc (the goal there is 0)\n  breaks it:    each memory   (all hypotheses hold there, and the goal doesn't: no certificate can show it)\n                it would help that a type says more, that less is asked, or that no run comes here where these hypotheses hold\n  asked by:     the class of a, line 1\n  type of s:  its class `0` (high), line 1; it isn't stable here\n"
+    ≡ codes "  entailment 1 of 1 asks: where a is low, the value is public\n  goal:         0\n  hypotheses:   1  1   (asked with the goal)\n  certificate:  given; fails at the root: calc (the goal there is 0)\n  breaks it:    each memory   (all hypotheses hold there, and the goal doesn't: no certificate can show it, unless a type says more, more is known here, or less is asked)\n  asked by:     the class of a, line 1\n  type of s:  its class `0` (high), line 1; it isn't stable here\n"
 unfolding suggested counterexample
 told_of_second = simp (decimal_digit 0 (lit< tt), decimal_digit 1 (lit< tt))
 
@@ -109,7 +109,7 @@ no_statement = refl
 
 -- of guards around: of `if a { .. }` and of the else block of `if 1 { } else { .. }`, where nothing keeps others from writing a
 guard_without_hypothesis : lines_along (plain shows_secret) 0 [] (no_locks (plain shows_secret)) (yes 7 (var 0) ∷ no 9 (const 1) ∷ [])
-    ≡ codes "  not known:    a   (guard, line 1: a isn't stable there)\n"
+    ≡ codes "  not known:    a   (guard, line 1: a isn't stable there: it is under no lock, and the thread assumes nothing of it)\n"
 guard_without_hypothesis = simp (decimal_digit 1 (lit< tt))
 
 -- lock l nowrite a, s inv a: it speaks of a, and not of s

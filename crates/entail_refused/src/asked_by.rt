@@ -26,15 +26,13 @@ pub fn add_asked_by(
     ensures { OnOk result (text.new ≡ text.old ++ spec.asked_by bytes.now (view.program p.now) (option_map (λ e. term e.now) asked.entry) question) }
 {
     match question {
-        Question::Shown(x) | Question::Controlled(x) | Question::Freed(x) => {
-            add_class_line(p, bytes, x, text)
-        }
-        Question::Invariant(l) => {
-            match p.locks.as_slice().get(l as usize) {
-                Some(lock) => add_invariant_of(bytes, lock, text),
-                None => Ok(()),
-            }
-        }
+        Question::Shown(x) | Question::Controlled(x) | Question::Freed(x) => add_class_line(
+            p, bytes, x, text,
+        ),
+        Question::Invariant(l) => match p.locks.as_slice().get(l as usize) {
+            Some(lock) => add_invariant_of(bytes, lock, text),
+            None => Ok(()),
+        },
         Question::Written
         | Question::Retyped(_)
         | Question::Guard
@@ -94,37 +92,9 @@ fn add_listed_name(
     ensures { OnOk result (text.new ≡ text.old ++ spec.listed_name bytes.now names.now (view.program p.now) z (view.var var.now)) }
 {
     text.extend_from_slice(var.name.text())?;
-    add_listed_end(p, names, bytes, z, var.at, text)
-}
-
-/// Adds that it isn't its class.
-fn add_listed_end(
-    p: &Program,
-    names: &NameTable,
-    bytes: &[u8],
-    z: u32,
-    at: u32,
-    text: &mut Blob,
-) -> Result<(), NoMemory>
-    ensures { OnOk result (text.new ≡ text.old ++ spec.listed_end bytes.now names.now (view.program p.now) z at) }
-{
     text.extend_from_slice(b", which isn't ")?;
-    add_class_in_line(p, names, bytes, z, at, text)
-}
-
-/// Adds the class of a variable, and the line of that.
-fn add_class_in_line(
-    p: &Program,
-    names: &NameTable,
-    bytes: &[u8],
-    z: u32,
-    at: u32,
-    text: &mut Blob,
-) -> Result<(), NoMemory>
-    ensures { OnOk result (text.new ≡ text.old ++ spec.class_in_line bytes.now names.now (view.program p.now) z at) }
-{
     add_class(p, names, z, text)?;
-    add_line_end(bytes, at, text)
+    add_line_end(bytes, var.at, text)
 }
 
 /// Adds the line of a variable, if there is one.

@@ -31,7 +31,9 @@ pub fn add_cleared_line(
         Question::Controlled(y) => {
             let stable = stable_after_steps(alloc, p, t, steps)?;
             if stable.has(y) {
-                add_cleared(p, y, text)
+                text.extend_from_slice(b"  mostly a store of a public value to ")?;
+                add_variable_name(p, y, text)?;
+                text.extend_from_slice(b" mends it, in front of this statement\n")
             } else {
                 Ok(())
             }
@@ -47,13 +49,4 @@ pub fn add_cleared_line(
         | Question::Predicate(_, _)
         | Question::TypeOf(_, _) => Ok(()),
     }
-}
-
-/// Adds that a store to a variable mostly mends it.
-fn add_cleared(p: &Program, y: u32, text: &mut Blob) -> Result<(), NoMemory>
-    ensures { OnOk result (text.new ≡ text.old ++ spec.cleared_text (view.program p.now) y) }
-{
-    text.extend_from_slice(b"  mostly a store of a public value to ")?;
-    add_variable_name(p, y, text)?;
-    text.extend_from_slice(b" mends it, in front of this statement\n")
 }

@@ -9,7 +9,7 @@ ghost use Rattle.typing_law.specs.ThreadEntailments.{view_entail};
 ghost use Rattle.entail_refused.specs.GivenCertificates as certificates;
 ghost use Rattle.entail_refused.specs.GivenElsewhere as spec;
 
-use cov_ast::{Cert, NameTable, Program, Proof};
+use cov_ast::{Cert, Program, Proof};
 use cov_expr::{Blob, NoMemory};
 use entail_text::{Finding, add_finding, add_other, cert_for};
 use statement_paths::way_to;
@@ -50,36 +50,27 @@ pub fn add_given(
     match way_to(alloc, p.body_of(t), e.place)? {
         Some(way) => {
             let names = variable_names(alloc, p)?;
-            add_of_proofs(alloc, &names, way.stmt.proofs.as_slice(), e, found, text)
+            if !is_given(way.stmt.proofs.as_slice(), e.number) {
+                add_numbers(way.stmt.proofs.as_slice(), text)?;
+            }
+            add_other(
+                alloc,
+                way.stmt.proofs.as_slice(),
+                e.number,
+                &e.hyps,
+                &e.goal,
+                text,
+            )?;
+            add_finding(
+                &names,
+                way.stmt.proofs.as_slice(),
+                e.number,
+                &e.goal,
+                found,
+                text,
+            )
         }
         None => Ok(()),
-    }
-}
-
-/// The same of a statement with these proofs.
-fn add_of_proofs(
-    alloc: Global,
-    names: &NameTable,
-    proofs: &[Proof],
-    e: &Entail,
-    found: &Finding,
-    text: &mut Blob,
-) -> Result<(), NoMemory>
-    ensures { OnOk result (text.new ≡ text.old ++ spec.lines_of names.now (map view.proof proofs.now) (seen found.now) (view_entail e.now)) }
-{
-    add_without(proofs, e.number, text)?;
-    add_other(alloc, proofs, e.number, &e.hyps, &e.goal, text)?;
-    add_finding(names, proofs, e.number, &e.goal, found, text)
-}
-
-/// Adds the numbers of certificates, where none has a number.
-fn add_without(proofs: &[Proof], number: u32, text: &mut Blob) -> Result<(), NoMemory>
-    ensures { OnOk result (text.new ≡ text.old ++ spec.line_without number (map view.proof proofs.now)) }
-{
-    if is_given(proofs, number) {
-        Ok(())
-    } else {
-        add_numbers(proofs, text)
     }
 }
 

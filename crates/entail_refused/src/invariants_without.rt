@@ -1,6 +1,6 @@
 //! Which variables of a predicate that is asked a hypothesis mentions, and no invariant of the lock over them.
 
-ghost use Rattle.std.specs.Prelude.{◌≡◌, ◌++◌, OnOk, map, option_map};
+ghost use Rattle.std.specs.Prelude.{◌≡◌, ◌++◌, OnOk, map};
 ghost use Rattle.cov_ast.specs.View as view;
 ghost use Rattle.cov_expr.specs.View.{term};
 ghost use Rattle.entail_refused.specs.InvariantsWithout as spec;
@@ -62,40 +62,20 @@ fn add_if_mentioned(
 {
     if is_mentioned(hyps, x) {
         match lock_over(x, p.locks.as_slice()) {
-            Some(lock) => add_by_lock(p, bytes, lock, x, text),
+            Some(lock) => match &lock.inv {
+                Some(e) if mentions(e, x) => Ok(()),
+                _ => {
+                    text.extend_from_slice(b"  no invariant: ")?;
+                    add_variable_name(p, x, text)?;
+                    add_lock_part(lock, text)?;
+                    add_place_part(bytes, lock.at, text)
+                }
+            },
             None => Ok(()),
         }
     } else {
         Ok(())
     }
-}
-
-/// Adds the line of a variable under a lock, unless that has an invariant that mentions it.
-fn add_by_lock(
-    p: &Program,
-    bytes: &[u8],
-    lock: &LockDecl,
-    x: u32,
-    text: &mut Blob,
-) -> Result<(), NoMemory>
-    ensures { OnOk result (text.new ≡ text.old ++ spec.line_by_invariant (view.program p.now) bytes.now (view.lock lock.now).inv (view.lock lock.now) x) }
-{
-    match &lock.inv {
-        Some(e) if mentions(e, x) => Ok(()),
-        _ => {
-            add_front(p, x, text)?;
-            add_lock_part(lock, text)?;
-            add_place_part(bytes, lock.at, text)
-        }
-    }
-}
-
-/// Adds the variable.
-fn add_front(p: &Program, x: u32, text: &mut Blob) -> Result<(), NoMemory>
-    ensures { OnOk result (text.new ≡ text.old ++ spec.front_of (view.program p.now) x) }
-{
-    text.extend_from_slice(b"  no invariant: ")?;
-    add_variable_name(p, x, text)
 }
 
 /// Adds the lock.

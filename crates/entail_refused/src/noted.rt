@@ -52,7 +52,15 @@ pub fn add_noted_line(
             program: p,
             thread: t,
         };
-        add_behind(&trace, bytes, site.steps.as_slice(), goal, text)
+        let front = front_of(site.steps.as_slice());
+        add_by_step(
+            &trace,
+            bytes,
+            front,
+            last_of(site.steps.as_slice()),
+            goal,
+            text,
+        )
     } else {
         Ok(())
     }
@@ -74,22 +82,6 @@ pub fn is_predicate(question: Question) -> bool
         | Question::Printed
         | Question::TypeOf(_, _) => false,
     }
-}
-
-/// Adds the line of a predicate that is asked behind steps.
-fn add_behind(
-    trace: &Trace<'_>,
-    bytes: &[u8],
-    steps: &[Step<'_>],
-    goal: &Expr,
-    text: &mut Blob,
-) -> Result<(), NoMemory>
-    requires trace { IsTrace trace.now }
-    requires range { AreInRange trace.now (map paths.step steps.now) }
-    ensures { OnOk result (text.new ≡ text.old ++ spec.line_behind (plain_of trace.now) trace.now.thread bytes.now (map paths.step steps.now) (term goal.now)) }
-{
-    let front = front_of(steps);
-    add_by_step(trace, bytes, front, last_of(steps), goal, text)
 }
 
 /// All but the last of some steps.
@@ -154,7 +146,10 @@ fn add_by_store(
 {
     match store {
         Some(store) => {
-            if is_moved(store.variable, store.value, goal) {
+            if mentions(goal, store.variable)
+                && !mentions(store.value, store.variable)
+                && subst_nodes_left(goal, store.variable, store.value, MOST_NOTED).is_some()
+            {
                 let before = subst(trace.alloc, goal, store.variable, store.value)?;
                 let stable = stable_after_steps(trace.alloc, trace.program, trace.thread, front)?;
                 let point = trace.point_behind(front)?;
@@ -171,15 +166,6 @@ fn add_by_store(
         }
         None => Ok(()),
     }
-}
-
-/// Whether a store of a value to a variable makes another predicate of one, and doesn't forget that; and whether it is small.
-fn is_moved(x: u32, value: &Expr, goal: &Expr) -> bool
-    ensures { result ≡ spec.is_moved x (term value.now) (term goal.now) }
-{
-    mentions(goal, x)
-        && !mentions(value, x)
-        && subst_nodes_left(goal, x, value, MOST_NOTED).is_some()
 }
 
 /// Whether a certificate is found for a predicate at a point, if that is there.
@@ -209,13 +195,6 @@ fn add_line(
     let names = variable_names(trace.alloc, trace.program)?;
     text.extend_from_slice(b"  to be noted:  `")?;
     add_expr(&names, false, before, text)?;
-    add_line_end(bytes, at, text)
-}
-
-/// Adds in front of which line.
-fn add_line_end(bytes: &[u8], at: u32, text: &mut Blob) -> Result<(), NoMemory>
-    ensures { OnOk result (text.new ≡ text.old ++ spec.line_end bytes.now at) }
-{
     text.extend_from_slice(b"` in front of the store in line ")?;
     add_line_of(bytes, at, text)?;
     text.extend_from_slice(b": it can be shown there, and behind the store it is the goal\n")

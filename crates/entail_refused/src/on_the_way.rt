@@ -1,9 +1,8 @@
 //! To which variables is stored in front of a statement, in the text.
 
-ghost use Rattle.std.specs.Prelude.{◌≡◌, IfOk, map, option_map};
+ghost use Rattle.std.specs.Prelude.{◌≡◌, IfOk, option_map};
 ghost use Rattle.cov_ast.specs.View as view;
 ghost use Rattle.statement_parts.specs.Parts as parts;
-ghost use Rattle.statement_paths.specs.Paths as paths;
 ghost use Rattle.entail_refused.specs.OnTheWay as spec;
 ghost use Rattle.entail_refused.specs.Sites as sites;
 
@@ -19,32 +18,26 @@ pub fn stored_before(alloc: Global, p: &Program, site: &Site<'_>) -> Result<Numb
     ensures { IfOk result (λ made. made ≡ spec.stored_before (view.program p.now) (sites.site site.now)) }
 {
     let mut stored = NumberSet::new(alloc, p.vars.len())?;
-    add_of_steps(site.steps.as_slice(), &mut stored);
+    let steps = site.steps.as_slice();
+    for step in steps {
+        match step {
+            Step::Passed(stmt) => {
+                let parts = parts_of(&stmt.kind);
+                add_own(parts.store, &mut stored);
+                match parts.nested {
+                    Nested::None => {}
+                    Nested::Turn(b) => add_assigned(b, &mut stored),
+                    Nested::Either(a, b) => {
+                        add_assigned(a, &mut stored);
+                        add_assigned(b, &mut stored);
+                    }
+                }
+            }
+            Step::Yes(_, _) | Step::No(_, _) | Step::Head(_, _) => {}
+        }
+    }
     add_own(parts_of(site.kind).store, &mut stored);
     Ok(stored)
-}
-
-/// Adds those to which the statements of steps store.
-fn add_of_steps(steps: &[Step<'_>], stored: &mut NumberSet)
-    ensures { stored.new ≡ spec.with_steps stored.old (map paths.step steps.now) }
-{
-    for step in steps {
-        add_of_step(step, stored);
-    }
-}
-
-/// Adds those to which the statement of a step stores.
-fn add_of_step(step: &Step<'_>, stored: &mut NumberSet)
-    ensures { stored.new ≡ spec.with_step stored.old (paths.step step.now) }
-{
-    match step {
-        Step::Passed(stmt) => {
-            let parts = parts_of(&stmt.kind);
-            add_own(parts.store, stored);
-            add_nested(parts.nested, stored);
-        }
-        Step::Yes(_, _) | Step::No(_, _) | Step::Head(_, _) => {}
-    }
 }
 
 /// Adds the one to which a statement stores itself, if it does.
@@ -54,19 +47,5 @@ fn add_own(store: Option<Store<'_>>, stored: &mut NumberSet)
     match store {
         Some(store) => stored.put(store.variable, true),
         None => {}
-    }
-}
-
-/// Adds those to which the statements of blocks store.
-fn add_nested(blocks: Nested<'_>, stored: &mut NumberSet)
-    ensures { stored.new ≡ spec.with_nested stored.old (parts.nested_of blocks.entry) }
-{
-    match blocks {
-        Nested::None => {}
-        Nested::Turn(b) => add_assigned(b, stored),
-        Nested::Either(a, b) => {
-            add_assigned(a, stored);
-            add_assigned(b, stored);
-        }
     }
 }

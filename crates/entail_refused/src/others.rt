@@ -111,33 +111,17 @@ fn add_beside_from(
     ensures { OnOk result (made.new ≡ made.old ++ spec.beside_among (view.program p.now) t 0 (map view.thread threads.now)) }
 {
     for (u, _) in threads.iter().enumerate() {
-        add_if_beside(alloc, p, t, u as u32, made)?;
-    }
-    Ok(())
-}
-
-/// Adds that of a thread, if it doesn't stand in front of another.
-fn add_if_beside(
-    alloc: Global,
-    p: &Program,
-    t: u32,
-    u: u32,
-    made: &mut List<Refusal>,
-) -> Result<(), NoMemory>
-    requires formed { IsWellFormed (view.program p.now) }
-    requires declared { IsTrue (all_hold (declaration_obligations (view.program p.now))) }
-    requires thread { u < length p.now.threads }
-    ensures { OnOk result (made.new ≡ made.old ++ spec.if_beside (view.program p.now) t u) }
-{
-    if u < t {
-        Ok(())
-    } else {
-        match check_beside_certificates(alloc, p, u) {
-            Ok(()) => Ok(()),
-            Err(CheckFault::Refused(refusal)) => made.push(refusal),
-            Err(CheckFault::NoMemory) => Err(NoMemory),
+        if t <= u as u32 {
+            match check_beside_certificates(alloc, p, u as u32) {
+                Ok(()) => {}
+                Err(CheckFault::Refused(refusal)) => made.push(refusal)?,
+                Err(CheckFault::NoMemory) => {
+                    return Err(NoMemory);
+                }
+            }
         }
     }
+    Ok(())
 }
 
 /// Adds those of the threads behind one.
@@ -155,29 +139,11 @@ fn add_later(
     ensures { OnOk result (made.new ≡ made.old ++ spec.later_among (view.program p.now) t 0 (map view.thread threads.now)) }
 {
     for (u, _) in threads.iter().enumerate() {
-        add_if_later(alloc, p, t, u as u32, made)?;
+        if t < u as u32 {
+            add_others_in(alloc, p, u as u32, 0, 0, made)?;
+        }
     }
     Ok(())
-}
-
-/// Adds those of a thread, if it stands behind another.
-fn add_if_later(
-    alloc: Global,
-    p: &Program,
-    t: u32,
-    u: u32,
-    made: &mut List<Refusal>,
-) -> Result<(), NoMemory>
-    requires formed { IsWellFormed (view.program p.now) }
-    requires declared { IsTrue (all_hold (declaration_obligations (view.program p.now))) }
-    requires thread { u < length p.now.threads }
-    ensures { OnOk result (made.new ≡ made.old ++ spec.if_later (view.program p.now) t u) }
-{
-    if t < u {
-        add_others_in(alloc, p, u, 0, 0, made)
-    } else {
-        Ok(())
-    }
 }
 
 /// Adds those of a thread.

@@ -142,7 +142,9 @@ fn add_line(
 {
     add_front(p, x, text)?;
     add_keeper(keeper, text)?;
-    add_end(p, is_mend, x, text)
+    add_listed(p, b" `nowrite ", x, text)?;
+    add_listed(p, hide_front(is_mend).as_bytes(), x, text)?;
+    text.extend_from_slice(hide_end(is_mend).as_bytes())
 }
 
 /// Adds who may read it.
@@ -166,15 +168,6 @@ fn add_keeper(keeper: Option<&LockDecl>, text: &mut Blob) -> Result<(), NoMemory
         }
         None => text.extend_from_slice(b"the thread assumes"),
     }
-}
-
-/// Adds in which list it is, and in which it isn't, or in which it wouldn't be asked.
-fn add_end(p: &Program, is_mend: bool, x: u32, text: &mut Blob) -> Result<(), NoMemory>
-    ensures { OnOk result (text.new ≡ text.old ++ spec.reader_end (view.program p.now) is_mend x) }
-{
-    add_listed(p, b" `nowrite ", x, text)?;
-    add_listed(p, hide_front(is_mend).as_bytes(), x, text)?;
-    text.extend_from_slice(hide_end(is_mend).as_bytes())
 }
 
 /// What stands in front of the list in which it isn't.

@@ -1,10 +1,9 @@
 //! The certificate that is found for the entailment for which a program is refused, as `by` gives it; and refusals by whether one is found.
 
-ghost use Rattle.std.specs.Prelude.{◌≡◌, ◌++◌, IfOk, OnOk, Some};
+ghost use Rattle.std.specs.Prelude.{◌≡◌, IfOk, Some};
 ghost use Rattle.cov_ast.specs.View as view;
 ghost use Rattle.cov_ast.specs.WellFormed.{IsWellFormed};
 ghost use Rattle.entail_text.specs.Suggestions as text;
-ghost use Rattle.typing_law.specs.ThreadEntailments.{view_entail};
 ghost use Rattle.entail_refused.specs.Suggested as spec;
 
 use crate::entailment::entailment_in;
@@ -14,7 +13,6 @@ use cov_print::add_cert;
 use entail_text::{Finding, found_for};
 use std::alloc::Global;
 use text_parts::{add_number, variable_names};
-use typing_law::Entail;
 
 /// A refusal, and the certificate that is found for what was asked, behind its number, as `by` gives it.
 #[derive(Drop)]
@@ -34,6 +32,7 @@ pub struct Sorted {
 
 /// Refusals of a program, by whether a certificate is found for what was asked: each kind in the order in which they stand. For each it takes the time of a walk over the thread, and that
 /// of the searches of `found_for`.
+#[tactic(auto, unfolding(crate::specs::Suggested::suggested_entry))]
 pub fn sort_refusals(alloc: Global, p: &Program, refusals: &[Refusal]) -> Result<Sorted, NoMemory>
     requires { IsWellFormed (view.program p.now) }
     ensures open { IfOk result (λ made. made.open ≡ spec.open_among (view.program p.now) refusals.now) }
@@ -44,41 +43,19 @@ pub fn sort_refusals(alloc: Global, p: &Program, refusals: &[Refusal]) -> Result
         found: List::new(alloc),
     };
     for refusal in refusals {
-        add_sorted(alloc, p, refusal, &mut made)?;
+        let suggested_entry = match (refusal.rule, refusal.thread, refusal.detail) {
+            (Rule::V9, Some(t), Detail::Number(n)) => entry_of(alloc, p, t, refusal.place, n)?,
+            _ => None,
+        };
+        match suggested_entry {
+            Some(entry) => made.found.push(Found {
+                refusal: *refusal,
+                entry,
+            })?,
+            None => made.open.push(*refusal)?,
+        }
     }
     Ok(made)
-}
-
-/// Adds a refusal to others.
-fn add_sorted(
-    alloc: Global,
-    p: &Program,
-    refusal: &Refusal,
-    made: &mut Sorted,
-) -> Result<(), NoMemory>
-    requires { IsWellFormed (view.program p.now) }
-    ensures open { OnOk result (made.new.open ≡ made.old.open ++ spec.open_by refusal.now (spec.suggested_entry (view.program p.now) refusal.now)) }
-    ensures found { OnOk result (made.new.found ≡ made.old.found ++ spec.found_by refusal.now (spec.suggested_entry (view.program p.now) refusal.now)) }
-{
-    match suggested_entry(alloc, p, refusal)? {
-        Some(entry) => made.found.push(Found {
-            refusal: *refusal,
-            entry,
-        }),
-        None => made.open.push(*refusal),
-    }
-}
-
-/// The certificate that is found for the entailment for which a program is refused, behind its number; `None` where none is found, and where the program is refused for another rule than V9.
-#[tactic(auto, unfolding(crate::specs::Suggested::suggested_entry))]
-fn suggested_entry(alloc: Global, p: &Program, refusal: &Refusal) -> Result<Option<Blob>, NoMemory>
-    requires { IsWellFormed (view.program p.now) }
-    ensures { IfOk result (λ found. found ≡ spec.suggested_entry (view.program p.now) refusal.now) }
-{
-    match (refusal.rule, refusal.thread, refusal.detail) {
-        (Rule::V9, Some(t), Detail::Number(n)) => entry_of(alloc, p, t, refusal.place, n),
-        _ => Ok(None),
-    }
 }
 
 /// The same of an entailment of a thread, where there is that thread and the declarations keep the rules.
@@ -96,23 +73,15 @@ fn entry_of(
         return Ok(None);
     }
     match entailment_in(alloc, p, t, place, number)? {
-        Some(e) => entry_for(alloc, p, &e),
+        Some(e) => match found_for(alloc, &e.hyps, &e.goal)? {
+            Finding::Shown(cert) => {
+                let names = variable_names(alloc, p)?;
+                let made = entry(alloc, &names, e.number, &cert)?;
+                Ok(Some(made))
+            }
+            Finding::Broken(_) | Finding::Neither => Ok(None),
+        },
         None => Ok(None),
-    }
-}
-
-/// What is found for an entailment, where that is a certificate.
-fn entry_for(alloc: Global, p: &Program, e: &Entail) -> Result<Option<Blob>, NoMemory>
-    requires { IsWellFormed (view.program p.now) }
-    ensures { IfOk result (λ found. found ≡ spec.entry_for (view.program p.now) (Some (view_entail e.now))) }
-{
-    match found_for(alloc, &e.hyps, &e.goal)? {
-        Finding::Shown(cert) => {
-            let names = variable_names(alloc, p)?;
-            let made = entry(alloc, &names, e.number, &cert)?;
-            Ok(Some(made))
-        }
-        Finding::Broken(_) | Finding::Neither => Ok(None),
     }
 }
 

@@ -2,18 +2,17 @@
 
 ghost use Rattle.std.specs.Prelude.{◌≡◌, ◌+◌, ◌≤◌, ◌||◌, [], ◌∷◌, true, false, OnOk, IfOk, map};
 ghost use Rattle.cov_expr.specs.declared.expr.Op.TheVariants.{Lt, Both};
-ghost use Rattle.cov_expr.specs.Term as tree;
 ghost use Rattle.cov_expr.specs.View.{term};
 ghost use Rattle.cov_ast.specs.Syntax as by;
 ghost use Rattle.cov_ast.specs.View as view;
 ghost use Rattle.entail_range.specs.Range.{lent};
 ghost use Rattle.entail_search.specs.Chains as spec;
-ghost use Rattle.entail_search.specs.Facts.{by_premise, is_new, with_any};
+ghost use Rattle.entail_search.specs.Facts.{by_premise, is_new};
 ghost use Rattle.entail_search.specs.View.{fact};
 
 use crate::facts::{Fact, is_new, order};
 use crate::nodes;
-use crate::nodes::MOST_NUMBERED;
+use crate::nodes::{MOST_NUMBERED, both, is_auto};
 use crate::readings::gathered;
 use cov_ast::Cert;
 use cov_expr::{Expr, HOLE, List, NoMemory, Op, same};
@@ -22,26 +21,6 @@ use tree_copies::copy_cert;
 
 /// Links more than one that a chain has, at most.
 pub const MOST_LINKS: u32 = 7;
-
-/// `a < b && b < c`.
-fn strict_pair(alloc: Global, a: &Expr, b: &Expr, c: &Expr) -> Result<Expr, NoMemory>
-    ensures { IfOk result (λ made. term made ≡ tree.bin Both (tree.bin Lt (term a.now) (term b.now)) (tree.bin Lt (term b.now) (term c.now))) }
-{
-    let first = nodes::pair(alloc, Op::Lt, a, b)?;
-    let second = nodes::pair(alloc, Op::Lt, b, c)?;
-    nodes::joined(alloc, Op::Both, first, second)
-}
-
-/// `a < c` where m hypotheses have `a < b` and `b < c`.
-fn strictly(alloc: Global, m: u32, a: &Expr, b: &Expr, c: &Expr) -> Result<Cert, NoMemory>
-    requires { m ≤ MOST_NUMBERED + 10 }
-    ensures { IfOk result (λ made. view.cert made ≡ spec.strictly m (term a.now) (term b.now) (term c.now)) }
-{
-    let premise = strict_pair(alloc, a, b, c)?;
-    let last = nodes::by_premise(alloc, m + 1, m + 2)?;
-    let step = nodes::axiom_of_three(alloc, 8, a, b, c, last)?;
-    nodes::have(alloc, premise, Cert::Auto, step)
-}
 
 /// `a < c` by `a <= b` and `b < c`, or by `a < b` and `b <= c`, with a certificate for where the two of `<=` are equal.
 fn by_less_or_equal(
@@ -56,7 +35,14 @@ fn by_less_or_equal(
     requires { m ≤ MOST_NUMBERED + 5 }
     ensures { IfOk result (λ made. view.cert made ≡ spec.by_less_or_equal i m (term a.now) (term b.now) (term c.now) (view.cert equal)) }
 {
-    let less = strictly(alloc, m + 2, a, b, c)?;
+    let less = {
+        let first = nodes::pair(alloc, Op::Lt, a, b)?;
+        let second = nodes::pair(alloc, Op::Lt, b, c)?;
+        let premise = nodes::joined(alloc, Op::Both, first, second)?;
+        let last = nodes::by_premise(alloc, m + 3, m + 4)?;
+        let step = nodes::axiom_of_three(alloc, 8, a, b, c, last)?;
+        nodes::have(alloc, premise, Cert::Auto, step)?
+    };
     let first = nodes::cases(alloc, m + 1, Cert::Absurd(i, m + 2), less)?;
     nodes::cases(alloc, m, first, equal)
 }
@@ -118,25 +104,6 @@ pub fn comparison(strict: bool) -> Op
     if strict { Op::Lt } else { Op::Le }
 }
 
-/// Why two facts hold at once.
-fn both_shown(alloc: Global, f: &Fact, g: &Fact) -> Result<Cert, NoMemory>
-    ensures { IfOk result (λ made. view.cert made ≡ spec.paired (fact f.now).shown (fact g.now).shown) }
-{
-    let first = copy_cert(alloc, &f.shown)?;
-    let second = copy_cert(alloc, &g.shown)?;
-    nodes::paired(alloc, first, second)
-}
-
-/// What follows by `step` from two facts at once.
-fn from_both(alloc: Global, f: &Fact, g: &Fact, step: Cert) -> Result<Cert, NoMemory>
-    ensures { IfOk result (λ made. view.cert made ≡
-        by.have (tree.bin Both (fact f.now).says (fact g.now).says) (spec.paired (fact f.now).shown (fact g.now).shown) (view.cert step)) }
-{
-    let premise = nodes::pair(alloc, Op::Both, &f.says, &g.says)?;
-    let why = both_shown(alloc, f, g)?;
-    nodes::have(alloc, premise, why, step)
-}
-
 /// Two facts as one, by their sides and by what follows.
 pub fn linked(
     alloc: Global,
@@ -154,44 +121,19 @@ pub fn linked(
         spec.linked n (fact f.now) (fact g.now) (first, term a.now, term b.now) (second, term b.now, term c.now)) }
 {
     let step = joining(alloc, n, first, second, a, b, c)?;
-    let shown = from_both(alloc, f, g, step)?;
+    let shown = {
+        let premise = nodes::pair(alloc, Op::Both, &f.says, &g.says)?;
+        let first = copy_cert(alloc, &f.shown)?;
+        let second = copy_cert(alloc, &g.shown)?;
+        let why = if is_auto(&first) && is_auto(&second) {
+            Cert::Auto
+        } else {
+            both(alloc, first, second)?
+        };
+        nodes::have(alloc, premise, why, step)?
+    };
     let says = nodes::pair(alloc, comparison(first || second), a, c)?;
     Ok(Fact { says, shown })
-}
-
-/// Whether a comparison is new among facts.
-fn is_new_comparison(
-    alloc: Global,
-    facts: &[Fact],
-    strict: bool,
-    a: &Expr,
-    c: &Expr,
-) -> Result<bool, NoMemory>
-    ensures { IfOk result (λ new. new ≡ is_new (map fact facts.now) (tree.bin (spec.comparison strict) (term a.now) (term c.now))) }
-{
-    let says = nodes::pair(alloc, comparison(strict), a, c)?;
-    Ok(is_new(facts, &says))
-}
-
-/// Adds two facts as one, where the second begins with what the first ends with. Nothing is built of what is there.
-fn link(alloc: Global, n: u32, f: &Fact, g: &Fact, facts: &mut List<Fact>) -> Result<(), NoMemory>
-    requires { n ≤ MOST_NUMBERED }
-    ensures { OnOk result (map fact facts.new ≡ with_any (map fact facts.old) (spec.chained n (fact f.now) (fact g.now))) }
-{
-    let Some((first, a, b)) = order(&f.says) else {
-        return Ok(());
-    };
-    let Some((second, d, c)) = order(&g.says) else {
-        return Ok(());
-    };
-    if !same(b, d) {
-        return Ok(());
-    }
-    if is_new_comparison(alloc, facts.as_slice(), first || second, a, c)? {
-        let made = linked(alloc, n, f, g, first, second, a, b, c)?;
-        facts.push(made)?;
-    }
-    Ok(())
 }
 
 /// Adds a fact continued by each of the links.
@@ -206,7 +148,20 @@ fn continue_one(
     ensures { OnOk result (map fact facts.new ≡ spec.continued n (fact f.now) (map fact links.now) (map fact facts.old)) }
 {
     for g in links {
-        link(alloc, n, f, g, facts)?;
+        let Some((first, a, b)) = order(&f.says) else {
+            continue;
+        };
+        let Some((second, d, c)) = order(&g.says) else {
+            continue;
+        };
+        if !same(b, d) {
+            continue;
+        }
+        let says = nodes::pair(alloc, comparison(first || second), a, c)?;
+        if is_new(facts.as_slice(), &says) {
+            let made = linked(alloc, n, f, g, first, second, a, b, c)?;
+            facts.push(made)?;
+        }
     }
     Ok(())
 }
@@ -229,7 +184,7 @@ fn continue_each(
 }
 
 /// The facts of hypotheses, and those that chains of them give, of so many links more than one at most.
-fn chains(
+pub fn chains(
     alloc: Global,
     n: u32,
     hyps: &[&Expr],
@@ -246,13 +201,4 @@ fn chains(
     let mut facts = gathered(alloc, n, hyps)?;
     continue_each(alloc, n, links, shorter.as_slice(), &mut facts)?;
     Ok(facts)
-}
-
-/// The facts of hypotheses and of their chains.
-pub fn facts_of(alloc: Global, n: u32, hyps: &[&Expr]) -> Result<List<Fact>, NoMemory>
-    requires { n ≤ MOST_NUMBERED }
-    ensures { IfOk result (λ made. map fact made ≡ spec.facts_of n (map lent hyps.now)) }
-{
-    let links = gathered(alloc, n, hyps)?;
-    chains(alloc, n, hyps, links.as_slice(), MOST_LINKS)
 }

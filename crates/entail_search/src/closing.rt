@@ -52,17 +52,6 @@ fn have_fact(alloc: Global, f: &Fact, c: Cert) -> Result<Cert, NoMemory>
     nodes::have(alloc, says, why, c)
 }
 
-/// `a <= c` from a fact `a < c`.
-fn weakened(alloc: Global, n: u32, f: &Fact, a: &Expr, c: &Expr) -> Result<Cert, NoMemory>
-    requires { n ≤ MOST_NUMBERED }
-    ensures { IfOk result (λ made. view.cert made ≡
-        by.have (fact f.now).says (fact f.now).shown (by.instance 9 (term a.now ∷ term c.now ∷ []) (facts.by_premise (n + 1) (n + 2)))) }
-{
-    let last = nodes::by_premise(alloc, n + 1, n + 2)?;
-    let step = nodes::axiom_of_two(alloc, 9, a, c, last)?;
-    have_fact(alloc, f, step)
-}
-
 /// A goal that a fact says.
 fn stated(alloc: Global, f: &Fact, goal: &Expr) -> Result<Option<Cert>, NoMemory>
     ensures { IfOk result (λ found. option_map view.cert found ≡ spec.stated (fact f.now) (term goal.now)) }
@@ -88,7 +77,9 @@ fn weaker(alloc: Global, n: u32, f: &Fact, goal: &Expr) -> Result<Option<Cert>, 
         return Ok(None);
     };
     if strict && !also && same(a, b) && same(c, d) {
-        let made = weakened(alloc, n, f, a, c)?;
+        let last = nodes::by_premise(alloc, n + 1, n + 2)?;
+        let step = nodes::axiom_of_two(alloc, 9, a, c, last)?;
+        let made = have_fact(alloc, f, step)?;
         Ok(Some(made))
     } else {
         Ok(None)
@@ -106,17 +97,6 @@ fn with_leaf(alloc: Global, hyps: &[&Expr], f: &Fact, goal: &Expr) -> Result<Opt
     Ok(Some(made))
 }
 
-/// Any goal, from `a < a` by a certificate, behind a fact.
-fn less_than_itself(alloc: Global, n: u32, f: &Fact, a: &Expr, c: Cert) -> Result<Cert, NoMemory>
-    requires { n ≤ MOST_NUMBERED }
-    ensures { IfOk result (λ made. Some (view.cert made) ≡ spec.with_less_than_itself n (fact f.now) (term a.now) (Some (view.cert c))) }
-{
-    let step = nodes::axiom_of_one(alloc, 7, a, Cert::Absurd(n + 2, n + 3))?;
-    let says = nodes::pair(alloc, Op::Lt, a, a)?;
-    let rest = nodes::have(alloc, says, c, step)?;
-    have_fact(alloc, f, rest)
-}
-
 /// Any goal, where a fact leaves no value to this.
 fn refuted_at(alloc: Global, hyps: &[&Expr], f: &Fact, a: &Expr) -> Result<Option<Cert>, NoMemory>
     ensures { IfOk result (λ found. option_map view.cert found ≡ spec.refuted_at (map lent hyps.now) (fact f.now) (term a.now)) }
@@ -126,7 +106,10 @@ fn refuted_at(alloc: Global, hyps: &[&Expr], f: &Fact, a: &Expr) -> Result<Optio
     let Some(c) = leaf_with(alloc, hyps, &f.says, &goal)? else {
         return Ok(None);
     };
-    let made = less_than_itself(alloc, n, f, a, c)?;
+    let step = nodes::axiom_of_one(alloc, 7, a, Cert::Absurd(n + 2, n + 3))?;
+    let says = nodes::pair(alloc, Op::Lt, a, a)?;
+    let rest = nodes::have(alloc, says, c, step)?;
+    let made = have_fact(alloc, f, rest)?;
     Ok(Some(made))
 }
 
@@ -266,23 +249,6 @@ fn by_fact(alloc: Global, hyps: &[&Expr], goal: &Expr, f: &Fact) -> Result<Optio
     refuted(alloc, hyps, f)
 }
 
-/// A goal by the first fact that does.
-fn by_facts(
-    alloc: Global,
-    hyps: &[&Expr],
-    goal: &Expr,
-    facts: &[Fact],
-) -> Result<Option<Cert>, NoMemory>
-    ensures { IfOk result (λ found. option_map view.cert found ≡ spec.by_facts (map lent hyps.now) (term goal.now) (map fact facts.now)) }
-{
-    for f in facts {
-        if let Some(found) = by_fact(alloc, hyps, goal, f)? {
-            return Ok(Some(found));
-        }
-    }
-    Ok(None)
-}
-
 /// A goal by a search of depth 1, or by a fact.
 fn closed(
     alloc: Global,
@@ -295,7 +261,12 @@ fn closed(
     if let Some(found) = find_lent(alloc, hyps, goal, 1)? {
         return Ok(Some(found));
     }
-    by_facts(alloc, hyps, goal, facts)
+    for f in facts {
+        if let Some(found) = by_fact(alloc, hyps, goal, f)? {
+            return Ok(Some(found));
+        }
+    }
+    Ok(None)
 }
 
 /// The same, or both parts of a conjunction, or one of a disjunction.

@@ -9,10 +9,10 @@ ghost use Rattle.entail_search.specs.Deeper as spec;
 ghost use Rattle.entail_search.specs.Sound.{FindsSound, FindsTrue};
 
 use crate::splits::{MOST_SPLITS, by_splits};
-use crate::within::is_cert_within;
+use crate::within::{cert_height, cert_nodes, has_fit_expressions};
 use cert_search::lent_each;
 use cov_ast::Cert;
-use cov_expr::{Expr, List, NoMemory};
+use cov_expr::{Expr, List, MOST_CERT_NODES, MOST_HEIGHT, NoMemory};
 use entail_cert::{CertFault, check_cert};
 use std::alloc::Global;
 
@@ -25,18 +25,6 @@ fn is_valid(alloc: Global, hyps: &List<Expr>, goal: &Expr, c: &Cert) -> Result<b
         Ok(()) => Ok(true),
         Err(CertFault::Invalid(_)) => Ok(false),
         Err(CertFault::NoMemory) => Err(NoMemory),
-    }
-}
-
-/// A certificate, where it is valid and within the limits.
-fn tested(alloc: Global, hyps: &List<Expr>, goal: &Expr, c: Cert) -> Result<Option<Cert>, NoMemory>
-    ensures first { IfOk result (λ found. option_map view.cert found ≡ spec.tested (map term hyps.now) (term goal.now) (Some (view.cert c))) }
-    ensures entails { FindsTrue (map term hyps.now) (term goal.now) result }
-{
-    if is_cert_within(hyps.as_slice(), goal, &c) && is_valid(alloc, hyps, goal, &c)? {
-        Ok(Some(c))
-    } else {
-        Ok(None)
     }
 }
 
@@ -63,7 +51,17 @@ pub fn find_deeper(alloc: Global, hyps: &List<Expr>, goal: &Expr) -> Result<Opti
 {
     let given = lent_each(alloc, hyps.as_slice())?;
     match by_splits(alloc, given.as_slice(), goal, MOST_SPLITS)? {
-        Some(c) => tested(alloc, hyps, goal, c),
+        Some(c) => {
+            if cert_nodes(&c) <= MOST_CERT_NODES
+                && cert_height(&c) <= MOST_HEIGHT
+                && has_fit_expressions(hyps.as_slice(), goal, &c)
+                && is_valid(alloc, hyps, goal, &c)?
+            {
+                Ok(Some(c))
+            } else {
+                Ok(None)
+            }
+        }
         None => Ok(None),
     }
 }

@@ -54,16 +54,8 @@ pub fn pair(alloc: Global, op: Op, a: &Expr, b: &Expr) -> Result<Expr, NoMemory>
     joined(alloc, op, first, copy(alloc, b)?)
 }
 
-/// The negation of a copy of an expression.
-pub fn denied(alloc: Global, e: &Expr) -> Result<Expr, NoMemory>
-    ensures { IfOk result (λ made. term made ≡ tree.neg (term e.now)) }
-{
-    let inside = copy(alloc, e)?;
-    Ok(Expr::Not(boxed(alloc, inside)?))
-}
-
 /// A certificate as the child of a node.
-fn child(alloc: Global, c: Cert) -> Result<Box<Cert>, NoMemory>
+pub fn child(alloc: Global, c: Cert) -> Result<Box<Cert>, NoMemory>
     ensures { IfOk result (λ made. made.value ≡ c) }
 {
     Ok(Box::new(alloc, c)?)
@@ -92,14 +84,6 @@ pub fn right(alloc: Global, c: Cert) -> Result<Cert, NoMemory>
 {
     let part = child(alloc, c)?;
     Ok(Cert::Right(part))
-}
-
-/// `not c`.
-pub fn negation(alloc: Global, c: Cert) -> Result<Cert, NoMemory>
-    ensures { IfOk result (λ made. view.cert made ≡ by.negation (view.cert c)) }
-{
-    let part = child(alloc, c)?;
-    Ok(Cert::Not(part))
 }
 
 /// `use n c`.
@@ -201,7 +185,7 @@ pub fn by_premise(alloc: Global, i: u32, m: u32) -> Result<Cert, NoMemory>
     cases(alloc, m, Cert::Absurd(i, m + 1), Cert::Auto)
 }
 
-fn is_auto(c: &Cert) -> bool
+pub fn is_auto(c: &Cert) -> bool
     ensures { result ≡ spec.is_auto (view.cert c.now) }
 {
     match c {
@@ -215,16 +199,5 @@ fn is_auto(c: &Cert) -> bool
             false
         }
         Cert::Fwd(_, _, _) | Cert::Rev(_, _, _) | Cert::Axiom(_, _, _) => false,
-    }
-}
-
-/// `and c d`, or `auto` where it does.
-pub fn paired(alloc: Global, c: Cert, d: Cert) -> Result<Cert, NoMemory>
-    ensures { IfOk result (λ made. view.cert made ≡ spec.paired (view.cert c) (view.cert d)) }
-{
-    if is_auto(&c) && is_auto(&d) {
-        Ok(Cert::Auto)
-    } else {
-        both(alloc, c, d)
     }
 }

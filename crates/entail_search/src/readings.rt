@@ -7,7 +7,6 @@ ghost use Rattle.cov_expr.specs.View.{term};
 ghost use Rattle.cov_ast.specs.Syntax as by;
 ghost use Rattle.cov_ast.specs.View as view;
 ghost use Rattle.entail_range.specs.Range.{lent};
-ghost use Rattle.entail_cert.specs.Valid as valid;
 ghost use Rattle.entail_search.specs.Facts.{by_premise};
 ghost use Rattle.entail_search.specs.Readings as spec;
 ghost use Rattle.entail_search.specs.View.{fact};
@@ -29,18 +28,6 @@ fn by_axiom(alloc: Global, k: u32, i: u32, m: u32, a: &Expr, b: &Expr) -> Result
     nodes::axiom_of_two(alloc, k, a, b, last)
 }
 
-/// `b <= a`, of `!(a < b)`.
-fn not_less(alloc: Global, n: u32, a: &Expr, b: &Expr) -> Result<Cert, NoMemory>
-    requires { n ≤ MOST_NUMBERED }
-    ensures { IfOk result (λ made. view.cert made ≡ spec.not_less n (term a.now) (term b.now)) }
-{
-    let less = by_axiom(alloc, 9, n + 4, n + 5, b, a)?;
-    let equal = by_axiom(alloc, 11, n + 4, n + 5, b, a)?;
-    let first = nodes::cases(alloc, n + 3, less, equal)?;
-    let step = nodes::cases(alloc, n + 2, first, Cert::Absurd(n + 3, n + 1))?;
-    nodes::axiom_of_two(alloc, 6, b, a, step)
-}
-
 /// Anything, of `!(a <= b)` and what gives `a <= b` by the axiom of a number.
 fn against(alloc: Global, n: u32, k: u32, a: &Expr, b: &Expr) -> Result<Cert, NoMemory>
     requires { n ≤ MOST_NUMBERED }
@@ -55,72 +42,12 @@ fn against(alloc: Global, n: u32, k: u32, a: &Expr, b: &Expr) -> Result<Cert, No
     nodes::axiom_of_two(alloc, k, a, b, step)
 }
 
-/// `b < a`, of `!(a <= b)`.
-fn not_at_most(alloc: Global, n: u32, a: &Expr, b: &Expr) -> Result<Cert, NoMemory>
-    requires { n ≤ MOST_NUMBERED }
-    ensures { IfOk result (λ made. view.cert made ≡ spec.not_at_most n (term a.now) (term b.now)) }
-{
-    let less = against(alloc, n, 9, a, b)?;
-    let equal = against(alloc, n, 11, a, b)?;
-    let first = nodes::cases(alloc, n + 3, less, equal)?;
-    let step = nodes::cases(alloc, n + 2, first, Cert::Auto)?;
-    nodes::axiom_of_two(alloc, 6, a, b, step)
-}
-
-/// `b <= a`, of `a == b`.
-fn equal_above(alloc: Global, n: u32, a: &Expr, b: &Expr) -> Result<Cert, NoMemory>
-    requires { n ≤ MOST_NUMBERED }
-    ensures { IfOk result (λ made. view.cert made ≡ spec.equal_above n (term a.now) (term b.now)) }
-{
-    let step = by_axiom(alloc, 11, n + 2, n + 3, b, a)?;
-    let template = nodes::pair(alloc, Op::Eq, &Expr::Var(HOLE), a)?;
-    let turned = nodes::backward(alloc, n + 1, template, Cert::Refl)?;
-    let says = nodes::pair(alloc, Op::Eq, b, a)?;
-    nodes::have(alloc, says, turned, step)
-}
-
-/// `0 < a`, of `!(a == 0)`.
-fn not_zero(alloc: Global, n: u32, a: &Expr) -> Result<Cert, NoMemory>
-    requires { n ≤ MOST_NUMBERED }
-    ensures { IfOk result (λ made. view.cert made ≡ spec.not_zero n (term a.now)) }
-{
-    let step = nodes::cases(alloc, n + 2, Cert::Absurd(n + 3, n + 1), Cert::Auto)?;
-    nodes::axiom_of_one(alloc, 22, a, step)
-}
-
-/// `0 < a`, of `a != 0`.
-fn other_than_zero(alloc: Global, n: u32, a: &Expr) -> Result<Cert, NoMemory>
-    requires { n ≤ MOST_NUMBERED }
-    ensures { IfOk result (λ made. view.cert made ≡ spec.other_than_zero n (term a.now)) }
-{
-    let last = nodes::cases(
-        alloc,
-        n + 4,
-        Cert::Absurd(n + 3, n + 5),
-        Cert::Absurd(n + 1, n + 5),
-    )?;
-    let first = nodes::axiom_of_two(alloc, 4, a, &Expr::Const(0), last)?;
-    let step = nodes::cases(alloc, n + 2, first, Cert::Auto)?;
-    nodes::axiom_of_one(alloc, 22, a, step)
-}
-
 /// A comparison of copies, which follows from a comparison that is a conjunct of a hypothesis, by a certificate behind it.
 fn derived(alloc: Global, e: Expr, says: Expr, c: Cert) -> Result<Option<Fact>, NoMemory>
     ensures { IfOk result (λ made. option_map fact made ≡ Some (spec.derived (term e) (term says) (view.cert c))) }
 {
     let shown = nodes::have(alloc, e, Cert::Auto, c)?;
     Ok(Some(Fact { says, shown }))
-}
-
-/// The fact of a comparison that is a conjunct of a hypothesis.
-fn itself(alloc: Global, op: Op, a: &Expr, b: &Expr) -> Result<Option<Fact>, NoMemory>
-    ensures { IfOk result (λ made. option_map fact made ≡ Some (spec.itself (tree.bin op (term a.now) (term b.now)))) }
-{
-    let says = nodes::pair(alloc, op, a, b)?;
-    Ok(Some(Fact {
-        says,
-        shown: Cert::Auto,
-    }))
 }
 
 fn is_zero(e: &Expr) -> bool
@@ -132,16 +59,6 @@ fn is_zero(e: &Expr) -> bool
     }
 }
 
-/// `a <= b`, of `a == b`.
-fn below_of_equal(alloc: Global, n: u32, a: &Expr, b: &Expr) -> Result<Option<Fact>, NoMemory>
-    requires { n ≤ MOST_NUMBERED }
-    ensures { IfOk result (λ made. option_map fact made ≡ spec.fact_of_comparison n Eq (term a.now) (term b.now)) }
-{
-    let why = by_axiom(alloc, 11, n + 1, n + 2, a, b)?;
-    let given = nodes::pair(alloc, Op::Eq, a, b)?;
-    derived(alloc, given, nodes::pair(alloc, Op::Le, a, b)?, why)
-}
-
 /// `0 < a`, of `a != b` where `b` is 0.
 fn positive_of_other(alloc: Global, n: u32, a: &Expr, b: &Expr) -> Result<Option<Fact>, NoMemory>
     requires { n ≤ MOST_NUMBERED }
@@ -150,7 +67,15 @@ fn positive_of_other(alloc: Global, n: u32, a: &Expr, b: &Expr) -> Result<Option
     if !is_zero(b) {
         return Ok(None);
     }
-    let why = other_than_zero(alloc, n, a)?;
+    let last = nodes::cases(
+        alloc,
+        n + 4,
+        Cert::Absurd(n + 3, n + 5),
+        Cert::Absurd(n + 1, n + 5),
+    )?;
+    let first = nodes::axiom_of_two(alloc, 4, a, &Expr::Const(0), last)?;
+    let step = nodes::cases(alloc, n + 2, first, Cert::Auto)?;
+    let why = nodes::axiom_of_one(alloc, 22, a, step)?;
     let given = nodes::pair(alloc, Op::Ne, a, b)?;
     derived(
         alloc,
@@ -172,8 +97,18 @@ fn fact_of_comparison(
     ensures { IfOk result (λ made. option_map fact made ≡ spec.fact_of_comparison n op (term a.now) (term b.now)) }
 {
     match op {
-        Op::Lt | Op::Le => itself(alloc, op, a, b),
-        Op::Eq => below_of_equal(alloc, n, a, b),
+        Op::Lt | Op::Le => {
+            let says = nodes::pair(alloc, op, a, b)?;
+            Ok(Some(Fact {
+                says,
+                shown: Cert::Auto,
+            }))
+        }
+        Op::Eq => {
+            let why = by_axiom(alloc, 11, n + 1, n + 2, a, b)?;
+            let given = nodes::pair(alloc, Op::Eq, a, b)?;
+            derived(alloc, given, nodes::pair(alloc, Op::Le, a, b)?, why)
+        }
         Op::Ne => positive_of_other(alloc, n, a, b),
         Op::Add | Op::Sub | Op::Mul | Op::And | Op::Or | Op::Xor => Ok(None),
         Op::Both | Op::Either => Ok(None),
@@ -193,19 +128,13 @@ fn above_of_not_less(alloc: Global, n: u32, a: &Expr, b: &Expr) -> Result<Option
     requires { n ≤ MOST_NUMBERED }
     ensures { IfOk result (λ made. option_map fact made ≡ spec.fact_of_denial n Lt (term a.now) (term b.now)) }
 {
-    let why = not_less(alloc, n, a, b)?;
+    let less = by_axiom(alloc, 9, n + 4, n + 5, b, a)?;
+    let equal = by_axiom(alloc, 11, n + 4, n + 5, b, a)?;
+    let first = nodes::cases(alloc, n + 3, less, equal)?;
+    let step = nodes::cases(alloc, n + 2, first, Cert::Absurd(n + 3, n + 1))?;
+    let why = nodes::axiom_of_two(alloc, 6, b, a, step)?;
     let given = denial(alloc, Op::Lt, a, b)?;
     derived(alloc, given, nodes::pair(alloc, Op::Le, b, a)?, why)
-}
-
-/// `b < a`, of `!(a <= b)`.
-fn above_of_not_at_most(alloc: Global, n: u32, a: &Expr, b: &Expr) -> Result<Option<Fact>, NoMemory>
-    requires { n ≤ MOST_NUMBERED }
-    ensures { IfOk result (λ made. option_map fact made ≡ spec.fact_of_denial n Le (term a.now) (term b.now)) }
-{
-    let why = not_at_most(alloc, n, a, b)?;
-    let given = denial(alloc, Op::Le, a, b)?;
-    derived(alloc, given, nodes::pair(alloc, Op::Lt, b, a)?, why)
 }
 
 /// `0 < a`, of `!(a == b)` where `b` is 0.
@@ -216,7 +145,8 @@ fn positive_of_not_zero(alloc: Global, n: u32, a: &Expr, b: &Expr) -> Result<Opt
     if !is_zero(b) {
         return Ok(None);
     }
-    let why = not_zero(alloc, n, a)?;
+    let step = nodes::cases(alloc, n + 2, Cert::Absurd(n + 3, n + 1), Cert::Auto)?;
+    let why = nodes::axiom_of_one(alloc, 22, a, step)?;
     let given = denial(alloc, Op::Eq, a, b)?;
     derived(
         alloc,
@@ -226,46 +156,28 @@ fn positive_of_not_zero(alloc: Global, n: u32, a: &Expr, b: &Expr) -> Result<Opt
     )
 }
 
-/// The fact that the negation of a comparison gives.
-fn fact_of_denial(
-    alloc: Global,
-    n: u32,
-    op: Op,
-    a: &Expr,
-    b: &Expr,
-) -> Result<Option<Fact>, NoMemory>
-    requires { n ≤ MOST_NUMBERED }
-    ensures { IfOk result (λ made. option_map fact made ≡ spec.fact_of_denial n op (term a.now) (term b.now)) }
-{
-    match op {
-        Op::Lt => above_of_not_less(alloc, n, a, b),
-        Op::Le => above_of_not_at_most(alloc, n, a, b),
-        Op::Eq => positive_of_not_zero(alloc, n, a, b),
-        Op::Ne | Op::Add | Op::Sub | Op::Mul | Op::And | Op::Or | Op::Xor => Ok(None),
-        Op::Both | Op::Either => Ok(None),
-    }
-}
-
 /// The fact that a negation gives.
 fn fact_of_negation(alloc: Global, n: u32, e: &Expr) -> Result<Option<Fact>, NoMemory>
     requires { n ≤ MOST_NUMBERED }
     ensures { IfOk result (λ made. option_map fact made ≡ spec.fact_of_negation n (term e.now)) }
 {
     match e {
-        Expr::Bin(op, a, b) => fact_of_denial(alloc, n, *op, a, b),
+        Expr::Bin(op, a, b) => match *op {
+            Op::Lt => above_of_not_less(alloc, n, a, b),
+            Op::Le => {
+                let less = against(alloc, n, 9, a, b)?;
+                let equal = against(alloc, n, 11, a, b)?;
+                let first = nodes::cases(alloc, n + 3, less, equal)?;
+                let step = nodes::cases(alloc, n + 2, first, Cert::Auto)?;
+                let why = nodes::axiom_of_two(alloc, 6, a, b, step)?;
+                let given = denial(alloc, Op::Le, a, b)?;
+                derived(alloc, given, nodes::pair(alloc, Op::Lt, b, a)?, why)
+            }
+            Op::Eq => positive_of_not_zero(alloc, n, a, b),
+            Op::Ne | Op::Add | Op::Sub | Op::Mul | Op::And | Op::Or | Op::Xor => Ok(None),
+            Op::Both | Op::Either => Ok(None),
+        },
         Expr::Const(_) | Expr::Var(_) | Expr::Not(_) => Ok(None),
-    }
-}
-
-/// The fact that a conjunct of a hypothesis gives.
-fn fact_of(alloc: Global, n: u32, e: &Expr) -> Result<Option<Fact>, NoMemory>
-    requires { n ≤ MOST_NUMBERED }
-    ensures { IfOk result (λ made. option_map fact made ≡ spec.fact_of n (term e.now)) }
-{
-    match e {
-        Expr::Bin(op, a, b) => fact_of_comparison(alloc, n, *op, a, b),
-        Expr::Not(inside) => fact_of_negation(alloc, n, inside),
-        Expr::Const(_) | Expr::Var(_) => Ok(None),
     }
 }
 
@@ -274,31 +186,13 @@ fn above_of_equal(alloc: Global, n: u32, a: &Expr, b: &Expr) -> Result<Option<Fa
     requires { n ≤ MOST_NUMBERED }
     ensures { IfOk result (λ made. option_map fact made ≡ spec.turned_of n (Some (term a.now, term b.now))) }
 {
-    let why = equal_above(alloc, n, a, b)?;
+    let step = by_axiom(alloc, 11, n + 2, n + 3, b, a)?;
+    let template = nodes::pair(alloc, Op::Eq, &Expr::Var(HOLE), a)?;
+    let turned = nodes::backward(alloc, n + 1, template, Cert::Refl)?;
+    let says = nodes::pair(alloc, Op::Eq, b, a)?;
+    let why = nodes::have(alloc, says, turned, step)?;
     let given = nodes::pair(alloc, Op::Eq, a, b)?;
     derived(alloc, given, nodes::pair(alloc, Op::Le, b, a)?, why)
-}
-
-/// The other fact that an equation gives.
-fn turned_of(alloc: Global, n: u32, e: &Expr) -> Result<Option<Fact>, NoMemory>
-    requires { n ≤ MOST_NUMBERED }
-    ensures { IfOk result (λ made. option_map fact made ≡ spec.turned_of n (valid.operands Eq (term e.now))) }
-{
-    match operands(Op::Eq, e) {
-        Some((a, b)) => above_of_equal(alloc, n, a, b),
-        None => Ok(None),
-    }
-}
-
-/// Adds the facts of a conjunct of a hypothesis.
-fn gather_one(alloc: Global, n: u32, facts: &mut List<Fact>, e: &Expr) -> Result<(), NoMemory>
-    requires { n ≤ MOST_NUMBERED }
-    ensures { OnOk result (map fact facts.new ≡ spec.gathered_one n (map fact facts.old) (term e.now)) }
-{
-    let made = fact_of(alloc, n, e)?;
-    add_any(facts, made)?;
-    let turned = turned_of(alloc, n, e)?;
-    add_any(facts, turned)
 }
 
 /// Adds the facts of each conjunct of a hypothesis.
@@ -312,7 +206,17 @@ fn gather(alloc: Global, n: u32, facts: &mut List<Fact>, e: &Expr) -> Result<(),
             gather(alloc, n, facts, b)
         }
         Expr::Const(_) | Expr::Var(_) | Expr::Not(_) | Expr::Bin(..) => {
-            gather_one(alloc, n, facts, e)
+            let made = match e {
+                Expr::Bin(op, a, b) => fact_of_comparison(alloc, n, *op, a, b)?,
+                Expr::Not(inside) => fact_of_negation(alloc, n, inside)?,
+                Expr::Const(_) | Expr::Var(_) => None,
+            };
+            add_any(facts, made)?;
+            let turned = match operands(Op::Eq, e) {
+                Some((a, b)) => above_of_equal(alloc, n, a, b)?,
+                None => None,
+            };
+            add_any(facts, turned)
         }
     }
 }

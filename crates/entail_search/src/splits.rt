@@ -8,12 +8,13 @@ ghost use Rattle.entail_range.specs.Range.{lent};
 ghost use Rattle.entail_cert.specs.Valid as valid;
 ghost use Rattle.entail_search.specs.Deeper as spec;
 
-use crate::chains::facts_of;
+use crate::chains::{MOST_LINKS, chains};
 use crate::closing::{shown, with_one};
 use crate::nodes;
-use crate::nodes::{number_at, number_of};
+use crate::nodes::{child, number_at, number_of};
+use crate::readings::gathered;
 use cov_ast::Cert;
-use cov_expr::{Expr, NoMemory, Op};
+use cov_expr::{Expr, NoMemory, Op, boxed, copy};
 use entail_cert::{negated, operands};
 use std::alloc::Global;
 
@@ -31,7 +32,8 @@ fn by_readings(alloc: Global, hyps: &[&Expr], goal: &Expr) -> Result<Option<Cert
     ensures { IfOk result (λ found. option_map view.cert found ≡ spec.by_readings (map lent hyps.now) (term goal.now)) }
 {
     let n = number_of(hyps)?;
-    let facts = facts_of(alloc, n, hyps)?;
+    let links = gathered(alloc, n, hyps)?;
+    let facts = chains(alloc, n, hyps, links.as_slice(), MOST_LINKS)?;
     shown(alloc, hyps, facts.as_slice(), goal)
 }
 
@@ -46,21 +48,8 @@ fn by_denial(alloc: Global, hyps: &[&Expr], goal: &Expr) -> Result<Option<Cert>,
     let Some(c) = by_readings(alloc, more.as_slice(), &Expr::Const(0))? else {
         return Ok(None);
     };
-    let made = nodes::negation(alloc, c)?;
-    Ok(Some(made))
-}
-
-/// `!x || b`, by `b` where `x` holds.
-fn where_holds(alloc: Global, hyps: &[&Expr], x: &Expr, b: &Expr) -> Result<Option<Cert>, NoMemory>
-    ensures { IfOk result (λ found. option_map view.cert found ≡ spec.where_holds (map lent hyps.now) (term x.now) (term b.now)) }
-{
-    let more = with_one(alloc, &*hyps, &*x)?;
-    let Some(c) = by_readings(alloc, more.as_slice(), b)? else {
-        return Ok(None);
-    };
-    let first = nodes::right(alloc, c)?;
-    let second = nodes::left(alloc, Cert::Auto)?;
-    let made = nodes::split(alloc, x, first, second)?;
+    let part = child(alloc, c)?;
+    let made = Cert::Not(part);
     Ok(Some(made))
 }
 
@@ -68,7 +57,8 @@ fn where_holds(alloc: Global, hyps: &[&Expr], x: &Expr, b: &Expr) -> Result<Opti
 fn where_fails(alloc: Global, hyps: &[&Expr], a: &Expr, b: &Expr) -> Result<Option<Cert>, NoMemory>
     ensures { IfOk result (λ found. option_map view.cert found ≡ spec.where_fails (map lent hyps.now) (term a.now) (term b.now)) }
 {
-    let denied = nodes::denied(alloc, a)?;
+    let inside = copy(alloc, a)?;
+    let denied = Expr::Not(boxed(alloc, inside)?);
     let more = with_one(alloc, &*hyps, &denied)?;
     let Some(c) = by_readings(alloc, more.as_slice(), b)? else {
         return Ok(None);
@@ -77,19 +67,6 @@ fn where_fails(alloc: Global, hyps: &[&Expr], a: &Expr, b: &Expr) -> Result<Opti
     let second = nodes::right(alloc, c)?;
     let made = nodes::split(alloc, a, first, second)?;
     Ok(Some(made))
-}
-
-/// A disjunction by its second part, where the first doesn't hold.
-fn by_sides(alloc: Global, hyps: &[&Expr], goal: &Expr) -> Result<Option<Cert>, NoMemory>
-    ensures { IfOk result (λ found. option_map view.cert found ≡ spec.by_sides (map lent hyps.now) (valid.operands Either (term goal.now))) }
-{
-    let Some((a, b)) = operands(Op::Either, goal) else {
-        return Ok(None);
-    };
-    match negated(a) {
-        Some(x) => where_holds(alloc, hyps, x, b),
-        None => where_fails(alloc, hyps, a, b),
-    }
 }
 
 /// A certificate without a case.
@@ -102,7 +79,22 @@ fn at_once(alloc: Global, hyps: &[&Expr], goal: &Expr) -> Result<Option<Cert>, N
     if let Some(found) = by_denial(alloc, hyps, goal)? {
         return Ok(Some(found));
     }
-    by_sides(alloc, hyps, goal)
+    let Some((a, b)) = operands(Op::Either, goal) else {
+        return Ok(None);
+    };
+    match negated(a) {
+        Some(x) => {
+            let more = with_one(alloc, &*hyps, &*x)?;
+            let Some(c) = by_readings(alloc, more.as_slice(), b)? else {
+                return Ok(None);
+            };
+            let first = nodes::right(alloc, c)?;
+            let second = nodes::left(alloc, Cert::Auto)?;
+            let made = nodes::split(alloc, x, first, second)?;
+            Ok(Some(made))
+        }
+        None => where_fails(alloc, hyps, a, b),
+    }
 }
 
 /// A certificate with so many disjunctions taken apart one inside the other, at most.

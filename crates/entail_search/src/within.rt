@@ -6,7 +6,6 @@ ghost use Rattle.cov_expr.specs.declared.limits.TheConstants.{MOST_CERT_NODES, M
 ghost use Rattle.cov_expr.specs.Trees as tree;
 ghost use Rattle.cov_expr.specs.View.{term};
 ghost use Rattle.cov_ast.specs.View as view;
-ghost use Rattle.cert_search.specs.Classes as class;
 ghost use Rattle.entail_search.specs.Within as spec;
 
 use cov_ast::Cert;
@@ -21,7 +20,7 @@ const CERT_NODES: u32 = MOST_CERT_NODES + 1;
 const CERT_HEIGHT: u32 = MOST_HEIGHT + 1;
 
 /// The nodes of a certificate, or one above the most.
-fn cert_nodes(cert: &Cert) -> u32
+pub fn cert_nodes(cert: &Cert) -> u32
     ensures { result ≡ min (spec.cert_nodes (view.cert cert.now)) (MOST_CERT_NODES + 1) }
 {
     match cert {
@@ -42,7 +41,7 @@ fn cert_nodes(cert: &Cert) -> u32
 }
 
 /// The height of a certificate, or one above the most.
-fn cert_height(cert: &Cert) -> u32
+pub fn cert_height(cert: &Cert) -> u32
     ensures { result ≡ min (spec.cert_height (view.cert cert.now)) (MOST_HEIGHT + 1) }
 {
     match cert {
@@ -60,13 +59,6 @@ fn cert_height(cert: &Cert) -> u32
         | Cert::Rev(_, _, c)
         | Cert::Axiom(_, _, c) => (1 + cert_height(c)).min(CERT_HEIGHT),
     }
-}
-
-/// Whether an expression is within the limits of one in a text.
-fn is_within(e: &Expr) -> bool
-    ensures { result ≡ class.is_within (term e.now) }
-{
-    nodes_at_most(e, MOST_NODES) && height_at_most(e, MOST_HEIGHT)
 }
 
 /// Whether one of these mentions a variable.
@@ -100,7 +92,7 @@ fn is_known(hyps: &[Expr], goal: &Expr, hole: bool, e: &Expr) -> bool
 fn is_fit(hyps: &[Expr], goal: &Expr, hole: bool, e: &Expr) -> bool
     ensures { result ≡ spec.is_fit (map term hyps.now) (term goal.now) hole (term e.now) }
 {
-    is_within(e) && is_known(hyps, goal, hole, e)
+    nodes_at_most(e, MOST_NODES) && height_at_most(e, MOST_HEIGHT) && is_known(hyps, goal, hole, e)
 }
 
 /// Whether each of these expressions is fit.
@@ -116,7 +108,7 @@ fn are_fit(hyps: &[Expr], goal: &Expr, es: &[Expr]) -> bool
 }
 
 /// Whether each expression of a certificate is.
-fn has_fit_expressions(hyps: &[Expr], goal: &Expr, cert: &Cert) -> bool
+pub fn has_fit_expressions(hyps: &[Expr], goal: &Expr, cert: &Cert) -> bool
     ensures { result ≡ spec.has_fit_expressions (map term hyps.now) (term goal.now) (view.cert cert.now) }
 {
     match cert {
@@ -139,13 +131,4 @@ fn has_fit_expressions(hyps: &[Expr], goal: &Expr, cert: &Cert) -> bool
             are_fit(hyps, goal, es.as_slice()) && has_fit_expressions(hyps, goal, c)
         }
     }
-}
-
-/// Whether a certificate and its expressions are within the limits, and speak of what the hypotheses and the goal do.
-pub fn is_cert_within(hyps: &[Expr], goal: &Expr, cert: &Cert) -> bool
-    ensures { result ≡ spec.is_cert_within (map term hyps.now) (term goal.now) (view.cert cert.now) }
-{
-    cert_nodes(cert) <= MOST_CERT_NODES
-        && cert_height(cert) <= MOST_HEIGHT
-        && has_fit_expressions(hyps, goal, cert)
 }

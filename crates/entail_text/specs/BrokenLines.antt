@@ -16,18 +16,13 @@ abbrev pub memory_text : Names → List Binding → List ℕ
 memory_text names [] = codes "each memory"
 memory_text names (b ∷ bs) = listed (binding_text names) (b ∷ bs)
 
--- what would help, by whether the goal has a variable
-abbrev pub help_line : (goal : Term) → List ℕ
-help_line goal =
-    if is_closed goal then codes "                it would help that a type says more, that less is asked, or that no run comes here where these hypotheses hold\n"
-    else codes "                it would help that more is known here (the goal, as a test around it gives it, or what gives it), or that less is asked\n"
-
-abbrev pub memory_line : Names → List Binding → List ℕ
-memory_line names m =
-    codes "  breaks it:    " ++ memory_text names m ++ codes "   (all hypotheses hold there, and the goal doesn't: no certificate can show it)\n"
+-- what would have to be otherwise, by whether the goal has a variable
+abbrev pub wanted : (goal : Term) → List ℕ
+wanted goal = if is_closed goal then codes "a type says more, more is known here, or less is asked" else codes "more is known here, as by a test around it, or less is asked"
 
 abbrev pub broken_lines : Names → (goal : Term) → List Binding → List ℕ
-broken_lines names goal m = memory_line names m ++ help_line goal
+broken_lines names goal m =
+    codes "  breaks it:    " ++ (memory_text names m ++ (codes "   (all hypotheses hold there, and the goal doesn't: no certificate can show it, unless " ++ (wanted goal ++ codes ")\n")))
 
 -- that neither is found
 abbrev pub neither_line : List ℕ

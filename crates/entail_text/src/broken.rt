@@ -24,7 +24,7 @@ pub fn add_neither(goal: &Expr, text: &mut Blob) -> Result<(), NoMemory>
     add_zero(goal, text)
 }
 
-/// Adds a memory, and what it says of the entailment.
+/// Adds a memory, that it breaks the entailment, and what would have to be otherwise.
 pub fn add_broken(
     names: &NameTable,
     goal: &Expr,
@@ -33,33 +33,24 @@ pub fn add_broken(
 ) -> Result<(), NoMemory>
     ensures { OnOk result (text.new ≡ text.old ++ spec.broken_lines names.now (term goal.now) m.now) }
 {
-    add_memory_line(names, m, text)?;
-    add_help(goal, text)
-}
-
-/// Adds a memory, and that it breaks the entailment.
-fn add_memory_line(names: &NameTable, m: &[Binding], text: &mut Blob) -> Result<(), NoMemory>
-    ensures { OnOk result (text.new ≡ text.old ++ spec.memory_line names.now m.now) }
-{
     text.extend_from_slice(b"  breaks it:    ")?;
     add_memory(names, m, text)?;
     text.extend_from_slice(
-        b"   (all hypotheses hold there, and the goal doesn't: no certificate can show it)\n",
-    )
+        b"   (all hypotheses hold there, and the goal doesn't: no certificate can show it, unless ",
+    )?;
+    text.extend_from_slice(wanted(goal).as_bytes())?;
+    text.extend_from_slice(b")\n")
 }
 
-/// Adds what would help, by whether the goal has a variable.
-fn add_help(goal: &Expr, text: &mut Blob) -> Result<(), NoMemory>
-    ensures { OnOk result (text.new ≡ text.old ++ spec.help_line (term goal.now)) }
+/// What would have to be otherwise, by whether the goal has a variable.
+fn wanted(goal: &Expr) -> &'static str
+    ensures { result.now ≡ spec.wanted (term goal.now) }
 {
     if closed(goal) {
-        return text.extend_from_slice(
-            b"                it would help that a type says more, that less is asked, or that no run comes here where these hypotheses hold\n",
-        );
+        "a type says more, more is known here, or less is asked"
+    } else {
+        "more is known here, as by a test around it, or less is asked"
     }
-    text.extend_from_slice(
-        b"                it would help that more is known here (the goal, as a test around it gives it, or what gives it), or that less is asked\n",
-    )
 }
 
 /// Adds the bindings of a memory, with commas between.

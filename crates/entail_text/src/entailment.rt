@@ -1,9 +1,8 @@
 //! What is told of an entailment.
 
-ghost use Rattle.std.specs.Prelude.{◌≡◌, [], ◌∷◌, ◌++◌, OnOk, Some, codes, decimal, get_or, map, option_map};
+ghost use Rattle.std.specs.Prelude.{◌≡◌, [], ◌∷◌, ◌++◌, OnOk, Some, codes, map, option_map};
 ghost use Rattle.cov_expr.specs.View.{term};
 ghost use Rattle.cov_ast.specs.View as view;
-ghost use Rattle.cov_print.specs.Fronts.{front};
 ghost use Rattle.cov_print.specs.Spelling.{whole};
 ghost use Rattle.entail_cert.specs.Axioms.{numbered};
 ghost use Rattle.entail_text.specs.Inside.{seen};
@@ -35,18 +34,11 @@ pub fn add_told(
 ) -> Result<(), NoMemory>
     ensures { OnOk result (text.new ≡ text.old ++ spec.entailment_text names.now (map term hyps.now) remarks.now (term goal.now) (option_map (λ c. view.cert c.now) cert.entry)) }
 {
-    add_goal(names, goal, text)?;
-    add_hypotheses(names, hyps.as_slice(), remarks, text)?;
-    add_certificate_line(alloc, names, hyps, goal, cert, text)
-}
-
-/// Adds the line of the goal.
-fn add_goal(names: &NameTable, goal: &Expr, text: &mut Blob) -> Result<(), NoMemory>
-    ensures { OnOk result (text.new ≡ text.old ++ spec.goal_line names.now (term goal.now)) }
-{
     text.extend_from_slice(b"  goal:         ")?;
     add_expr(names, false, goal, text)?;
-    text.extend_from_slice(b"\n")
+    text.extend_from_slice(b"\n")?;
+    add_hypotheses(names, hyps.as_slice(), remarks, text)?;
+    add_certificate_line(alloc, names, hyps, goal, cert, text)
 }
 
 /// Adds a line for each hypothesis, with its number and its remark, as [`add_told`] does.
@@ -62,44 +54,24 @@ pub fn add_hypotheses(
         return text.extend_from_slice(b"  hypotheses:   none\n");
     }
     for (i, h) in hyps.iter().enumerate() {
-        add_hypothesis(names, i + 1, h, remark_at(remarks, i), text)?;
+        let remark = match remarks.get(i) {
+            Some(remark) => remark.as_slice(),
+            None => &[],
+        };
+        let label = if i + 1 == 1 {
+            "  hypotheses:  "
+        } else {
+            "               "
+        };
+        text.extend_from_slice(label.as_bytes())?;
+        let indent = if i + 1 < 10 { " " } else { "" };
+        text.extend_from_slice(indent.as_bytes())?;
+        add_number(i + 1, text)?;
+        text.extend_from_slice(b"  ")?;
+        add_expr(names, false, h, text)?;
+        add_line_end(remark, text)?;
     }
     Ok(())
-}
-
-/// The remark at an index, counted from 0; an empty one where it is missing.
-fn remark_at(remarks: &[Blob], index: usize) -> &[u8]
-    ensures { result.now ≡ get_or remarks.now index [] }
-{
-    match remarks.get(index) {
-        Some(remark) => remark.as_slice(),
-        None => &[],
-    }
-}
-
-/// Adds the line of a hypothesis.
-fn add_hypothesis(
-    names: &NameTable,
-    number: usize,
-    h: &Expr,
-    remark: &[u8],
-    text: &mut Blob,
-) -> Result<(), NoMemory>
-    ensures { OnOk result (text.new ≡ text.old ++ spec.hypothesis_line names.now number (term h.now) remark.now) }
-{
-    add_front_of(number, text)?;
-    add_expr(names, false, h, text)?;
-    add_line_end(remark, text)
-}
-
-/// Adds what stands in front of the hypothesis of a number.
-fn add_front_of(number: usize, text: &mut Blob) -> Result<(), NoMemory>
-    ensures { OnOk result (text.new ≡ text.old ++ spec.front_of number) }
-{
-    text.extend_from_slice(label(number).as_bytes())?;
-    text.extend_from_slice(indent(number).as_bytes())?;
-    add_number(number, text)?;
-    text.extend_from_slice(b"  ")
 }
 
 /// Adds the end of a line, with a remark where that isn't empty.
@@ -112,24 +84,6 @@ fn add_line_end(remark: &[u8], text: &mut Blob) -> Result<(), NoMemory>
     text.extend_from_slice(b"   (")?;
     text.extend_from_slice(remark)?;
     text.extend_from_slice(b")\n")
-}
-
-/// The word before the first number, and blanks before the others.
-fn label(number: usize) -> &'static str
-    ensures { result.now ≡ spec.label number }
-{
-    if number == 1 {
-        "  hypotheses:  "
-    } else {
-        "               "
-    }
-}
-
-/// The blank before a number of one digit.
-fn indent(number: usize) -> &'static str
-    ensures { result.now ≡ spec.indent number }
-{
-    if number < 10 { " " } else { "" }
 }
 
 /// Adds the line of the certificate.
@@ -160,33 +114,18 @@ fn add_certificate(
     ensures { OnOk result (text.new ≡ text.old ++ spec.certificate names.now (map term hyps.now) (term goal.now) (option_map (λ c. view.cert c.now) cert.entry)) }
 {
     match cert {
-        Some(cert) => {
-            match check_cert(alloc, hyps, goal, cert) {
-                Ok(()) => text.extend_from_slice(b"given; valid"),
-                Err(CertFault::Invalid(path)) => {
-                    let root = root(alloc, hyps.as_slice(), goal, cert)?;
-                    add_failure(alloc, names, root, path.as_slice(), text)
-                }
-                Err(CertFault::NoMemory) => Err(NoMemory),
+        Some(cert) => match check_cert(alloc, hyps, goal, cert) {
+            Ok(()) => text.extend_from_slice(b"given; valid"),
+            Err(CertFault::Invalid(path)) => {
+                let root = root(alloc, hyps.as_slice(), goal, cert)?;
+                add_place(path.as_slice(), text)?;
+                let node = node_at(alloc, root, path.as_slice())?;
+                add_any_node(names, &node, text)
             }
-        }
+            Err(CertFault::NoMemory) => Err(NoMemory),
+        },
         None => text.extend_from_slice(b"none given, and `auto` doesn't show it"),
     }
-}
-
-/// Adds which node fails, by its path from the root, and what is asked there.
-fn add_failure(
-    alloc: Global,
-    names: &NameTable,
-    root: Node<'_>,
-    path: &[u8],
-    text: &mut Blob,
-) -> Result<(), NoMemory>
-    ensures { OnOk result (text.new ≡ text.old ++ spec.verdict names.now (seen root.entry) (Some path.now)) }
-{
-    add_place(path, text)?;
-    let node = node_at(alloc, root, path)?;
-    add_any_node(names, &node, text)
 }
 
 /// Adds that a certificate fails at a node, by its path.
@@ -203,7 +142,8 @@ fn add_any_node(names: &NameTable, node: &Option<Node<'_>>, text: &mut Blob) -> 
 {
     match node {
         Some(node) => {
-            add_rule(names, node.cert, text)?;
+            text.extend_from_slice(b": ")?;
+            add_front(names, node.cert, text)?;
             add_goal_there(names, node.goal.expr(), text)?;
             add_spoken_of(names, node, text)?;
             text.extend_from_slice(b")")
@@ -226,35 +166,13 @@ fn add_path(path: &[u8], text: &mut Blob) -> Result<(), NoMemory>
 fn add_steps(first: u8, rest: &[u8], text: &mut Blob) -> Result<(), NoMemory>
     ensures { OnOk result (text.new ≡ text.old ++ spec.place_of (first ∷ rest.now)) }
 {
-    add_first_step(first, text)?;
+    text.extend_from_slice(b"node ")?;
+    add_number(first as usize, text)?;
     for step in rest {
-        add_next_step(*step, text)?;
+        text.extend_from_slice(b".")?;
+        add_number(*step as usize, text)?;
     }
     Ok(())
-}
-
-/// Adds the first number of a path.
-fn add_first_step(step: u8, text: &mut Blob) -> Result<(), NoMemory>
-    ensures { OnOk result (text.new ≡ text.old ++ (codes "node " ++ decimal step)) }
-{
-    text.extend_from_slice(b"node ")?;
-    add_number(step as usize, text)
-}
-
-/// Adds a further number of a path.
-fn add_next_step(step: u8, text: &mut Blob) -> Result<(), NoMemory>
-    ensures { OnOk result (text.new ≡ text.old ++ (codes "." ++ decimal step)) }
-{
-    text.extend_from_slice(b".")?;
-    add_number(step as usize, text)
-}
-
-/// Adds the front of a certificate.
-fn add_rule(names: &NameTable, cert: &Cert, text: &mut Blob) -> Result<(), NoMemory>
-    ensures { OnOk result (text.new ≡ text.old ++ (codes ": " ++ front names.now (view.cert cert.now))) }
-{
-    text.extend_from_slice(b": ")?;
-    add_front(names, cert, text)
 }
 
 /// Adds the goal of a node.

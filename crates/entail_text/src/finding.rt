@@ -1,10 +1,7 @@
 //! What searches come to for an entailment.
 
-ghost use Rattle.std.specs.Prelude.{◌≡◌, ◌++◌, IfOk, OnOk, is_some, map, option_map};
+ghost use Rattle.std.specs.Prelude.{◌≡◌, ◌++◌, IfOk, OnOk, is_some, map};
 ghost use Rattle.cov_expr.specs.View.{term};
-ghost use Rattle.cov_ast.specs.View as view;
-ghost use Rattle.entail_counter.specs.Counterexamples as breaking;
-ghost use Rattle.entail_range.specs.Range.{lent};
 ghost use Rattle.entail_text.specs.Findings as spec;
 
 use cert_search::{MOST_DEPTH, find, find_lent, lent_each};
@@ -36,75 +33,45 @@ impl Finding {
 
 /// What is found for an entailment: a valid certificate of the greatest depth of which all are searched; where there is none, a memory that breaks it, if a
 /// search finds one; and else a certificate of a deeper search. It takes the time and the memory of these searches.
+#[tactic(auto, unfolding(crate::specs::Findings::suggested, crate::specs::Findings::deeper_suggested))]
 pub fn found_for(alloc: Global, hyps: &List<Expr>, goal: &Expr) -> Result<Finding, NoMemory>
     ensures { IfOk result (λ found. spec.seen found ≡ spec.found_for (map term hyps.now) (term goal.now)) }
 {
-    match suggested(alloc, hyps, goal)? {
+    match find(alloc, hyps, goal, MOST_DEPTH)? {
         Some(cert) => Ok(Finding::Shown(cert)),
-        None => without_certificate(alloc, hyps, goal),
-    }
-}
-
-/// What is found where that search finds no certificate.
-fn without_certificate(alloc: Global, hyps: &List<Expr>, goal: &Expr) -> Result<Finding, NoMemory>
-    ensures { IfOk result (λ found. spec.seen found ≡ spec.by_memory (map term hyps.now) (term goal.now) (breaking.counterexample (map term hyps.now) (term goal.now))) }
-{
-    match counterexample(alloc, hyps.as_slice(), goal)? {
-        Some(m) => Ok(Finding::Broken(m)),
-        None => {
-            match deeper_suggested(alloc, hyps, goal)? {
-                Some(cert) => Ok(Finding::Shown(cert)),
-                None => Ok(Finding::Neither),
+        None => match counterexample(alloc, hyps.as_slice(), goal)? {
+            Some(m) => Ok(Finding::Broken(m)),
+            None => {
+                let deeper_suggested = if nodes_left_by(
+                    hyps.as_slice(),
+                    goal,
+                    MOST_SEARCHED,
+                ).is_some()
+                {
+                    find_deeper(alloc, hyps, goal)?
+                } else {
+                    None
+                };
+                match deeper_suggested {
+                    Some(cert) => Ok(Finding::Shown(cert)),
+                    None => Ok(Finding::Neither),
+                }
             }
-        }
+        },
     }
 }
 
 /// How many nodes hypotheses and a goal may have together, so that a deeper search is made: its time grows with them, and with the disjunctions among the hypotheses.
 pub const MOST_SEARCHED: u32 = 1_000;
 
-/// What a deeper search finds, where the expressions are small.
-#[tactic(auto, unfolding(crate::specs::Findings::deeper_suggested))]
-fn deeper_suggested(alloc: Global, hyps: &List<Expr>, goal: &Expr) -> Result<Option<Cert>, NoMemory>
-    ensures { IfOk result (λ found. option_map view.cert found ≡ spec.deeper_suggested (map term hyps.now) (term goal.now)) }
-{
-    if are_small(hyps.as_slice(), goal) {
-        find_deeper(alloc, hyps, goal)
-    } else {
-        Ok(None)
-    }
-}
-
-/// Whether hypotheses and a goal have few nodes together.
-fn are_small(hyps: &[Expr], goal: &Expr) -> bool
-    ensures { result ≡ spec.are_small (map term hyps.now) (term goal.now) }
-{
-    nodes_left_by(hyps, goal, MOST_SEARCHED).is_some()
-}
-
-/// What the search of the greatest depth finds.
-#[tactic(auto, unfolding(crate::specs::Findings::suggested))]
-fn suggested(alloc: Global, hyps: &List<Expr>, goal: &Expr) -> Result<Option<Cert>, NoMemory>
-    ensures { IfOk result (λ found. option_map view.cert found ≡ spec.suggested (map term hyps.now) (term goal.now)) }
-{
-    find(alloc, hyps, goal, MOST_DEPTH)
-}
-
 /// Whether a certificate is found for an entailment, were one predicate more known. It takes the time and the memory of that search.
+#[tactic(auto, unfolding(crate::specs::Findings::suggested))]
 pub fn would_help(alloc: Global, hyps: &[Expr], goal: &Expr, more: &Expr) -> Result<bool, NoMemory>
     ensures { IfOk result (λ helps. helps ≡ spec.would_help (map term hyps.now) (term goal.now) (term more.now)) }
 {
     let mut known = lent_each(alloc, hyps)?;
     known.push(more)?;
-    has_certificate(alloc, known.as_slice(), goal)
-}
-
-/// Whether a certificate is found for an entailment.
-#[tactic(auto, unfolding(crate::specs::Findings::suggested))]
-fn has_certificate(alloc: Global, hyps: &[&Expr], goal: &Expr) -> Result<bool, NoMemory>
-    ensures { IfOk result (λ has. has ≡ is_some (spec.suggested (map lent hyps.now) (term goal.now))) }
-{
-    let found = find_lent(alloc, hyps, goal, MOST_DEPTH)?;
+    let found = find_lent(alloc, known.as_slice(), goal, MOST_DEPTH)?;
     Ok(found.is_some())
 }
 

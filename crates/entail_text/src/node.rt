@@ -1,6 +1,6 @@
 //! The nodes of a certificate, each with its hypotheses and its goal.
 
-ghost use Rattle.std.specs.Prelude.{◌≡◌, ◌≤◌, ◌-◌, [], ◌∷◌, ◌++◌, IfOk, MatchOption, Some, map, option_map, slice_get};
+ghost use Rattle.std.specs.Prelude.{◌≡◌, ◌-◌, [], ◌∷◌, ◌++◌, IfOk, Some, map, option_map, slice_get};
 ghost use Rattle.cov_expr.specs.declared.expr.Op.TheVariants.{Eq, Either};
 ghost use Rattle.cov_expr.specs.Term.{const, neg};
 ghost use Rattle.cov_expr.specs.View.{term};
@@ -149,13 +149,6 @@ fn negation_of<'a>(alloc: Global, e: &Expr) -> Result<Held<'a>, NoMemory>
     Ok(Held::Made(Expr::Not(boxed(alloc, copy(alloc, e)?)?)))
 }
 
-/// The index, counted from 0, of what has this number, counted from 1.
-fn index_of(number: u32) -> Option<usize>
-    ensures { MatchOption result (number ≡ 0) (λ index. (1 ≤ number) × (index ≡ number - 1)) }
-{
-    (number as usize).checked_sub(1)
-}
-
 impl<'a> Node<'a> {
     /// The hypothesis at an index, counted from 0.
     fn hypothesis_at(&self, index: usize) -> Option<&Held<'a>>
@@ -168,7 +161,7 @@ impl<'a> Node<'a> {
     pub fn hypothesis(&self, number: u32) -> Option<&Held<'a>>
         ensures { option_map (λ h. held_term h.now) result ≡ numbered (map held_term self.now.hyps) number }
     {
-        self.hypothesis_at(index_of(number)?)
+        self.hypothesis_at((number as usize).checked_sub(1)?)
     }
 
     /// One of the operands of a hypothesis that has this operator.
@@ -208,19 +201,6 @@ impl<'a> Node<'a> {
         }
     }
 
-    /// A child with one hypothesis more and the same goal.
-    fn under(self, hypothesis: Held<'a>, cert: &'a Cert) -> Result<Node<'a>, NoMemory>
-        ensures { IfOk result (λ made. seen made ≡ spec.node ((seen self.entry).hyps ++ held_term hypothesis.entry ∷ []) (seen self.entry).goal (view.cert cert.now)) }
-    {
-        let mut hyps = self.hyps;
-        hyps.push(hypothesis)?;
-        Ok(Node {
-            hyps,
-            goal: self.goal,
-            cert,
-        })
-    }
-
     /// A child with the same hypotheses, where its goal is there.
     fn with_any_goal(self, goal: Option<Held<'a>>, cert: &'a Cert) -> Option<Node<'a>>
         ensures { option_map seen result ≡ spec.with (option_map held_term goal.entry) (λ e. Some (spec.node (seen self.entry).hyps e (view.cert cert.now))) }
@@ -240,7 +220,15 @@ impl<'a> Node<'a> {
         ensures { IfOk result (λ made. option_map seen made ≡ spec.with (option_map held_term hypothesis.entry) (λ e. Some (spec.node ((seen self.entry).hyps ++ e ∷ []) (seen self.entry).goal (view.cert cert.now)))) }
     {
         match hypothesis {
-            Some(hypothesis) => Ok(Some(self.under(hypothesis, cert)?)),
+            Some(hypothesis) => {
+                let mut hyps = self.hyps;
+                hyps.push(hypothesis)?;
+                Ok(Some(Node {
+                    hyps,
+                    goal: self.goal,
+                    cert,
+                }))
+            }
             None => Ok(None),
         }
     }
@@ -251,7 +239,19 @@ impl<'a> Node<'a> {
     {
         match step {
             1 => self.first_child(alloc),
-            2 => self.second_child(alloc),
+            2 => match self.cert {
+                Cert::And(_, d) => self.narrowed(alloc, Op::Both, Half::Second, d),
+                Cert::Cases(i, _, d) => self.case(alloc, *i, Half::Second, d),
+                Cert::Split(e, _, d) => {
+                    let fact = negation_of(alloc, e)?;
+                    self.under_any(Some(fact), d)
+                }
+                Cert::Have(e, _, d) => self.under_any(Some(Held::Lent(e)), d),
+                Cert::Auto | Cert::Calc | Cert::Refl | Cert::Ring | Cert::Range => Ok(None),
+                Cert::Hyp(_) | Cert::Clash(_) | Cert::Absurd(..) | Cert::Unpack(..) => Ok(None),
+                Cert::Left(_) | Cert::Right(_) | Cert::Not(_) | Cert::Contra(_) => Ok(None),
+                Cert::Fwd(..) | Cert::Rev(..) | Cert::Axiom(..) => Ok(None),
+            },
             _ => Ok(None),
         }
     }
@@ -274,21 +274,6 @@ impl<'a> Node<'a> {
             Cert::Fwd(i, t, c) => self.rewritten(alloc, *i, Half::Second, t, c),
             Cert::Rev(i, t, c) => self.rewritten(alloc, *i, Half::First, t, c),
             Cert::Axiom(k, es, c) => self.with_axiom(alloc, *k, es, c),
-        }
-    }
-
-    fn second_child(self, alloc: Global) -> Result<Option<Node<'a>>, NoMemory>
-        ensures { IfOk result (λ made. option_map seen made ≡ spec.child (seen self.entry) 2) }
-    {
-        match self.cert {
-            Cert::And(_, d) => self.narrowed(alloc, Op::Both, Half::Second, d),
-            Cert::Cases(i, _, d) => self.case(alloc, *i, Half::Second, d),
-            Cert::Split(e, _, d) => self.denied(alloc, e, d),
-            Cert::Have(e, _, d) => self.under_any(Some(Held::Lent(e)), d),
-            Cert::Auto | Cert::Calc | Cert::Refl | Cert::Ring | Cert::Range => Ok(None),
-            Cert::Hyp(_) | Cert::Clash(_) | Cert::Absurd(..) | Cert::Unpack(..) => Ok(None),
-            Cert::Left(_) | Cert::Right(_) | Cert::Not(_) | Cert::Contra(_) => Ok(None),
-            Cert::Fwd(..) | Cert::Rev(..) | Cert::Axiom(..) => Ok(None),
         }
     }
 
@@ -342,14 +327,6 @@ impl<'a> Node<'a> {
             Some(child) => child.under_any(second, cert),
             None => Ok(None),
         }
-    }
-
-    /// A child with the negation of an expression as one more hypothesis.
-    fn denied(self, alloc: Global, e: &Expr, cert: &'a Cert) -> Result<Option<Node<'a>>, NoMemory>
-        ensures { IfOk result (λ made. option_map seen made ≡ Some (spec.node ((seen self.entry).hyps ++ neg (term e.now) ∷ []) (seen self.entry).goal (view.cert cert.now))) }
-    {
-        let fact = negation_of(alloc, e)?;
-        self.under_any(Some(fact), cert)
     }
 
     fn negated(self, alloc: Global, c: &'a Cert) -> Result<Option<Node<'a>>, NoMemory>

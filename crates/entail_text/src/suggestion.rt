@@ -29,24 +29,13 @@ pub fn add_finding(
     ensures { OnOk result (text.new ≡ text.old ++ spec.finding_lines names.now (map view.proof proofs.now) number (term goal.now) (seen found.now)) }
 {
     match found {
-        Finding::Shown(cert) => add_line(names, proofs, number, cert, text),
+        Finding::Shown(cert) => {
+            text.extend_from_slice(b"  suggestion:   ")?;
+            add_found(names, proofs, number, cert, text)
+        }
         Finding::Broken(m) => add_broken(names, goal, m.as_slice(), text),
         Finding::Neither => add_neither(goal, text),
     }
-}
-
-/// Adds the lines of a certificate that is found.
-fn add_line(
-    names: &NameTable,
-    proofs: &[Proof],
-    number: u32,
-    cert: &Cert,
-    text: &mut Blob,
-) -> Result<(), NoMemory>
-    ensures { OnOk result (text.new ≡ text.old ++ spec.suggestion_line names.now (map view.proof proofs.now) number (view.cert cert.now)) }
-{
-    text.extend_from_slice(b"  suggestion:   ")?;
-    add_found(names, proofs, number, cert, text)
 }
 
 /// Adds what is to be done with a certificate that is found.
@@ -59,11 +48,18 @@ fn add_found(
 ) -> Result<(), NoMemory>
     ensures { OnOk result (text.new ≡ text.old ++ spec.found_lines names.now (map view.proof proofs.now) number (view.cert cert.now)) }
 {
-    if is_auto(cert) {
-        return add_taken_away(number, text);
+    if matches!(cert, Cert::Auto) {
+        text.extend_from_slice(b"take the certificate of ")?;
+        add_number(number as usize, text)?;
+        return text.extend_from_slice(
+            b" away: `auto` shows it, which stands where none is given\n",
+        );
     }
     if cert_for(proofs, number).is_some() {
-        return add_replaced(names, number, cert, text);
+        add_entry(names, number, cert, text)?;
+        return text.extend_from_slice(
+            b"\n                it is valid: write it in the place of the one that is given\n",
+        );
     }
     if proofs.is_empty() {
         text.extend_from_slice(b"by { ")?;
@@ -78,37 +74,6 @@ fn add_found(
             b"\n                it is valid: write it last in the `by` of the statement\n",
         )
     }
-}
-
-/// Whether a certificate is `auto`.
-fn is_auto(cert: &Cert) -> bool
-    ensures { result ≡ spec.is_auto (view.cert cert.now) }
-{
-    matches!(cert, Cert::Auto)
-}
-
-/// Adds that the certificate of a number isn't needed.
-fn add_taken_away(number: u32, text: &mut Blob) -> Result<(), NoMemory>
-    ensures { OnOk result (text.new ≡ text.old ++ spec.taken_away number) }
-{
-    text.extend_from_slice(b"take the certificate of ")?;
-    add_number(number as usize, text)?;
-    text.extend_from_slice(b" away: `auto` shows it, which stands where none is given\n")
-}
-
-/// Adds a certificate that replaces one.
-fn add_replaced(
-    names: &NameTable,
-    number: u32,
-    cert: &Cert,
-    text: &mut Blob,
-) -> Result<(), NoMemory>
-    ensures { OnOk result (text.new ≡ text.old ++ spec.replaced names.now number (view.cert cert.now)) }
-{
-    add_entry(names, number, cert, text)?;
-    text.extend_from_slice(
-        b"\n                it is valid: write it in the place of the one that is given\n",
-    )
 }
 
 /// Adds a number and its certificate, as `by` gives them.

@@ -87,20 +87,20 @@ abbrev pub look_line : (bytes : List ℕ) → Program → Refusal → (others : 
 look_line bytes p r [] = []
 look_line bytes p r (o ∷ os) = look_unless_open bytes (is_of_thread o.thread r.thread) p r o.place
 
--- of those that are looked at, beside a refusal
+-- which is to be looked at first, what was asked, and what is told of those that are looked at beside the refusal
 unfoldable pub sought_lines : (name bytes : List ℕ) → Program → Refusal → List Refusal → List ℕ
 sought_lines name bytes p r rs =
-    look_line bytes p r (open_among p rs) ++ (open_lines name bytes p (open_among p rs) ++ suggested_lines name bytes p (found_among p rs))
+    look_line bytes p r (open_among p rs)
+    ++ (asked p bytes r.rule r.thread r.place r.detail ++ (open_lines name bytes p (open_among p rs) ++ suggested_lines name bytes p (found_among p rs)))
 
 -- of all
 unfoldable pub lines_of : (name bytes : List ℕ) → Program → Refusal → List Refusal → List ℕ
 lines_of name bytes p r rs = sought_lines name bytes p r (take MOST_SOUGHT rs) ++ unsought_line (length rs - MOST_SOUGHT)
 
--- beside a refusal of a program
-unfoldable pub other_lines : (name bytes : List ℕ) → Program → Refusal → List ℕ
-other_lines name bytes p r = lines_of name bytes p r (other_refusals p r)
+unfoldable pub told_with_others : (name bytes : List ℕ) → Program → Refusal → List ℕ
+told_with_others name bytes p r = lines_of name bytes p r (other_refusals p r)
 
--- the same, unless the first alone is told
-abbrev pub others_unless : (first : Bool) → (name bytes : List ℕ) → Program → Refusal → List ℕ
-others_unless true name bytes p r = []
-others_unless false name bytes p r = other_lines name bytes p r
+-- of a refusal of a program what was asked, and what is told of others beside it, unless the first alone is told
+abbrev pub asked_with_others : (first : Bool) → (name bytes : List ℕ) → Program → Refusal → List ℕ
+asked_with_others true name bytes p r = asked p bytes r.rule r.thread r.place r.detail
+asked_with_others false name bytes p r = told_with_others name bytes p r

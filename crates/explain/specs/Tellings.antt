@@ -7,7 +7,6 @@ use Rattle.compiled_code.specs.Compiled.{compiled}
 use Rattle.cov_ast.specs.Obligations.{all_hold}
 use Rattle.cov_ast.specs.Syntax.{Parsed, Program}
 use Rattle.cov_ast.specs.declared.refusal.Refusal.{Refusal}
-use Rattle.entail_refused.specs.Asked.{asked}
 use Rattle.explain.specs.ExpectedLines.{expected_line}
 use Rattle.explain.specs.OpenBraces.{brace_line}
 use Rattle.policy_class.specs.Resolved.{name_obligations, resolved}
@@ -16,7 +15,7 @@ use Rattle.explain.specs.Warnings.{warnings}
 use Rattle.nearest_name.specs.NearestLines.{nearest_lines}
 use Rattle.refusal_names.specs.RefusalNames.{refusal_names}
 use Rattle.explain.specs.Explanations.{explanation}
-use Rattle.explain.specs.OtherTellings.{others_unless}
+use Rattle.explain.specs.OtherTellings.{asked_with_others}
 use Rattle.explain.specs.UnassumedVariables.{unassumed_line}
 use Rattle.explain.specs.UnreadVariables.{unread_line}
 use Rattle.explain.specs.WarningSentences.{warning_lines}
@@ -40,7 +39,7 @@ thread_lines p thread = unassumed_line p thread ++ unread_line p thread
 abbrev pub refusal_lines : (first : Bool) (name : List ℕ) → Program → (bytes : List ℕ) → Refusal → List ℕ
 refusal_lines first name p bytes refusal =
     refusal_names p bytes refusal.rule refusal.thread refusal.place refusal.detail
-    ++ (thread_lines p refusal.thread ++ (asked p bytes refusal.rule refusal.thread refusal.place refusal.detail ++ others_unless first name bytes p refusal))
+    ++ (thread_lines p refusal.thread ++ asked_with_others first name bytes p refusal)
 
 -- what a refusal of a text is about whose names aren't in order: of one that isn't declared, the nearest declared one
 abbrev pub unnamed_asked : Parsed → Refusal → List ℕ

@@ -5,7 +5,7 @@ ghost use Rattle.call_judge.specs.Findings.{Finds, reply_to};
 ghost use Rattle.cov_ast.specs.View as view;
 ghost use Rattle.cov_ast.specs.WellFormed.{IsWellFormed};
 ghost use Rattle.cov_expr.specs.declared.limits.TheConstants.{MOST_BYTES};
-ghost use Rattle.explain.specs.Tellings.{Adds, AddsBeside, AddsCode, AddsPoints, compiled_lines};
+ghost use Rattle.explain.specs.Tellings.{AddsBeside, AddsCode, AddsPoints, compiled_lines};
 
 use crate::manner::{Beside, Manner};
 use crate::more::{add_more, add_stand_lines};

@@ -1,8 +1,7 @@
 //! The line that says to which brace a token mostly belongs with which no program goes on.
 
-ghost use Rattle.std.specs.Prelude.{◌≡◌, ◌≤◌, ◌++◌, length, false, IfOk, OnOk};
+ghost use Rattle.std.specs.Prelude.{◌≡◌, ◌≤◌, ◌++◌, length, false, OnOk};
 ghost use Rattle.cov_expr.specs.declared.limits.TheConstants.{MOST_BYTES};
-ghost use Rattle.cov_text.specs.Text.{words_of};
 ghost use Rattle.explain.specs.OpenBraces as spec;
 
 use crate::words::word_run;
@@ -15,48 +14,26 @@ use text_parts::{add_number, halves, position};
 
 /// Adds a line that says which `{` is open at a place of a text of at most 1 MiB, or which the `}` in front of it closes; none where the token there
 /// tells nothing of braces.
+#[tactic(auto, using(crate::proofs::BraceLaws::tokens_read, crate::proofs::BraceLaws::tokens_fault))]
 pub fn add_brace_line(alloc: Global, bytes: &[u8], at: u32, text: &mut Blob) -> Result<(), NoMemory>
     requires { length bytes.now ≤ MOST_BYTES }
     ensures { OnOk result (text.new ≡ text.old ++ spec.brace_line bytes.now at) }
 {
     let (front, rest) = halves(bytes, at as usize);
-    let tokens = tokens_of(alloc, front)?;
+    let tokens = match read_tokens(alloc, front) {
+        Ok(read) => read.tokens,
+        Err(LexFault::NoMemory) => return Err(NoMemory),
+        Err(LexFault::BadByte(_) | LexFault::NumberTooLarge(_) | LexFault::NameTooLong(_)) =>
+            List::new(alloc),
+    };
     add_line(bytes, rest, tokens.as_slice(), text)
-}
-
-/// The tokens of a text of at most 1 MiB; none where it has none.
-#[tactic(auto, using(crate::proofs::BraceLaws::tokens_read, crate::proofs::BraceLaws::tokens_fault))]
-fn tokens_of(alloc: Global, front: &[u8]) -> Result<List<Token>, NoMemory>
-    requires { length front.now ≤ MOST_BYTES }
-    ensures { IfOk result (λ tokens. tokens ≡ words_of front.now) }
-{
-    match read_tokens(alloc, front) {
-        Ok(read) => Ok(read.tokens),
-        Err(LexFault::NoMemory) => Err(NoMemory),
-        Err(LexFault::BadByte(_) | LexFault::NumberTooLarge(_) | LexFault::NameTooLong(_)) => {
-            Ok(List::new(alloc))
-        }
-    }
 }
 
 /// Adds the line, by the text from a token on and the tokens in front of it.
 fn add_line(bytes: &[u8], rest: &[u8], tokens: &[Token], text: &mut Blob) -> Result<(), NoMemory>
     ensures { OnOk result (text.new ≡ text.old ++ spec.brace_line_of bytes.now rest.now tokens.now) }
 {
-    if is_outside(rest) {
-        return add_open(bytes, open_brace(tokens), text);
-    }
-    if word_run(rest) == b"else".as_slice() {
-        return add_else(bytes, tokens, text);
-    }
-    Ok(())
-}
-
-/// Whether a text ends, or goes on with a word with which a declaration begins.
-fn is_outside(rest: &[u8]) -> bool
-    ensures { result ≡ spec.is_outside rest.now }
-{
-    match rest {
+    let is_outside = match rest {
         [] => true,
         [_, ..] => {
             let word = word_run(rest);
@@ -65,25 +42,31 @@ fn is_outside(rest: &[u8]) -> bool
                 || word == b"var".as_slice()
                 || word == b"level".as_slice()
         }
+    };
+    if is_outside {
+        return add_open(bytes, open_brace(tokens), text);
     }
-}
-
-/// Adds the line of an `else`, by the tokens in front of it.
-fn add_else(bytes: &[u8], tokens: &[Token], text: &mut Blob) -> Result<(), NoMemory>
-    ensures { OnOk result (text.new ≡ text.old ++ spec.else_line bytes.now tokens.now) }
-{
-    if ends_closed(tokens) {
-        match open_brace(all_but_last(tokens)) {
-            Some(place) => {
-                let front = "  the `}` in front of it closes the `{` of line ";
-                let back = ", to which no `else` belongs: a `}` may be missing between them\n";
-                add_line_text(front, back, bytes, place as usize, text)
+    if word_run(rest) == b"else".as_slice() {
+        let add_else = if ends_closed(tokens) {
+            let all_but_last = if tokens.is_empty() {
+                tokens
+            } else {
+                &tokens[..tokens.len() - 1]
+            };
+            match open_brace(all_but_last) {
+                Some(place) => {
+                    let front = "  the `}` in front of it closes the `{` of line ";
+                    let back = ", to which no `else` belongs: a `}` may be missing between them\n";
+                    add_line_text(front, back, bytes, place as usize, text)
+                }
+                None => Ok(()),
             }
-            None => Ok(()),
-        }
-    } else {
-        add_open(bytes, open_brace(tokens), text)
+        } else {
+            add_open(bytes, open_brace(tokens), text)
+        };
+        return add_else;
     }
+    Ok(())
 }
 
 /// Adds a line that says that a `{` is open, by its place, if there is one.
@@ -125,7 +108,11 @@ fn open_brace(tokens: &[Token]) -> Option<u32>
         let token = tokens[i];
         if is(Kind::OpenBrace, token.kind) {
             if closing == 0 {
-                place = or_place(place, token.at);
+                let or_place = match place {
+                    Some(place) => Some(place),
+                    None => Some(token.at),
+                };
+                place = or_place;
             } else {
                 closing -= 1;
             }
@@ -134,16 +121,6 @@ fn open_brace(tokens: &[Token]) -> Option<u32>
         }
     }
     place
-}
-
-/// A place, or another where there is none.
-fn or_place(place: Option<u32>, other: u32) -> Option<u32>
-    ensures { result ≡ spec.or_place place other }
-{
-    match place {
-        Some(place) => Some(place),
-        None => Some(other),
-    }
 }
 
 /// Whether the last of tokens is a `}`.
@@ -155,15 +132,4 @@ fn ends_closed(tokens: &[Token]) -> bool
         closed = is(Kind::CloseBrace, token.kind);
     }
     closed
-}
-
-/// All of some tokens but the last.
-fn all_but_last(tokens: &[Token]) -> &[Token]
-    ensures { result.now ≡ spec.all_but_last tokens.now }
-{
-    if tokens.is_empty() {
-        tokens
-    } else {
-        &tokens[..tokens.len() - 1]
-    }
 }

@@ -6,7 +6,7 @@ ghost use Rattle.call_reports.specs.AnswerViews.{seen};
 ghost use Rattle.call_reports.specs.Reports.{report_of};
 
 use crate::faults::add_fault_sentence;
-use crate::rules::add_sentence;
+use crate::rules::{add_shown, sentence_end, sentence_front};
 use call_reports::{Answer, Fault, report};
 use cov_expr::{Blob, List, NoMemory};
 use std::alloc::Global;
@@ -57,7 +57,11 @@ fn add_sentence_of(bytes: &[u8], answer: &Answer<'_>, text: &mut Blob) -> Result
             let (_, rest) = halves(bytes, *at as usize);
             add_fault_sentence(*kind, rest, text)
         }
-        Answer::Refused(refusal, _) => add_sentence(refusal.rule, &refusal.detail, text),
+        Answer::Refused(refusal, _) => {
+            text.extend_from_slice(sentence_front(refusal.rule).as_bytes())?;
+            add_shown(refusal.rule, &refusal.detail, text)?;
+            text.extend_from_slice(sentence_end(refusal.rule).as_bytes())
+        }
         _ => Ok(()),
     }
 }

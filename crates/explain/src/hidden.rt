@@ -69,48 +69,36 @@ fn by_first(first: u8, rest: &[u8]) -> Option<Cause>
     ensures { result ≡ spec.by_first first rest.now }
 {
     match first {
-        b'\r' => {
-            match rest {
-                [b'\n', ..] => None,
-                _ => Some(Cause::LoneReturn),
-            }
-        }
+        b'\r' => match rest {
+            [b'\n', ..] => None,
+            _ => Some(Cause::LoneReturn),
+        },
         b'\t' | b'\n' => None,
         0..=31 | 127 => Some(Cause::Control(first)),
-        194 => {
-            match rest {
-                [byte @ 128..=159, ..] => Some(Cause::Control(*byte)),
-                _ => None,
+        194 => match rest {
+            [byte @ 128..=159, ..] => Some(Cause::Control(*byte)),
+            _ => None,
+        },
+        216 => match rest {
+            [156, ..] => Some(Cause::Direction),
+            _ => None,
+        },
+        226 => match rest {
+            [128, rest @ ..] => {
+                match rest {
+                    [142..=143 | 170..=174, ..] => Some(Cause::Direction),
+                    [168..=169, ..] => Some(Cause::Separator),
+                    _ => None,
+                }
             }
-        }
-        216 => {
-            match rest {
-                [156, ..] => Some(Cause::Direction),
-                _ => None,
+            [129, rest @ ..] => {
+                match rest {
+                    [166..=169, ..] => Some(Cause::Direction),
+                    _ => None,
+                }
             }
-        }
-        226 => after_226(rest),
-        _ => None,
-    }
-}
-
-fn after_226(rest: &[u8]) -> Option<Cause>
-    ensures { result ≡ spec.after_226 rest.now }
-{
-    match rest {
-        [128, rest @ ..] => {
-            match rest {
-                [142..=143 | 170..=174, ..] => Some(Cause::Direction),
-                [168..=169, ..] => Some(Cause::Separator),
-                _ => None,
-            }
-        }
-        [129, rest @ ..] => {
-            match rest {
-                [166..=169, ..] => Some(Cause::Direction),
-                _ => None,
-            }
-        }
+            _ => None,
+        },
         _ => None,
     }
 }

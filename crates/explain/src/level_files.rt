@@ -152,45 +152,22 @@ fn tell_fault(
 {
     match fault {
         Some(fault) => {
-            add_fault_lines(alloc, p, over, given, &fault, text)?;
+            let fault_place = match &fault {
+                Fault::Text(_, at) | Fault::Misfit(_, at) => Some(*at),
+                _ => None,
+            };
+            match fault_place {
+                Some(place) => {
+                    add_where(over, given, place as usize, text)?;
+                    add_report(alloc, Answer::Malformed(over, fault), text)?;
+                    add_excerpt(given, place as usize, text)?;
+                }
+                None => add_report(alloc, Answer::Malformed(over, fault), text)?,
+            }
+            add_misfit_lines(alloc, p, given, &fault, text)?;
             Ok(Status::Malformed)
         }
         None => Err(NoMemory),
-    }
-}
-
-/// Adds what is told of bytes with a fault.
-fn add_fault_lines(
-    alloc: Global,
-    p: &Parsed,
-    name: &str,
-    bytes: &[u8],
-    fault: &Fault,
-    text: &mut Blob,
-) -> Result<(), NoMemory>
-    ensures { OnOk result (text.new ≡ text.old ++ spec.fault_lines name.now bytes.now (view.parsed p.now) fault.now) }
-{
-    add_fault_at(alloc, name, bytes, fault, text)?;
-    add_misfit_lines(alloc, p, bytes, fault, text)
-}
-
-/// Adds the report of a text with a fault, and where that is.
-fn add_fault_at(
-    alloc: Global,
-    name: &str,
-    bytes: &[u8],
-    fault: &Fault,
-    text: &mut Blob,
-) -> Result<(), NoMemory>
-    ensures { OnOk result (text.new ≡ text.old ++ spec.fault_lines_at name.now bytes.now fault.now (spec.fault_place fault.now)) }
-{
-    match fault_place(fault) {
-        Some(place) => {
-            add_where(name, bytes, place as usize, text)?;
-            add_report(alloc, Answer::Malformed(name, *fault), text)?;
-            add_excerpt(bytes, place as usize, text)
-        }
-        None => add_report(alloc, Answer::Malformed(name, *fault), text),
     }
 }
 
@@ -206,52 +183,27 @@ fn add_misfit_lines(
 {
     match fault {
         Fault::Misfit(what, at) => {
-            text.extend_from_slice(misfit_sentence(*what).as_bytes())?;
+            let misfit_sentence = match *what {
+                Misfit::Unknown => {
+                    "  no level that is declared in front of it, or no variable of the program, has the name that is used as such here\n"
+                }
+                Misfit::Same =>
+                    "  a level is declared, or a variable is listed, a second time here\n",
+                Misfit::Marker =>
+                    "  a level has the name of a variable that is more than a marker\n",
+                Misfit::Version | Misfit::Declares | Misfit::Thread => "",
+            };
+            text.extend_from_slice(misfit_sentence.as_bytes())?;
             let (_, rest) = halves(bytes, *at as usize);
-            add_nearest_part(alloc, p, rest, *what, text)
+            match *what {
+                Misfit::Unknown => add_nearest_variable(alloc, p, word_run(rest), text),
+                Misfit::Version
+                | Misfit::Declares
+                | Misfit::Thread
+                | Misfit::Same
+                | Misfit::Marker => { Ok(()) }
+            }
         }
         _ => Ok(()),
-    }
-}
-
-/// What a fault beyond the grammar and the limits is, in one sentence.
-fn misfit_sentence(what: Misfit) -> &'static str
-    ensures { result.now ≡ spec.misfit_sentence what }
-{
-    match what {
-        Misfit::Unknown => {
-            "  no level that is declared in front of it, or no variable of the program, has the name that is used as such here\n"
-        }
-        Misfit::Same => "  a level is declared, or a variable is listed, a second time here\n",
-        Misfit::Marker => "  a level has the name of a variable that is more than a marker\n",
-        Misfit::Version | Misfit::Declares | Misfit::Thread => "",
-    }
-}
-
-/// Adds the nearest name of a variable to the one with which a text begins, where that isn't known.
-fn add_nearest_part(
-    alloc: Global,
-    p: &Parsed,
-    rest: &[u8],
-    what: Misfit,
-    text: &mut Blob,
-) -> Result<(), NoMemory>
-    ensures { OnOk result (text.new ≡ text.old ++ spec.nearest_part (view.parsed p.now) rest.now what) }
-{
-    match what {
-        Misfit::Unknown => add_nearest_variable(alloc, p, word_run(rest), text),
-        Misfit::Version | Misfit::Declares | Misfit::Thread | Misfit::Same | Misfit::Marker => {
-            Ok(())
-        }
-    }
-}
-
-/// The place of a fault.
-fn fault_place(fault: &Fault) -> Option<u32>
-    ensures { result ≡ spec.fault_place fault.now }
-{
-    match fault {
-        Fault::Text(_, at) | Fault::Misfit(_, at) => Some(*at),
-        _ => None,
     }
 }

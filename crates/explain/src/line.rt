@@ -1,6 +1,6 @@
 //! The lines that say what could stand at a place.
 
-ghost use Rattle.std.specs.Prelude.{◌≡◌, ◌≤◌, ◌++◌, length, map, flat_map, OnOk};
+ghost use Rattle.std.specs.Prelude.{◌≡◌, ◌≤◌, ◌++◌, length, map, OnOk};
 ghost use Rattle.std.specs.List.{list_any};
 ghost use Rattle.cov_expr.specs.declared.limits.TheConstants.{MOST_BYTES};
 ghost use Rattle.explain.specs.ExpectedLines as spec;
@@ -21,27 +21,32 @@ pub fn add_expected(alloc: Global, bytes: &[u8], at: u32, text: &mut Blob) -> Re
     let found = expected(alloc, bytes, at)?;
     let (_, rest) = halves(bytes, at as usize);
     add_semicolon_line(rest, found.as_slice(), text)?;
-    add_line(of_version, found.as_slice(), text)
+    match found.as_slice() {
+        [] => Ok(()),
+        [first, others @ ..] => {
+            add_line_front(text)?;
+            add_phrase(of_version, *first, text)?;
+            for next in others {
+                text.extend_from_slice(b", ")?;
+                add_phrase(of_version, *next, text)?;
+            }
+            text.extend_from_slice(b"\n")
+        }
+    }
 }
 
 /// Adds that a `;` may be missing in front of a token with which a text goes on, where it is a word, a `}` or the end and a `;` is among what could stand there.
 fn add_semicolon_line(rest: &[u8], nexts: &[Next], text: &mut Blob) -> Result<(), NoMemory>
     ensures { OnOk result (text.new ≡ text.old ++ spec.semicolon_line rest.now nexts.now) }
 {
-    if begins_behind(rest) && has_semicolon(nexts) {
+    let begins_behind = match rest {
+        [] => true,
+        [first, ..] => is_lower(*first) || *first == b'}',
+    };
+    if begins_behind && has_semicolon(nexts) {
         text.extend_from_slice(b"  a `;` may be missing in front of it\n")
     } else {
         Ok(())
-    }
-}
-
-/// Whether a text ends, or begins with a word or with `}`.
-fn begins_behind(rest: &[u8]) -> bool
-    ensures { result ≡ spec.begins_behind rest.now }
-{
-    match rest {
-        [] => true,
-        [first, ..] => is_lower(*first) || *first == b'}',
     }
 }
 
@@ -50,36 +55,15 @@ fn has_semicolon(nexts: &[Next]) -> bool
     ensures { result ≡ list_any spec.is_semicolon nexts.now }
 {
     for next in nexts {
-        if is_semicolon(*next) {
+        let is_semicolon = match *next {
+            Next::Token(kind) => is(Kind::Semicolon, kind),
+            Next::End => false,
+        };
+        if is_semicolon {
             return true;
         }
     }
     false
-}
-
-/// Whether that is a `;`.
-fn is_semicolon(next: Next) -> bool
-    ensures { result ≡ spec.is_semicolon next }
-{
-    match next {
-        Next::Token(kind) => is(Kind::Semicolon, kind),
-        Next::End => false,
-    }
-}
-
-/// Adds a line of all that could stand at a place; none where nothing could.
-fn add_line(of_version: bool, nexts: &[Next], text: &mut Blob) -> Result<(), NoMemory>
-    ensures { OnOk result (text.new ≡ text.old ++ spec.line_of of_version nexts.now) }
-{
-    match nexts {
-        [] => Ok(()),
-        [first, others @ ..] => {
-            add_line_front(text)?;
-            add_phrase(of_version, *first, text)?;
-            add_others(of_version, others, text)?;
-            text.extend_from_slice(b"\n")
-        }
-    }
 }
 
 /// Adds what the line begins with.
@@ -88,17 +72,6 @@ fn add_line_front(text: &mut Blob) -> Result<(), NoMemory>
     ensures { OnOk result (text.new ≡ text.old ++ spec.line_front) }
 {
     text.extend_from_slice(b"  here could stand: ")
-}
-
-/// Adds what else could stand there.
-fn add_others(of_version: bool, others: &[Next], text: &mut Blob) -> Result<(), NoMemory>
-    ensures { OnOk result (text.new ≡ text.old ++ flat_map (spec.other of_version) others.now) }
-{
-    for next in others {
-        text.extend_from_slice(b", ")?;
-        add_phrase(of_version, *next, text)?;
-    }
-    Ok(())
 }
 
 /// Adds the words for what could stand at a place.
@@ -111,24 +84,18 @@ fn add_phrase(of_version: bool, next: Next, text: &mut Blob) -> Result<(), NoMem
                 return text.extend_from_slice(b"a name");
             }
             if is(Kind::Number, kind) {
-                return text.extend_from_slice(number_phrase(of_version).as_bytes());
+                let number_phrase = if of_version {
+                    "the number 2"
+                } else {
+                    "a number"
+                };
+                return text.extend_from_slice(number_phrase.as_bytes());
             }
             text.extend_from_slice(b"`")?;
             text.extend_from_slice(spelling_of(kind))?;
             text.extend_from_slice(b"`")
         }
         Next::End => text.extend_from_slice(b"the end of the text"),
-    }
-}
-
-/// The words for a number.
-fn number_phrase(of_version: bool) -> &'static str
-    ensures { result.now ≡ spec.number_phrase of_version }
-{
-    if of_version {
-        "the number 2"
-    } else {
-        "a number"
     }
 }
 

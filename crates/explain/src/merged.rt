@@ -1,12 +1,10 @@
 //! All warnings of a program and its text, in the order of their places.
 
-ghost use Rattle.std.specs.Prelude.{◌≡◌, ◌++◌, ◌≤◌, length, MatchResult, IfOk, OnOk};
+ghost use Rattle.std.specs.Prelude.{◌≡◌, ◌++◌, MatchResult, IfOk, OnOk};
 ghost use Rattle.cov_ast.specs.Plain.{plain};
 ghost use Rattle.cov_ast.specs.View as view;
-ghost use Rattle.cov_expr.specs.declared.limits.TheConstants.{MOST_BYTES};
 ghost use Rattle.explain.specs.Warnings as spec;
 
-use crate::hidden::text_warnings;
 use crate::unreached::add_threads;
 use crate::unused::of_declarations;
 use crate::warning::{Cause, Warning};
@@ -14,18 +12,8 @@ use cov_ast::Program;
 use cov_expr::{List, NoMemory};
 use std::alloc::Global;
 
-/// What is warned of in a program and in the bytes that spell it, in the order of the places.
-pub fn warnings(alloc: Global, program: &Program, bytes: &[u8]) -> Result<List<Warning>, NoMemory>
-    requires { length bytes.now ≤ MOST_BYTES }
-    ensures { IfOk result (λ found. found ≡ spec.warnings (plain (view.program program.now)) bytes.now) }
-{
-    let first = of_program(alloc, program)?;
-    let second = text_warnings(alloc, bytes)?;
-    merged_by_place(alloc, first.as_slice(), second.as_slice())
-}
-
 /// What is warned of in a program, in the order of its text.
-fn of_program(alloc: Global, program: &Program) -> Result<List<Warning>, NoMemory>
+pub fn of_program(alloc: Global, program: &Program) -> Result<List<Warning>, NoMemory>
     ensures { IfOk result (λ found. found ≡ spec.of_program (plain (view.program program.now))) }
 {
     let mut found = List::new(alloc);
@@ -50,7 +38,7 @@ fn add_no_thread(program: &Program, found: &mut List<Warning>) -> Result<(), NoM
 }
 
 /// The warnings of two lists, each in the order of the places, in that order.
-fn merged_by_place(
+pub fn merged_by_place(
     alloc: Global,
     first: &[Warning],
     second: &[Warning],

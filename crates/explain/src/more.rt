@@ -14,7 +14,7 @@ ghost use Rattle.explain.specs.HiddenText.{text_warnings};
 
 use crate::braces::add_brace_line;
 use crate::line::add_expected;
-use crate::others::add_others_unless;
+use crate::others::add_some;
 use crate::unassumed::add_unassumed_line;
 use crate::unread::add_unread_line;
 use crate::warnings::{add_text_warnings, add_warnings};
@@ -23,7 +23,7 @@ use call_judge::judge::Judged;
 use call_reports::{Fault, FaultKind};
 use cov_ast::{Program, Refusal};
 use cov_expr::{Blob, NoMemory};
-use entail_refused::add_asked;
+use entail_refused::{add_asked, other_refusals};
 use nearest_name::add_nearest;
 use refusal_names::add_names;
 use std::alloc::Global;
@@ -106,6 +106,7 @@ pub fn add_refused(
 
 /// Adds what a refusal of a program is about: of W8, W9, V1 to V5, V8, V12 and V14 to V16 names; then what is told of its thread; and of V9 the
 /// entailment, and of V9 and V13 others of the thread.
+#[tactic(auto, unfolding(crate::specs::OtherTellings::told_with_others))]
 fn add_refusal_lines(
     alloc: Global,
     first: bool,
@@ -120,8 +121,19 @@ fn add_refusal_lines(
 {
     add_names(alloc, program, bytes, refusal, text)?;
     add_thread_lines(alloc, program, refusal.thread, text)?;
-    add_asked(alloc, program, bytes, refusal, text)?;
-    add_others_unless(alloc, first, name, bytes, refusal, program, text)
+    if first {
+        return add_asked(alloc, program, bytes, refusal, text);
+    }
+    let others = other_refusals(alloc, program, refusal)?;
+    add_some(
+        alloc,
+        name,
+        bytes,
+        refusal,
+        others.as_slice(),
+        program,
+        text,
+    )
 }
 
 /// Adds what the thread of a refusal doesn't assume though every other guarantees it, and what it stores to and no statement reads.

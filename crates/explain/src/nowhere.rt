@@ -32,22 +32,12 @@ fn have_no_value(hyps: &List<Expr>) -> bool
     ensures { result ≡ list_any (spec.has_no_value (map term hyps.now)) (map term hyps.now) }
 {
     for h in hyps.as_slice() {
-        if has_no_value(hyps, h) {
+        expressions_are_of_words(h);
+        if matches!(bound(hyps, h), Bound::Empty) {
             return true;
         }
     }
     false
-}
-
-/// Whether the bounds that expressions give leave no value to one.
-fn has_no_value(hyps: &List<Expr>, h: &Expr) -> bool
-    ensures { result ≡ spec.has_no_value (map term hyps.now) (term h.now) }
-{
-    expressions_are_of_words(h);
-    match bound(hyps, h) {
-        Bound::Empty => true,
-        Bound::Within(_, _) => false,
-    }
 }
 
 /// Adds copies of the parts that `&&` joins in an expression, from left to right.

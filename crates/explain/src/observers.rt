@@ -185,25 +185,13 @@ fn add_marks(
     ensures { OnOk result (text.new ≡ text.old ++ spec.mark_lines seen.now names.now (map view.var vars.now)) }
 {
     for var in vars {
-        add_mark(seen, names, var, text)?;
+        let number = mark(seen, names, var);
+        match number {
+            Some(number) => add_stands(var.name, number, text)?,
+            None => {}
+        }
     }
     Ok(())
-}
-
-/// Adds what stands for a variable, if it is a marker.
-fn add_mark(
-    seen: &NumberSet,
-    names: &[Name],
-    var: &VarDecl,
-    text: &mut Blob,
-) -> Result<(), NoMemory>
-    ensures { OnOk result (text.new ≡ text.old ++ spec.mark_line seen.now names.now (view.var var.now)) }
-{
-    let number = mark(seen, names, var);
-    match number {
-        Some(number) => add_stands(var.name, number, text),
-        None => Ok(()),
-    }
 }
 
 /// Adds that a number stands for a name.

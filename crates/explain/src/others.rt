@@ -10,7 +10,7 @@ use call_judge::check::thread_name;
 use call_reports::Answer;
 use cov_ast::{Program, Refusal, Rule};
 use cov_expr::{Blob, NoMemory};
-use entail_refused::{Found, add_asked, other_refusals, sort_refusals};
+use entail_refused::{Found, add_asked, sort_refusals};
 use refusal_names::add_names;
 use std::alloc::Global;
 use text_parts::{add_line_of, add_number};
@@ -21,53 +21,8 @@ const MOST_SOUGHT: usize = 32;
 /// Of how many for which none is found it is told as of the first.
 const MOST_TOLD: usize = 8;
 
-/// Adds what is told of the other entailments for which the thread of a refusal by V9, and those behind it, would be refused, and of the first refusal of each of these threads by
-/// a rule that isn't about certificates: of one for which a certificate is found in short, and of the others as if it were the first. Nothing is added where the first alone is to be told.
-pub fn add_others_unless(
-    alloc: Global,
-    first: bool,
-    name: &str,
-    bytes: &[u8],
-    refusal: &Refusal,
-    program: &Program,
-    text: &mut Blob,
-) -> Result<(), NoMemory>
-    requires { IsWellFormed (view.program program.now) }
-    ensures { OnOk result (text.new ≡ text.old ++ spec.others_unless first name.now bytes.now (view.program program.now) refusal.now) }
-{
-    if first {
-        return Ok(());
-    }
-    add_others(alloc, name, bytes, refusal, program, text)
-}
-
-/// Adds what is told of them.
-#[tactic(auto, unfolding(crate::specs::OtherTellings::other_lines))]
-fn add_others(
-    alloc: Global,
-    name: &str,
-    bytes: &[u8],
-    refusal: &Refusal,
-    program: &Program,
-    text: &mut Blob,
-) -> Result<(), NoMemory>
-    requires { IsWellFormed (view.program program.now) }
-    ensures { OnOk result (text.new ≡ text.old ++ spec.other_lines name.now bytes.now (view.program program.now) refusal.now) }
-{
-    let others = other_refusals(alloc, program, refusal)?;
-    add_some(
-        alloc,
-        name,
-        bytes,
-        refusal,
-        others.as_slice(),
-        program,
-        text,
-    )
-}
-
-/// Adds what is told of others beside a refusal: of those that are looked at, and how many there are besides.
-fn add_some(
+/// Adds what was asked, and what is told of others beside the refusal: of those that are looked at, and how many there are besides.
+pub fn add_some(
     alloc: Global,
     name: &str,
     bytes: &[u8],
@@ -98,7 +53,7 @@ fn first(all: &[Refusal], most: usize) -> &[Refusal]
     if all.len() <= most { all } else { &all[..most] }
 }
 
-/// Adds what is told of those that are looked at beside a refusal: where to look first, then of those for which no certificate is found, and then in short of the others.
+/// Adds where to look first, what was asked, and what is told of those that are looked at beside the refusal: of those for which no certificate is found, and then in short of the others.
 #[tactic(auto, unfolding(crate::specs::OtherTellings::sought_lines))]
 fn add_sought(
     alloc: Global,
@@ -114,11 +69,13 @@ fn add_sought(
 {
     let parts = sort_refusals(alloc, program, sought)?;
     add_look(alloc, bytes, refusal, parts.open.as_slice(), program, text)?;
+    add_asked(alloc, program, bytes, refusal, text)?;
     add_open(alloc, name, bytes, parts.open.as_slice(), program, text)?;
     add_suggested(alloc, name, bytes, parts.found.as_slice(), program, text)
 }
 
 /// Adds where to look first, where nothing is wanted of a refusal but a certificate, or the number of one is wrong: at the first of those for which none is found.
+#[tactic(auto, unfolding(crate::specs::OtherTellings::look_unless_open))]
 fn add_look(
     alloc: Global,
     bytes: &[u8],
@@ -134,7 +91,21 @@ fn add_look(
         [] => Ok(()),
         [next, ..] => {
             let is_own = is_of_thread(next.thread, refusal.thread);
-            add_look_unless_open(alloc, bytes, is_own, refusal, next.place, program, text)
+            if is_of_numbers(refusal.rule) {
+                let add_look_if_own = if is_own {
+                    add_look_text(bytes, is_own, refusal.place, next.place, text)
+                } else {
+                    Ok(())
+                };
+                return add_look_if_own;
+            }
+            let one = [*refusal];
+            let parts = sort_refusals(alloc, program, &one)?;
+            if parts.found.is_empty() {
+                Ok(())
+            } else {
+                add_look_text(bytes, is_own, refusal.place, next.place, text)
+            }
         }
     }
 }
@@ -154,49 +125,6 @@ fn is_of_numbers(rule: Rule) -> bool
     ensures { result ≡ spec.is_of_numbers rule }
 {
     matches!(rule, Rule::V13)
-}
-
-/// Adds a place to look at first, where a certificate is found for a refusal, or the number of one is wrong and the place is of the same thread.
-#[tactic(auto, unfolding(crate::specs::OtherTellings::look_unless_open))]
-fn add_look_unless_open(
-    alloc: Global,
-    bytes: &[u8],
-    is_own: bool,
-    refusal: &Refusal,
-    place: u32,
-    program: &Program,
-    text: &mut Blob,
-) -> Result<(), NoMemory>
-    requires { IsWellFormed (view.program program.now) }
-    ensures { OnOk result (text.new ≡ text.old ++ spec.look_unless_open bytes.now is_own (view.program program.now) refusal.now place) }
-{
-    if is_of_numbers(refusal.rule) {
-        return add_look_if_own(bytes, is_own, refusal.place, place, text);
-    }
-    let one = [*refusal];
-    let parts = sort_refusals(alloc, program, &one)?;
-    if parts.found.is_empty() {
-        Ok(())
-    } else {
-        add_look_text(bytes, is_own, refusal.place, place, text)
-    }
-}
-
-/// Adds another place to look at first, if it is of the same thread.
-fn add_look_if_own(
-    bytes: &[u8],
-    is_own: bool,
-    own: u32,
-    place: u32,
-    text: &mut Blob,
-) -> Result<(), NoMemory>
-    ensures { OnOk result (text.new ≡ text.old ++ spec.look_if_own bytes.now is_own own place) }
-{
-    if is_own {
-        add_look_text(bytes, is_own, own, place, text)
-    } else {
-        Ok(())
-    }
 }
 
 /// Adds another place to look at first, with whether it is of the same thread.

@@ -20,12 +20,22 @@ use text_parts::halves;
 
 /// What could stand at a place of a text of at most 1 MiB, behind the bytes in front of it: a name, a number, keywords and signs in the
 /// order of their table, and the end of the text. Nothing could, where these bytes have no tokens.
+#[tactic(auto, unfolding(crate::specs::ExpectedTokens::following), using(crate::proofs::FollowLaws::behind_tokens, crate::proofs::FollowLaws::behind_fault))]
 pub fn expected(alloc: Global, bytes: &[u8], at: u32) -> Result<List<Next>, NoMemory>
     requires { length bytes.now ≤ MOST_BYTES }
     ensures { IfOk result (λ found. found ≡ spec.expected bytes.now at) }
 {
     let (front, _) = halves(bytes, at as usize);
-    following(alloc, front)
+    match read_tokens(alloc, front) {
+        Ok(read) => {
+            let mut tokens = read.tokens;
+            behind_tokens(alloc, &mut tokens)
+        }
+        Err(LexFault::NoMemory) => Err(NoMemory),
+        Err(LexFault::BadByte(_) | LexFault::NumberTooLarge(_) | LexFault::NameTooLong(_)) => {
+            Ok(List::new(alloc))
+        }
+    }
 }
 
 /// Whether `version` alone stands in front of a place of a text of at most 1 MiB.
@@ -36,38 +46,16 @@ pub fn is_behind_version(alloc: Global, bytes: &[u8], at: u32) -> Result<bool, N
 {
     let (front, _) = halves(bytes, at as usize);
     match read_tokens(alloc, front) {
-        Ok(read) => Ok(are_version(read.tokens.as_slice())),
+        Ok(read) => {
+            let are_version = match read.tokens.as_slice() {
+                [first] => is(Kind::Version, first.kind),
+                _ => false,
+            };
+            Ok(are_version)
+        }
         Err(LexFault::NoMemory) => Err(NoMemory),
         Err(LexFault::BadByte(_) | LexFault::NumberTooLarge(_) | LexFault::NameTooLong(_)) => {
             Ok(false)
-        }
-    }
-}
-
-/// Whether tokens are `version` alone.
-fn are_version(tokens: &[Token]) -> bool
-    ensures { result ≡ are_version tokens.now }
-{
-    match tokens {
-        [first] => is(Kind::Version, first.kind),
-        _ => false,
-    }
-}
-
-/// What could stand behind bytes.
-#[tactic(auto, unfolding(crate::specs::ExpectedTokens::following), using(crate::proofs::FollowLaws::behind_tokens, crate::proofs::FollowLaws::behind_fault))]
-fn following(alloc: Global, front: &[u8]) -> Result<List<Next>, NoMemory>
-    requires { length front.now ≤ MOST_BYTES }
-    ensures { IfOk result (λ found. found ≡ spec.following front.now) }
-{
-    match read_tokens(alloc, front) {
-        Ok(read) => {
-            let mut tokens = read.tokens;
-            behind_tokens(alloc, &mut tokens)
-        }
-        Err(LexFault::NoMemory) => Err(NoMemory),
-        Err(LexFault::BadByte(_) | LexFault::NumberTooLarge(_) | LexFault::NameTooLong(_)) => {
-            Ok(List::new(alloc))
         }
     }
 }
@@ -113,6 +101,7 @@ fn add_spelled(
 }
 
 /// Adds what could stand behind tokens, if it could.
+#[tactic(auto, using(crate::proofs::FollowLaws::last_off))]
 fn add_possible(
     alloc: Global,
     tokens: &mut List<Token>,
@@ -122,55 +111,28 @@ fn add_possible(
     ensures found { OnOk result (found.new ≡ found.old ++ filter (inside.could_follow tokens.old) (next ∷ [])) }
     ensures tokens { OnOk result (tokens.new ≡ tokens.old) }
 {
-    if could_follow(alloc, tokens, next)? {
+    let could_follow = match next {
+        Next::Token(kind) => {
+            let names_version = match tokens.as_slice().first() {
+                Some(first) => is(Kind::Version, first.kind),
+                None => false,
+            };
+            let foreign = is(Kind::Output, kind) && !names_version;
+            let next = Token {
+                kind: if foreign { Kind::Foreign } else { kind },
+                at: 0,
+                end: 0,
+                value: 2,
+            };
+            tokens.push(next)?;
+            let front = is_front(alloc, tokens.as_slice())?;
+            tokens.pop();
+            front
+        }
+        Next::End => is_whole(alloc, tokens.as_slice())?,
+    };
+    if could_follow {
         found.push(next)?;
     }
     Ok(())
-}
-
-/// Whether something could stand behind the tokens of a text.
-fn could_follow(alloc: Global, tokens: &mut List<Token>, next: Next) -> Result<bool, NoMemory>
-    ensures could { IfOk result (λ could. could ≡ inside.could_follow tokens.old next) }
-    ensures tokens { OnOk result (tokens.new ≡ tokens.old) }
-{
-    match next {
-        Next::Token(kind) => goes_on(alloc, tokens, kind),
-        Next::End => is_whole(alloc, tokens.as_slice()),
-    }
-}
-
-/// Whether some program begins with the tokens of a text and a token of a kind behind them.
-#[tactic(auto, using(crate::proofs::FollowLaws::last_off))]
-fn goes_on(alloc: Global, tokens: &mut List<Token>, kind: Kind) -> Result<bool, NoMemory>
-    ensures could { IfOk result (λ could. could ≡ spec.is_front (tokens.old ++ inside.fitted tokens.old kind ∷ [])) }
-    ensures tokens { OnOk result (tokens.new ≡ tokens.old) }
-{
-    let next = fitted(tokens.as_slice(), kind);
-    tokens.push(next)?;
-    let front = is_front(alloc, tokens.as_slice())?;
-    tokens.pop();
-    Ok(front)
-}
-
-/// A token of a kind, as the version of a text has it that begins with these tokens.
-fn fitted(tokens: &[Token], kind: Kind) -> Token
-    ensures { result ≡ inside.fitted tokens.now kind }
-{
-    let foreign = is(Kind::Output, kind) && !names_version(tokens);
-    Token {
-        kind: if foreign { Kind::Foreign } else { kind },
-        at: 0,
-        end: 0,
-        value: 2,
-    }
-}
-
-/// Whether a text that begins with these tokens names its version.
-fn names_version(tokens: &[Token]) -> bool
-    ensures { result ≡ inside.names_version tokens.now }
-{
-    match tokens.first() {
-        Some(first) => is(Kind::Version, first.kind),
-        None => false,
-    }
 }

@@ -7,17 +7,8 @@ use cov_ast::{Detail, Rule};
 use cov_expr::{Blob, NoMemory};
 use text_parts::add_number;
 
-/// Adds the sentence of a rule that is broken, with what its refusal shows.
-pub fn add_sentence(rule: Rule, detail: &Detail, text: &mut Blob) -> Result<(), NoMemory>
-    ensures { OnOk result (text.new ≡ text.old ++ spec.sentence rule detail.now) }
-{
-    text.extend_from_slice(sentence_front(rule).as_bytes())?;
-    add_shown(rule, detail, text)?;
-    text.extend_from_slice(sentence_end(rule).as_bytes())
-}
-
 /// Adds the names that a refusal shows, or the number, with the words between them.
-fn add_shown(rule: Rule, detail: &Detail, text: &mut Blob) -> Result<(), NoMemory>
+pub fn add_shown(rule: Rule, detail: &Detail, text: &mut Blob) -> Result<(), NoMemory>
     ensures { OnOk result (text.new ≡ text.old ++ spec.shown rule detail.now) }
 {
     match detail {
@@ -40,7 +31,7 @@ fn add_shown(rule: Rule, detail: &Detail, text: &mut Blob) -> Result<(), NoMemor
 }
 
 /// What stands in front of the first name, or of the number; all of it where nothing is shown.
-fn sentence_front(rule: Rule) -> &'static str
+pub fn sentence_front(rule: Rule) -> &'static str
     ensures { result.now ≡ spec.sentence_front rule }
 {
     match rule {
@@ -98,7 +89,7 @@ fn beyond(rule: Rule) -> &'static str
 }
 
 /// What stands behind the last name, or the number.
-fn sentence_end(rule: Rule) -> &'static str
+pub fn sentence_end(rule: Rule) -> &'static str
     ensures { result.now ≡ spec.sentence_end rule }
 {
     match rule {

@@ -12,25 +12,18 @@ pub fn add_cause_sentence(cause: &Cause, text: &mut Blob) -> Result<(), NoMemory
     ensures { OnOk result (text.new ≡ text.old ++ spec.cause_sentence cause.now) }
 {
     text.extend_from_slice(front(cause).as_bytes())?;
-    add_subject(cause, text)?;
-    text.extend_from_slice(rest(cause).as_bytes())
-}
-
-/// Adds the name or the number of a warning.
-fn add_subject(cause: &Cause, text: &mut Blob) -> Result<(), NoMemory>
-    ensures { OnOk result (text.new ≡ text.old ++ spec.subject cause.now) }
-{
     match cause {
-        Cause::FalseInvariant(lock) => text.extend_from_slice(lock.text()),
-        Cause::NeverRead(x) | Cause::NeverWritten(x) => text.extend_from_slice(x.text()),
-        Cause::Control(byte) => add_number(*byte as usize, text),
-        Cause::More(n) => add_number(*n, text),
+        Cause::FalseInvariant(lock) => text.extend_from_slice(lock.text())?,
+        Cause::NeverRead(x) | Cause::NeverWritten(x) => text.extend_from_slice(x.text())?,
+        Cause::Control(byte) => add_number(*byte as usize, text)?,
+        Cause::More(n) => add_number(*n, text)?,
         Cause::NoThread
         | Cause::NeverReached
         | Cause::LoneReturn
         | Cause::Direction
-        | Cause::Separator => Ok(()),
+        | Cause::Separator => {}
     }
+    text.extend_from_slice(rest(cause).as_bytes())
 }
 
 /// What stands in front of the name, or of the number; all of it where there is none.

@@ -155,25 +155,13 @@ fn add_closing(
 ) -> Result<(), NoMemory>
     ensures { OnOk result (text.new ≡ text.old ++ spec.closing_comments (map view.thread threads.now) refusal.now unproved.now) }
 {
-    add_refused_comment(alloc, threads, refusal, text)?;
+    let thread = thread_name(threads, refusal.thread);
+    text.extend_from_slice(b"// ")?;
+    add_report(alloc, Answer::Refused(*refusal, thread), text)?;
     for entailment in unproved {
         add_open_comment(threads, entailment, text)?;
     }
     Ok(())
-}
-
-/// Adds a refusal as a comment.
-fn add_refused_comment(
-    alloc: Global,
-    threads: &[ThreadDecl],
-    refusal: &Refusal,
-    text: &mut Blob,
-) -> Result<(), NoMemory>
-    ensures { OnOk result (text.new ≡ text.old ++ spec.refused_comment (map view.thread threads.now) refusal.now) }
-{
-    let thread = thread_name(threads, refusal.thread);
-    text.extend_from_slice(b"// ")?;
-    add_report(alloc, Answer::Refused(*refusal, thread), text)
 }
 
 /// Adds an entailment that is left unproved as a comment.

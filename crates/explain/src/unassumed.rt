@@ -6,7 +6,7 @@ ghost use Rattle.cov_ast.specs.WellFormed.{IsWellFormed};
 ghost use Rattle.cov_expr.specs.declared.limits.TheConstants.{MOST_THREADS, MOST_VARIABLES};
 ghost use Rattle.explain.specs.UnassumedVariables as spec;
 
-use cov_ast::{Modes, Program, ThreadDecl, VarDecl};
+use cov_ast::{Program, ThreadDecl, VarDecl};
 use cov_expr::{Blob, List, NoMemory, has_number};
 use entail_origins::lock_over;
 use std::alloc::Global;
@@ -27,19 +27,17 @@ pub fn add_unassumed_line(
     ensures { OnOk result (text.new ≡ text.old ++ spec.unassumed_line (view.program p.now) thread) }
 {
     match thread {
-        Some(t) => add_of_thread(alloc, p, t, text),
+        Some(t) => {
+            let mut found = List::new(alloc);
+            add_unassumed(p, t, p.vars.as_slice(), &mut found)?;
+            if found.as_slice().is_empty() {
+                Ok(())
+            } else {
+                add_line(p, found.as_slice(), text)
+            }
+        }
         None => Ok(()),
     }
-}
-
-/// Adds that line of a thread.
-fn add_of_thread(alloc: Global, p: &Program, t: u32, text: &mut Blob) -> Result<(), NoMemory>
-    requires { IsWellFormed (view.program p.now) }
-    ensures { OnOk result (text.new ≡ text.old ++ spec.line_of_thread (view.program p.now) t) }
-{
-    let mut found = List::new(alloc);
-    add_unassumed(p, t, p.vars.as_slice(), &mut found)?;
-    add_unless_none(p, found.as_slice(), text)
 }
 
 /// Adds the variables of which is to be told.
@@ -54,21 +52,11 @@ fn add_unassumed(
     ensures { OnOk result (found.new ≡ spec.with_unassumed (view.program p.now) t found.old 0 (map view.var vars.now)) }
 {
     for (x, _) in vars.iter().enumerate() {
-        add_if_unassumed(p, t, x as u32, found)?;
+        if found.len() < MOST_UNASSUMED && is_unassumed(p, t, x as u32) {
+            found.push(x as u32)?;
+        }
     }
     Ok(())
-}
-
-/// Adds a variable, if it is to be told.
-fn add_if_unassumed(p: &Program, t: u32, x: u32, found: &mut List<u32>) -> Result<(), NoMemory>
-    requires { length p.now.threads ≤ MOST_THREADS }
-    ensures { OnOk result (found.new ≡ spec.with_one (view.program p.now) t found.old x) }
-{
-    if found.len() < MOST_UNASSUMED && is_unassumed(p, t, x) {
-        found.push(x)
-    } else {
-        Ok(())
-    }
 }
 
 /// Whether a variable is under no lock, and every other thread guarantees what a thread doesn't assume of it.
@@ -86,35 +74,18 @@ fn are_met(threads: &[ThreadDecl], t: u32, x: u32) -> bool
     ensures { result ≡ spec.are_met t x 0 (map view.thread threads.now) }
 {
     for (u, thread) in threads.iter().enumerate() {
-        if !is_met(&thread.modes, u as u32 == t, x) {
+        let is_met = if u as u32 == t {
+            !has_number(thread.modes.assume_nowrite.as_slice(), x)
+                && !has_number(thread.modes.assume_hide.as_slice(), x)
+        } else {
+            has_number(thread.modes.guarantee_nowrite.as_slice(), x)
+                || has_number(thread.modes.guarantee_hide.as_slice(), x)
+        };
+        if !is_met {
             return false;
         }
     }
     true
-}
-
-/// Whether the modes of a thread are so, by whether it is the one that may assume.
-fn is_met(modes: &Modes, is_assuming: bool, x: u32) -> bool
-    ensures { result ≡ spec.is_met (view.modes modes.now) is_assuming x }
-{
-    if is_assuming {
-        !has_number(modes.assume_nowrite.as_slice(), x)
-            && !has_number(modes.assume_hide.as_slice(), x)
-    } else {
-        has_number(modes.guarantee_nowrite.as_slice(), x)
-            || has_number(modes.guarantee_hide.as_slice(), x)
-    }
-}
-
-/// Adds the line of some variables, if there are some.
-fn add_unless_none(p: &Program, xs: &[u32], text: &mut Blob) -> Result<(), NoMemory>
-    ensures { OnOk result (text.new ≡ text.old ++ spec.unless_none (view.program p.now) xs.now) }
-{
-    if xs.is_empty() {
-        Ok(())
-    } else {
-        add_line(p, xs, text)
-    }
 }
 
 /// Adds the line of some variables.

@@ -1,6 +1,6 @@
 //! What the thread of a refusal stores to and no statement reads.
 
-ghost use Rattle.std.specs.Prelude.{◌≡◌, ◌++◌, IfOk, OnOk, slice_get};
+ghost use Rattle.std.specs.Prelude.{◌≡◌, ◌++◌, IfOk, OnOk};
 ghost use Rattle.cov_ast.specs.View as view;
 ghost use Rattle.explain.specs.UnreadVariables as spec;
 
@@ -25,32 +25,15 @@ pub fn add_unread_line(
     ensures { OnOk result (text.new ≡ text.old ++ spec.unread_line (view.program p.now) thread) }
 {
     match thread {
-        Some(t) => add_of_number(alloc, p, t, text),
+        Some(t) => match p.threads.as_slice().get(t as usize) {
+            Some(thread) => {
+                let found = unread(alloc, p, thread)?;
+                add_unless_none(p, found.as_slice(), text)
+            }
+            None => Ok(()),
+        },
         None => Ok(()),
     }
-}
-
-/// Adds that line of the thread of a number, if there is one.
-fn add_of_number(alloc: Global, p: &Program, t: u32, text: &mut Blob) -> Result<(), NoMemory>
-    ensures { OnOk result (text.new ≡ text.old ++ spec.line_of_thread (view.program p.now) (slice_get (view.program p.now).threads t)) }
-{
-    match p.threads.as_slice().get(t as usize) {
-        Some(thread) => add_of_thread(alloc, p, thread, text),
-        None => Ok(()),
-    }
-}
-
-/// Adds that line of a thread.
-fn add_of_thread(
-    alloc: Global,
-    p: &Program,
-    thread: &ThreadDecl,
-    text: &mut Blob,
-) -> Result<(), NoMemory>
-    ensures { OnOk result (text.new ≡ text.old ++ spec.unless_none (view.program p.now) (spec.unread (view.program p.now) (view.thread thread.now))) }
-{
-    let found = unread(alloc, p, thread)?;
-    add_unless_none(p, found.as_slice(), text)
 }
 
 /// The variables of which is to be told.

@@ -1,6 +1,6 @@
 //! What is warned of in declarations.
 
-ghost use Rattle.std.specs.Prelude.{◌≡◌, ◌++◌, flat_map, length, map, option_map, IfOk, OnOk};
+ghost use Rattle.std.specs.Prelude.{◌≡◌, ◌++◌, length, map, IfOk, OnOk};
 ghost use Rattle.cov_ast.specs.Plain.{plain};
 ghost use Rattle.cov_ast.specs.Tables.{table};
 ghost use Rattle.cov_ast.specs.View as view;
@@ -11,7 +11,7 @@ ghost use Rattle.explain.specs.StatementUses.{has_reader, has_writer};
 use crate::nowhere::holds_nowhere;
 use crate::uses::{UseSets, uses};
 use crate::warning::{Cause, Warning};
-use cov_ast::{Class, LockDecl, Program, VarDecl};
+use cov_ast::{Class, Program, VarDecl};
 use cov_expr::{Expr, List, NoMemory, closed, eval};
 use std::alloc::Global;
 
@@ -22,7 +22,20 @@ pub fn of_declarations(alloc: Global, program: &Program) -> Result<List<Warning>
     let uses = uses(alloc, program)?;
     let mut found = List::new(alloc);
     add_variables(program, &uses, &mut found)?;
-    add_locks(alloc, program.locks.as_slice(), &mut found)?;
+    let locks = program.locks.as_slice();
+    for lock in locks {
+        let is_false = match &lock.inv {
+            Some(e) if is_closed_false(e) => true,
+            Some(e) => holds_nowhere(alloc, e)?,
+            None => false,
+        };
+        if is_false {
+            found.push(Warning {
+                place: lock.at,
+                cause: Cause::FalseInvariant(lock.name),
+            })?;
+        }
+    }
     Ok(found)
 }
 
@@ -53,7 +66,10 @@ fn add_use(
 ) -> Result<(), NoMemory>
     ensures { OnOk result (found.new ≡ found.old ++ spec.of_use (view.var var.now) read written) }
 {
-    let is_high = is_high(&var.class);
+    let is_high = match &var.class {
+        Class::High => true,
+        Class::Low | Class::When(_) => false,
+    };
     if !read && !is_high {
         found.push(Warning {
             place: var.at,
@@ -67,42 +83,6 @@ fn add_use(
         })?;
     }
     Ok(())
-}
-
-/// Whether a class is `high`.
-fn is_high(class: &Class) -> bool
-    ensures { result ≡ spec.is_high (view.class class.now) }
-{
-    match class {
-        Class::High => true,
-        Class::Low | Class::When(_) => false,
-    }
-}
-
-/// Adds what is warned of locks.
-fn add_locks(alloc: Global, locks: &[LockDecl], found: &mut List<Warning>) -> Result<(), NoMemory>
-    ensures { OnOk result (found.new ≡ found.old ++ flat_map spec.of_lock (map view.lock locks.now)) }
-{
-    for lock in locks {
-        if is_false(alloc, &lock.inv)? {
-            found.push(Warning {
-                place: lock.at,
-                cause: Cause::FalseInvariant(lock.name),
-            })?;
-        }
-    }
-    Ok(())
-}
-
-/// Whether an invariant is there, and is 0 without a look at memory, or is shown to hold in none.
-fn is_false(alloc: Global, inv: &Option<Expr>) -> Result<bool, NoMemory>
-    ensures { IfOk result (λ found. found ≡ spec.is_false (option_map term inv.now)) }
-{
-    match inv {
-        Some(e) if is_closed_false(e) => Ok(true),
-        Some(e) => holds_nowhere(alloc, e),
-        None => Ok(false),
-    }
 }
 
 /// Whether an expression is 0 without a look at memory.

@@ -10,7 +10,7 @@ ghost use Rattle.explain.specs.Warnings as found;
 
 use crate::explanation::add_where;
 use crate::hidden::text_warnings;
-use crate::merged::warnings;
+use crate::merged::{merged_by_place, of_program};
 use crate::sentences::add_cause_sentence;
 use crate::warning::Warning;
 use cov_ast::Program;
@@ -29,7 +29,9 @@ pub fn add_warnings(
     ensures { OnOk result (text.new ≡ text.old
         ++ spec.warning_lines name.now bytes.now (found.warnings (plain (view.program program.now)) bytes.now)) }
 {
-    let found = warnings(alloc, program, bytes)?;
+    let first = of_program(alloc, program)?;
+    let second = text_warnings(alloc, bytes)?;
+    let found = merged_by_place(alloc, first.as_slice(), second.as_slice())?;
     add_warning_lines(name, bytes, found.as_slice(), text)
 }
 
@@ -57,22 +59,10 @@ fn add_warning_lines(
     ensures { OnOk result (text.new ≡ text.old ++ spec.warning_lines name.now bytes.now found.now) }
 {
     for warning in found {
-        add_warning_line(name, bytes, warning, text)?;
+        add_where(name, bytes, warning.place as usize, text)?;
+        text.extend_from_slice(b"warning: ")?;
+        add_cause_sentence(&warning.cause, text)?;
+        text.extend_from_slice(b"\n")?;
     }
     Ok(())
-}
-
-/// Adds the line of a warning.
-fn add_warning_line(
-    name: &str,
-    bytes: &[u8],
-    warning: &Warning,
-    text: &mut Blob,
-) -> Result<(), NoMemory>
-    ensures { OnOk result (text.new ≡ text.old ++ spec.warning_line name.now bytes.now warning.now) }
-{
-    add_where(name, bytes, warning.place as usize, text)?;
-    text.extend_from_slice(b"warning: ")?;
-    add_cause_sentence(&warning.cause, text)?;
-    text.extend_from_slice(b"\n")
 }

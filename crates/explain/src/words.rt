@@ -15,7 +15,12 @@ pub fn add_token_sentence(rest: &[u8], text: &mut Blob) -> Result<(), NoMemory>
         [] => text.extend_from_slice(b"the text ends here, and no program is whole"),
         [first, ..] if is_lower(*first) => {
             let word = word_run(rest);
-            text.extend_from_slice(word_front(word).as_bytes())?;
+            let word_front = if is_keyword(word) {
+                "`"
+            } else {
+                "no program goes on with the name `"
+            };
+            text.extend_from_slice(word_front.as_bytes())?;
             text.extend_from_slice(word)?;
             text.extend_from_slice(word_end(word).as_bytes())?;
             text.extend_from_slice(word_hint(word).as_bytes())
@@ -36,33 +41,16 @@ fn add_sign_sentence(first: u8, others: &[u8], text: &mut Blob) -> Result<(), No
 fn sign_hint(first: u8, others: &[u8]) -> &'static str
     ensures { result.now ≡ spec.sign_hint first others.now }
 {
-    if first == b':' && !is_assigned(others) {
+    let is_assigned = match others {
+        [first, ..] => *first == b'=',
+        [] => false,
+    };
+    if first == b':' && !is_assigned {
         "; in a `join`, an `inv` and a `note` types stand behind `;`"
     } else if first == b'-' {
         "; no number is negative: `-1` is written `0 - 1`, which is 4294967295"
     } else {
         ""
-    }
-}
-
-/// Whether a text begins as an assignment does behind its `:`.
-fn is_assigned(others: &[u8]) -> bool
-    ensures { result ≡ spec.is_assigned others.now }
-{
-    match others {
-        [first, ..] => *first == b'=',
-        [] => false,
-    }
-}
-
-/// What stands in front of a word in its sentence.
-fn word_front(word: &[u8]) -> &'static str
-    ensures { result.now ≡ spec.word_front word.now }
-{
-    if is_keyword(word) {
-        "`"
-    } else {
-        "no program goes on with the name `"
     }
 }
 

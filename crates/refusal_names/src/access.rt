@@ -32,40 +32,21 @@ pub fn add_access(
 {
     match detail {
         Detail::One(shown) => match names.find(shown) {
-            Some(x) => add_cause(alloc, names, bytes, t, locks, modes, writes, x, text),
+            Some(x) => match guarantee_forbidding(t, writes, x) {
+                Some(word) => {
+                    add_declared(bytes, b"thread", t.name, t.at, text)?;
+                    add_list(names, b", has `guarantee ", word, x, b"`\n", text)
+                }
+                None => match first_forbidding(locks, modes, writes, x) {
+                    Some((lock, word)) => {
+                        add_lock_with_held(alloc, names, bytes, locks, modes, lock, word, x, text)
+                    }
+                    None => Ok(()),
+                },
+            },
             None => Ok(()),
         },
         _ => Ok(()),
-    }
-}
-
-/// Adds why a thread may not read, or write, a variable: its guarantee, or else the first lock.
-fn add_cause(
-    alloc: Global,
-    names: &NameTable,
-    bytes: &[u8],
-    t: &ThreadDecl,
-    locks: &[LockDecl],
-    modes: &ModeState,
-    writes: bool,
-    x: u32,
-    text: &mut Blob,
-) -> Result<(), NoMemory>
-    requires { length locks.now ≤ MOST_LOCKS }
-    ensures { OnOk result (text.new ≡ text.old
-        ++ spec.access_line names.now bytes.now (view.thread t.now) (map view.lock locks.now) (modes.now).held writes x) }
-{
-    match guarantee_forbidding(t, writes, x) {
-        Some(word) => {
-            add_declared(bytes, b"thread", t.name, t.at, text)?;
-            add_list(names, b", has `guarantee ", word, x, b"`\n", text)
-        }
-        None => match first_forbidding(locks, modes, writes, x) {
-            Some((lock, word)) => {
-                add_lock_with_held(alloc, names, bytes, locks, modes, lock, word, x, text)
-            }
-            None => Ok(()),
-        },
     }
 }
 

@@ -59,7 +59,13 @@ fn add_if_apart(
         text.extend_from_slice(name.text())?;
         text.extend_from_slice(first_front(other))?;
         add_change(bytes, held, last_change(wanted, a), text)?;
-        add_second(bytes, wanted, held_there, other, text)?;
+        match other {
+            Some(b) => {
+                text.extend_from_slice(b"; in the second: ")?;
+                add_change(bytes, held_there, last_change(wanted, b), text)?;
+            }
+            None => {}
+        }
         text.extend_from_slice(b"\n")
     }
 }
@@ -78,25 +84,6 @@ fn first_front(other: Option<&[Stmt]>) -> &'static [u8]
     match other {
         Some(_) => b", in the first block: ",
         None => b", in the block: ",
-    }
-}
-
-/// Adds the words for the second block, if there is one.
-fn add_second(
-    bytes: &[u8],
-    wanted: u32,
-    held: bool,
-    other: Option<&[Stmt]>,
-    text: &mut Blob,
-) -> Result<(), NoMemory>
-    ensures { OnOk result (text.new ≡ text.old ++ spec.second_words bytes.now wanted held (option_map (λ b. view.block b.now) other.entry)) }
-{
-    match other {
-        Some(b) => {
-            text.extend_from_slice(b"; in the second: ")?;
-            add_change(bytes, held, last_change(wanted, b), text)
-        }
-        None => Ok(()),
     }
 }
 

@@ -1,7 +1,7 @@
 //! The line of V8: which locks are held at two ends, with those behind it.
 
 ghost use Rattle.cov_expr.specs.declared.limits.TheConstants.{MOST_LOCKS};
-ghost use Rattle.std.specs.Prelude.{◌≡◌, ◌++◌, ◌≤◌, IfOk, OnOk, codes, length, map};
+ghost use Rattle.std.specs.Prelude.{◌≡◌, ◌++◌, ◌≤◌, OnOk, length, map};
 ghost use Rattle.cov_ast.specs.View as view;
 ghost use Rattle.refusal_names.specs.NameLines as spec;
 
@@ -113,22 +113,13 @@ pub fn add_held(
     requires { length locks.now ≤ MOST_LOCKS }
     ensures { OnOk result (text.new ≡ text.old ++ spec.held_text (map view.lock locks.now) (modes.now).held) }
 {
-    let names = held_names(alloc, locks, modes)?;
-    add_listed(names.as_slice(), text)
-}
-
-/// The names of the locks that are held, in the order of their declarations.
-fn held_names(alloc: Global, locks: &[LockDecl], modes: &ModeState) -> Result<List<Name>, NoMemory>
-    requires { length locks.now ≤ MOST_LOCKS }
-    ensures { IfOk result (λ made. made ≡ spec.held_names 0 (modes.now).held (map view.lock locks.now)) }
-{
     let mut names = List::new(alloc);
     for (number, lock) in locks.iter().enumerate() {
         if modes.holds(number as u32) {
             names.push(lock.name)?;
         }
     }
-    Ok(names)
+    add_listed(names.as_slice(), text)
 }
 
 /// Adds names with commas between, or that there are none.

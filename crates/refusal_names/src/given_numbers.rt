@@ -18,23 +18,16 @@ pub fn add_shown_number(
     ensures { OnOk result (text.new ≡ text.old ++ spec.shown_number count (map view.proof proofs.now) detail) }
 {
     match detail {
-        Detail::Number(n) => add_wrong_number(count, proofs, n, text),
-        _ => Ok(()),
-    }
-}
-
-/// Adds that no entailment has a number, or that it is given more than once.
-fn add_wrong_number(count: usize, proofs: &[Proof], n: u32, text: &mut Blob) -> Result<(), NoMemory>
-    ensures { OnOk result (text.new ≡ text.old ++ spec.number_line count (map view.proof proofs.now) n) }
-{
-    if 1 <= n && n as usize <= count {
-        if 2 <= times_given(proofs, n) {
-            add_repeated_text(n, text)
+        Detail::Number(n) => if 1 <= n && n as usize <= count {
+            if 2 <= proofs.iter().filter(|q| q.number == n).count() {
+                add_repeated_text(n, text)
+            } else {
+                Ok(())
+            }
         } else {
-            Ok(())
-        }
-    } else {
-        add_count(count, text)
+            add_count(count, text)
+        },
+        _ => Ok(()),
     }
 }
 
@@ -49,17 +42,10 @@ fn add_count(count: usize, text: &mut Blob) -> Result<(), NoMemory>
         text.extend_from_slice(b"1 entailment")?;
         add_moved(text)
     } else {
-        add_many(count, text)
+        add_number(count, text)?;
+        text.extend_from_slice(b" entailments")?;
+        add_moved(text)
     }
-}
-
-/// Adds a number of entailments, in decimal.
-fn add_many(count: usize, text: &mut Blob) -> Result<(), NoMemory>
-    ensures { OnOk result (text.new ≡ text.old ++ spec.many_words count) }
-{
-    add_number(count, text)?;
-    text.extend_from_slice(b" entailments")?;
-    add_moved(text)
 }
 
 /// Adds why a number may be that of none.
@@ -76,11 +62,4 @@ fn add_repeated_text(n: u32, text: &mut Blob) -> Result<(), NoMemory>
     text.extend_from_slice(b"  ")?;
     add_number(n as usize, text)?;
     text.extend_from_slice(b" is given more than once\n")
-}
-
-/// How many proofs have a number.
-fn times_given(proofs: &[Proof], n: u32) -> usize
-    ensures { result ≡ spec.times_given (map view.proof proofs.now) n }
-{
-    proofs.iter().filter(|q| q.number == n).count()
 }

@@ -33,45 +33,29 @@ pub fn add_given(
 {
     match detail {
         Detail::One(shown) => match names.find(shown) {
-            Some(z) => add_of_statement(alloc, names, bytes, locks, modes, known, kind, z, text),
+            Some(z) => {
+                let parts = parts_of(kind);
+                match (parts.store, parts.state) {
+                    (Some(store), _) if !known.controls.has(store.variable) => {
+                        let words =
+                            b", which is assigned, is no control: no `retype` may stand here\n";
+                        add_with_words(names, store.variable, words, text)
+                    }
+                    (Some(_), _) | (None, Some(_)) => {
+                        if known.controls.has(z) {
+                            add_with_words(names, z, b" is a control, and has no type\n", text)
+                        } else if known.stable.has(z) {
+                            add_with_words(names, z, b" is listed twice\n", text)
+                        } else {
+                            add_untracked(alloc, names, bytes, locks, modes, z, text)
+                        }
+                    }
+                    (None, None) => Ok(()),
+                }
+            }
             None => Ok(()),
         },
         _ => Ok(()),
-    }
-}
-
-/// Adds why a statement may not give a type to a variable.
-fn add_of_statement(
-    alloc: Global,
-    names: &NameTable,
-    bytes: &[u8],
-    locks: &[LockDecl],
-    modes: &ModeState,
-    known: &Known,
-    kind: &StmtKind,
-    z: u32,
-    text: &mut Blob,
-) -> Result<(), NoMemory>
-    requires { length locks.now ≤ MOST_LOCKS }
-    ensures { OnOk result (text.new ≡ text.old
-        ++ spec.given_line names.now (unstable_line names.now bytes.now (map view.lock locks.now) (modes.now).held) known.now.stable known.now.controls (view.kind kind.now) z) }
-{
-    let parts = parts_of(kind);
-    match (parts.store, parts.state) {
-        (Some(store), _) if !known.controls.has(store.variable) => {
-            let words = b", which is assigned, is no control: no `retype` may stand here\n";
-            add_with_words(names, store.variable, words, text)
-        }
-        (Some(_), _) | (None, Some(_)) => {
-            if known.controls.has(z) {
-                add_with_words(names, z, b" is a control, and has no type\n", text)
-            } else if known.stable.has(z) {
-                add_with_words(names, z, b" is listed twice\n", text)
-            } else {
-                add_untracked(alloc, names, bytes, locks, modes, z, text)
-            }
-        }
-        (None, None) => Ok(()),
     }
 }
 

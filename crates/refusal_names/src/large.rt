@@ -3,13 +3,12 @@
 ghost use Rattle.cov_expr.specs.declared.limits.TheConstants.{MOST_VARIABLES};
 ghost use Rattle.std.specs.Prelude.{◌≡◌, ◌≤◌, ◌++◌, OnOk, Some, length, map, option_map};
 ghost use Rattle.cov_expr.specs.View.{term};
-ghost use Rattle.cov_ast.specs.Plain.{class_term};
 ghost use Rattle.cov_ast.specs.View as view;
 ghost use Rattle.refusal_names.specs.LargeTerms as spec;
 ghost use Rattle.statement_paths.specs.Paths.{step};
 
 use crate::reads::add_variable;
-use cov_ast::{Class, NameTable, NumberSet, Retype, Stmt, StmtKind, VarDecl};
+use cov_ast::{Class, NameTable, NumberSet, Retype, StmtKind, VarDecl};
 use cov_expr::{Blob, Expr, MOST_NODES, NoMemory, mentions, nodes_at_most};
 use statement_parts::parts_of;
 use statement_paths::Step;
@@ -66,21 +65,15 @@ fn large_class(vars: &[VarDecl], hidden: &NumberSet, x: u32, value: &Expr) -> Op
     ensures { result ≡ spec.large_class hidden.now x (term value.now) 0 (map view.var vars.now) }
 {
     for (y, var) in vars.iter().enumerate() {
-        if !hidden.has_index(y) && is_large_class(&var.class, x, value) {
+        let is_large_class = match &var.class {
+            Class::Low | Class::High => false,
+            Class::When(e) => is_large_with(e, x, value),
+        };
+        if !hidden.has_index(y) && is_large_class {
             return Some(y as u32);
         }
     }
     None
-}
-
-/// Whether a class mentions a variable, and is too large with a value in its place.
-fn is_large_class(class: &Class, x: u32, value: &Expr) -> bool
-    ensures { result ≡ spec.is_large_with x (term value.now) (class_term (view.class class.now)) }
-{
-    match class {
-        Class::Low | Class::High => false,
-        Class::When(e) => is_large_with(e, x, value),
-    }
 }
 
 /// The first variable that is given a type which is too large with a value in the place of another variable.
@@ -120,27 +113,22 @@ fn made_by(next: &Step<'_>) -> Option<Made>
     ensures { option_map (λ m. (m.0, m.1.now)) result ≡ spec.made_by (step next.now) }
 {
     match next {
-        Step::Passed(stmt) => made_after_statement(stmt),
-        Step::No(at, guard) => large_negation(*at, guard),
-        Step::Yes(..) | Step::Head(..) => None,
-    }
-}
-
-/// What a statement that is passed makes that is too large.
-fn made_after_statement(stmt: &Stmt) -> Option<Made>
-    ensures { option_map (λ m. (m.0, m.1.now)) result ≡ spec.made_after_statement stmt.now.at (view.kind stmt.now.kind) }
-{
-    let parts = parts_of(&stmt.kind);
-    match (parts.store, parts.left_guard()) {
-        (Some(store), _) => {
-            if nodes_at_most(store.value, MOST_NODES - 2) {
-                None
-            } else {
-                Some((stmt.at, b"equation of the assignment"))
+        Step::Passed(stmt) => {
+            let parts = parts_of(&stmt.kind);
+            match (parts.store, parts.left_guard()) {
+                (Some(store), _) => {
+                    if nodes_at_most(store.value, MOST_NODES - 2) {
+                        None
+                    } else {
+                        Some((stmt.at, b"equation of the assignment"))
+                    }
+                }
+                (None, Some(guard)) => large_negation(stmt.at, guard),
+                (None, None) => None,
             }
         }
-        (None, Some(guard)) => large_negation(stmt.at, guard),
-        (None, None) => None,
+        Step::No(at, guard) => large_negation(*at, guard),
+        Step::Yes(..) | Step::Head(..) => None,
     }
 }
 

@@ -2,39 +2,14 @@
 
 ghost use Rattle.std.specs.Prelude.{◌≡◌, ◌++◌, OnOk, option_map};
 ghost use Rattle.cov_ast.specs.View as view;
-ghost use Rattle.cov_ast.specs.WellFormed.{IsWellFormed};
 ghost use Rattle.refusal_names.specs.LockedControls as spec;
 
-use cov_ast::{LockDecl, Program};
+use cov_ast::LockDecl;
 use cov_expr::{Blob, Name, NoMemory};
-use entail_origins::lock_over;
-use std::alloc::Global;
-use text_parts::{add_line_of, variable_names};
-
-/// Adds under which lock the control of a variable is, by their names, and what is mostly done; nothing where it is under none.
-pub fn add_locked_control(
-    alloc: Global,
-    p: &Program,
-    bytes: &[u8],
-    variable: Name,
-    control: Name,
-    text: &mut Blob,
-) -> Result<(), NoMemory>
-    requires { IsWellFormed (view.program p.now) }
-    ensures { OnOk result (text.new ≡ text.old ++ spec.control_line (view.program p.now) bytes.now variable control) }
-{
-    let names = variable_names(alloc, p)?;
-    match names.find(control) {
-        Some(c) => {
-            let lock = lock_over(c, p.locks.as_slice());
-            add_locked(bytes, lock, variable, control, text)
-        }
-        None => Ok(()),
-    }
-}
+use text_parts::add_line_of;
 
 /// Adds the line, where there is a lock.
-fn add_locked(
+pub fn add_locked(
     bytes: &[u8],
     lock: Option<&LockDecl>,
     variable: Name,
@@ -45,21 +20,14 @@ fn add_locked(
 {
     match lock {
         Some(lock) => {
-            add_lock(bytes, lock, control, text)?;
+            add_control(control, text)?;
+            text.extend_from_slice(lock.name.text())?;
+            text.extend_from_slice(b", line ")?;
+            add_line_of(bytes, lock.at, text)?;
             add_mend(variable, control, text)
         }
         None => Ok(()),
     }
-}
-
-/// Adds under which lock a control is.
-fn add_lock(bytes: &[u8], lock: &LockDecl, control: Name, text: &mut Blob) -> Result<(), NoMemory>
-    ensures { OnOk result (text.new ≡ text.old ++ spec.locked_text bytes.now (view.lock lock.now) control) }
-{
-    add_control(control, text)?;
-    text.extend_from_slice(lock.name.text())?;
-    text.extend_from_slice(b", line ")?;
-    add_line_of(bytes, lock.at, text)
 }
 
 /// Adds that a control is under a lock.
@@ -75,16 +43,9 @@ fn add_control(control: Name, text: &mut Blob) -> Result<(), NoMemory>
 fn add_mend(variable: Name, control: Name, text: &mut Blob) -> Result<(), NoMemory>
     ensures { OnOk result (text.new ≡ text.old ++ spec.mend_text variable control) }
 {
-    add_put(variable, text)?;
-    add_class(variable, control, text)
-}
-
-/// Adds that a variable is to be put under the lock.
-fn add_put(variable: Name, text: &mut Blob) -> Result<(), NoMemory>
-    ensures { OnOk result (text.new ≡ text.old ++ spec.put_text variable) }
-{
     add_what(variable, text)?;
-    text.extend_from_slice(b" under that lock too, in the place of the assumption,")
+    text.extend_from_slice(b" under that lock too, in the place of the assumption,")?;
+    add_class(variable, control, text)
 }
 
 /// Adds what is to be put there.

@@ -1,7 +1,6 @@
 //! Variables outside of a set: in expressions, in types and in classes.
 
 ghost use Rattle.std.specs.Prelude.{◌≡◌, ◌++◌, OnOk, map, option_map};
-ghost use Rattle.cov_ast.specs.Declarations.{class_of};
 ghost use Rattle.cov_ast.specs.Plain.{plain};
 ghost use Rattle.cov_ast.specs.View as view;
 ghost use Rattle.cov_expr.specs.Trees.{occurrences};
@@ -93,25 +92,19 @@ pub fn first_unstable_class(
 {
     for y in variables {
         if !stable.has(*y) && !controls.has(*y) {
-            if let Some(control) = first_control(p, *y, stable) {
+            let first_control = match p.vars.as_slice().get(*y as usize) {
+                Some(var) => {
+                    match &var.class {
+                        Class::Low | Class::High => None,
+                        Class::When(e) => first_outside(e, stable),
+                    }
+                }
+                None => None,
+            };
+            if let Some(control) = first_control {
                 return Some((*y, control));
             }
         }
     }
     None
-}
-
-/// The first control of a variable outside of a set.
-fn first_control(p: &Program, y: u32, set: &NumberSet) -> Option<u32>
-    ensures { result ≡ spec.outside set.now (class_of (plain (view.program p.now)) y) }
-{
-    match p.vars.as_slice().get(y as usize) {
-        Some(var) => {
-            match &var.class {
-                Class::Low | Class::High => None,
-                Class::When(e) => first_outside(e, set),
-            }
-        }
-        None => None,
-    }
 }

@@ -1,6 +1,6 @@
 //! Laws of the lines of V3, V5 and V10, of what an evaluation reads, and how wide it is.
 
-ghost use Rattle.std.specs.Prelude.{◌≡◌, ◌<◌, ◌^◌, ℕ, List, Bool, Option, Some, false, count_by, length, nat_le, not};
+ghost use Rattle.std.specs.Prelude.{◌≡◌, ◌<◌, ◌^◌, ℕ, List, Bool, Some, false, count_by, length, nat_le, not};
 ghost use Rattle.cov_expr.specs.Term.{Term};
 ghost use Rattle.cov_expr.specs.Trees.{occurrences, width};
 ghost use Rattle.cov_expr.specs.Words.{HasVarsBelow};

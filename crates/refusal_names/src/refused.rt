@@ -27,7 +27,7 @@ use crate::given_numbers::add_shown_number;
 use crate::given_types::add_given;
 use crate::guarantees::add_guarantee;
 use crate::large::add_large;
-use crate::locked_controls::add_locked_control;
+use crate::locked_controls::add_locked;
 use crate::predicates::add_predicates;
 use crate::reads::add_reads;
 use crate::sets::{known_at, pass_to_state};
@@ -37,7 +37,7 @@ use crate::unstable::add_shown_cause;
 use crate::wide::add_width;
 use cov_ast::{Detail, NameTable, Program, Refusal, Rule, Stmt, StmtKind};
 use cov_expr::{Blob, NoMemory};
-use entail_origins::questions;
+use entail_origins::{lock_over, questions};
 use mode_state::ModeState;
 use statement_paths::{Way, hidden_set, modes_along, stable_set, way_to};
 use std::alloc::Global;
@@ -57,7 +57,11 @@ pub fn add_names(
     ensures { OnOk result (text.new ≡ text.old ++ spec.refusal_names (view.program p.now) bytes.now refusal.now.rule refusal.now.thread refusal.now.place refusal.now.detail) }
 {
     match refusal.thread {
-        Some(t) => add_at(alloc, p, bytes, t, refusal, text),
+        Some(t) => if (t as usize) < p.threads.len() {
+            add_in_thread(alloc, p, bytes, t, refusal, text)
+        } else {
+            Ok(())
+        },
         None => add_of_declarations(alloc, p, bytes, refusal.rule, refusal.detail, text),
     }
 }
@@ -76,31 +80,19 @@ fn add_of_declarations(
 {
     match (rule, detail) {
         (Rule::W8, Detail::Two(variable, control)) => {
-            add_locked_control(alloc, p, bytes, variable, control, text)
+            let names = variable_names(alloc, p)?;
+            match names.find(control) {
+                Some(c) => {
+                    let lock = lock_over(c, p.locks.as_slice());
+                    add_locked(bytes, lock, variable, control, text)
+                }
+                None => Ok(()),
+            }
         }
-        (Rule::W9, Detail::Three(assuming, other, variable)) => {
-            add_guarantee(alloc, p, bytes, assuming, other, variable, text)
-        }
+        (Rule::W9, Detail::Three(assuming, other, variable)) => add_guarantee(
+            alloc, p, bytes, assuming, other, variable, text,
+        ),
         _ => Ok(()),
-    }
-}
-
-/// Adds the line of the statement at a place, where there is that thread.
-fn add_at(
-    alloc: Global,
-    p: &Program,
-    bytes: &[u8],
-    t: u32,
-    refusal: &Refusal,
-    text: &mut Blob,
-) -> Result<(), NoMemory>
-    requires { IsWellFormed (view.program p.now) }
-    ensures { OnOk result (text.new ≡ text.old ++ spec.line_at (view.program p.now) bytes.now t refusal.now.rule refusal.now.place refusal.now.detail) }
-{
-    if (t as usize) < p.threads.len() {
-        add_in_thread(alloc, p, bytes, t, refusal, text)
-    } else {
-        Ok(())
     }
 }
 

@@ -1,6 +1,6 @@
 //! Laws of the line of V4, of types that aren't over stable controls.
 
-ghost use Rattle.std.specs.Prelude.{◌≡◌, ℕ, List, All, Bool, Option, None, false, length, true};
+ghost use Rattle.std.specs.Prelude.{◌≡◌, ℕ, List, All, Bool, None, false, length, true};
 ghost use Rattle.std.specs.List.{list_all};
 ghost use Rattle.cov_expr.specs.Term.{Term};
 ghost use Rattle.cov_expr.specs.Words.{HasVarsBelow};

@@ -1,7 +1,7 @@
 //! The line of V4: a type that isn't over stable controls.
 
 ghost use Rattle.cov_expr.specs.declared.limits.TheConstants.{MOST_LOCKS};
-ghost use Rattle.std.specs.Prelude.{◌≡◌, ◌++◌, ◌≤◌, IfOk, OnOk, Some, length, map, option_map};
+ghost use Rattle.std.specs.Prelude.{◌≡◌, ◌++◌, ◌≤◌, OnOk, Some, length, map, option_map};
 ghost use Rattle.cov_ast.specs.Plain.{plain};
 ghost use Rattle.cov_ast.specs.View as view;
 ghost use Rattle.cov_expr.specs.View.{term};
@@ -39,47 +39,30 @@ pub fn add_types(
         ++ spec.types_line (plain (view.program p.now)) names.now (unstable_line names.now bytes.now (map view.lock locks.now) (modes.now).held)
         known.now.stable known.now.controls known.now.stable_controls (view.kind kind.now)) }
 {
-    match value_class(alloc, p, known, kind)? {
-        Some((y, control)) => { add_class(alloc, names, bytes, locks, modes, y, control, text) }
-        None => add_first_type(alloc, names, bytes, locks, modes, known, kind, text),
-    }
-}
-
-/// The first variable of a value without a type of its own whose class isn't over stable controls, with the control.
-fn value_class(
-    alloc: Global,
-    p: &Program,
-    known: &Known,
-    kind: &StmtKind,
-) -> Result<Option<(u32, u32)>, NoMemory>
-    ensures { IfOk result (λ found. found ≡ spec.value_class (plain (view.program p.now)) known.now.stable known.now.controls (parts.untyped_value (view.kind kind.now))) }
-{
-    match parts_of(kind).untyped() {
+    let value_class = match parts_of(kind).untyped() {
         Some(e) => {
             let variables = vars(alloc, e)?;
-            Ok(first_unstable_class(p, &known.stable, &known.controls, variables.as_slice()))
+            first_unstable_class(p, &known.stable, &known.controls, variables.as_slice())
         }
-        None => Ok(None),
+        None => None,
+    };
+    match value_class {
+        Some((y, control)) => {
+            add_class_text(names, y, control, text)?;
+            add_unstable(alloc, names, bytes, locks, modes, control, text)
+        }
+        None => match first_type(kind, &known.stable_controls) {
+            Some((q, x)) => {
+                add_type_text(names, &known.controls, q, x, text)?;
+                if known.controls.has(x) {
+                    add_unstable(alloc, names, bytes, locks, modes, x, text)
+                } else {
+                    Ok(())
+                }
+            }
+            None => Ok(()),
+        },
     }
-}
-
-/// Adds the lines of a class with a control that isn't stable.
-fn add_class(
-    alloc: Global,
-    names: &NameTable,
-    bytes: &[u8],
-    locks: &[LockDecl],
-    modes: &ModeState,
-    y: u32,
-    control: u32,
-    text: &mut Blob,
-) -> Result<(), NoMemory>
-    requires { length locks.now ≤ MOST_LOCKS }
-    ensures { OnOk result (text.new ≡ text.old
-        ++ spec.class_line names.now (unstable_line names.now bytes.now (map view.lock locks.now) (modes.now).held) y control) }
-{
-    add_class_text(names, y, control, text)?;
-    add_unstable(alloc, names, bytes, locks, modes, control, text)
 }
 
 /// Adds which variable it is, with the control of its class.
@@ -91,35 +74,6 @@ fn add_class_text(names: &NameTable, y: u32, control: u32, text: &mut Blob) -> R
     text.extend_from_slice(b" has the control ")?;
     add_variable(names, control, text)?;
     text.extend_from_slice(b", which isn't stable here\n")
-}
-
-/// Adds the first type that isn't over stable controls, if there is one.
-fn add_first_type(
-    alloc: Global,
-    names: &NameTable,
-    bytes: &[u8],
-    locks: &[LockDecl],
-    modes: &ModeState,
-    known: &Known,
-    kind: &StmtKind,
-    text: &mut Blob,
-) -> Result<(), NoMemory>
-    requires { length locks.now ≤ MOST_LOCKS }
-    ensures { OnOk result (text.new ≡ text.old
-        ++ spec.type_line names.now (unstable_line names.now bytes.now (map view.lock locks.now) (modes.now).held) known.now.controls
-        (first_with_outside known.now.stable_controls (parts.stated_types (view.kind kind.now)))) }
-{
-    match first_type(kind, &known.stable_controls) {
-        Some((q, x)) => {
-            add_type_text(names, &known.controls, q, x, text)?;
-            if known.controls.has(x) {
-                add_unstable(alloc, names, bytes, locks, modes, x, text)
-            } else {
-                Ok(())
-            }
-        }
-        None => Ok(()),
-    }
 }
 
 /// The first type of a statement that has a variable outside of a set, with the first such variable.

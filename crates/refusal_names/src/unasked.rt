@@ -1,6 +1,6 @@
 //! The line behind that of V13: that nothing is asked of a store, since others may not read the variable.
 
-ghost use Rattle.std.specs.Prelude.{◌≡◌, ◌<◌, ◌++◌, OnOk, Some, length, map, option_map};
+ghost use Rattle.std.specs.Prelude.{◌≡◌, ◌<◌, ◌++◌, OnOk, Some, length, option_map};
 ghost use Rattle.cov_ast.specs.LocksAlong.{no_locks};
 ghost use Rattle.cov_ast.specs.Plain.{plain};
 ghost use Rattle.cov_ast.specs.View as view;
@@ -35,31 +35,16 @@ pub fn add_unasked(
         OnOk result (text.new ≡ text.old ++ spec.unasked_line (view.program p.now) t rule (held_along w.steps (no_locks (plain (view.program p.now)))) w.stm) }
 {
     match rule {
-        Rule::V13 => add_if_unasked(alloc, p, t, found, text),
+        Rule::V13 => {
+            let modes = modes_along(alloc, p, t, found.steps.as_slice())?;
+            let count = entailment_count(alloc, p, &modes, &found.stmt.kind)?;
+            if count == 0 {
+                add_of_store(p, parts_of(&found.stmt.kind).store, text)
+            } else {
+                Ok(())
+            }
+        }
         _ => Ok(()),
-    }
-}
-
-/// The same where the rule is V13.
-fn add_if_unasked(
-    alloc: Global,
-    p: &Program,
-    t: u32,
-    found: &Way<'_>,
-    text: &mut Blob,
-) -> Result<(), NoMemory>
-    requires formed { IsWellFormed (view.program p.now) }
-    requires thread { t < length p.now.threads }
-    requires range { IsStmInRange (length p.now.vars) (length p.now.locks) (view.kind found.now.stmt.now.kind) }
-    ensures { let w = way found.now in
-        OnOk result (text.new ≡ text.old ++ spec.line_if_unasked (view.program p.now) t (held_along w.steps (no_locks (plain (view.program p.now)))) w.stm) }
-{
-    let modes = modes_along(alloc, p, t, found.steps.as_slice())?;
-    let count = entailment_count(alloc, p, &modes, &found.stmt.kind)?;
-    if count == 0 {
-        add_of_store(p, parts_of(&found.stmt.kind).store, text)
-    } else {
-        Ok(())
     }
 }
 
@@ -68,25 +53,18 @@ fn add_of_store(p: &Program, store: Option<Store<'_>>, text: &mut Blob) -> Resul
     ensures { OnOk result (text.new ≡ text.old ++ spec.line_of_store (view.program p.now) (option_map parts.store_of store.entry)) }
 {
     match store {
-        Some(store) => add_line(p, store.variable, text),
+        Some(store) => {
+            text.extend_from_slice(b"  nothing is asked of it, since others may not read ")?;
+            add_variable_name(p, store.variable, text)?;
+            add_hider(
+                p,
+                lock_over(store.variable, p.locks.as_slice()),
+                store.variable,
+                text,
+            )
+        }
         None => Ok(()),
     }
-}
-
-/// Adds the line of a variable.
-fn add_line(p: &Program, x: u32, text: &mut Blob) -> Result<(), NoMemory>
-    ensures { OnOk result (text.new ≡ text.old ++ spec.line_on (view.program p.now) x) }
-{
-    text.extend_from_slice(b"  nothing is asked of it, since others may not read ")?;
-    add_hidden_name(p, x, text)
-}
-
-/// Adds the name of a variable, and what hides it.
-fn add_hidden_name(p: &Program, x: u32, text: &mut Blob) -> Result<(), NoMemory>
-    ensures { OnOk result (text.new ≡ text.old ++ spec.hidden_name (view.program p.now) x) }
-{
-    add_variable_name(p, x, text)?;
-    add_hider(p, lock_over(x, p.locks.as_slice()), x, text)
 }
 
 /// Adds what hides a variable.

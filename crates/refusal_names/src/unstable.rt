@@ -48,36 +48,20 @@ pub fn add_shown_cause(
 {
     match detail {
         Detail::One(shown) => match names.find(shown) {
-            Some(x) => add_unstable_part(alloc, names, bytes, locks, modes, x, text),
+            Some(x) => match first_forbidding(locks, modes, true, x) {
+                Some((lock, word)) => {
+                    add_lock_with_held(alloc, names, bytes, locks, modes, lock, word, x, text)
+                }
+                None => {
+                    add_assumption(names, x, text)?;
+                    text.extend_from_slice(
+                        b"  assign a constant in each branch of a test of it, or a copy of it in a variable of which the thread assumes `nowrite`\n",
+                    )
+                }
+            },
             None => Ok(()),
         },
         _ => Ok(()),
-    }
-}
-
-/// Adds why a variable of the value for a control isn't stable, and where it is under no lock what is mostly done.
-fn add_unstable_part(
-    alloc: Global,
-    names: &NameTable,
-    bytes: &[u8],
-    locks: &[LockDecl],
-    modes: &ModeState,
-    x: u32,
-    text: &mut Blob,
-) -> Result<(), NoMemory>
-    requires { length locks.now ≤ MOST_LOCKS }
-    ensures { OnOk result (text.new ≡ text.old ++ spec.unstable_part_line names.now bytes.now (map view.lock locks.now) (modes.now).held x) }
-{
-    match first_forbidding(locks, modes, true, x) {
-        Some((lock, word)) => {
-            add_lock_with_held(alloc, names, bytes, locks, modes, lock, word, x, text)
-        }
-        None => {
-            add_assumption(names, x, text)?;
-            text.extend_from_slice(
-                b"  assign a constant in each branch of a test of it, or a copy of it in a variable of which the thread assumes `nowrite`\n",
-            )
-        }
     }
 }
 

@@ -1,6 +1,6 @@
 //! The search for the statement at a place.
 
-ghost use Rattle.std.specs.Prelude.{◌≡◌, ◌==◌, ◌++◌, ◌∷◌, [], ◌≤◌, IfOk, Some, if◌then◌else◌, length, map, option_map, take};
+ghost use Rattle.std.specs.Prelude.{◌≡◌, ◌==◌, ◌∷◌, [], ◌≤◌, IfOk, Some, if◌then◌else◌, length, map, option_map, take};
 ghost use Rattle.cov_ast.specs.View as view;
 ghost use Rattle.statement_paths.specs.Inside.{found, kept};
 ghost use Rattle.statement_paths.specs.Paths as spec;

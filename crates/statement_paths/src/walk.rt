@@ -29,17 +29,10 @@ pub fn modes_along(
         made ≡ modes_at q t (spec.held_along (map step steps.now) (no_locks q))) }
 {
     let mut modes = ModeState::start(alloc, p, t)?;
-    follow(steps, &mut modes);
-    Ok(modes)
-}
-
-/// Takes and gives back the locks that are taken and given back along steps.
-fn follow(steps: &[Step<'_>], modes: &mut ModeState)
-    ensures { modes.new ≡ record modes.old { held = spec.held_along (map step steps.now) (modes.old).held } }
-{
     for next in steps {
-        follow_step(next, modes);
+        follow_step(next, &mut modes);
     }
+    Ok(modes)
 }
 
 /// Takes and gives back the locks that are taken and given back in a step.
@@ -71,18 +64,11 @@ fn pass_statement(kind: &StmtKind, modes: &mut ModeState)
         StmtKind::If(_, a, _, _) => pass_block(a.as_slice(), modes),
         _ => {
             let parts = parts_of(kind);
-            change_locks(parts.taken, parts.returned, modes)
+            match (parts.taken, parts.returned) {
+                (Some(l), _) => modes.take(l),
+                (None, Some(l)) => modes.give(l),
+                (None, None) => {}
+            }
         }
-    }
-}
-
-/// Takes a lock or gives one back, if there is one to be taken or given back.
-fn change_locks(taken: Option<u32>, returned: Option<u32>, modes: &mut ModeState)
-    ensures { modes.new ≡ record modes.old { held = spec.held_by_own taken returned (modes.old).held } }
-{
-    match (taken, returned) {
-        (Some(l), _) => modes.take(l),
-        (None, Some(l)) => modes.give(l),
-        (None, None) => {}
     }
 }

@@ -32,16 +32,6 @@ pub fn end_words(end: BlockEnd) -> &'static str
     }
 }
 
-/// Whether a statement has such a block.
-pub fn has_end(end: BlockEnd, kind: &StmtKind) -> bool
-    ensures { result ≡ spec.has_end end (view.kind kind.now) }
-{
-    match end {
-        BlockEnd::First | BlockEnd::Second => matches!(kind, StmtKind::If(_, _, _, _)),
-        BlockEnd::Body => matches!(kind, StmtKind::While(_, _, _)),
-    }
-}
-
 /// Steps, and those from the statement at a place to an end of a block of it.
 pub fn steps_to<'p>(
     alloc: Global,

@@ -136,18 +136,13 @@ fn add_type(
     ensures { OnOk result (text.new ≡ text.old ++ spec.type_line names.now (view.var var.now) (option_map term (option_copied q.entry))) }
 {
     match q {
-        Some(q) if !is_class(&var.class, q) => add_typed(names, var, q, text),
+        Some(q) if !is_class(&var.class, q) => {
+            text.extend_from_slice(b"  type of ")?;
+            text.extend_from_slice(var.name.text())?;
+            text.extend_from_slice(b":  ")?;
+            add_expr(names, false, q, text)?;
+            text.extend_from_slice(b"\n")
+        }
         _ => Ok(()),
     }
-}
-
-/// Adds a type of a variable.
-fn add_typed(names: &NameTable, var: &VarDecl, q: &Expr, text: &mut Blob) -> Result<(), NoMemory>
-    ensures { OnOk result (text.new ≡ text.old ++ spec.typed names.now (view.var var.now).name (term q.now)) }
-{
-    text.extend_from_slice(b"  type of ")?;
-    text.extend_from_slice(var.name.text())?;
-    text.extend_from_slice(b":  ")?;
-    add_expr(names, false, q, text)?;
-    text.extend_from_slice(b"\n")
 }

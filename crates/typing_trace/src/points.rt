@@ -11,9 +11,9 @@ ghost use Rattle.typing_trace.specs.PointLines as spec;
 ghost use Rattle.typing_trace.specs.Spots.{spot};
 ghost use Rattle.typing_trace.specs.declared.points.TheConstants.{MOST_TOLD};
 
-use crate::ends::{BlockEnd, end_words, has_end, steps_to};
+use crate::ends::{BlockEnd, end_words, steps_to};
 use crate::known::add_known_behind;
-use crate::spots::{Spot, span_of, spots_of};
+use crate::spots::{Span, Spot, bytes_of_lines, spots_of};
 use cov_ast::{NameTable, Program, StmtKind};
 use cov_expr::{Blob, NoMemory};
 use entail_origins::{Asked, Question, add_question_line, questions};
@@ -40,7 +40,10 @@ pub fn add_points(
     ensures { OnOk result (text.new ≡ text.old ++ spec.point_lines (view.program p.now) bytes.now number) }
 {
     let span = match number {
-        Some(number) => Some(span_of(bytes, number)),
+        Some(number) => Some(Span {
+            from: bytes_of_lines(number.saturating_sub(1), bytes),
+            to: bytes_of_lines(number, bytes),
+        }),
         None => None,
     };
     let spots = spots_of(alloc, span, p.threads.as_slice())?;
@@ -96,7 +99,14 @@ fn add_each(
     ensures { OnOk result (text.new ≡ text.old ++ flat_map (spec.spot_lines (view.program p.now) bytes.now) spots.now) }
 {
     for spot in spots {
-        add_spot(alloc, p, bytes, *spot, text)?;
+        if (spot.thread as usize) < p.threads.len() {
+            let trace = Trace {
+                alloc,
+                program: p,
+                thread: spot.thread,
+            };
+            add_statement(&trace, bytes, spot.place, text)?;
+        }
     }
     Ok(())
 }
@@ -108,29 +118,6 @@ fn add_left(count: usize, text: &mut Blob) -> Result<(), NoMemory>
     text.extend_from_slice(b"and as many more statements, which aren't told: ")?;
     add_number(count, text)?;
     text.extend_from_slice(b"\n")
-}
-
-/// Adds what is told of a statement, if its thread is there.
-fn add_spot(
-    alloc: Global,
-    p: &Program,
-    bytes: &[u8],
-    spot: Spot,
-    text: &mut Blob,
-) -> Result<(), NoMemory>
-    requires { IsWellFormed (view.program p.now) }
-    ensures { OnOk result (text.new ≡ text.old ++ spec.spot_lines (view.program p.now) bytes.now spot) }
-{
-    if (spot.thread as usize) < p.threads.len() {
-        let trace = Trace {
-            alloc,
-            program: p,
-            thread: spot.thread,
-        };
-        add_statement(&trace, bytes, spot.place, text)
-    } else {
-        Ok(())
-    }
 }
 
 /// Adds what is told of the statement at a place of the thread.
@@ -218,7 +205,11 @@ fn add_end_if(
     requires statement { IsStmInRange (length trace.now.program.now.vars) (length trace.now.program.now.locks) (view.kind kind.now) }
     ensures { OnOk result (text.new ≡ text.old ++ spec.end_if (plain_of trace.now) trace.now.thread names.now bytes.now (map paths.step steps.now) end at (view.kind kind.now)) }
 {
-    if has_end(end, kind) {
+    let has_end = match end {
+        BlockEnd::First | BlockEnd::Second => matches!(kind, StmtKind::If(_, _, _, _)),
+        BlockEnd::Body => matches!(kind, StmtKind::While(_, _, _)),
+    };
+    if has_end {
         add_end(trace, names, bytes, steps, end, at, kind, text)
     } else {
         Ok(())

@@ -4,7 +4,6 @@ ghost use Rattle.std.specs.Prelude.{◌≡◌, [], ◌∷◌, ◌++◌, ◌≤�
 ghost use Rattle.cov_ast.specs.View as view;
 ghost use Rattle.cov_ast.specs.WellFormed.{places, places_within};
 ghost use Rattle.cov_expr.specs.declared.limits.TheConstants.{MOST_THREADS};
-ghost use Rattle.text_parts.specs.Lines.{is_feed};
 ghost use Rattle.typing_trace.specs.Spots as spec;
 
 use cov_ast::{Stmt, StmtKind, ThreadDecl};
@@ -25,18 +24,8 @@ pub struct Spot {
     pub place: u32,
 }
 
-/// The bytes of a line, counted from 1.
-pub fn span_of(bytes: &[u8], number: usize) -> Span
-    ensures { result ≡ spec.span_of bytes.now number }
-{
-    Span {
-        from: bytes_of_lines(number.saturating_sub(1), bytes),
-        to: bytes_of_lines(number, bytes),
-    }
-}
-
 /// How many bytes the first lines of a text have.
-fn bytes_of_lines(count: usize, bytes: &[u8]) -> usize
+pub fn bytes_of_lines(count: usize, bytes: &[u8]) -> usize
     ensures { result ≡ spec.bytes_of_lines count bytes.now }
 {
     let mut left = count;
@@ -44,18 +33,11 @@ fn bytes_of_lines(count: usize, bytes: &[u8]) -> usize
         if left == 0 {
             return i;
         }
-        if is_line_feed(*byte) {
+        if *byte == b'\n' {
             left -= 1;
         }
     }
     bytes.len()
-}
-
-/// Whether a byte ends a line.
-fn is_line_feed(byte: u8) -> bool
-    ensures { result ≡ is_feed byte }
-{
-    byte == b'\n'
 }
 
 /// The statements that are asked for of some threads, in the order of the text.
@@ -115,22 +97,16 @@ fn add_within(
 fn add_place(span: Option<Span>, t: u32, at: u32, spots: &mut List<Spot>) -> Result<(), NoMemory>
     ensures { OnOk result (spots.new ≡ spots.old ++ spec.spots_in span t (at ∷ [])) }
 {
-    if is_asked(span, at) {
+    let is_asked = match span {
+        None => true,
+        Some(span) => span.from <= at as usize && (at as usize) < span.to,
+    };
+    if is_asked {
         spots.push(Spot {
             thread: t,
             place: at,
         })
     } else {
         Ok(())
-    }
-}
-
-/// Whether a place is asked for.
-fn is_asked(span: Option<Span>, at: u32) -> bool
-    ensures { result ≡ spec.is_asked span at }
-{
-    match span {
-        None => true,
-        Some(span) => span.from <= at as usize && (at as usize) < span.to,
     }
 }
