@@ -225,10 +225,10 @@ abbrev text : List ℕ
 text = 10 ∷ 120 ∷ 10 ∷ 10 ∷ 120 ∷ 120 ∷ 120 ∷ 120 ∷ []
 
 a_control_and_an_assignment : type_lines program 0 text (taken ∷ stored ∷ raised ∷ []) q.Printed (s.output (bin Add (var 0) (var 2)))
-    ≡ codes "  type of m:  1, as that of every control\n  type of o:  from the assignment, line 2, of `o + buf`; then m is stored to, line 3, which it mentions, so that it becomes its class `0` (high)"
+    ≡ codes "  type of m:  1, as that of every control\n  type of o:  from the assignment, line 2, of `o + buf`; then m is stored to, line 3, which it mentions, so that it becomes its class `0` (high), line 1"
     ++ codes "; another is set by a store to it in front, or by `retype o as ..` there, where that is shown, or `as ..` at the assignment\n"
     ++ codes "  type of o at line 2:  its class `0` (high), from the start of the thread\n  type of buf at line 2:  its class `m == 0`, from the lock l, line 2\n"
-a_control_and_an_assignment = simp (decimal_digit 0 (lit< tt), decimal_digit 2 (lit< tt), decimal_digit 3 (lit< tt))
+a_control_and_an_assignment = simp (decimal_digit 0 (lit< tt), decimal_digit 1 (lit< tt), decimal_digit 2 (lit< tt), decimal_digit 3 (lit< tt))
 
 a_written_type : type_lines program 0 text (taken ∷ written ∷ []) q.Printed (s.output (var 2))
     ≡ codes "  type of o:  from the assignment, line 4, which says that it is `1`\n"
@@ -246,8 +246,8 @@ hidden : type_lines program 0 text (taken ∷ joined [] ∷ []) (q.Freed 1) (s.u
 hidden = simp (decimal_digit 1 (lit< tt), decimal_digit 4 (lit< tt))
 
 not_hidden : type_lines program 0 text (joined [] ∷ returned ∷ []) (q.Retyped 2) s.skip
-    ≡ codes "  type of o:  its class `0` (high), since no join of the `if`, line 4, lists it\n"
-not_hidden = simp (decimal_digit 0 (lit< tt), decimal_digit 4 (lit< tt))
+    ≡ codes "  type of o:  its class `0` (high), line 1, since no join of the `if`, line 4, lists it\n"
+not_hidden = simp (decimal_digit 0 (lit< tt), decimal_digit 1 (lit< tt), decimal_digit 4 (lit< tt))
 
 -- under its lock a type that is forgotten says nothing
 forgotten_where_hidden : type_lines program 0 text (taken ∷ passed 3 (s.assign 0 (const 1) None []) ∷ []) (q.Controlled 1) s.skip
@@ -256,9 +256,9 @@ forgotten_where_hidden = simp (decimal_digit 0 (lit< tt), decimal_digit 1 (lit< 
 
 -- others may read `o`
 forgotten_by_return : type_lines program 0 text (taken ∷ stored ∷ returned ∷ []) q.Printed (s.output (var 2))
-    ≡ codes "  type of o:  from the assignment, line 2, of `o + buf`; then l is given back, line 4, and it mentions what that protects, so that it becomes its class `0` (high)\n"
+    ≡ codes "  type of o:  from the assignment, line 2, of `o + buf`; then l is given back, line 4, and it mentions what that protects, so that it becomes its class `0` (high), line 1\n"
     ++ codes "  type of o at line 2:  its class `0` (high), from the start of the thread\n  type of buf at line 2:  its class `m == 0`, from the lock l, line 2\n"
-forgotten_by_return = simp (decimal_digit 0 (lit< tt), decimal_digit 2 (lit< tt), decimal_digit 4 (lit< tt))
+forgotten_by_return = simp (decimal_digit 0 (lit< tt), decimal_digit 1 (lit< tt), decimal_digit 2 (lit< tt), decimal_digit 4 (lit< tt))
 
 by_its_lock : type_lines program 0 text (taken ∷ []) (q.Controlled 1) s.skip ≡ codes "  type of buf:  its class `m == 0`, from the lock l, line 2\n"
 by_its_lock = simp (decimal_digit 0 (lit< tt), decimal_digit 2 (lit< tt))

@@ -83,15 +83,14 @@ abbrev pub hider_text : (bytes : List ℕ) → Option Lock → List ℕ
 hider_text bytes None = hidden_by_thread
 hider_text bytes (Some l) = hidden_by_lock bytes l
 
--- what is known of a variable that no other thread may read, by whether it is always high: its class, or nothing
-abbrev pub hidden_text : Plain → Names → (bytes : List ℕ) → (z : ℕ) → (is_high : Bool) → List ℕ
-hidden_text p names bytes z true = class_text p names z
-hidden_text p names bytes z false = hider_text bytes (lock_over z p.locks)
+-- what is known of a variable without more, by whether no other thread may read it, its place, and whether it is always high
+abbrev pub known_text : Plain → Names → (bytes : List ℕ) → (z : ℕ) → (hidden : Bool) → (at : ℕ) → (is_high : Bool) → List ℕ
+known_text p names bytes z hidden at true = class_text p names z ++ place_text bytes at
+known_text p names bytes z true at false = hider_text bytes (lock_over z p.locks)
+known_text p names bytes z false at false = class_text p names z
 
--- what is known of a variable without more, by whether no other thread may read it
 abbrev pub default_text : Plain → Names → (bytes : List ℕ) → (hidden : Bool) → (z : ℕ) → List ℕ
-default_text p names bytes true z = hidden_text p names bytes z (is_always_high (class_of p z))
-default_text p names bytes false z = class_text p names z
+default_text p names bytes hidden z = known_text p names bytes z hidden (var_at p z).at (is_always_high (class_of p z))
 
 abbrev pub taken_text : Plain → Names → (z l : ℕ) → List ℕ
 taken_text p names z l = class_text p names z ++ codes ", from the lock " ++ (lock_at p l).name

@@ -60,11 +60,40 @@ pub fn add_default(
 ) -> Result<(), NoMemory>
     ensures { OnOk result (text.new ≡ text.old ++ spec.default_text (plain (view.program p.now)) names.now bytes.now hidden z) }
 {
-    let is_secret = match p.vars.as_slice().get(z as usize) {
-        Some(var) => is_always_high(&var.class),
-        None => true,
-    };
-    if hidden && !is_secret {
+    match p.vars.as_slice().get(z as usize) {
+        Some(var) => {
+            add_known(
+                p,
+                names,
+                bytes,
+                z,
+                hidden,
+                var.at,
+                is_always_high(&var.class),
+                text,
+            )
+        }
+        None => add_known(p, names, bytes, z, hidden, 0, true, text),
+    }
+}
+
+/// Adds that of a variable that is declared at a place, by whether it is always high.
+fn add_known(
+    p: &Program,
+    names: &NameTable,
+    bytes: &[u8],
+    z: u32,
+    hidden: bool,
+    at: u32,
+    is_high: bool,
+    text: &mut Blob,
+) -> Result<(), NoMemory>
+    ensures { OnOk result (text.new ≡ text.old ++ spec.known_text (plain (view.program p.now)) names.now bytes.now z hidden at is_high) }
+{
+    if is_high {
+        add_class(p, names, z, text)?;
+        add_place(bytes, at, text)
+    } else if hidden {
         add_hider(p, bytes, z, text)
     } else {
         add_class(p, names, z, text)

@@ -50,25 +50,12 @@ pub fn add_given(
     match way_to(alloc, p.body_of(t), e.place)? {
         Some(way) => {
             let names = variable_names(alloc, p)?;
-            if !is_given(way.stmt.proofs.as_slice(), e.number) {
-                add_numbers(way.stmt.proofs.as_slice(), text)?;
+            let proofs = way.stmt.proofs.as_slice();
+            if !is_given(proofs, e.number) {
+                add_numbers(proofs, text)?;
             }
-            add_other(
-                alloc,
-                way.stmt.proofs.as_slice(),
-                e.number,
-                &e.hyps,
-                &e.goal,
-                text,
-            )?;
-            add_finding(
-                &names,
-                way.stmt.proofs.as_slice(),
-                e.number,
-                &e.goal,
-                found,
-                text,
-            )
+            add_other(alloc, proofs, e.number, &e.hyps, &e.goal, text)?;
+            add_finding(&names, proofs, e.number, &e.goal, found, text)
         }
         None => Ok(()),
     }
