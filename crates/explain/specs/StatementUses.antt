@@ -3,8 +3,8 @@
 use Rattle.std.specs.Prelude.{ℕ, List, [], ◌++◌, flat_map, Bool, Option, Some, None, option_to_list}
 use Rattle.cov_expr.specs.Term.{Term}
 use Rattle.cov_expr.specs.Trees.{has_number, occurrences}
-use Rattle.cov_ast.specs.Plain.{Cmd, Cmds, Plain}
-use Rattle.statement_parts.specs.PlainParts.{collected, collected_in, Parts}
+use Rattle.cov_ast.specs.Plain.{Cmds, Plain}
+use Rattle.statement_parts.specs.PlainParts.{collected_in, Parts}
 
 -- the variables of an expression, if there is one: every occurrence
 abbrev pub occurrences_in : Option Term → List ℕ
@@ -19,17 +19,11 @@ own_reads ps = occurrences_in ps.evaluated
 abbrev pub own_writes : Parts → List ℕ
 own_writes ps = option_to_list ps.assigned
 
--- the variables that a statement and those in its blocks evaluate: every occurrence, in the order of the text
-abbrev pub read_by : Cmd → List ℕ
-read_by c = collected own_reads c
-
+-- the variables that the statements of a block and those in their blocks evaluate: every occurrence, in the order of the text
 abbrev pub read_in : Cmds → List ℕ
 read_in b = collected_in own_reads b
 
--- the variables that a statement and those in its blocks assign, in the order of the text
-abbrev pub written_by : Cmd → List ℕ
-written_by c = collected own_writes c
-
+-- the variables that they assign, in the order of the text
 abbrev pub written_in : Cmds → List ℕ
 written_in b = collected_in own_writes b
 

@@ -1,7 +1,7 @@
 -- The locks that a thread holds at a place of its text: those that are taken and not given back on the way to it.
 --
 -- They are those of the plain text, which notes and other annotations don't change.
-use Rattle.std.specs.Prelude.{ℕ, List, [], ◌∷◌, set, Bool, true, false, Option, Some, None}
+use Rattle.std.specs.Prelude.{List, [], ◌∷◌, Bool}
 use Rattle.cov_ast.specs.LocksAlong.{locks_at_end}
 use Rattle.cov_ast.specs.Plain.{none, plain_stm, plain_block}
 use Rattle.cov_ast.specs.Syntax.{Stm, Block}
@@ -10,12 +10,6 @@ use Rattle.statement_paths.specs.Paths.{Step, passed, yes, no, head}
 -- those held after a statement
 abbrev pub held_past : Stm → (held : List Bool) → List Bool
 held_past s held = locks_at_end (plain_stm s 0 none) held
-
--- those held after a statement that takes a lock or gives one back, and has no blocks
-abbrev pub held_by_own : (taken returned : Option ℕ) → (held : List Bool) → List Bool
-held_by_own (Some l) returned held = set held l true
-held_by_own None (Some l) held = set held l false
-held_by_own None None held = held
 
 -- those held at the end of a block
 abbrev pub held_at_end : Block → (held : List Bool) → List Bool
