@@ -46,27 +46,25 @@ fn add_line(bytes: &[u8], rest: &[u8], tokens: &[Token], text: &mut Blob) -> Res
     if is_outside {
         return add_open(bytes, open_brace(tokens), text);
     }
-    if word_run(rest) == b"else".as_slice() {
-        let add_else = if ends_closed(tokens) {
-            let all_but_last = if tokens.is_empty() {
-                tokens
-            } else {
-                &tokens[..tokens.len() - 1]
-            };
-            match open_brace(all_but_last) {
-                Some(place) => {
-                    let front = "  the `}` in front of it closes the `{` of line ";
-                    let back = ", to which no `else` belongs: a `}` may be missing between them\n";
-                    add_line_text(front, back, bytes, place as usize, text)
-                }
-                None => Ok(()),
-            }
-        } else {
-            add_open(bytes, open_brace(tokens), text)
-        };
-        return add_else;
+    if word_run(rest) != b"else".as_slice() {
+        return Ok(());
     }
-    Ok(())
+    if !ends_closed(tokens) {
+        return add_open(bytes, open_brace(tokens), text);
+    }
+    let all_but_last = if tokens.is_empty() {
+        tokens
+    } else {
+        &tokens[..tokens.len() - 1]
+    };
+    match open_brace(all_but_last) {
+        Some(place) => {
+            let front = "  the `}` in front of it closes the `{` of line ";
+            let back = ", to which no `else` belongs: a `}` may be missing between them\n";
+            add_line_text(front, back, bytes, place as usize, text)
+        }
+        None => Ok(()),
+    }
 }
 
 /// Adds a line that says that a `{` is open, by its place, if there is one.
@@ -108,11 +106,10 @@ fn open_brace(tokens: &[Token]) -> Option<u32>
         let token = tokens[i];
         if is(Kind::OpenBrace, token.kind) {
             if closing == 0 {
-                let or_place = match place {
+                place = match place {
                     Some(place) => Some(place),
                     None => Some(token.at),
                 };
-                place = or_place;
             } else {
                 closing -= 1;
             }

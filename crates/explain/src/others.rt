@@ -92,12 +92,11 @@ fn add_look(
         [next, ..] => {
             let is_own = is_of_thread(next.thread, refusal.thread);
             if is_of_numbers(refusal.rule) {
-                let add_look_if_own = if is_own {
+                return if is_own {
                     add_look_text(bytes, is_own, refusal.place, next.place, text)
                 } else {
                     Ok(())
                 };
-                return add_look_if_own;
             }
             let one = [*refusal];
             let parts = sort_refusals(alloc, program, &one)?;

@@ -1,5 +1,5 @@
 -- Words of private contracts: what statements read and write, and which of them are never reached, with their annotations passed over.
-use Rattle.std.specs.Prelude.{ℕ, List, [], map, Bool, Option, Some, None, option_to_list}
+use Rattle.std.specs.Prelude.{ℕ, List, [], Bool, Option, Some, None}
 use Rattle.std.specs.Option.{option_map_or}
 use Rattle.cov_ast.specs.Plain.{Cmd, Cmds, next, none, plain_block, plain_stm}
 use Rattle.cov_ast.specs.Syntax.{Stm, Block}

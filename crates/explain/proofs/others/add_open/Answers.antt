@@ -1,4 +1,4 @@
-use Rattle.std.proofs.Common.{◌≡◌, ◌-◌, ◌++◌, ◌∙◌, ap, append_assoc, flat_map, length, take}
+use Rattle.std.proofs.Common.{◌-◌, ◌++◌, ◌∙◌, ap, append_assoc, flat_map, length, take}
 use Rattle.std.proofs.lemmas.Result.{on_ok_weaker}
 use Rattle.cov_ast.specs.View as view
 use Rattle.explain.specs.OtherTellings.{open_lines, left_line, refusal_text}
