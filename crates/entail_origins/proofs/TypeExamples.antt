@@ -22,7 +22,6 @@ use Rattle.entail_origins.specs.declared.type_origin.By.TheVariants as by
 use Rattle.entail_origins.specs.declared.type_origin.TypeChange.TheVariants as change
 use Rattle.entail_origins.specs.declared.type_origin.Later.{Later}
 use Rattle.entail_origins.specs.declared.type_origin.TypeOrigin.{TypeOrigin}
-use Rattle.entail_origins.specs.declared.type_origin.TypeSource.{TypeSource}
 use Rattle.entail_origins.specs.declared.type_origin.TypeSource.TheVariants as source
 
 -- var m: low; var buf: low when m == 0; var o: high; var n: low; lock l hide m, buf; thread t assume nowrite o

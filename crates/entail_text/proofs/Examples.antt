@@ -3,7 +3,7 @@ use Rattle.std.proofs.Common.{◌≡◌, ℕ, List, [], ◌∷◌, Some, None, r
 use Rattle.std.proofs.lemmas.Fmt.{decimal_digit}
 use Rattle.cov_expr.specs.Term.{Term, const, var, neg, bin}
 use Rattle.cov_expr.specs.declared.expr.TheConstants.{HOLE}
-use Rattle.cov_expr.specs.declared.expr.Op.TheVariants.{Both, Eq, Le, Either}
+use Rattle.cov_expr.specs.declared.expr.Op.TheVariants.{Eq, Le, Either}
 use Rattle.cov_ast.specs.Syntax as s
 use Rattle.entail_text.specs.Given.{cert_for}
 use Rattle.entail_text.specs.Nodes.{node, node_at}

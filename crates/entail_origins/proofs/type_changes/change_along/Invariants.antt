@@ -1,4 +1,4 @@
-use Rattle.std.proofs.Common.{◌≡◌, All, Option, drop, length, map}
+use Rattle.std.proofs.Common.{◌≡◌, Option, drop, map}
 use Rattle.point_law.specs.Point.{Point}
 use Rattle.statement_paths.specs.Paths as paths
 use Rattle.typing_points.specs.Traces.{AreInRange, KeepsAny, plain_of}
