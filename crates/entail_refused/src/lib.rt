@@ -1,7 +1,7 @@
 //! What a refusal for want of a valid certificate asked (V9), in plain text.
 //!
 //! - [`add_asked`]: of the entailment for which a program is refused what it asks, its goal, its hypotheses, each with
-//!   where it comes from (`entail_origins`), and its certificate (`entail_text`); then what is found for it (there too), a certificate or a memory that breaks it; which guards give no predicate (`specs/UnknownGuards.antt`), who may read
+//!   where it comes from (`entail_origins`), and its certificate (`entail_text`); then what is found for it (there too), a certificate or a memory that breaks it; which guards give no predicate, and why (`specs/UnknownGuards.antt`), who may read
 //!   (`specs/Readers.antt`); and where no certificate is found, which declaration asks (`specs/AskedBy.antt`), what is mostly done (`specs/Cleared.antt`), where the types come from that
 //!   make up the goal (`entail_origins`), what could be noted in front (`specs/Noted.antt`), what no invariant mentions (`specs/InvariantsWithout.antt`), to which variables nothing is stored (`specs/Unstored.antt`, `specs/OnTheWay.antt`), and which of
 //!   what was lost on the way would help (`entail_losses`).

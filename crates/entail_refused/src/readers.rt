@@ -13,7 +13,8 @@ use policy_class::is_control;
 use text_parts::add_variable_name;
 
 /// Adds that others may read the variable of which something is asked where it is low, where the thread assumes that no other writes it, and not that none reads it; or, of one whose
-/// class depends on others, the first lock over it lists it so. Nothing is added where it isn't known where something is asked.
+/// class depends on others, the first lock over it lists it so. `is_shown` is whether a certificate is found for what is asked: only then, or where
+/// a control is assigned, it is added that `hide` would mend it. Nothing is added where it isn't known where something is asked.
 pub fn add_reader_line(
     p: &Program,
     t: u32,

@@ -1,4 +1,4 @@
--- What is told beside a refusal by V9, of its thread and of those behind it: of the first refusal of each by a rule that isn't about certificates, and of the other entailments that
+-- What was asked where a refusal is by V9, and what is told beside one by V9 or V13 of its thread and of those behind it: of the first refusal of each by a rule that isn't about certificates, and of the other entailments that
 -- have no valid certificate. Of one for which a certificate is found that is told in short, behind the others; of each of these it is told as of the first, up to so many.
 use Rattle.std.specs.Prelude.{ℕ, ◌-◌, ◌==◌, List, [], ◌∷◌, ◌++◌, Bool, true, false, Option, Some, length, take, flat_map, codes, decimal, if◌then◌else◌}
 use Rattle.cov_ast.specs.Syntax.{Program}

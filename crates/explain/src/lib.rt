@@ -30,12 +30,12 @@
 //! | `call`, `asked`, `files`, `manner` | `FileCalls` | the words of a command line; what is told of each file, and how, and the status |
 //! | `explanation` | `Explanations` | what is told of the bytes of a file |
 //! | `beside`, `more` | `Tellings` | what is told beside it: what could stand at the place of a token, and what a refusal is about |
-//! | `others` | `OtherTellings` | what is told of the other entailments for which a thread would be refused, and which of them is to be looked at first |
+//! | `others` | `OtherTellings` | what was asked where a refusal is by V9, and behind one by V9 or V13 what is told of others of its thread and of those behind it, and which of them is to be looked at first |
 //! | `unassumed` | `UnassumedVariables` | the line that says what every other thread guarantees, and the thread of a refusal doesn't assume |
 //! | `unread` | `UnreadVariables` | the line that says what that thread stores to and no statement reads |
 //! | `level_files`, `observers` | `FileCalls`, `LevelTellings` | how a program and levels are read, and what is told of them |
 //! | `suggested` | `SuggestedTexts` | what is told of a program for which certificates are searched |
-//! | `next`, `fronts`, `places`, `line` | `ExpectedTokens`, `ExpectedLines` | what could stand at a place, in the order of the table of spellings, and the line that says so |
+//! | `next`, `fronts`, `places`, `line` | `ExpectedTokens`, `ExpectedLines` | what could stand at a place, in the order of the table of spellings, the line that says so, and that a `;` may be missing in front of it |
 //! | `braces` | `OpenBraces` | the line that says which brace is open at the place of a token |
 //! | `warnings`, `sentences` | `WarningSentences` | what is warned of in a file, as text |
 //! | `warning`, `merged`, `uses`, `unused`, `nowhere`, `unreached`, `hidden` | `Warnings`, `StatementUses`, `Unused`, `HoldsNowhere`, `NeverReached`, `HiddenText` | what is warned of, each at its place: in declarations, statements and bytes |

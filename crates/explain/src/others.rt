@@ -1,4 +1,4 @@
-//! What is told of the other entailments for which a thread, and those behind it, would be refused, and of the first refusal of each by a rule that isn't about certificates.
+//! What was asked where a refusal is by V9, and what is told behind one by V9 or V13 of the other entailments for which its thread, and those behind it, would be refused, and of the first refusal of each by a rule that isn't about certificates.
 
 ghost use Rattle.std.specs.Prelude.{◌≡◌, ◌++◌, OnOk, flat_map, take};
 ghost use Rattle.cov_ast.specs.View as view;
