@@ -156,6 +156,20 @@ fn positive_of_not_zero(alloc: Global, n: u32, a: &Expr, b: &Expr) -> Result<Opt
     )
 }
 
+/// `b < a`, of `!(a <= b)`.
+fn above_of_not_at_most(alloc: Global, n: u32, a: &Expr, b: &Expr) -> Result<Option<Fact>, NoMemory>
+    requires { n ≤ MOST_NUMBERED }
+    ensures { IfOk result (λ made. option_map fact made ≡ spec.fact_of_denial n Le (term a.now) (term b.now)) }
+{
+    let less = against(alloc, n, 9, a, b)?;
+    let equal = against(alloc, n, 11, a, b)?;
+    let first = nodes::cases(alloc, n + 3, less, equal)?;
+    let step = nodes::cases(alloc, n + 2, first, Cert::Auto)?;
+    let why = nodes::axiom_of_two(alloc, 6, a, b, step)?;
+    let given = denial(alloc, Op::Le, a, b)?;
+    derived(alloc, given, nodes::pair(alloc, Op::Lt, b, a)?, why)
+}
+
 /// The fact that a negation gives.
 fn fact_of_negation(alloc: Global, n: u32, e: &Expr) -> Result<Option<Fact>, NoMemory>
     requires { n ≤ MOST_NUMBERED }
@@ -164,15 +178,7 @@ fn fact_of_negation(alloc: Global, n: u32, e: &Expr) -> Result<Option<Fact>, NoM
     match e {
         Expr::Bin(op, a, b) => match *op {
             Op::Lt => above_of_not_less(alloc, n, a, b),
-            Op::Le => {
-                let less = against(alloc, n, 9, a, b)?;
-                let equal = against(alloc, n, 11, a, b)?;
-                let first = nodes::cases(alloc, n + 3, less, equal)?;
-                let step = nodes::cases(alloc, n + 2, first, Cert::Auto)?;
-                let why = nodes::axiom_of_two(alloc, 6, a, b, step)?;
-                let given = denial(alloc, Op::Le, a, b)?;
-                derived(alloc, given, nodes::pair(alloc, Op::Lt, b, a)?, why)
-            }
+            Op::Le => above_of_not_at_most(alloc, n, a, b),
             Op::Eq => positive_of_not_zero(alloc, n, a, b),
             Op::Ne | Op::Add | Op::Sub | Op::Mul | Op::And | Op::Or | Op::Xor => Ok(None),
             Op::Both | Op::Either => Ok(None),
